@@ -3,9 +3,9 @@ import os
 import threading
 import time
 
-from . import faulty, orders, rows, schedules, workloads
+from . import faulty, orders, rows, schedules, verifications, workloads
 from .rows import CERTIFICATES, HISTORY
-from .running import EXAMPLES, at_once
+from .running import EXAMPLES, OF_TOOLS, at_once
 from .texts import certificate, invoke, lines, ok
 
 
@@ -65,13 +65,15 @@ def through_pipes(program, files, words, size=7, pause=0.0, **how):
 
 
 def worked_rows(program, report):
-    """Each row on plain files, on named pipes, with reads of one byte, and where it is a check with four workers."""
-    for row in rows.ROWS:
+    """Each row on plain files, with reads of one byte, on named pipes, and where it is a check with four workers. The tools read a history
+    twice, so theirs is no pipe."""
+    for row in rows.ROWS + verifications.ROWS:
         in_files(program, report, row)
         if row.words[0] == "check":
             in_files(program, report, row, "--workers", "4")
         if len(row.texts[0]) < 2000:
             in_files(program, report, row, faults={"READ_AT_MOST": 1})
+        if len(row.texts[0]) < 2000 and row.words[0] not in OF_TOOLS:
             ran = through_pipes(program, row.files(), row.words)
             report.answers(f"{row.name} (through pipes)", ran, row.out, row.status)
 

@@ -4,7 +4,7 @@ refuses each allocation of three tests of the combiner: a pass that gets no memo
 pass gets none is outstanding."""
 import os
 
-from .running import ROOT, at_once, in_room
+from .running import ROOT, alone, at_once
 
 DESK = f"{ROOT}/crates/desk_example/out/desk_example"
 TESTS = f"{ROOT}/crates/combiner_tests/out/combiner_tests_tests"
@@ -24,7 +24,7 @@ def refused_reserve(program, report):
     if not os.path.exists(DESK):
         report.holds("desk: the example is built", False, f"{DESK} is missing: rt run in crates/desk_example builds it")
         return None
-    desk = in_room(DESK, program.room, "desk_example", None)
+    desk = alone(DESK, program.room)
     whole, count, _ = desk.counts()
     report.answers("desk: with ample memory", whole, SERVED + ANSWERED, 0)
     numbers = range(1, count + 1)
@@ -58,7 +58,7 @@ def refused_passes(program, report):
     if not os.path.exists(TESTS):
         report.holds("desk: the tests of the combiner are built", False, f"{TESTS} is missing: rt test in crates/combiner_tests builds it")
         return None
-    tests, tried = in_room(TESTS, program.room, "combiner_tests", None), 0
+    tests, tried = alone(TESTS, program.room), 0
     for name, line in REFUSED_PASSES.items():
         whole, count, _ = tests.counts(name)
         report.holds(f"desk: {name}: with ample memory", whole.status == 0 and line not in whole.out, whole)

@@ -2,7 +2,7 @@
 
 Each code and each place is worked out from the tables of docs/formats.md and docs/machine.md."""
 from . import rows
-from .rows import find, judge, malformed, malformed_certificates, search, simulate
+from .rows import judge, malformed, malformed_certificates, search, simulate
 
 UNFINISHED = "{:process 0, :type :invoke"
 BUSY = "{:process 0, :type :invoke, :f :dequeue} {:process 0, :type :invoke, :f :dequeue}"
@@ -123,8 +123,6 @@ ROWS = [
     *[malformed(first_words(text), text, fault) for text, fault in HISTORIES],
     *[malformed_certificates(text, text, fault) for text, fault in CERTIFICATES],
     search("a text that spells no forms", UNFINISHED, "malformed history: E2 at byte 26\n", 2),
-    find("a text that spells no forms", UNFINISHED, "malformed history: E2 at byte 26\n", 2),
-    find("a number alone", "7", "malformed history: H1 at map 0\n", 2),
     judge("a text that spells no forms", UNFINISHED, "malformed history: E2 at byte 26\n", 2, "--steps", "7"),
     judge("a number alone", "7", "malformed history: H1 at map 0\n", 2, "--steps", "7"),
     judge("two calls of one process", BUSY, "malformed history: H5 at map 1\n", 2, "--steps", "7"),

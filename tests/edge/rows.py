@@ -6,7 +6,7 @@ from dataclasses import dataclass
 
 from .texts import certificate, fail, info, invoke, lines, ok, one_process, order
 
-HISTORY, CERTIFICATES, SCHEDULE, REASONS = "history.edn", "certificates.edn", "schedule.edn", "reasons.edn"
+HISTORY, CERTIFICATES, SCHEDULE, REASONS, EVIDENCE = "history.edn", "certificates.edn", "schedule.edn", "reasons.edn", "evidence.edn"
 
 
 @dataclass(frozen=True)
@@ -22,7 +22,7 @@ class Row:
     def files(self):
         """The names of the files with their texts."""
         first = SCHEDULE if self.words[0] == "simulate" else HISTORY
-        second = REASONS if self.words[0] == "refute" else CERTIFICATES
+        second = {"refute": REASONS, "verify": EVIDENCE}.get(self.words[0], CERTIFICATES)
         return tuple(zip((first, second), self.texts))
 
 
@@ -44,6 +44,10 @@ def judge(name, history, out, status, *options):
 
 def refute(name, history, reasons, out, status, *options):
     return Row(f"refute: {name}", ("refute", *options, HISTORY, REASONS), (history, reasons), out, status)
+
+
+def verify(name, history, evidence, out, status, *options):
+    return Row(f"verify: {name}", ("verify", *options, HISTORY, EVIDENCE), (history, evidence), out, status)
 
 
 def simulate(name, schedule, out, status):
@@ -212,7 +216,8 @@ def refused_swaps(before, writers):
     )
 
 
-# What a judgement says of swaps that are refused after 4,100 writes and two that overlap: a search finds that no order is valid.
+# What a judgement says of swaps that are refused after 4,100 writes and two that overlap: a search finds that no order is valid. It has 20,000 steps,
+# and 20 for each of the 4,104 operations.
 ALL_OF_MANY = lines(
     "; object 0: impossible",
     "; these operations have no valid order",
@@ -221,7 +226,7 @@ ALL_OF_MANY = lines(
     "; maps 8201 and 8203: process 1, :write 2, :ok 2",
     "; maps 8204 and 8205: process 0, :cas [1 99], :ok false",
     "; maps 8206 and 8207: process 0, :cas [2 99], :ok false",
-    "; {:object 0, :cuts []}",
+    "; {:object 0, :cuts [], :search {:first :return, :steps 102080}}",
 )
 # Of 16 writes that overlap a search would take some millions of steps. There are 10,032 operations.
 MANY_SWAPS = refused_swaps(10_000, 16)
@@ -512,17 +517,13 @@ STEPS = [
     search("4,097 pending operations, and no step", PENDING_4097, "; object 0: too large\n", 3, "--steps", "0"),
 ]
 
-# The orders of these are the only valid ones.
+# The orders of these are the only valid ones. What is found of others is evidence of another sort: tests/edge/evidence.py hands it to verify.
 FINDINGS = [
     find("empty text", "", "", 0),
     find("an enqueue and a dequeue", ENQUEUE_DEQUEUE, order(0, 2), 0),
     find("the later enqueue first", OVERLAPPING, order(1, 0, 4), 0),
     find("two queues", TWO_QUEUES, lines(certificate(0, 2, 0), certificate(1, 3, 1)), 0),
     find("a mutex is passed on", MUTEX, order(0, 3, 2), 0),
-    find("no order", OUT_OF_ORDER, "; object 0: open\n", 3),
-    find("one of two objects has an order", ONE_OF_TWO, "; object 0: open\n{:object 1, :order [0]}\n", 3),
-    find("a free mutex is released", RELEASE_OF_A_FREE_MUTEX, "; object 0: open\n", 3),
-    find("a malformed history", AFTER_INFO, "malformed history: H8 at map 2\n", 2),
 ]
 
 JUDGEMENTS = [

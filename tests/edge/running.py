@@ -1,4 +1,4 @@
-"""Runs the program under test, and counts what it passed."""
+"""Runs the two programs under test, and counts what they passed."""
 import concurrent.futures
 import os
 import re
@@ -12,6 +12,8 @@ from dataclasses import dataclass, field
 SECONDS = 120
 ROOT = os.path.dirname(os.path.dirname(os.path.dirname(os.path.realpath(__file__))))
 EXAMPLES = f"{ROOT}/examples"
+# The commands of the tools, as ./fcbench sorts them too. Every other command line is for the proved program.
+OF_TOOLS = ("judge", "find", "draw")
 
 
 @dataclass(frozen=True)
@@ -26,21 +28,30 @@ class Ran:
 
 @dataclass(frozen=True)
 class Program:
-    """The program under test, in a folder of its own that everybody may read."""
+    """The proved program under test, and the tools beside it, in a folder of their own that everybody may read."""
 
     path: str
     room: str
     faults: str
+    tools: str = None
+    label: str = ""
 
-    def run(self, *words, stdout=subprocess.PIPE, faults=None, **how):
-        """Runs the program on these words, with the faults that faults.c can make."""
-        env = dict(os.environ)
+    def line(self, words):
+        """The command line of these words: the program whose command they are, and the words."""
+        return [self.tools if words and words[0] in OF_TOOLS else self.path, *words]
+
+    def run(self, *words, stdout=subprocess.PIPE, faults=None, env=None, **how):
+        """Runs the program of these words, with the faults that faults.c can make, and more in its environment. Faults are made in each
+        process: judge and draw of the tools start others."""
+        # The tools find the proved program beside them, and the finder in them.
+        own = {name: value for name, value in os.environ.items() if name not in ("FCBENCH", "FCBENCH_FINDER")}
+        env = {**own, **(env or {})}
         if faults:
             env.update({name: str(value) for name, value in faults.items()}, LD_PRELOAD=self.faults)
         begun = time.monotonic()
         try:
             ran = subprocess.run(
-                [self.path, *words],
+                self.line(words),
                 stdin=subprocess.DEVNULL,
                 stdout=stdout,
                 stderr=subprocess.PIPE,
@@ -54,7 +65,7 @@ class Program:
         return Ran(ran.returncode, ran.stdout or b"", ran.stderr, time.monotonic() - begun)
 
     def counts(self, *words):
-        """Runs the program on these words, and returns also how many allocations and reads it made."""
+        """Runs the program of these words, and returns also how many allocations and reads it made: of several processes, the last to end."""
         name = f"{self.room}/counts.{os.getpid()}"
         ran = self.run(*words, faults={"COUNT_TO": name})
         with open(name) as file:
@@ -62,10 +73,10 @@ class Program:
         return ran, int(allocations), int(reads)
 
     def instructions(self, *words):
-        """How many instructions a run takes, as valgrind counts them."""
+        """How many instructions a run takes in its own process, as valgrind counts them."""
         with tempfile.NamedTemporaryFile("r", dir=self.room, encoding="utf-8") as counted:
             valgrind = ["valgrind", "--tool=callgrind", f"--callgrind-out-file={counted.name}"]
-            subprocess.run([*valgrind, self.path, *words], cwd=self.room, stdout=subprocess.DEVNULL, stderr=subprocess.DEVNULL)
+            subprocess.run([*valgrind, *self.line(words)], cwd=self.room, stdout=subprocess.DEVNULL, stderr=subprocess.DEVNULL)
             return int(re.search(r"^(?:totals|summary): (\d+)", counted.read(), re.M)[1])
 
     def write(self, name, text):
@@ -75,22 +86,54 @@ class Program:
         return name
 
 
-def in_room(path, room, name, source):
-    """Copies the program into a folder of its own and compiles faults.c there."""
+def copied(path, room, name):
+    """Copies a program into a folder."""
     program = f"{room}/{name}"
     shutil.copyfile(path, program)
     os.chmod(program, 0o755)
+    return program
+
+
+def faults_in(room):
+    """Compiles faults.c in a folder, unless it is there."""
     faults = f"{room}/faults.so"
     if not os.path.exists(faults):
         compiler = next((it for it in ("cc", "gcc", "clang") if shutil.which(it)), "cc")
+        source = f"{os.path.dirname(os.path.realpath(__file__))}/faults.c"
         subprocess.run([compiler, "-O2", "-shared", "-fPIC", "-o", faults, source], check=True)
-    return Program(program, room, faults)
+    return faults
+
+
+def alone(path, room):
+    """A program that is no fcbench, in a folder."""
+    name = os.path.basename(path)
+    return Program(copied(path, room, name), room, faults_in(room), label=name)
+
+
+def in_room(proved, tools, room):
+    """The proved program and the tools beside each other in a new folder of this folder. The label is the name of the proved program."""
+    label = os.path.basename(proved)
+    own = f"{room}/room of {label}"
+    os.mkdir(own)
+    # Some runs are those of another user.
+    os.chmod(own, 0o777)
+    return Program(copied(proved, own, "fcbench"), own, faults_in(room), copied(tools, own, "fcbench-tools"), label)
 
 
 def at_once(call, values):
     """Calls a function on each of the values, several at once, and returns the results in order."""
     with concurrent.futures.ThreadPoolExecutor(os.cpu_count()) as pool:
         return list(pool.map(call, values))
+
+
+# Of what was expected, and of what came, the most that is told.
+MOST_TOLD = 3000
+
+
+def told(value):
+    """A value as it is told of a test that failed."""
+    text = repr(value)
+    return text if len(text) <= MOST_TOLD else f"{text[: MOST_TOLD // 2]} .. {text[-MOST_TOLD // 2 :]}"
 
 
 class Report:
@@ -109,7 +152,7 @@ class Report:
         if expected == came:
             self.passed += 1
         else:
-            self.failed.append(f"FAILED {name}\n  expected: {expected!r}\n  came:     {came!r} {more}".rstrip())
+            self.failed.append(f"FAILED {name}\n  expected: {told(expected)}\n  came:     {told(came)} {told(more) if more != '' else ''}".rstrip())
 
     def answers(self, name, ran, out, status, err=b""):
         """Counts a run that must give exactly this output and exit status, and this on standard error."""
