@@ -17,8 +17,8 @@ WORD = re.compile(r"[^\s(){}\[\],;.λ]+")
 # What judge and judge_history say of a yes.
 CLAUSES = {"judge_history": ("model.Linearizable.IsLinearizable", "events.Events.denoted", "events.Events.kind_at", "model.Orders.events"),
            "judge": ("judging.Texts.IsLinearizableText",),
-           # What the lines of judge and of refute say of an object that is impossible.
-           "reason": ("reason_finder.Reasons.IsReasonFor",)}
+           # What the lines of verify say of an object that is impossible.
+           "reason": ("verifying.Decisions.IsRefutation",)}
 
 
 class Module:

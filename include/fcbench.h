@@ -72,9 +72,11 @@ uint32_t fcbench_verify(const uint8_t *history, size_t history_length,
                         const uint8_t *evidence, size_t evidence_length, uint32_t steps,
                         uint8_t *out, size_t capacity, size_t *needed);
 
-/* ---- not proved; their answers are checked by fcbench_verify ----
+/* ---- not proved; their answers are checked by the functions above ----
  *
- * Where an allocation fails, these end the process. */
+ * A yes or a no is that of the proved functions. The lines of fcbench_find are not proved. These start no
+ * thread, read no file and print nothing. They keep a few words of state of their own, and may be called
+ * from several threads at once. Where an allocation fails, they end the process. */
 
 /* Finds evidence, has it checked by fcbench_verify, and gives that answer. The last search takes at
  * most `steps` steps for each object. What comes before takes none of these: even with 0 there are
@@ -82,8 +84,9 @@ uint32_t fcbench_verify(const uint8_t *history, size_t history_length,
 uint32_t fcbench_judge(const uint8_t *history, size_t history_length, uint32_t steps,
                        uint8_t *out, size_t capacity, size_t *needed);
 
-/* Finds certificates, has them checked, and writes them: a line for each object. It never answers
- * FCBENCH_NO. */
+/* Finds evidence for fcbench_verify, and writes it: a line for each object. FCBENCH_YES: each of them is
+ * an order, and fcbench_check accepts them, which is proved. FCBENCH_OPEN: some line is a reason or a
+ * search. It never answers FCBENCH_NO. */
 uint32_t fcbench_find(const uint8_t *history, size_t history_length,
                       uint8_t *out, size_t capacity, size_t *needed);
 

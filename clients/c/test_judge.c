@@ -58,6 +58,8 @@ static void answers(void) {
     want(status == FCBENCH_NO, "the reason is accepted");
     status = fcbench_refute(bytes(queue), strlen(queue), bytes(reason + 2), strlen(reason + 2), FCBENCH_STEPS, NULL, 0, &needed);
     want(status == FCBENCH_OPEN, "it shows nothing of the other history");
+    status = fcbench_verify(bytes(old_read), strlen(old_read), bytes(reason + 2), strlen(reason + 2), FCBENCH_STEPS, NULL, 0, &needed);
+    want(status == FCBENCH_NO, "it is evidence");
     free(lines);
     lines = judged("", &status);
     want(status == FCBENCH_YES && strcmp(lines, "yes: 0 operations, 0 objects\n") == 0, "a history without a map is a yes");

@@ -1,4 +1,4 @@
-// The proved judge of fcbench for C++17: see fcbench.h for what each answer means. Copy this file and fcbench.h.
+// The judge of fcbench for C++17: see fcbench.h for what each answer means. Copy this file and fcbench.h.
 //
 //     fcbench::Answer answer = fcbench::judge(history);
 //     if (answer.is_no()) std::cerr << answer.lines();
@@ -90,6 +90,12 @@ inline Answer find(std::string_view history) {
 inline Answer refute(std::string_view history, std::string_view reasons, std::uint32_t steps = FCBENCH_STEPS) {
     return Answer::of([&](std::uint8_t *out, std::size_t capacity, std::size_t *needed) {
         return fcbench_refute(bytes_of(history), history.size(), bytes_of(reasons), reasons.size(), steps, out, capacity, needed);
+    });
+}
+
+inline Answer verify(std::string_view history, std::string_view evidence, std::uint32_t steps = FCBENCH_STEPS) {
+    return Answer::of([&](std::uint8_t *out, std::size_t capacity, std::size_t *needed) {
+        return fcbench_verify(bytes_of(history), history.size(), bytes_of(evidence), evidence.size(), steps, out, capacity, needed);
     });
 }
 

@@ -39,6 +39,8 @@ static void answers() {
     want(fcbench::refute(old_read, no.lines().substr(at + 2)).is_no(), "the reason is accepted");
     want(no.reasons() == no.lines().substr(at + 2), "the reasons are its last line");
     want(fcbench::refute(old_read, no.reasons()).is_no() && yes.reasons().empty(), "and are accepted");
+    want(fcbench::verify(old_read, no.reasons()).is_no(), "also as evidence");
+    want(fcbench::verify(queue, fcbench::find(queue).lines()).lines() == yes_lines, "as is an order");
     want(fcbench::judge("").lines() == "yes: 0 operations, 0 objects\n", "a history without a map is a yes");
     const auto malformed = fcbench::judge("{:process 0");
     want(malformed.verdict() == fcbench::Verdict::Malformed && malformed.lines() == "malformed history: E2 at byte 11\n", "a text that ends early");

@@ -137,3 +137,15 @@ func RefuteWithSteps(history, reasons string, steps uint32) Answer {
 		return Verdict(status), int(needed)
 	})
 }
+
+// Verify checks evidence from anybody, and judges a history by what it shows.
+func Verify(history, evidence string) Answer {
+	text, length := bytesOf([]byte(history))
+	claims, count := bytesOf([]byte(evidence))
+	return whole(func(out []byte) (Verdict, int) {
+		var needed C.size_t
+		at, room := bytesOf(out)
+		status := C.fcbench_verify(text, length, claims, count, C.FCBENCH_STEPS, at, room, &needed)
+		return Verdict(status), int(needed)
+	})
+}

@@ -34,6 +34,8 @@ func TestYes(t *testing.T) {
 	found := Find(queueHistory)
 	want(t, found, Yes, "{:object 0, :order [0 2]}\n")
 	want(t, Check(queueHistory, found.Lines), Yes, yesLines)
+	want(t, Verify(queueHistory, found.Lines), Yes, yesLines)
+	want(t, Verify(queueHistory, ""), Open, "; object 0: open\n")
 }
 
 func TestNo(t *testing.T) {
@@ -45,6 +47,9 @@ func TestNo(t *testing.T) {
 	reason := strings.TrimPrefix(lines[len(lines)-1], "; ")
 	if refuted := Refute(oldRead, reason); refuted.Verdict != No {
 		t.Fatal(refuted)
+	}
+	if verified := Verify(oldRead, reason); verified.Verdict != No {
+		t.Fatal(verified)
 	}
 	want(t, Check(queueHistory, ""), No, "no: C1 object 0 has no certificate\n")
 }

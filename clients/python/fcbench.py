@@ -1,4 +1,4 @@
-"""The proved judge of fcbench, by ctypes over libfcbench.so. Copy this file.
+"""The judge of fcbench, by ctypes over libfcbench.so. Copy this file.
 
     answer = fcbench.judge(history)
     assert answer.is_yes(), answer.lines
@@ -17,7 +17,7 @@ PLACES = (f"{HERE}/../../crates/embedding/out/libfcbench.so", f"{HERE}/../../lib
 
 
 class Verdict(enum.IntEnum):
-    """YES: the history is linearizable, which is proved. NO of judge and refute: it is not, which is proved; of check: the
+    """YES: the history is linearizable, which is proved. NO of judge, refute and verify: it is not, which is proved; of check: the
     certificates are refused. OPEN: not decided, since an object stays open or memory was refused."""
 
     YES = 0
@@ -53,7 +53,7 @@ def _library():
     text = [ctypes.c_char_p, ctypes.c_size_t]
     room = [ctypes.c_char_p, ctypes.c_size_t, ctypes.POINTER(ctypes.c_size_t)]
     steps = [ctypes.c_uint32]
-    takes = {"check": text + text, "judge": text + steps, "find": text, "refute": text + text + steps}
+    takes = {"check": text + text, "judge": text + steps, "find": text, "refute": text + text + steps, "verify": text + text + steps}
     for name, words in takes.items():
         function = getattr(library, f"fcbench_{name}")
         function.argtypes, function.restype = words + room, ctypes.c_uint32
@@ -107,3 +107,9 @@ def refute(history, reasons, steps=STEPS):
     """Checks reasons why a history is not linearizable. It never answers YES. The search of a part takes at most this many steps."""
     text, why = _bytes(history), _bytes(reasons)
     return _whole(_C.fcbench_refute, text, len(text), why, len(why), steps)
+
+
+def verify(history, evidence, steps=STEPS):
+    """Checks evidence from anybody, and judges a history by what it shows. A search for which it names no number of steps takes at most this many."""
+    text, claims = _bytes(history), _bytes(evidence)
+    return _whole(_C.fcbench_verify, text, len(text), claims, len(claims), steps)

@@ -31,6 +31,8 @@ class Calls(unittest.TestCase):
         found = fcbench.find(QUEUE.encode())
         self.assertEqual(found, (Verdict.YES, "{:object 0, :order [0 2]}\n"))
         self.assertEqual(fcbench.check(QUEUE, found.lines).verdict, Verdict.YES)
+        self.assertEqual(fcbench.verify(QUEUE, found.lines), (Verdict.YES, YES_LINES))
+        self.assertEqual(fcbench.verify(QUEUE, b""), (Verdict.OPEN, "; object 0: open\n"))
 
     def test_no(self):
         answer = fcbench.judge(OLD_READ)
@@ -40,6 +42,8 @@ class Calls(unittest.TestCase):
         reason = answer.lines.splitlines()[-1].removeprefix("; ")
         self.assertEqual(fcbench.refute(OLD_READ, reason).verdict, Verdict.NO)
         self.assertEqual(fcbench.refute(QUEUE, reason).verdict, Verdict.OPEN)
+        self.assertEqual(fcbench.verify(OLD_READ, reason).verdict, Verdict.NO)
+        self.assertEqual(fcbench.verify(OLD_READ, fcbench.find(OLD_READ).lines), answer)
         self.assertEqual(fcbench.check(QUEUE, b""), (Verdict.NO, "no: C1 object 0 has no certificate\n"))
 
     def test_reasons(self):

@@ -1,4 +1,4 @@
-/* Answers by the library what the program answers: answer check|judge|find|refute FILE [FILE] [CAPACITY]. It allocates nothing
+/* Answers by the library what the program answers: answer check|judge|find|refute|verify FILE [FILE] [CAPACITY]. It allocates nothing
  * itself, so that each allocation is the library's. */
 #include "fcbench.h"
 #include <fcntl.h>
@@ -23,13 +23,14 @@ static size_t text_of(const char *name, uint8_t *into) {
 int main(int count, char **words) {
     if (count < 3) return 64;
     const char *command = words[1];
-    int takes_two = !strcmp(command, "check") || !strcmp(command, "refute");
+    int takes_two = !strcmp(command, "check") || !strcmp(command, "refute") || !strcmp(command, "verify");
     if (takes_two && count < 4) return 64;
     size_t length = text_of(words[2], first), other = takes_two ? text_of(words[3], second) : 0, needed = 0;
     int more = takes_two ? 4 : 3;
     size_t capacity = count > more ? (size_t)atol(words[more]) : sizeof out;
     uint32_t status = !strcmp(command, "check")    ? fcbench_check(first, length, second, other, out, capacity, &needed)
                       : !strcmp(command, "refute") ? fcbench_refute(first, length, second, other, FCBENCH_STEPS, out, capacity, &needed)
+                      : !strcmp(command, "verify") ? fcbench_verify(first, length, second, other, FCBENCH_STEPS, out, capacity, &needed)
                       : !strcmp(command, "find")   ? fcbench_find(first, length, out, capacity, &needed)
                                                    : fcbench_judge(first, length, FCBENCH_STEPS, out, capacity, &needed);
     size_t given = needed < capacity ? needed : capacity;

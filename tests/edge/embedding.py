@@ -3,6 +3,7 @@ is skipped, and the line of the part says how to install it."""
 import os
 import re
 import shutil
+import signal
 import subprocess
 import sys
 
@@ -12,24 +13,14 @@ CLIENTS = f"{ROOT}/clients"
 OUT = f"{ROOT}/crates/embedding/out"
 LIBRARY = f"{OUT}/libfcbench.a"
 SHARED = f"{OUT}/libfcbench.so"
-EXPORTS = ["fcbench_check", "fcbench_find", "fcbench_judge", "fcbench_refute"]
-# What the library calls of others.
+# The functions of the two halves, each an object of libfcbench.a.
+HALVES = {"proved.o": ["fcbench_check", "fcbench_refute", "fcbench_verify"], "finder.o": ["fcbench_find", "fcbench_judge"]}
+EXPORTS = sorted(sum(HALVES.values(), []))
+# What the proved half calls of others.
 CALLS = {"free", "malloc", "memcmp", "memcpy", "memmove", "memset", "realloc"}
-# Data of the library that can be written: a byte of the kit's three functions over malloc, realloc and free. Where a block is refused they give its
+# Data of the proved half that can be written: a byte of the kit's three functions over malloc, realloc and free. Where a block is refused they give its
 # address, with a flag that says so.
 OF_THE_KIT = {"nothing"}, {".bss": 1}
-# Names of data that the C compiler and the linker put into each shared object, and that are on pages that can be written: tables of the dynamic
-# loader, where it finds the code for the beginning and the end of the object, the end of an empty table, the object's own address,
-# and whether the code for the end has run.
-OF_THE_LINKER = {
-    "_DYNAMIC",
-    "_GLOBAL_OFFSET_TABLE_",
-    "__frame_dummy_init_array_entry",
-    "__do_global_dtors_aux_fini_array_entry",
-    "__TMC_END__",
-    "__dso_handle",
-    "completed",
-}
 # A library with a state of each kind: with a value, without one, of a thread, and without a name outside.
 WITH_STATE = """int valued = 1, zero; _Thread_local int of_a_thread;
 int next(void) { static int hidden; return ++hidden + valued++ + zero++ + of_a_thread++; }
@@ -104,13 +95,16 @@ def without_the_kit(program, report):
     top, bare = f"{program.room}/built", {**os.environ, "PATH": "/usr/bin:/bin"}
     for it in ("out", "src", "specs", "proofs"):
         os.makedirs(f"{top}/crates/fcbench/{it}")
-    for it in ("fcbench", "crates.txt"):
+    for it in ("fcbench", "verifier", "crates.txt"):
         shutil.copy(f"{ROOT}/{it}", top)
+    shutil.copytree(f"{ROOT}/tools", f"{top}/tools", ignore=shutil.ignore_patterns("target"))
+    os.makedirs(f"{top}/tools/target/release")
+    shutil.copy(program.tools, f"{top}/tools/target/release/fcbench-tools")
     run = lambda *words: subprocess.run(words, env=bare, capture_output=True, text=True)  # noqa: E731
     if shutil.which("rt", path=bare["PATH"]):
         return
     advice = "fcbench: rt, the command of the Rattle kit, is not on the PATH\n"
-    for words in (("--version",), ("--unproved", "--version")):
+    for words in (("--version",), ("--quick", "--version")):
         ran = run("bash", f"{top}/fcbench", *words)
         report.equal(f"embedding: ./fcbench {words[0]} that is not built, without the kit", (127, "", advice), (ran.returncode, ran.stdout, ran.stderr))
     shutil.copy(program.path, f"{top}/crates/fcbench/out/fcbench")
@@ -121,24 +115,42 @@ def without_the_kit(program, report):
 
 
 def library(program, report):
-    """The library is built where it is missing, needs no kit then, has four names, calls only what allocates and copies, and has no state."""
+    """The library is built where it is missing, needs no kit then, and has five functions in two halves. The proved half calls only what allocates
+    and copies, and has no state; of its functions, a program that uses these alone takes no other code."""
     done(report, "the library is built", [f"{CLIENTS}/build"], seconds=SECONDS_TO_PROVE)
     without_the_kit(program, report)
     defined = "ABCDGRSTVWuvw"
-    for path, words in ((LIBRARY, ["-g", "--defined-only"]), (SHARED, ["-D", "--defined-only"])):
-        report.equal(f"embedding: what {os.path.basename(path)} exports", EXPORTS, names_of(path, defined, *words))
-    for path, words in ((LIBRARY, ["-g"]), (SHARED, ["-D"])):
-        name = f"embedding: what {os.path.basename(path)} calls besides malloc, realloc, free and copies: no thread, lock or file"
-        report.equal(name, set(), set(names_of(path, "U", *words)) - CALLS)
-    report.equal("embedding: what of libfcbench.a can be written", OF_THE_KIT, state_of(LIBRARY))
-    report.equal("embedding: of that only the address is taken", (["lea", "lea"], 2), uses_of(".bss", LIBRARY))
-    report.equal("embedding: what of libfcbench.so can be written besides what is of the linker", OF_THE_KIT[0], state_of(SHARED)[0] - OF_THE_LINKER)
+    subprocess.run(["ar", "x", LIBRARY], cwd=program.room, check=True)
+    for name, exports in HALVES.items():
+        report.equal(f"embedding: what {name} of libfcbench.a exports", exports, names_of(f"{program.room}/{name}", defined, "-g", "--defined-only"))
+    report.equal("embedding: what libfcbench.so exports", EXPORTS, names_of(SHARED, defined, "-D", "--defined-only"))
+    proved = f"{program.room}/proved.o"
+    name = "embedding: what the proved half calls besides malloc, realloc, free and copies: no thread, lock or file"
+    report.equal(name, set(), set(names_of(proved, "U", "-g")) - CALLS)
+    report.equal("embedding: what of the proved half can be written", OF_THE_KIT, state_of(proved))
+    report.equal("embedding: of that only the address is taken", (["lea", "lea"], 2), uses_of(".bss", proved))
     if not missing("gcc"):
         path = f"{program.room}/{program.write('with_state.c', WITH_STATE)}"
         done(report, "a library with a state is built", ["gcc", "-O2", "-c", path, "-o", f"{path}.o"])
         found = {"valued", "zero", "of_a_thread", "hidden"}, {".data": 4, ".bss": 8, ".tbss": 4}
         report.equal("embedding: a state of each kind is found", found, state_of(f"{path}.o"))
+        proved_alone(program, report)
     return f"{os.path.getsize(LIBRARY)} bytes"
+
+
+# A caller of a proved function alone.
+CHECKS = """#include <fcbench.h>
+int main(void) { size_t needed; return (int)fcbench_check(NULL, 0, NULL, 0, NULL, 0, &needed); }
+"""
+
+
+def proved_alone(program, report):
+    """A program that calls proved functions alone is linked with the proved half alone."""
+    path = f"{program.room}/checks"
+    done(report, "a caller of a proved function is built", [*C, f"{program.room}/{program.write('checks.c', CHECKS)}", LIBRARY, "-o", path])
+    done(report, "and runs", [path])
+    said = subprocess.run(["nm", path], capture_output=True, text=True, check=True).stdout
+    report.equal("embedding: functions of the library in it", HALVES["proved.o"], sorted(re.findall(r" T (fcbench_\w+)", said)))
 
 
 def cases():
@@ -150,7 +162,7 @@ def cases():
             continue
         yield ("judge", f"{EXAMPLES}/{name}")
         yield ("find", f"{EXAMPLES}/{name}")
-        for command, other in (("check", f"{stem}.certificates.edn"), ("refute", f"{stem}.reasons.edn")):
+        for command, other in (("check", f"{stem}.certificates.edn"), ("refute", f"{stem}.reasons.edn"), ("verify", f"{stem}.certificates.edn"), ("verify", f"{stem}.reasons.edn")):
             if other in names:
                 yield (command, f"{EXAMPLES}/{name}", f"{EXAMPLES}/{other}")
 
@@ -159,12 +171,18 @@ def answering(program, report):
     return Program(built(program, report, C, f"{ROOT}/tests/edge/answer.c", "answer"), program.room, program.faults)
 
 
+def of_the_program(program, words):
+    """What the program answers. What is wrong with a history the proved program says, also where the command is find."""
+    ran = program.run(*words)
+    return program.run("check", words[1], "/dev/null") if words[0] == "find" and ran.status == 2 else ran
+
+
 def as_the_program(program, report):
     """The library answers each example as the program does; and where the buffer is too small, a beginning of it."""
     if missing("gcc"):
         return missing("gcc")
     answer, every = answering(program, report), list(cases())
-    told = at_once(lambda words: (answer.run(*words), program.run(*words), answer.run(*words, "10")), every)
+    told = at_once(lambda words: (answer.run(*words), of_the_program(program, words), answer.run(*words, "10")), every)
     for words, (came, wanted, short) in zip(every, told):
         name = " ".join([words[0], *map(os.path.basename, words[1:])])
         report.equal(f"embedding: {name}", (wanted.status, wanted.out), (came.status, came.out))
@@ -184,7 +202,10 @@ ANSWERS = (
     ("judge", (NEVER_ENQUEUED,), 1, None, b"; object 0: impossible\n"),
     ("judge", (PENDING,), 0, 60, b"yes: 1 operations, 1 objects\nqueue: 1 objects, 1 operations\n"),
     ("refute", (NEVER_ENQUEUED, b"{:object 0, :cuts [{:keep [2], :numbers [2]}]}"), 1, None, b"not linearizable: object 0: 1 of 2 operations "),
-    ("find", (NEVER_ENQUEUED,), 3, 17, b"; object 0: open\n"),
+    ("find", (NEVER_ENQUEUED,), 3, None, b"{:object 0, :cuts ["),
+    ("find", (PENDING,), 0, 23, b"{:object 0, :order []}\n"),
+    ("verify", (PENDING, b"{:object 0, :order []}"), 0, 60, b"yes: 1 operations, 1 objects\nqueue: 1 objects, 1 operations\n"),
+    ("verify", (PENDING, b""), 3, 17, b"; object 0: open\n"),
     ("check", (b"{", b""), 2, 32, b"malformed history: E2 at byte 1\n"),
 )
 
@@ -206,13 +227,18 @@ def answers_of_each_export(program, report):
     return None
 
 
-def is_without_memory(whole, ran):
-    """Whether a call that lacked memory answered what it may: 3, with a line that says so or an object that stays open; or as with ample memory,
-    where a no may have another reason, since the finder of the first one lacked memory."""
-    if ran.status == 3:
-        return ran.out.endswith((b"out of memory\n", b": open\n"))
-    is_other_reason = ran.status == 1 and ran.out.partition(b"\n")[0] == whole.out.partition(b"\n")[0]
-    return ran.status == whole.status and (ran.out == whole.out or is_other_reason)
+# How a process ends that lacks memory in Rust.
+ABORTED = -signal.SIGABRT
+
+
+def is_without_memory(command, whole, ran):
+    """Whether a call that lacked memory answered what it may: 3, with a line that says so or an object that stays open; or as with ample memory. The
+    finder may end the process."""
+    if ran.status == ABORTED:
+        return command in ("judge", "find")
+    if ran.status == 3 and ran.out.endswith((b"out of memory\n", b": open\n")):
+        return True
+    return ran.status == whole.status and ran.out == whole.out
 
 
 def refused_memory_of_calls(program, report):
@@ -223,7 +249,7 @@ def refused_memory_of_calls(program, report):
     for words in (it for it in cases() if re.search("/(queue|lost_put|overlapping|larger_first|two_for_one)[.]", it[1])):
         whole, allocations, _ = answer.counts(*words)
         runs = at_once(lambda at: answer.run(*words, faults={"REFUSE_AT": at}), range(1, allocations + 1))
-        bad = [ran for ran in runs if not is_without_memory(whole, ran)]
+        bad = [ran for ran in runs if not is_without_memory(words[0], whole, ran)]
         report.equal(f"embedding: {words[0]} {os.path.basename(words[1])} without memory", [], bad[:1])
         count += allocations
     return f"{count} allocations refused"

@@ -17,7 +17,7 @@ COMPLETIONS = {
     "zsh": "share/zsh/site-functions/_fcbench",
 }
 BASH_COMPLETION = "/usr/share/bash-completion/bash_completion"
-INSTALLED = sorted(["bin/fcbench", "include/fcbench.h", "lib/libfcbench.a", "lib/libfcbench.so", "share/man/man1/fcbench.1", *COMPLETIONS.values()])
+INSTALLED = sorted(["bin/fcbench", "include/fcbench.h", "lib/libfcbench.a", "lib/libfcbench.so", "libexec/fcbench/fcbench", "libexec/fcbench/fcbench-tools", "share/man/man1/fcbench.1", *COMPLETIONS.values()])
 # Words that are typed, and what is completed of the last one.
 TYPED = (
     ("a command", ("fcbench", "ju"), ["judge"]),

@@ -1,4 +1,4 @@
-//! The proved judge of fcbench, for tests of concurrent objects, and a recorder of what threads do.
+//! The judge of fcbench, for tests of concurrent objects, and a recorder of what threads do.
 //!
 //! ```ignore
 //! let history = recorder.history(&journals);
@@ -54,6 +54,16 @@ mod c {
             capacity: usize,
             needed: *mut usize,
         ) -> u32;
+        pub fn fcbench_verify(
+            history: *const u8,
+            history_length: usize,
+            evidence: *const u8,
+            evidence_length: usize,
+            steps: u32,
+            out: *mut u8,
+            capacity: usize,
+            needed: *mut usize,
+        ) -> u32;
     }
 }
 
@@ -62,7 +72,7 @@ mod c {
 pub enum Verdict {
     /// The history is linearizable, which is proved.
     Yes,
-    /// Of `judge` and `refute`: the history is not linearizable, which is proved. Of `check`: the certificates are refused.
+    /// Of `judge`, `refute` and `verify`: the history is not linearizable, which is proved. Of `check`: the certificates are refused.
     No,
     /// A text is malformed.
     Malformed,
@@ -198,6 +208,28 @@ pub fn refute_into(history: &[u8], reasons: &[u8], steps: u32, out: &mut [u8]) -
     // SAFETY: as above.
     answered(out, |at, capacity, needed| unsafe {
         c::fcbench_refute(history.as_ptr(), history.len(), first, length, steps, at, capacity, needed)
+    })
+}
+
+/// Checks evidence from anybody, and judges a history by what it shows.
+pub fn verify(history: impl AsRef<[u8]>, evidence: impl AsRef<[u8]>) -> Answer {
+    verify_with_steps(history, evidence, STEPS)
+}
+
+/// Checks evidence from anybody, and judges a history by what it shows. A search for which the evidence names no number of steps takes
+/// at most `steps` steps.
+pub fn verify_with_steps(history: impl AsRef<[u8]>, evidence: impl AsRef<[u8]>, steps: u32) -> Answer {
+    whole(|out| verify_into(history.as_ref(), evidence.as_ref(), steps, out))
+}
+
+/// Checks evidence from anybody, judges a history by what it shows, and writes the lines into `out`. Where it is too small they are cut.
+/// Also gives how long all lines are.
+#[must_use]
+pub fn verify_into(history: &[u8], evidence: &[u8], steps: u32, out: &mut [u8]) -> (Verdict, usize) {
+    let (first, length) = (evidence.as_ptr(), evidence.len());
+    // SAFETY: as above.
+    answered(out, |at, capacity, needed| unsafe {
+        c::fcbench_verify(history.as_ptr(), history.len(), first, length, steps, at, capacity, needed)
     })
 }
 

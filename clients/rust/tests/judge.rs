@@ -1,6 +1,6 @@
 //! Calls the library: a yes, a no, a malformed text, and a buffer that is too small.
 
-use fcbench::{check, find, judge, judge_into, judge_with_steps, refute, refute_with_steps, Verdict, STEPS};
+use fcbench::{check, find, judge, judge_into, judge_with_steps, refute, refute_with_steps, verify, Verdict, STEPS};
 
 const QUEUE: &str = "{:process 0, :type :invoke, :f :enqueue, :value 1}
 {:process 0, :type :ok, :f :enqueue, :value 1}
@@ -25,6 +25,8 @@ fn a_yes() {
     let found = find(QUEUE);
     assert_eq!((found.verdict, found.lines.as_str()), (Verdict::Yes, "{:object 0, :order [0 2]}\n"));
     assert_eq!(check(QUEUE, &found.lines).verdict, Verdict::Yes);
+    assert_eq!(verify(QUEUE, &found.lines), answer);
+    assert_eq!(verify(QUEUE, "").lines, "; object 0: open\n");
 }
 
 #[test]
@@ -35,6 +37,8 @@ fn a_no() {
     let reason = answer.lines.lines().last().expect("a reason").trim_start_matches("; ");
     assert_eq!(refute(OLD_READ, reason).verdict, Verdict::No);
     assert_eq!(refute(QUEUE, reason).verdict, Verdict::Open);
+    assert_eq!(verify(OLD_READ, reason).verdict, Verdict::No);
+    assert_eq!(verify(OLD_READ, find(OLD_READ).lines), answer);
     let refused = check(QUEUE, "");
     assert_eq!((refused.verdict, refused.lines.as_str()), (Verdict::No, "no: C1 object 0 has no certificate\n"));
 }

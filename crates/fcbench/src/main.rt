@@ -17,7 +17,7 @@ use std::thread::{Threads, join, sleep};
 use std::time::{Clock, Duration};
 
 /// The version of the program, and the kit that proves it.
-const VERSION: &str = "fcbench 3.0.0, proved by rattle-kit-13f";
+const VERSION: &str = "fcbench 3.0.0, proved by rattle-kit-13b";
 
 /// How often it is looked whether the command is done, and how many milliseconds after each other:
 /// for a second in all.

@@ -14,7 +14,7 @@ use Rattle.events.specs.Events.{kind_at, denoted}
 use Rattle.events.specs.Operations.{ObjectCalls, calls_of}
 use Rattle.refutation.specs.declared.reason.Reason.{Reason}
 use Rattle.refutation.specs.declared.refuting.Doubt.{Doubt}
-use Rattle.refutation.specs.declared.refuting.Doubt.TheVariants.{Possible, NotOverdrawn, OutOfSteps}
+use Rattle.refutation.specs.declared.refuting.Doubt.TheVariants.{Possible, NotExceeded, OutOfSteps}
 use Rattle.refutation.specs.declared.refuting.Doubt.TheVariants as doubt
 use Rattle.refutation.specs.declared.refuting.Refutation.{Refutation}
 use Rattle.refutation.specs.declared.refuting.Refutation.TheVariants.{Impossible, NotShown, NoPart}
@@ -75,7 +75,7 @@ shown_line whole reason part =
 -- why it is not shown that no order is valid
 abbrev pub doubt_text : ℕ → Doubt → List ℕ
 doubt_text limit (Possible order) = codes ": not shown: the part has a valid order\n"
-doubt_text limit NotOverdrawn = codes ": not shown: the count is not exceeded\n"
+doubt_text limit NotExceeded = codes ": not shown: the count is not exceeded\n"
 doubt_text limit OutOfSteps =
     codes ": not shown: out of steps after " ++ (decimal limit ++ codes "\n")
 doubt_text limit doubt.NoMemory = codes ": not shown: out of memory\n"

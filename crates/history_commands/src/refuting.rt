@@ -151,7 +151,7 @@ fn push_doubt(text: &mut Vec<u8>, steps: u64, doubt: &Doubt) -> Result<(), Alloc
 {
     match doubt {
         Doubt::Possible(_) => text.extend_from_slice(b": not shown: the part has a valid order\n"),
-        Doubt::NotOverdrawn => text.extend_from_slice(b": not shown: the count is not exceeded\n"),
+        Doubt::NotExceeded => text.extend_from_slice(b": not shown: the count is not exceeded\n"),
         Doubt::OutOfSteps => {
             text.extend_from_slice(b": not shown: out of steps after ")?;
             push_decimal(text, steps)?;

@@ -22,3 +22,8 @@ pub mod Keyed
 pub mod Absences
 pub mod Early
 pub mod Alone
+pub mod Finds
+pub mod Emptied
+pub mod InFront
+pub mod Ahead
+pub mod Blocked

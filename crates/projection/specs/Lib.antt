@@ -5,6 +5,7 @@ pub mod Entries
 pub mod Absent
 pub mod Cuts
 pub mod Counts
+pub mod Ahead
 pub mod Pieces
 pub use Rattle.model.specs.Objects
 pub use Rattle.model.specs.Orders

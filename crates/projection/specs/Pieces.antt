@@ -1,17 +1,19 @@
 -- What becomes of one operation of an object, failed ones too. The code works on these.
-use Rattle.std.specs.Prelude.{◌≡◌, ◌==◌, ◌⊎◌, ℕ, ℤ, nat_lt, Bool, true, false, not, ◌&&◌}
-use Rattle.std.specs.Prelude.{List, [], ◌∷◌, ◌-◌, ◌||◌, if◌then◌else◌}
+use Rattle.std.specs.Prelude.{◌≡◌, ◌==◌, ◌⊎◌, ℕ, ℤ, nat_lt, min, Bool, true, false, not, ◌&&◌}
+use Rattle.std.specs.Prelude.{List, [], ◌∷◌, Contains, ◌-◌, ◌||◌, if◌then◌else◌}
 use Rattle.std.specs.Prelude.{Option, Some, None, option_map}
 use Rattle.std.specs.Option.{option_map_or}
+use Rattle.std.specs.List.{find, list_all}
 use Rattle.std.specs.Ordering.{int_eq}
 use Rattle.model.specs.declared.AnyOp.{AnyOp}
-use Rattle.model.specs.declared.AnyOp.TheVariants.{Write}
+use Rattle.model.specs.declared.AnyOp.TheVariants.{Write, Dequeue, Pop}
 use Rattle.model.specs.declared.AnyReply.{AnyReply}
 use Rattle.model.specs.declared.AnyReply.TheVariants.{Value}
 use Rattle.events.specs.declared.operations.End.{End}
 use Rattle.events.specs.declared.operations.End.TheVariants.{Returned, Pending, Failed}
 use Rattle.events.specs.declared.operations.Invocation.{Invocation}
 use Rattle.projection.specs.declared.counting.Counted.{Counted}
+use Rattle.projection.specs.Ahead.{found_in}
 use Rattle.projection.specs.Counts.{sets, takes}
 use Rattle.projection.specs.Cells.{cell_done, cell_open}
 use Rattle.projection.specs.Entries.{entry_done, entry_open}
@@ -152,6 +154,56 @@ is_gone what from number op (Returned at reply) =
     takes what op (Some reply) && not (nat_lt number from)
 is_gone what from number op Pending = false
 is_gone what from number op Failed = false
+
+-- ---- what was ahead of what a taking found
+
+abbrev pub found_end : AnyOp → End → Option (ℕ × Option ℤ)
+found_end op (Returned at reply) = if is_taking op then found_in at reply else None
+found_end op Pending = None
+found_end op Failed = None
+
+-- the number of the first operation that did not fail and puts in the value; 0: there is none
+abbrev pub first_put_end : ℤ → List Invocation → ℕ
+first_put_end v ops = option_map_or (λ (o : Invocation). o.number)
+    (find (λ o. is_put (int_eq v) o.op o.«end») ops) 0
+
+abbrev pub ahead_before_end : Option ℤ → AnyOp → ℕ → List Invocation → ℕ
+ahead_before_end None op number ops = number
+ahead_before_end (Some b) Dequeue number ops = min number (first_put_end b ops)
+ahead_before_end (Some b) op number ops = number
+
+abbrev pub is_put_ahead_end : (ℤ → Bool) → ℕ → ℕ → ℕ → AnyOp → End → Bool
+is_put_ahead_end keeps from before number op (Returned at reply) =
+    puts_in keeps op && (nat_lt at before && not (nat_lt number from))
+is_put_ahead_end keeps from before number op Pending = false
+is_put_ahead_end keeps from before number op Failed = false
+
+-- whether an operation failed, or puts in another value, or returned before this number
+abbrev pub is_settled_end : ℤ → ℕ → Invocation → Bool
+is_settled_end b from o = not (is_put (int_eq b) o.op o.«end») || is_over from o.«end»
+
+abbrev pub are_settled : Option ℤ → AnyOp → ℕ → List Invocation → Bool
+are_settled None op from ops = true
+are_settled (Some b) Pop from ops = list_all (is_settled_end b from) ops
+are_settled (Some b) op from ops = true
+
+abbrev pub may_take_end : (ℤ → Bool) → AnyOp → End → Bool
+may_take_end keeps op (Returned at reply) = takes_out keeps op (Some reply)
+may_take_end keeps op Pending = is_taking op
+may_take_end keeps op Failed = false
+
+abbrev pub may_precede_end : (ℤ → Bool) → ℕ → ℕ → Invocation → Bool
+may_precede_end keeps number at o =
+    may_take_end keeps o.op o.«end» && not (o.number == number || nat_lt at o.number)
+
+-- the operation of this number is a taking that returned at `at`, and this is what it found
+pub record IsTaking (ops : List Invocation) (number : ℕ) (op : AnyOp) (at : ℕ)
+    (found : Option ℤ) : Type 0 where
+  pub operation : Invocation
+  pub known : Contains ops operation
+  pub named : operation.number ≡ number
+  pub same : operation.op ≡ op
+  pub told : found_end op operation.«end» ≡ Some (at, found)
 
 -- ---- cells, and entries of a map
 

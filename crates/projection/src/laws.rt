@@ -1,9 +1,9 @@
 //! Closure under projection, prefixes, suffixes, cells and entries, and without what was done with
-//! a value that is absent; and the bound of a count: functions that do nothing, whose contracts are
-//! theorems.
+//! a value that is absent; and the bounds of the two counts: functions that do nothing, whose
+//! contracts are theorems.
 
 ghost use Rattle.std.specs.Prelude.{◌≡◌, ◌<◌, ◌≤◌, ◌+◌, ℕ, ℤ, Bool, List, Option, Some};
-ghost use Rattle.std.specs.Prelude.{All, AllPairs};
+ghost use Rattle.std.specs.Prelude.{All, AllPairs, Contains, count_by, true};
 ghost use Rattle.model.specs.declared.Kind.{Kind};
 ghost use Rattle.model.specs.declared.AnyOp.{AnyOp};
 ghost use Rattle.model.specs.declared.AnyReply.{AnyReply};
@@ -11,6 +11,8 @@ ghost use Rattle.model.specs.Objects.{kind_of};
 ghost use Rattle.model.specs.Orders.{Call, Return, IsValidOrder};
 ghost use Rattle.projection.specs.declared.counting.Counted.{Counted};
 ghost use Rattle.projection.specs.Absent.{IsAbsent, calls_without};
+ghost use Rattle.projection.specs.Ahead.{ahead_before, found_by, is_put_ahead, is_settled};
+ghost use Rattle.projection.specs.Ahead.{is_value_ahead, may_precede};
 ghost use Rattle.projection.specs.Cells.{cell_calls};
 ghost use Rattle.projection.specs.Entries.{entry_calls};
 ghost use Rattle.projection.specs.Counts.{most_before, set_since, taken_since};
@@ -67,6 +69,23 @@ pub fn count_is_bounded()
         → most_before kind what from ≡ Some most
         → IsValidOrder kind calls order
         → taken_since what from calls ≤ most + set_since what from calls }
+{}
+
+/// Where the calls of an object have a valid order, no more values surely were ahead of what a
+/// taking found than other calls can have taken out before it.
+pub fn ahead_is_bounded()
+    ensures { (kind : Kind) (calls : List Call) (taking : Call) (at from : ℕ)
+        (found : Option ℤ) (order : List ℤ)
+        → All (λ e. kind_of e.op ≡ kind) calls
+        → AllPairs (λ a b. a.number < b.number) calls
+        → All (λ e. (r : Return) → e.returned ≡ Some r → e.number < r.at) calls
+        → Contains calls taking
+        → found_by taking.op taking.returned ≡ Some (at, found)
+        → is_settled found taking.op from calls ≡ true
+        → IsValidOrder kind calls order
+        → count_by (is_put_ahead (is_value_ahead found taking.op) from
+        (ahead_before found taking.op taking.number calls)) calls
+        ≤ count_by (may_precede (is_value_ahead found taking.op) taking.number at) calls }
 {}
 
 /// Where the calls of an object have a valid order, those of a cell have one, whatever it keeps and

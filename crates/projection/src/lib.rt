@@ -3,6 +3,7 @@
 #![tactic(auto)]
 
 mod absent;
+mod blocking;
 mod cells;
 mod counting;
 mod cutting;
@@ -13,14 +14,15 @@ mod prefix;
 mod suffix;
 
 pub use absent::without;
+pub use blocking::is_blocked;
 pub use cells::cell;
 pub use counting::{Count, Counted, is_overdrawn};
 pub use cutting::{Cut, part_by};
 pub use entries::entry;
 pub use keeping::{Values, keep};
 pub use laws::{
-    cell_is_valid, count_is_bounded, entry_is_valid, prefix_is_valid, projection_is_valid,
-    suffix_is_valid, without_is_valid,
+    ahead_is_bounded, cell_is_valid, count_is_bounded, entry_is_valid, prefix_is_valid,
+    projection_is_valid, suffix_is_valid, without_is_valid,
 };
 pub use prefix::until;
 pub use suffix::from;

@@ -138,7 +138,7 @@ fn later(start: Start, operation: &Invocation) -> Invocation
 }
 
 /// Whether an operation returned before this number.
-fn is_before(end: End, from: u32) -> bool
+pub(crate) fn is_before(end: End, from: u32) -> bool
     ensures { result ≡ is_over from end }
 {
     match end {
@@ -203,7 +203,7 @@ fn are_on_key(operations: &[Invocation], key: Option<i64>) -> bool
 }
 
 /// The operation with this number.
-fn operation_at(operations: &[Invocation], number: u32) -> Option<Invocation>
+pub(crate) fn operation_at(operations: &[Invocation], number: u32) -> Option<Invocation>
     ensures some { IfSome result (λ o. Contains operations.now o × (o.number ≡ number)) }
     ensures none { result ≡ None → All (λ o. o.number ≢ number) operations.now }
 {

@@ -67,7 +67,7 @@ fn a_part_is_handed_out_with_a_doubt(rt: HostRuntime) -> Result<(), Fail> {
         return Err(Fail::new("no order of the part is told"));
     };
     assert!(rt; order.as_slice() == [4].as_slice());
-    assert!(rt; matches!(doubt_of(&answers[1], 4), Some(Doubt::NotOverdrawn)));
+    assert!(rt; matches!(doubt_of(&answers[1], 4), Some(Doubt::NotExceeded)));
     Ok(())
 }
 

@@ -21,7 +21,7 @@ fn read(alloc: Global, text: &[u8]) -> Result<Result<Vec<Reason>, ReasonFault>, 
 
 /// Each kind of cut, of count and of search, with its least and greatest numbers. What a cut or a
 /// count means as it is read is tested on the built program.
-const LINES: [&str; 24] = [
+const LINES: [&str; 27] = [
     "{:object 0, :cuts [{:from 17}]}\n",
     "{:object 0, :cuts [{:from 0}]}\n",
     "{:object 0, :cuts [{:until 120}]}\n",
@@ -42,6 +42,9 @@ const LINES: [&str; 24] = [
     "{:object 65535, :cuts [], :count {:key 5, :from 3}}\n",
     "{:object 65535, :cuts [], :count {:held true, :from 0}}\n",
     "{:object 65535, :cuts [], :count {:free true, :from 4294967295}}\n",
+    "{:object 65535, :cuts [], :count {:ahead 0}}\n",
+    "{:object 65535, :cuts [], :count {:ahead 4294967295}}\n",
+    "{:object 65535, :cuts [{:until 9}], :count {:ahead 7, :from 4294967295}}\n",
     "{:object 4, :cuts [], :search {:first :return}}\n",
     "{:object 4, :cuts [], :search {:first :return, :steps 4294967295}}\n",
     "{:object 4, :cuts [{:until 3}], :search {:first :number, :steps 0}}\n",
@@ -57,6 +60,43 @@ fn reasons_that_were_read_are_written_as_they_were(rt: HostRuntime) -> Result<()
         let mut sink = Out::new(Vec::new(rt.alloc()));
         write_reasons(reasons.as_slice(), &mut sink)?;
         assert!(rt; sink.into_inner().as_slice() == line.as_bytes(), "{line}");
+    }
+    Ok(())
+}
+
+/// With `:ahead` the other keys of a count are ignored, except `:from`.
+#[test]
+fn what_was_ahead_is_counted_whatever_else_a_count_says(rt: HostRuntime) -> Result<(), Fail> {
+    let text = b"{:object 0, :count {:value :x, :key :y, :held true, :ahead 3, :from 0}}";
+    let Ok(reasons) = read(rt.alloc(), text)? else {
+        return Err(Fail::new("a reason is refused"));
+    };
+    let mut sink = Out::new(Vec::new(rt.alloc()));
+    write_reasons(reasons.as_slice(), &mut sink)?;
+    assert!(rt;
+        sink.into_inner().as_slice() == b"{:object 0, :cuts [], :count {:ahead 3}}\n".as_slice()
+    );
+    Ok(())
+}
+
+#[test]
+fn what_was_ahead_is_counted_at_a_number_from_a_number(rt: HostRuntime) -> Result<(), Fail> {
+    for count in [
+        "{:ahead nil}",
+        "{:ahead -1}",
+        "{:ahead 4294967296}",
+        "{:ahead nil, :value 7, :from 0}",
+        "{:ahead 3, :from -1}",
+        "{:ahead 3, :from nil}",
+    ] {
+        let text = format!(in rt.alloc(); "{{:object 0}} {{:object 0, :count {count}}}")?;
+        let Err(fault) = read(rt.alloc(), text.as_bytes())? else {
+            return Err(Fail::new("a reason is read"));
+        };
+        assert!(rt;
+            fault.kind == ReasonFaultKind::NotAReason && fault.form == 1,
+            "{count}"
+        );
     }
     Ok(())
 }

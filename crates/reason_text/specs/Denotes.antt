@@ -18,7 +18,7 @@ use Rattle.projection.specs.declared.counting.Counted.TheVariants as counted
 use Rattle.order_search.specs.declared.trials.TryFirst.{TryFirst}
 use Rattle.order_search.specs.declared.trials.TryFirst.TheVariants.{LeastNumber, LeastReturn}
 use Rattle.refutation.specs.declared.reason.Evidence.{Evidence}
-use Rattle.refutation.specs.declared.reason.Evidence.TheVariants.{Search, Counting}
+use Rattle.refutation.specs.declared.reason.Evidence.TheVariants.{Search, Counting, Ahead}
 use Rattle.refutation.specs.declared.reason.Reason.{Reason}
 
 -- ---- what a reason says, apart from how sets are in memory
@@ -193,8 +193,20 @@ counted_of es =
     counted_with (optional_int_at (codes "key") es) (optional_int_at (codes "value") es)
     (is_some (value_at (codes "held") es)) (is_some (value_at (codes "free") es))
 
+abbrev pub ahead_with : Option ℕ → Option ℕ → Option Evidence
+ahead_with (Some number) (Some from) = Some (Ahead number from)
+ahead_with number from = None
+
+-- what was ahead of the taking with this number, if there is a value; else what is counted
+abbrev pub count_from : Option Datum → Option Counted → Option ℕ → Option Evidence
+count_from None what from = count_with what from
+count_from (Some d) what from = ahead_with (number_in (Some d)) from
+
+-- The count that a map names. With the key :ahead no other key matters, except :from.
 abbrev pub evidence_of : Entries → Option Evidence
-evidence_of es = count_with (counted_of es) (start_in (value_at (codes "from") es))
+evidence_of es =
+    count_from (value_at (codes "ahead") es) (counted_of es)
+    (start_in (value_at (codes "from") es))
 
 -- which operation is tried first: :number, the default, or :return
 abbrev pub first_in : Option Datum → Option TryFirst

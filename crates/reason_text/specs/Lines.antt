@@ -1,6 +1,6 @@
 -- The text that is written for reasons.
-use Rattle.std.specs.Prelude.{ℕ, ◌≤◌, ℤ, Bool, true, false, List, [], ◌∷◌, ◌++◌, codes, decimal}
-use Rattle.std.specs.Prelude.{All, Option, Some, None}
+use Rattle.std.specs.Prelude.{ℕ, ◌≤◌, ◌==◌, ℤ, Bool, true, false, List, [], ◌∷◌, ◌++◌}
+use Rattle.std.specs.Prelude.{All, Option, Some, None, codes, decimal, if◌then◌else◌}
 use Rattle.std.specs.Fmt.{signed_decimal}
 use Rattle.edn_reader.specs.Datum.{Datum}
 use Rattle.edn_reader.specs.Spells.{Spells}
@@ -17,7 +17,7 @@ use Rattle.projection.specs.declared.counting.Counted.TheVariants as counted
 use Rattle.order_search.specs.declared.trials.TryFirst.{TryFirst}
 use Rattle.order_search.specs.declared.trials.TryFirst.TheVariants.{LeastNumber, LeastReturn}
 use Rattle.refutation.specs.declared.reason.Evidence.{Evidence}
-use Rattle.refutation.specs.declared.reason.Evidence.TheVariants.{Search, Counting}
+use Rattle.refutation.specs.declared.reason.Evidence.TheVariants.{Search, Counting, Ahead}
 use Rattle.refutation.specs.declared.reason.Reason.{Reason}
 use Rattle.reason_text.specs.Denotes.{Denotes}
 
@@ -89,6 +89,15 @@ count_text c =
     codes ", :count {"
     ++ (counted_text c.counted ++ ((codes ", :from " ++ decimal c.from) ++ codes "}"))
 
+-- the pair :from, where it is not 0, and the closing bracket
+abbrev pub start_text : ℕ → List ℕ
+start_text from =
+    if from == 0 then codes "}" else (codes ", :from " ++ decimal from) ++ codes "}"
+
+-- the pair :count, as in `, :count {:ahead 1708}` and `, :count {:ahead 40, :from 17}`
+abbrev pub ahead_text : ℕ → ℕ → List ℕ
+ahead_text number from = (codes ", :count {:ahead " ++ decimal number) ++ start_text from
+
 -- the pair :search with a number of steps, up to that number
 abbrev pub first_text : TryFirst → List ℕ
 first_text LeastNumber = codes ", :search {:first :number, :steps "
@@ -105,6 +114,7 @@ search_text LeastReturn None = codes ", :search {:first :return}"
 abbrev pub evidence_text : Evidence → List ℕ
 evidence_text (Search trial) = search_text trial.first trial.steps
 evidence_text (Counting c) = count_text c
+evidence_text (Ahead number from) = ahead_text number from
 
 -- ---- reasons
 

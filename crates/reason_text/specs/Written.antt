@@ -13,7 +13,7 @@ use Rattle.projection.specs.declared.cutting.Cut.TheVariants.{Entry}
 use Rattle.projection.specs.declared.counting.Counted.{Counted}
 use Rattle.projection.specs.declared.counting.Counted.TheVariants as counted
 use Rattle.refutation.specs.declared.reason.Evidence.{Evidence}
-use Rattle.refutation.specs.declared.reason.Evidence.TheVariants.{Search, Counting}
+use Rattle.refutation.specs.declared.reason.Evidence.TheVariants.{Search, Counting, Ahead}
 use Rattle.refutation.specs.declared.reason.Reason.{Reason}
 use Rattle.reason_text.specs.Denotes.{max_number}
 
@@ -54,6 +54,7 @@ AreTypedSteps (Some n) = n ≤ max_number
 abbrev pub IsTypedEvidence : Evidence → Type 0
 IsTypedEvidence (Search trial) = AreTypedSteps trial.steps
 IsTypedEvidence (Counting c) = IsTypedCounted c.counted × (c.from ≤ max_number)
+IsTypedEvidence (Ahead number from) = (number ≤ max_number) × (from ≤ max_number)
 
 abbrev pub IsTypedReason : Reason → Type 0
 IsTypedReason r = AllByRecursion IsTypedCut r.cuts.items × IsTypedEvidence r.evidence

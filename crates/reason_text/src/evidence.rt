@@ -40,13 +40,37 @@ fn start(form: Option<&Form>) -> Option<u32>
     }
 }
 
-/// The count that the pairs of a map name.
-fn evidence_of(entries: &[(Name, Form)]) -> Option<Evidence>
-    ensures { result ≡ spec.evidence_of (entries_of (pair_views entries.now)) }
+/// The count of a content that the pairs of a map name.
+fn count_of(entries: &[(Name, Form)]) -> Option<Evidence>
+    ensures { result ≡ spec.count_with (spec.counted_of (entries_of (pair_views entries.now)))
+        (spec.start_in (value_at (codes "from") (entries_of (pair_views entries.now)))) }
 {
     let counted = counted(entries)?;
     let from = start(value_at(entries, b"from"))?;
     Some(Evidence::Counting(Count { counted, from }))
+}
+
+/// The count of what was ahead of the taking of a number, from a number on.
+fn ahead(taking: Option<&Form>, from: Option<&Form>) -> Option<Evidence>
+    ensures { result ≡ spec.ahead_with
+        (spec.number_in (option_map (λ f. view f.now) taking.entry))
+        (spec.start_in (option_map (λ f. view f.now) from.entry)) }
+{
+    let number = number(taking)?;
+    let from = start(from)?;
+    Some(Evidence::Ahead { number, from })
+}
+
+/// The count that the pairs of a map name. With the key `:ahead` no other key matters, except
+/// `:from`.
+fn evidence_of(entries: &[(Name, Form)]) -> Option<Evidence>
+    ensures { result ≡ spec.evidence_of (entries_of (pair_views entries.now)) }
+{
+    let taking = value_at(entries, b"ahead");
+    match taking {
+        None => count_of(entries),
+        Some(_) => ahead(taking, value_at(entries, b"from")),
+    }
 }
 
 /// Which operation a search tries first.

@@ -67,6 +67,30 @@ fn write_count<S: Sink>(count: Count, sink: &mut S) -> Result<(), Failed>
     write_start(count.from, sink)
 }
 
+/// The pair `:from` of a count, where it is not 0, and the closing bracket.
+fn write_later_start<S: Sink>(from: u32, sink: &mut S) -> Result<(), Failed>
+    requires { S.broken sink.old ≡ false }
+    ensures sent { Writes result (S.sent sink.old) (S.sent sink.new) (S.broken sink.new)
+        (text.start_text from) }
+    ensures in_range { from ≤ max_number }
+{
+    if from == 0 {
+        return write_bytes(b"}", sink);
+    }
+    write_start(from, sink)
+}
+
+/// The pair `:count` of what was ahead.
+fn write_ahead<S: Sink>(number: u32, from: u32, sink: &mut S) -> Result<(), Failed>
+    requires { S.broken sink.old ≡ false }
+    ensures sent { Writes result (S.sent sink.old) (S.sent sink.new) (S.broken sink.new)
+        (text.ahead_text number from) }
+    ensures in_range { (number ≤ max_number) × (from ≤ max_number) }
+{
+    write_number_after(b", :count {:ahead ", number, sink)?;
+    write_later_start(from, sink)
+}
+
 /// The pair `:search` with a number of steps, without its closing bracket.
 fn write_steps<S: Sink>(first: TryFirst, steps: u32, sink: &mut S) -> Result<(), Failed>
     requires { S.broken sink.old ≡ false }
@@ -119,6 +143,7 @@ fn write_evidence<S: Sink>(evidence: Evidence, sink: &mut S) -> Result<(), Faile
     match evidence {
         Evidence::Search(trial) => write_search(trial, sink),
         Evidence::Counting(count) => write_count(count, sink),
+        Evidence::Ahead { number, from } => write_ahead(number, from, sink),
     }
 }
 

@@ -8,3 +8,4 @@ pub use Rattle.order_search.specs.Outcomes
 pub use Rattle.projection.specs.Parts
 pub use Rattle.projection.specs.Cuts
 pub use Rattle.projection.specs.Counts
+pub use Rattle.projection.specs.Ahead

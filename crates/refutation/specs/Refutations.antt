@@ -7,13 +7,14 @@ use Rattle.events.specs.Events.{kind_at, denoted, IsNamed}
 use Rattle.events.specs.Operations.{ObjectCalls, calls_of}
 use Rattle.order_search.specs.Outcomes.{IsNoneValid}
 use Rattle.projection.specs.declared.cutting.Cut.{Cut}
+use Rattle.projection.specs.Ahead.{IsBlocked}
 use Rattle.projection.specs.Counts.{IsOverdrawn}
 use Rattle.projection.specs.Cuts.{NamesPart, NoneFailed, part_kind}
 use Rattle.refutation.specs.declared.reason.Evidence.{Evidence}
-use Rattle.refutation.specs.declared.reason.Evidence.TheVariants.{Search, Counting}
+use Rattle.refutation.specs.declared.reason.Evidence.TheVariants.{Search, Counting, Ahead}
 use Rattle.refutation.specs.declared.reason.Reason.{Reason}
 use Rattle.refutation.specs.declared.refuting.Doubt.{Doubt}
-use Rattle.refutation.specs.declared.refuting.Doubt.TheVariants.{Possible, NotOverdrawn, OutOfSteps}
+use Rattle.refutation.specs.declared.refuting.Doubt.TheVariants.{Possible, NotExceeded, OutOfSteps}
 use Rattle.refutation.specs.declared.refuting.Doubt.TheVariants.{NoMemory}
 use Rattle.refutation.specs.declared.refuting.Refutation.{Refutation}
 use Rattle.refutation.specs.declared.refuting.Refutation.TheVariants as refutation
@@ -54,22 +55,25 @@ steps_or (Some n) limit = n
 abbrev pub steps_of : Evidence → ℕ → ℕ
 steps_of (Search trial) limit = steps_or trial.steps limit
 steps_of (Counting count) limit = limit
+steps_of (Ahead number from) limit = limit
 
 abbrev pub IsSearch : Evidence → Type 0
 IsSearch (Search trial) = ⊤
 IsSearch (Counting count) = ⊥
+IsSearch (Ahead number from) = ⊥
 
 -- a count does not show that the part has no valid order
-abbrev pub IsNotOverdrawn : Evidence → ObjectCalls → Type 0
-IsNotOverdrawn (Search trial) part = ⊥
-IsNotOverdrawn (Counting count) part =
+abbrev pub IsNotExceeded : Evidence → ObjectCalls → Type 0
+IsNotExceeded (Search trial) part = ⊥
+IsNotExceeded (Counting count) part =
     IsOverdrawn part.kind count (calls_of part.ops) → ⊥
+IsNotExceeded (Ahead number from) part = IsBlocked number from (calls_of part.ops) → ⊥
 
 -- Why the evidence does not show that the part has no valid order. A count has one answer alone.
 abbrev pub IsDoubt : Evidence → ObjectCalls → Doubt → Type 0
 IsDoubt evidence part (Possible order) =
     IsSearch evidence × IsValidOrder part.kind (calls_of part.ops) order.items
-IsDoubt evidence part NotOverdrawn = IsNotOverdrawn evidence part
+IsDoubt evidence part NotExceeded = IsNotExceeded evidence part
 IsDoubt evidence part OutOfSteps = IsSearch evidence
 IsDoubt evidence part NoMemory =
     IsSearch evidence × Any (λ call. IsSome call.returned) (calls_of part.ops)
@@ -79,10 +83,12 @@ abbrev pub HasNoValidOrder : ObjectCalls → Type 0
 HasNoValidOrder part = IsNoneValid part.kind (calls_of part.ops)
 
 -- What the evidence shows of a part: a search, that no order of it is valid; a count, that a
--- content was taken away more often than it can have been there.
+-- content was taken away more often than it can have been there, or that more values surely were
+-- ahead of what a taking found than other calls can have taken out before it.
 abbrev pub IsShownBy : Evidence → ObjectCalls → Type 0
 IsShownBy (Search trial) part = HasNoValidOrder part
 IsShownBy (Counting count) part = IsOverdrawn part.kind count (calls_of part.ops)
+IsShownBy (Ahead number from) part = IsBlocked number from (calls_of part.ops)
 
 -- A part with the calls that the cuts name of the calls of an object, x, of this kind, and with no
 -- other operations: none of its operations failed.

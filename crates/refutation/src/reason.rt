@@ -19,8 +19,13 @@ pub struct Trial {
 pub enum Evidence {
     /// The search for an order of the part.
     Search(Trial),
-    /// A count over the part.
+    /// A count over the part of how often a content was set and taken away: see
+    /// [`projection::is_overdrawn`].
     Counting(Count),
+    /// A count over the part of the values that surely were ahead of what the taking with this
+    /// number found, by puts that were invoked at the number `from` or later: see
+    /// [`projection::is_blocked`].
+    Ahead { number: u32, from: u32 },
 }
 
 impl Evidence {

@@ -11,7 +11,7 @@ ghost use Rattle.refutation.specs.Refutations.{IfPart, IsDoubt, IsNamedPart, Has
 use crate::reason::{Evidence, Reason, Trial};
 use events::ObjectHistory;
 use order_search::{Attempt, Outcome, find_order_of_any_size};
-use projection::{Count, is_overdrawn, part_by};
+use projection::{Count, is_blocked, is_overdrawn, part_by};
 use std::alloc::{AllocError, Global};
 
 /// Why a part does not show that no order of the whole is valid.
@@ -19,8 +19,9 @@ use std::alloc::{AllocError, Global};
 pub enum Doubt {
     /// The part has this valid order.
     Possible(Vec<i64>),
-    /// In the part the content was not taken away more often than it can have been there.
-    NotOverdrawn,
+    /// The count is not exceeded: in the part the content was not taken away more often than it can
+    /// have been there, or no more values surely were ahead than can have been taken out before.
+    NotExceeded,
     /// The search reached its limit of steps.
     OutOfSteps,
     /// The search was refused memory.
@@ -64,7 +65,20 @@ fn doubt_of_count(part: &ObjectHistory, count: Count) -> Option<Doubt>
     if is_overdrawn(part, count) {
         return None;
     }
-    Some(Doubt::NotOverdrawn)
+    Some(Doubt::NotExceeded)
+}
+
+/// What the count of what was ahead of a taking answers of a part; `None`: it is exceeded, so that
+/// no order of the part is valid.
+fn doubt_of_ahead(part: &ObjectHistory, number: u32, from: u32) -> Option<Doubt>
+    ensures exceeded { result ≡ None → IsShownBy (Evidence.Ahead number from) part.now }
+    ensures shown { result ≡ None → IsNoneValid part.now.kind (calls_of part.now.ops) }
+    ensures doubt { IfSome result (IsDoubt (Evidence.Ahead number from) part.now) }
+{
+    if is_blocked(part, number, from) {
+        return None;
+    }
+    Some(Doubt::NotExceeded)
 }
 
 /// What the evidence answers of a part; `None`: it shows that no order of the part is valid.
@@ -76,6 +90,7 @@ fn doubt_of(alloc: Global, part: &ObjectHistory, evidence: Evidence, limit: u64)
     match evidence {
         Evidence::Search(trial) => doubt_of_search(alloc, part, trial, limit),
         Evidence::Counting(count) => doubt_of_count(part, count),
+        Evidence::Ahead { number, from } => doubt_of_ahead(part, number, from),
     }
 }
 

@@ -8,7 +8,7 @@ use Rattle.order_search.specs.Outcomes.{IsNoneValid}
 use Rattle.projection.specs.declared.cutting.Cut.{Cut}
 use Rattle.projection.specs.Cuts.{NamesPart, part_kind}
 use Rattle.refutation.specs.declared.reason.Reason.{Reason}
-use Rattle.refutation.specs.declared.refuting.Doubt.TheVariants.{Possible, NotOverdrawn, OutOfSteps, NoMemory}
+use Rattle.refutation.specs.declared.refuting.Doubt.TheVariants.{Possible, NotExceeded, OutOfSteps, NoMemory}
 use Rattle.refutation.specs.Refutations.{HasNoValidOrder, IsDoubt, IsNamedPart, IsShownBy, steps_of}
 use Rattle.claims.specs.declared.claim.Claim.TheVariants as claim
 use Rattle.verifying.specs.declared.decision.Decision.TheVariants as decision
@@ -69,7 +69,7 @@ module _ (kind : Kind) (calls : List Call) (limit : ℕ) (r : Reason) (note : Op
       → IsAnswer r.object kind calls limit (claim.Reason r note) decision.Open
   has_an_order part order named doubt = is_refused (inr (part, named, inl (order, doubt)))
 
-  pub is_not_exceeded : (part : ObjectCalls) → IsNamedPart r.cuts.items r.object kind calls part → IsDoubt r.evidence part NotOverdrawn
+  pub is_not_exceeded : (part : ObjectCalls) → IsNamedPart r.cuts.items r.object kind calls part → IsDoubt r.evidence part NotExceeded
       → IsAnswer r.object kind calls limit (claim.Reason r note) decision.Open
   is_not_exceeded part named doubt = is_refused (inr (part, named, inr doubt))
 

@@ -15,7 +15,7 @@ use Rattle.order_search.specs.Outcomes.{IsNoneValid}
 use Rattle.projection.specs.Cuts.{NamesPart}
 use Rattle.search.specs.Answers.{IsFor}
 use Rattle.refutation.specs.declared.reason.Reason.{Reason}
-use Rattle.refutation.specs.declared.refuting.Doubt.TheVariants.{Possible, NotOverdrawn}
+use Rattle.refutation.specs.declared.refuting.Doubt.TheVariants.{Possible, NotExceeded}
 use Rattle.refutation.specs.Refutations.{HasNoValidOrder, IsDoubt, IsNamedPart, IsSearch}
 use Rattle.refutation.specs.Refutations.{IsShownBy, steps_of}
 use Rattle.claims.specs.declared.claim.Claim.{Claim}
@@ -116,7 +116,7 @@ IsRefusedReason kind calls r =
     ((part : List Call) → NamesPart r.cuts.items calls part → ⊥)
     ⊎ ((part : ObjectCalls) × IsNamedPart r.cuts.items r.object kind calls part
     × (((order : _) × IsDoubt r.evidence part (Possible order))
-    ⊎ IsDoubt r.evidence part NotOverdrawn))
+    ⊎ IsDoubt r.evidence part NotExceeded))
 
 -- the claim is not true of an object of this kind and these calls
 abbrev pub IsRefused : Kind → List Call → Claim → Type 0

@@ -54,7 +54,7 @@ fn decide_by_doubt(reason: &Reason, limit: u64, doubt: Doubt) -> Decision
         Doubt::OutOfSteps => Decision::OutOfSteps(reason.evidence.steps(limit)),
         Doubt::NoMemory => Decision::NoMemory,
         Doubt::Possible(_) => Decision::Open,
-        Doubt::NotOverdrawn => Decision::Open,
+        Doubt::NotExceeded => Decision::Open,
     }
 }
 

@@ -1,9 +1,54 @@
 //! The words of the command line.
 
-pub const USAGE: &str = "\
-usage: fcbench-tools find HISTORY [--workers N] [--steps N]
-       fcbench-tools judge HISTORY [--workers N] [--steps N]
-       fcbench-tools draw HISTORY [CERTIFICATES] [--object X] [--from A] [--to B] [--steps N]";
+use std::num::NonZero;
+use std::thread;
+
+/// What each command does.
+const COMMANDS: &str = "\
+the commands of fcbench that find and draw
+
+Usage: fcbench <COMMAND>
+
+Commands:
+  judge  decides whether a history is linearizable: looks for evidence, which the proved verifier checks
+  find   writes evidence for a history: an order, a reason or a search for each object
+  draw   judges a history, or checks it by certificates, and writes the answer as a page of HTML
+";
+
+const JUDGE: &str = "\
+decides whether a history is linearizable: looks for evidence, which the proved verifier checks
+
+Usage: fcbench judge [OPTIONS] <HISTORY>
+
+Options:
+      --steps <N>    the most steps of the last search of an object, 0 to 1000000000 (default 1000000, or 100 for each operation if that is more)
+      --workers <N>  how many threads look for evidence, 1 to 16 (default: one for each processor)
+  -h, --help         Print help
+";
+
+const FIND: &str = "\
+writes evidence for a history: an order, a reason or a search for each object
+
+Usage: fcbench find [OPTIONS] <HISTORY>
+
+Options:
+      --steps <N>    the most steps of the last search of an object, 0 to 1000000000 (default 1000000, or 100 for each operation if that is more)
+      --workers <N>  how many threads look for evidence, 1 to 16 (default: one for each processor)
+  -h, --help         Print help
+";
+
+const DRAW: &str = "\
+judges a history, or checks it by certificates, and writes the answer as a page of HTML
+
+Usage: fcbench draw [OPTIONS] <HISTORY> [CERTIFICATES]
+
+Options:
+      --object <N>  the object that is drawn alone
+      --from <N>    the first map of the stretch that is drawn
+      --to <N>      the last map of the stretch that is drawn
+      --steps <N>   as for judge
+  -h, --help        Print help
+";
 
 /// Which history evidence is looked for, by how many threads, and the most steps of the last search
 /// for each object, if they are given.
@@ -29,10 +74,16 @@ pub enum Command {
     Find(Find),
     Judge(Find),
     Draw(Draw),
+    /// What the words mean.
+    Help(&'static str),
 }
 
-const MOST_WORKERS: u64 = 16;
+const MOST_WORKERS: usize = 16;
 const MOST_STEPS: u64 = 1_000_000_000;
+
+fn one_for_each_processor() -> usize {
+    thread::available_parallelism().map_or(1, NonZero::get).min(MOST_WORKERS)
+}
 
 /// The words that are no options, and the numbers of the options.
 #[derive(Default)]
@@ -73,7 +124,8 @@ impl Words {
     }
 
     fn find(mut self) -> Option<Find> {
-        let workers = self.take("--workers", 1, MOST_WORKERS)?.unwrap_or(1) as usize;
+        let workers = self.take("--workers", 1, MOST_WORKERS as u64)?;
+        let workers = workers.map_or_else(one_for_each_processor, |number| number as usize);
         let steps = self.take("--steps", 0, MOST_STEPS)?;
         let [history] = self.files.try_into().ok()?;
         self.numbers.is_empty().then_some(Find { history, workers, steps })
@@ -94,17 +146,28 @@ impl Words {
 }
 
 impl Command {
-    /// Reads the words after the program's name. `None`: they ask for nothing.
-    pub fn parse(words: impl IntoIterator<Item = String>) -> Option<Command> {
-        let mut words = words.into_iter();
-        let name = words.next()?;
-        let words = Words::sort(words)?;
-        match name.as_str() {
+    /// Reads the words after the program's name. The error is the help on the command that they
+    /// name, if they ask for nothing.
+    pub fn parse(words: impl IntoIterator<Item = String>) -> Result<Command, &'static str> {
+        let words: Vec<String> = words.into_iter().collect();
+        let (name, words) = words.split_first().ok_or(COMMANDS)?;
+        let help = match name.as_str() {
+            "find" => FIND,
+            "judge" => JUDGE,
+            "draw" => DRAW,
+            "--help" | "-h" => return Ok(Command::Help(COMMANDS)),
+            _ => return Err(COMMANDS),
+        };
+        if words.iter().any(|word| word == "--help" || word == "-h") {
+            return Ok(Command::Help(help));
+        }
+        let words = Words::sort(words.iter().cloned()).ok_or(help)?;
+        let command = match name.as_str() {
             "find" => words.find().map(Command::Find),
             "judge" => words.find().map(Command::Judge),
-            "draw" => words.draw().map(Command::Draw),
-            _ => None,
-        }
+            _ => words.draw().map(Command::Draw),
+        };
+        command.ok_or(help)
     }
 }
 
@@ -113,12 +176,12 @@ mod tests {
     use super::*;
 
     fn parsed(line: &str) -> Option<Command> {
-        Command::parse(line.split_whitespace().map(String::from))
+        Command::parse(line.split_whitespace().map(String::from)).ok()
     }
 
     #[test]
     fn reads_the_command_line() {
-        let find = Find { history: "h.edn".into(), workers: 1, steps: None };
+        let find = Find { history: "h.edn".into(), workers: one_for_each_processor(), steps: None };
         assert_eq!(parsed("find h.edn"), Some(Command::Find(find)));
         let find = Find { history: "h.edn".into(), workers: 4, steps: Some(0) };
         assert_eq!(parsed("judge --steps 0 h.edn --workers 4"), Some(Command::Judge(find)));
@@ -129,6 +192,14 @@ mod tests {
             options: pages::Options { object: Some(3), from: None, to: Some(9) },
         };
         assert_eq!(parsed("draw h.edn --to 9 c.edn --object 3"), Some(Command::Draw(draw)));
+    }
+
+    #[test]
+    fn helps() {
+        assert_eq!(parsed("--help"), Some(Command::Help(COMMANDS)));
+        assert_eq!(parsed("judge --help"), Some(Command::Help(JUDGE)));
+        assert_eq!(parsed("find -h"), Some(Command::Help(FIND)));
+        assert_eq!(parsed("draw h.edn --help"), Some(Command::Help(DRAW)));
     }
 
     #[test]

@@ -29,7 +29,8 @@ pub fn find(command: &Find) -> Status {
         Err(status) => return status,
     };
     let Some(history) = read_history(&text) else {
-        say(format_args!("malformed history"));
+        let path = &command.history;
+        say(format_args!("malformed history: fcbench check {path} /dev/null says where"));
         return Status::MALFORMED;
     };
     let options = Options { steps: command.steps, workers: command.workers };

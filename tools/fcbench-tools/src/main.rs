@@ -14,19 +14,23 @@ mod judge;
 mod program;
 mod status;
 
-use command_line::{Command, USAGE};
+use command_line::Command;
 use status::Status;
 use std::process::ExitCode;
 
 fn main() -> ExitCode {
     let status = match Command::parse(std::env::args().skip(1)) {
-        None => {
-            eprintln!("{USAGE}");
+        Ok(Command::Find(command)) => find::find(&command),
+        Ok(Command::Judge(command)) => judge::judge(&command),
+        Ok(Command::Draw(command)) => draw::draw(&command),
+        Ok(Command::Help(text)) => {
+            print!("{text}");
+            Status::YES
+        }
+        Err(help) => {
+            eprint!("{help}");
             Status::USAGE
         }
-        Some(Command::Find(command)) => find::find(&command),
-        Some(Command::Judge(command)) => judge::judge(&command),
-        Some(Command::Draw(command)) => draw::draw(&command),
     };
     status.into()
 }

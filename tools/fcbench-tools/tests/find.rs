@@ -51,7 +51,8 @@ fn a_wrong_command_line_is_status_64() {
     for words in [&[][..], &["find"], &["other", "h.edn"], &["find", "h.edn", "--steps"]] {
         let output = run(words);
         assert_eq!(output.status.code(), Some(64), "{words:?}");
-        assert!(output.stderr.starts_with(b"usage: "), "{words:?}");
+        let said = String::from_utf8(output.stderr).expect("a text");
+        assert!(said.contains("\nUsage: fcbench "), "{words:?}: {said}");
     }
 }
 

@@ -1,0 +1,364 @@
+-- What surely was ahead of what a taking found was taken out before it.
+use Rattle.std.proofs.Common.{◌≡◌, ◌≢◌, ◌⊎◌, inl, inr, ℕ, ℤ, pos, ◌<◌, ◌≤◌, ◌+◌, ◌==◌, nat_lt, min}
+use Rattle.std.proofs.Common.{Bool, true, false, not, ◌&&◌, ◌||◌, cond, List, [], ◌∷◌, ◌++◌, Option}
+use Rattle.std.proofs.Common.{Some, None, All, AllPairs, Contains, IfSome, IsSome, count_by, refl}
+use Rattle.std.proofs.Common.{ap, sym, ◌∙◌, subst, arith}
+use Rattle.std.proofs.lemmas.Bool.Decides.{nat_tests}
+use Rattle.std.proofs.lemmas.Option.{same_Some}
+use Rattle.std.specs.Ordering.{int_eq}
+use Rattle.std.specs.List.{list_all}
+use Rattle.model.specs.declared.Kind.{Kind}
+use Rattle.model.specs.declared.Kind.TheVariants as variant
+use Rattle.model.specs.declared.AnyOp.{AnyOp}
+use Rattle.model.specs.declared.AnyOp.TheVariants.{Enqueue, Dequeue, Push, Pop, Insert, ExtractMin}
+use Rattle.model.specs.declared.AnyOp.TheVariants.{Write, Read, Cas, Put, Get, Del, Acquire}
+use Rattle.model.specs.declared.AnyOp.TheVariants.{Release}
+use Rattle.model.specs.declared.AnyReply.{AnyReply}
+use Rattle.model.specs.declared.AnyReply.TheVariants.{Value, Swapped, NotSwapped}
+use Rattle.model.specs.Objects.{queue, stack, kind_of, empty}
+use Rattle.model.specs.Orders.{Call, Return, ReturnsBefore, RepliesAlong, IsValidOrder}
+use Rattle.model.proofs.Lists.{In, Pairs, in_append, in_left, in_split, in_from_contains, all_at}
+use Rattle.model.proofs.Lists.{pairs_from_all, pairs_weaker, pairs_from_map}
+use Rattle.projection.specs.Parts.{puts_in, is_taking, ended_before}
+use Rattle.projection.specs.Ahead.{found_in, found_by, is_value_ahead, first_put, ahead_before}
+use Rattle.projection.specs.Ahead.{is_settled, is_put_ahead, may_precede}
+use Rattle.projection.proofs.Conserved.{tally, count_tally, count_among}
+use Rattle.projection.proofs.Emptied.{unlike, both, joined, tally_le, pairs_front, pairs_to}
+use Rattle.projection.proofs.Emptied.{pairs_beyond, put_by, may_by, spent}
+use Rattle.projection.proofs.InFront.{every, queue_spent, until_put, fresh_until, in_until}
+use Rattle.projection.proofs.InFront.{first_least, stack_spent, since_put, since_none, since_along}
+use Rattle.projection.proofs.InFront.{since_tally, in_since}
+
+-- ---- the calls, and those in an order
+
+ended : (before : ℕ) (o : Option Return) → ended_before before o ≡ true → (r : Return) × (o ≡ Some r) ×
+    (r.at < before)
+ended before None e = absurd (unlike e)
+ended before (Some r) e = (r, refl, less r.at before e)
+  where
+    less : (a b : ℕ) → nat_lt a b ≡ true → a < b
+    less a b e = grind (arith, nat_tests)
+
+-- what holds of a put that counts
+put_parts : (keeps : ℤ → Bool) (from before : ℕ) (e : Call) → is_put_ahead keeps from before e ≡ true
+    → (puts_in keeps e.op ≡ true) × (ended_before before e.returned ≡ true) × (from ≤ e.number)
+put_parts keeps from before e p =
+    let a = both (puts_in keeps e.op) (ended_before before e.returned && not (nat_lt e.number from)) p in
+    let b = both (ended_before before e.returned) (not (nat_lt e.number from)) a.1 in
+    (a.0, b.0, begun e.number from b.1)
+  where
+    begun : (number from : ℕ) → not (nat_lt number from) ≡ true → from ≤ number
+    begun number from e = grind (arith, nat_tests)
+
+-- what a taking shows
+record Shown (op : AnyOp) (o : Option Return) (at : ℕ) (found : Option ℤ) : Type 0 where
+  pub taking : is_taking op ≡ true
+  pub reply : AnyReply
+  pub returned : o ≡ Some (record { at = at; reply = reply })
+  pub value : reply ≡ Value found
+
+pub pair_first : (a b : ℕ) (x y : Option ℤ) → ◌≡◌ {A = Option (ℕ × Option ℤ)} (Some (a, x)) (Some (b, y))
+    → (a ≡ b) × (x ≡ y)
+pair_first a b x y e = let p : ℕ × Option ℤ = (a, x) in let q : ℕ × Option ℤ = (b, y) in let s = same_Some p
+    q e in (ap (λ (z : ℕ × Option ℤ). z.0) s, ap (λ (z : ℕ × Option ℤ). z.1) s)
+
+shown_by : (op : AnyOp) (o : Option Return) (at : ℕ) (found : Option ℤ) → found_by op o ≡ Some (at, found)
+    → Shown op o at found
+shown_by op None at found e = absurd (cc e)
+shown_by op (Some r) at found e = go (is_taking op) refl e
+  where
+    in_reply : (reply : AnyReply) → r.reply ≡ reply → is_taking op ≡ true
+        → found_in r.at reply ≡ Some (at, found) → Shown op (Some r) at found
+    in_reply (Value x) s t q =
+        let w = pair_first r.at at x found q in
+        record {
+          taking = t;
+          reply = r.reply;
+          returned = ap
+              (λ (n : ℕ). Some (record { at = n; reply = r.reply })) w.0;
+          value = s ∙ ap Value w.1;
+        }
+    in_reply (Swapped a c) s t q = absurd (cc q)
+    in_reply NotSwapped s t q = absurd (cc q)
+
+    go : (t : Bool) → is_taking op ≡ t → cond t (found_in r.at r.reply) None ≡ Some (at, found)
+        → Shown op (Some r) at found
+    go true t q = in_reply r.reply refl t q
+    go false t q = absurd (cc q)
+
+least_of : (a b : ℕ) → (min a b ≤ a) × (min a b ≤ b)
+least_of a b = (omega arith, omega arith)
+
+before_taking : (found : Option ℤ) (op : AnyOp) (number : ℕ) (calls : List Call)
+    → ahead_before found op number calls ≤ number
+before_taking None op number calls = omega arith
+before_taking (Some b) Dequeue number calls = (least_of number (first_put b calls)).0
+before_taking (Some b) op number calls = omega arith
+
+not_put : (keeps : ℤ → Bool) (op : AnyOp) → is_taking op ≡ true → puts_in keeps op ≡ true → ⊥
+not_put keeps Dequeue t p = unlike p
+not_put keeps Pop t p = unlike p
+not_put keeps ExtractMin t p = unlike p
+not_put keeps (Enqueue v) t p = unlike t
+not_put keeps (Push v) t p = unlike t
+not_put keeps (Insert v) t p = unlike t
+not_put keeps op t p = unlike p
+
+-- the taking in an order, and what stands before and after it
+record Split (kind : Kind) (calls : List Call) (n : Call) : Type 0 where
+  pub earlier : List Call
+  pub later : List Call
+  pub replies : RepliesAlong (empty kind) (earlier ++ n ∷ later)
+  pub in_time : Pairs (λ x y. ReturnsBefore y x → ⊥) (earlier ++ n ∷ later)
+  pub apart : Pairs (λ x y. x.number ≢ y.number) (earlier ++ n ∷ later)
+  pub distinct : Pairs (λ x y. x ≢ y) calls
+  pub known : (e : Call) → In e earlier → In e calls
+  pub whole : (e : Call) → In e calls → IsSome e.returned → In e (earlier ++ n ∷ later)
+
+split_at : (kind : Kind) (calls : List Call) (order : List ℤ) (n : Call)
+    → AllPairs (λ a b. a.number < b.number) calls → Contains calls n → IsSome n.returned
+    → IsValidOrder kind calls order → Split kind calls n
+split_at kind calls order n rising stands ended v =
+    let number_of : Call → ℤ = λ e. pos e.number in
+    let known : (e : Call) → In e v.entries → In e calls = λ e i. in_from_contains calls e
+    (all_at (Contains calls) v.entries v.known e i) in
+    let whole : (e : Call) → In e calls → IsSome e.returned → In e v.entries = λ e i s. in_from_contains
+    v.entries e (all_at (λ e. IsSome e.returned → Contains v.entries e) calls v.whole e i s) in
+    let s = in_split n v.entries (whole n (in_from_contains calls n stands) ended) in
+    let xs : List Call = s.0 in
+    let ys : List Call = s.1 in
+    let apart = pairs_weaker (λ x y. number_of x ≢ number_of y) (λ x y. x.number ≢ y.number) v.entries
+    (λ x y i j ne e. ne (ap pos e))
+    (pairs_from_map (λ x y. x ≢ y) number_of v.entries
+    (subst (Pairs (λ x y. x ≢ y)) v.numbers (pairs_from_all (λ x y. x ≢ y) order v.once))) in
+    record {
+      earlier = xs;
+      later = ys;
+      replies = subst (RepliesAlong (empty kind)) s.2 v.replies;
+      in_time = subst (Pairs (λ x y. ReturnsBefore y x → ⊥)) s.2
+          (pairs_from_all (λ x y. ReturnsBefore y x → ⊥) v.entries v.in_order);
+      apart = subst (Pairs (λ x y. x.number ≢ y.number)) s.2 apart;
+      distinct = pairs_weaker (λ a b. a.number < b.number) (λ x y. x ≢ y) calls
+          (λ x y i j l e. risen x.number y.number l (ap (λ (z : Call). z.number) e))
+          (pairs_from_all (λ a b. a.number < b.number) calls rising);
+      known = λ e i. known e (subst (In e) (sym s.2) (in_left e xs (n ∷ ys) i));
+      whole = λ e i q. subst (In e) s.2 (whole e i q);
+    }
+  where
+    risen : (a b : ℕ) → a < b → a ≡ b → ⊥
+    risen a b l e = absurd (omega arith)
+
+-- a put that returned before the taking was invoked stands before it
+early : (kind : Kind) (calls : List Call) (n : Call) (s : Split kind calls n) (keeps : ℤ → Bool)
+    (from before : ℕ) → is_taking n.op ≡ true → before ≤ n.number
+    → (e : Call) → In e calls → is_put_ahead keeps from before e ≡ true → In e s.earlier
+early kind calls n s keeps from before taking l e i p =
+    let q = put_parts keeps from before e p in
+    let t = ended before e.returned q.1 in
+    elim (in_append e s.earlier (n ∷ s.later) (s.whole e i (subst IsSome (sym t.1) refl))) [
+      | inl j ↦ j
+      | inr j ↦ elim j [
+        | inl w ↦ absurd (not_put keeps n.op taking (ap (λ (z : Call). puts_in keeps z.op) (sym w) ∙ q.0))
+        | inr k ↦ absurd
+            (pairs_beyond (λ x y. ReturnsBefore y x → ⊥) s.earlier n s.later s.in_time e k
+            (t.0, t.1, reach t.0.at before n.number t.2 l))
+      ]
+    ]
+  where
+    reach : (a before number : ℕ) → a < before → before ≤ number → a < number
+    reach a before number l m = omega arith
+
+-- What may take one out before the taking is another call, and was not invoked after its response.
+taken_early : (kind : Kind) (calls : List Call) (n : Call) (s : Split kind calls n) (keeps : ℤ → Bool)
+    (r : Return) → n.returned ≡ Some r
+    → tally (may_by keeps) s.earlier ≤ count_by (may_precede keeps n.number r.at) calls
+taken_early kind calls n s keeps r returned =
+    let late : (e : Call) → In e s.earlier → may_by keeps e ≡ true → may_precede keeps n.number r.at e ≡ true =
+    λ e i p. joined (may_by keeps e) (not (e.number == n.number || nat_lt r.at e.number)) p
+    (other e.number n.number r.at (pairs_to (λ x y. x.number ≢ y.number) s.earlier n s.later s.apart e i)
+    (λ w. pairs_to (λ x y. ReturnsBefore y x → ⊥) s.earlier n s.later s.in_time e i (r, returned, w))) in
+    let front = pairs_weaker (λ x y. x.number ≢ y.number) (λ x y. x ≢ y) s.earlier
+    (λ x y i j ne e. ne (ap (λ (z : Call). z.number) e))
+    (pairs_front (λ x y. x.number ≢ y.number) s.earlier (n ∷ s.later) s.apart) in
+    let a = tally_le (may_by keeps) (may_precede keeps n.number r.at) s.earlier late in
+    let b = count_among (may_precede keeps n.number r.at) s.earlier calls front (λ e i p. s.known e i) in
+    let d = count_tally (may_precede keeps n.number r.at) calls in
+    sums _ _ _ _ a b d
+  where
+    other : (a number at : ℕ) → a ≢ number → (at < a → ⊥) → not (a == number || nat_lt at a) ≡ true
+    other a number at f g = grind (arith, nat_tests)
+
+    sums : (a b c d : ℕ) → a ≤ b → b ≤ c → c ≡ d → a ≤ d
+    sums a b c d l m e = omega arith
+
+chained : (a b c d e : ℕ) → a ≡ e → a ≤ b → b ≤ c → c ≤ d → e ≤ d
+chained a b c d e q l m n = omega arith
+
+plain_case : (kind : Kind) (calls : List Call) (n : Call) (s : Split kind calls n) (r : Return)
+    (o : Option ℤ) (from before : ℕ) → is_taking n.op ≡ true → n.returned ≡ Some r → r.reply ≡ Value o
+    → (n.op ≡ Dequeue → o ≡ None) → (n.op ≡ Pop → o ≡ None) → before ≤ n.number
+    → count_by (is_put_ahead (is_value_ahead o n.op) from before) calls ≤ tally
+    (may_by (is_value_ahead o n.op)) s.earlier
+plain_case kind calls n s r o from before taking returned value d u l =
+    let keeps = is_value_ahead o n.op in
+    let more = count_among (is_put_ahead keeps from before) calls s.earlier s.distinct
+    (early kind calls n s keeps from before taking l) in
+    let puts = tally_le (is_put_ahead keeps from before) (put_by keeps) s.earlier
+    (λ e i p. (put_parts keeps from before e p).0) in
+    let here = spent n r o s.earlier s.later kind taking returned value d u s.replies in
+    chained _ _ _ _ _ (count_tally (is_put_ahead keeps from before) calls) more puts here
+
+queue_case : (kind : Kind) (calls : List Call) (n : Call) (s : Split kind calls n) (r : Return) (b : ℤ)
+    (from before : ℕ) → kind ≡ variant.Queue → n.op ≡ Dequeue → n.returned ≡ Some r → r.reply ≡ Value (Some b)
+    → before ≤ n.number → ((p : Call) → In p calls → puts_in (int_eq b) p.op ≡ true → before ≤ p.number)
+    → All (λ e. (r : Return) → e.returned ≡ Some r → e.number < r.at) calls
+    → count_by (is_put_ahead every from before) calls ≤ tally (may_by every) s.earlier
+queue_case kind calls n s r b from before is_queue dequeue returned value l first ends =
+    let taking : is_taking n.op ≡ true = ap is_taking dequeue in
+    let gives : (reply : AnyReply) → IfSome n.returned (λ r. r.reply ≡ reply) → reply ≡ Value (Some b) =
+    λ reply h. sym (subst (λ z. IfSome z (λ r. r.reply ≡ reply)) returned h) ∙ value in
+    let replies : RepliesAlong (queue []) (s.earlier ++ n ∷ s.later) = subst
+    (λ (k : Kind). RepliesAlong (empty k) (s.earlier ++ n ∷ s.later)) is_queue s.replies in
+    let here = queue_spent b s.earlier n s.later [] dequeue gives replies in
+    let in_time = pairs_front (λ x y. ReturnsBefore y x → ⊥) s.earlier (n ∷ s.later) s.in_time in
+    let ahead : (e : Call) → In e calls → is_put_ahead every from before e ≡ true → In e (until_put b s.earlier) =
+    λ e i p.
+    let q = put_parts every from before e p in
+    let t = ended before e.returned q.1 in
+    in_until b s.earlier e (early kind calls n s every from before taking l e i p) in_time
+    (λ z j w. (t.0, t.1, reach t.0.at before z.number t.2 (first z (s.known z j) w)))
+    (λ w. turned e.number w.0.at
+    (all_at (λ e. (r : Return) → e.returned ≡ Some r → e.number < r.at) calls ends e i w.0 w.1) w.2) in
+    let more = count_among (is_put_ahead every from before) calls (until_put b s.earlier) s.distinct ahead in
+    let puts = tally_le (is_put_ahead every from before) (put_by every) (until_put b s.earlier)
+    (λ e i p. (put_parts every from before e p).0) in
+    chained _ _ _ _ _ (count_tally (is_put_ahead every from before) calls) more puts
+    (subst (λ (z : ℕ). z ≤ tally (may_by every) s.earlier) (sym (fresh_until b s.earlier)) here)
+  where
+    reach : (a before number : ℕ) → a < before → before ≤ number → a < number
+    reach a before number l m = omega arith
+
+    turned : (a b : ℕ) → a < b → b < a → ⊥
+    turned a b l m = omega arith
+
+settled_at : {X : Type 0} (p : X → Bool) (xs : List X) → list_all p xs ≡ true → (x : X) → In x xs → p x ≡ true
+settled_at p [] h x i = absurd i
+settled_at {X} p (y ∷ ys) h x i = let w = both (p y) (list_all p ys) h in elim i
+    [ inl e ↦ subst (λ (z : X). p z ≡ true) (sym e) w.0 | inr j ↦ settled_at p ys w.1 x j ]
+
+stack_case : (kind : Kind) (calls : List Call) (n : Call) (s : Split kind calls n) (r : Return) (b : ℤ)
+    (from before : ℕ) → kind ≡ variant.Stack → n.op ≡ Pop → n.returned ≡ Some r → r.reply ≡ Value (Some b)
+    → before ≤ n.number → list_all (λ e. not (puts_in (int_eq b) e.op) || ended_before from e.returned)
+    calls ≡ true → All (λ e. (r : Return) → e.returned ≡ Some r → e.number < r.at) calls
+    → count_by (is_put_ahead every from before) calls ≤ tally (may_by every) s.earlier
+stack_case kind calls n s r b from before is_stack pop returned value l settled ends =
+    let taking : is_taking n.op ≡ true = ap is_taking pop in
+    let gives : (reply : AnyReply) → IfSome n.returned (λ r. r.reply ≡ reply) → reply ≡ Value (Some b) =
+    λ reply h. sym (subst (λ z. IfSome z (λ r. r.reply ≡ reply)) returned h) ∙ value in
+    let replies : RepliesAlong (stack []) (s.earlier ++ n ∷ s.later) = subst
+    (λ (k : Kind). RepliesAlong (empty k) (s.earlier ++ n ∷ s.later)) is_stack s.replies in
+    let since = since_along b s.earlier n s.later [] replies in
+    let here = stack_spent b (since_put b s.earlier) n s.later since.0 pop gives (since_none b s.earlier) since.1 in
+    let in_time = pairs_front (λ x y. ReturnsBefore y x → ⊥) s.earlier (n ∷ s.later) s.in_time in
+    let above : (e : Call) → In e calls → is_put_ahead every from before e ≡ true → In e (since_put b s.earlier) =
+    λ e i p.
+    let q = put_parts every from before e p in
+    in_since b s.earlier e (early kind calls n s every from before taking l e i p) in_time
+    (λ z j w.
+    let t = ended from z.returned
+    (either (puts_in (int_eq b) z.op) (ended_before from z.returned) w
+    (settled_at (λ (e : Call). not (puts_in (int_eq b) e.op) || ended_before from e.returned) calls settled
+    z (s.known z j))) in
+    (t.0, t.1, reach t.0.at from e.number t.2 q.2))
+    (λ w. turned e.number w.0.at
+    (all_at (λ e. (r : Return) → e.returned ≡ Some r → e.number < r.at) calls ends e i w.0 w.1) w.2) in
+    let more = count_among (is_put_ahead every from before) calls (since_put b s.earlier) s.distinct above in
+    let puts = tally_le (is_put_ahead every from before) (put_by every) (since_put b s.earlier)
+    (λ e i p. (put_parts every from before e p).0) in
+    let fewer = since_tally (may_by every) b s.earlier in
+    sums _ _ _ _ _ _ _ (count_tally (is_put_ahead every from before) calls) more puts here fewer
+  where
+    either : (a c : Bool) → a ≡ true → (not a || c) ≡ true → c ≡ true
+    either true c e h = h
+    either false c e h = absurd (unlike e)
+
+    reach : (a before number : ℕ) → a < before → before ≤ number → a < number
+    reach a before number l m = omega arith
+
+    turned : (a b : ℕ) → a < b → b < a → ⊥
+    turned a b l m = omega arith
+
+    sums : (a b c d f e : ℕ) (g : ℕ) → a ≡ e → a ≤ b → b ≤ c → d + c ≤ f → f ≤ g → e ≤ g
+    sums a b c d f e g q l m n o = omega arith
+
+-- Either the general case, or a queue's or a stack's taking of a value.
+taking_cases : (o : Option ℤ) (op : AnyOp) → ((op ≡ Dequeue → o ≡ None) × (op ≡ Pop → o ≡ None)) ⊎
+    (((b : ℤ) × (o ≡ Some b) × (op ≡ Dequeue)) ⊎ ((b : ℤ) × (o ≡ Some b) × (op ≡ Pop)))
+taking_cases None op = inl (λ e. refl, λ e. refl)
+taking_cases (Some b) Dequeue = inr (inl (b, refl, refl))
+taking_cases (Some b) Pop = inr (inr (b, refl, refl))
+taking_cases (Some b) ExtractMin = inl (λ e. absurd (cc e), λ e. absurd (cc e))
+taking_cases (Some b) (Enqueue v) = inl (λ e. absurd (cc e), λ e. absurd (cc e))
+taking_cases (Some b) (Push v) = inl (λ e. absurd (cc e), λ e. absurd (cc e))
+taking_cases (Some b) (Insert v) = inl (λ e. absurd (cc e), λ e. absurd (cc e))
+taking_cases (Some b) (Write v) = inl (λ e. absurd (cc e), λ e. absurd (cc e))
+taking_cases (Some b) Read = inl (λ e. absurd (cc e), λ e. absurd (cc e))
+taking_cases (Some b) (Cas x y) = inl (λ e. absurd (cc e), λ e. absurd (cc e))
+taking_cases (Some b) (Put k v) = inl (λ e. absurd (cc e), λ e. absurd (cc e))
+taking_cases (Some b) (Get k) = inl (λ e. absurd (cc e), λ e. absurd (cc e))
+taking_cases (Some b) (Del k) = inl (λ e. absurd (cc e), λ e. absurd (cc e))
+taking_cases (Some b) Acquire = inl (λ e. absurd (cc e), λ e. absurd (cc e))
+taking_cases (Some b) Release = inl (λ e. absurd (cc e), λ e. absurd (cc e))
+
+abbrev Bounded : (kind : Kind) (calls : List Call) (n : Call) (s : Split kind calls n) (from : ℕ)
+    (op : AnyOp) (o : Option ℤ) → Type 0
+Bounded kind calls n s from op o = count_by
+    (is_put_ahead (is_value_ahead o op) from (ahead_before o op n.number calls)) calls ≤ tally
+    (may_by (is_value_ahead o op)) s.earlier
+
+moved : (kind : Kind) (calls : List Call) (n : Call) (s : Split kind calls n) (from : ℕ) (op own : AnyOp)
+    (o : Option ℤ) (b : ℤ) → op ≡ own → o ≡ Some b → Bounded kind calls n s from own (Some b)
+    → Bounded kind calls n s from op o
+moved kind calls n s from op own o b e f h =
+    subst (λ (o : Option ℤ). Bounded kind calls n s from op o) (sym f)
+    (subst (λ (op : AnyOp). Bounded kind calls n s from op (Some b)) (sym e) h)
+
+-- What surely was ahead of what a taking found was taken out before it.
+pub ahead_bounded : (kind : Kind) (calls : List Call) (n : Call) (at from : ℕ) (found : Option ℤ)
+    (order : List ℤ) → All (λ e. kind_of e.op ≡ kind) calls → AllPairs (λ a b. a.number < b.number) calls
+    → All (λ e. (r : Return) → e.returned ≡ Some r → e.number < r.at) calls → Contains calls n
+    → found_by n.op n.returned ≡ Some (at, found) → is_settled found n.op from calls ≡ true
+    → IsValidOrder kind calls order
+    → count_by (is_put_ahead (is_value_ahead found n.op) from (ahead_before found n.op n.number calls))
+    calls ≤ count_by (may_precede (is_value_ahead found n.op) n.number at) calls
+ahead_bounded kind calls n at from found order of_kind rising ends stands told settled v =
+    let w = shown_by n.op n.returned at found told in
+    let r : Return = record { at = at; reply = w.reply } in
+    let s = split_at kind calls order n rising stands (subst IsSome (sym w.returned) refl) v in
+    let of_op : (op : AnyOp) → n.op ≡ op → kind ≡ kind_of op = λ op e. sym
+    (all_at (λ e. kind_of e.op ≡ kind) calls of_kind n (in_from_contains calls n stands)) ∙ ap kind_of e in
+    let here : Bounded kind calls n s from n.op found =
+    elim (taking_cases found n.op) [
+      | inl d ↦ plain_case kind calls n s r found from (ahead_before found n.op n.number calls) w.taking
+          w.returned w.value d.0 d.1 (before_taking found n.op n.number calls)
+      | inr c ↦ elim c [
+        | inl c ↦
+            let q = queue_case kind calls n s r c.0 from (min n.number (first_put c.0 calls))
+            (of_op Dequeue c.2) c.2 w.returned
+            (w.value ∙ ap Value c.1) (least_of n.number (first_put c.0 calls)).0
+            (λ p i e. le_trans _ _ _ (least_of n.number (first_put c.0 calls)).1
+            (first_least c.0 calls (pairs_from_all (λ a b. a.number < b.number) calls rising) p i e)) ends in
+            moved kind calls n s from n.op Dequeue found c.0 c.2 c.1 q
+        | inr c ↦
+            let all : is_settled (Some c.0) Pop from calls ≡ true = subst
+            (λ (o : Option ℤ). is_settled o Pop from calls ≡ true) c.1
+            (subst (λ (op : AnyOp). is_settled found op from calls ≡ true) c.2 settled) in
+            let q = stack_case kind calls n s r c.0 from n.number (of_op Pop c.2) c.2 w.returned
+            (w.value ∙ ap Value c.1) (omega arith) all ends in
+            moved kind calls n s from n.op Pop found c.0 c.2 c.1 q
+      ]
+    ] in
+    le_trans _ _ _ here (taken_early kind calls n s (is_value_ahead found n.op) r w.returned)
+  where
+    le_trans : (a b c : ℕ) → a ≤ b → b ≤ c → a ≤ c
+    le_trans a b c l m = omega arith

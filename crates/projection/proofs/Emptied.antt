@@ -1,0 +1,215 @@
+-- What is put in before a taking that finds nothing, or the least value of a heap, is taken out before it.
+use Rattle.std.proofs.Common.{◌≡◌, inl, inr, ℕ, ℤ, ◌≤◌, ◌≤ℤ◌, ◌+◌, int_lt, Bool, true, false, ◌&&◌}
+use Rattle.std.proofs.Common.{cond, List, [], ◌∷◌, ◌++◌, length, Option, Some, None, IfSome, filter}
+use Rattle.std.proofs.Common.{refl, ap, sym, ◌∙◌, subst, arith}
+use Rattle.std.proofs.lemmas.Int.{ints}
+use Rattle.std.proofs.lemmas.Option.{same_Some}
+use Rattle.model.specs.declared.Kind.{Kind}
+use Rattle.model.specs.declared.Kind.TheVariants as variant
+use Rattle.model.specs.declared.AnyOp.{AnyOp}
+use Rattle.model.specs.declared.AnyOp.TheVariants.{Enqueue, Dequeue, Push, Pop, Insert, ExtractMin}
+use Rattle.model.specs.declared.AnyOp.TheVariants.{Write, Read, Cas, Put, Get, Del, Acquire}
+use Rattle.model.specs.declared.AnyOp.TheVariants.{Release}
+use Rattle.model.specs.declared.AnyReply.{AnyReply}
+use Rattle.model.specs.declared.AnyReply.TheVariants.{Value, Swapped, NotSwapped}
+use Rattle.model.specs.Objects.{Content, queue, stack, heap, register, table, mutex, empty, contains_value, next}
+use Rattle.model.specs.Orders.{Call, Return, RepliesAlong}
+use Rattle.model.proofs.Lists.{In, Pairs, in_left, in_middle}
+use Rattle.projection.specs.Parts.{reply_of, puts_in, is_kept_value, is_taking, takes_out}
+use Rattle.projection.specs.Ahead.{is_value_ahead, may_take}
+use Rattle.projection.proofs.Contents.{IsRising, rising_with_value}
+use Rattle.projection.proofs.Conserved.{one, tally, kept_size, size_empty, turn}
+
+pub unlike : false ≡ true → ⊥
+unlike e = absurd (cc e)
+
+pub both : (a b : Bool) → (a && b) ≡ true → (a ≡ true) × (b ≡ true)
+both true b e = (refl, e)
+both false b e = absurd (unlike e)
+
+pub joined : (a b : Bool) → a ≡ true → b ≡ true → (a && b) ≡ true
+joined true b e f = f
+joined false b e f = absurd (unlike e)
+
+one_le : (a b : Bool) → (a ≡ true → b ≡ true) → one a ≤ one b
+one_le true b f = let e = ap one (f refl) in omega arith
+one_le false b f = omega arith
+
+pub tally_le : {X : Type 0} (p q : X → Bool) (xs : List X) → ((x : X) → In x xs → p x ≡ true → q x ≡ true)
+    → tally p xs ≤ tally q xs
+tally_le p q [] f = omega arith
+tally_le p q (x ∷ xs) f = let a = one_le (p x) (q x) (f x (inl refl)) in let b = tally_le p q xs
+    (λ y i. f y (inr i)) in omega arith
+
+-- ---- lists
+
+pub pairs_front : {X : Type 0} (R : X → X → Type 0) (xs ys : List X) → Pairs R (xs ++ ys) → Pairs R xs
+pairs_front R [] ys h = tt
+pairs_front R (x ∷ xs) ys h = (λ y i. h.0 y (in_left y xs ys i), pairs_front R xs ys h.1)
+
+pub pairs_to : {X : Type 0} (R : X → X → Type 0) (xs : List X) (n : X) (ys : List X)
+    → Pairs R (xs ++ n ∷ ys) → (x : X) → In x xs → R x n
+pairs_to R [] n ys h x i = absurd i
+pairs_to R (z ∷ zs) n ys h x i = elim i
+    [ inl e ↦ subst (λ z. R z n) (sym e) (h.0 n (in_middle n zs ys)) | inr j ↦ pairs_to R zs n ys h.1 x j ]
+
+pub pairs_beyond : {X : Type 0} (R : X → X → Type 0) (xs : List X) (n : X) (ys : List X)
+    → Pairs R (xs ++ n ∷ ys) → (y : X) → In y ys → R n y
+pairs_beyond R [] n ys h y i = h.0 y i
+pairs_beyond R (z ∷ zs) n ys h y i = pairs_beyond R zs n ys h.1 y i
+
+-- ---- a step
+
+abbrev pub put_by : (ℤ → Bool) → Call → Bool
+put_by keeps e = puts_in keeps e.op
+
+abbrev pub may_by : (ℤ → Bool) → Call → Bool
+may_by keeps e = may_take keeps e.op (reply_of e.returned)
+
+-- a call that takes one out is one that may
+pub may_le : (keeps : ℤ → Bool) (op : AnyOp) (o : Option Return) (reply : AnyReply)
+    → IfSome o (λ r. r.reply ≡ reply) → one (takes_out keeps op (Some reply)) ≤ one (may_take keeps op (reply_of o))
+may_le keeps op None reply h = one_le (takes_out keeps op (Some reply)) (is_taking op)
+    (λ e. (both (is_taking op) (is_kept_value keeps (Some reply)) e).0)
+may_le keeps op (Some r) reply h = let n = ap (λ (z : AnyReply). one (takes_out keeps op (Some z))) h in omega arith
+
+-- a heap's values rise
+abbrev IsSound : Content → Type 0
+IsSound (heap vs) = IsRising vs
+IsSound c = Unit {0}
+
+sound_empty : (k : Kind) → IsSound (empty k)
+sound_empty variant.Queue = tt
+sound_empty variant.Stack = tt
+sound_empty variant.Heap = tt
+sound_empty variant.Register = tt
+sound_empty variant.Map = tt
+sound_empty variant.Mutex = tt
+
+sound_next : (c : Content) (op : AnyOp) → IsSound c → IfSome (next c op) (λ p. IsSound p.0)
+sound_next (queue vs) (Enqueue v) s = tt
+sound_next (queue []) Dequeue s = tt
+sound_next (queue (v ∷ vs)) Dequeue s = tt
+sound_next (stack vs) (Push v) s = tt
+sound_next (stack []) Pop s = tt
+sound_next (stack (v ∷ vs)) Pop s = tt
+sound_next (heap vs) (Insert v) s = rising_with_value v vs s
+sound_next (heap []) ExtractMin s = tt
+sound_next (heap (v ∷ vs)) ExtractMin s = s.1
+sound_next (register x) (Write v) s = tt
+sound_next (register x) Read s = tt
+sound_next (register x) (Cas a b) s = go (contains_value x a)
+  where
+    go : (t : Bool) → IfSome {T = Content × AnyReply}
+        (cond t (Some (register (Some b), Swapped a b)) (Some (register x, NotSwapped))) (λ p. IsSound p.0)
+    go true = tt
+    go false = tt
+sound_next (table m) (Put k v) s = tt
+sound_next (table m) (Get k) s = tt
+sound_next (table m) (Del k) s = tt
+sound_next (mutex false) Acquire s = tt
+sound_next (mutex true) Release s = tt
+sound_next c op s = tt
+
+-- ---- the content that the taking finds
+
+record Reached (keeps : ℤ → Bool) (xs : List Call) (n : Call) (ys : List Call) (c : Content) : Type 0 where
+  pub content : Content
+  pub sound : IsSound content
+  pub along : RepliesAlong content (n ∷ ys)
+  pub counted : kept_size keeps c + tally (put_by keeps) xs ≤ kept_size keeps content + tally (may_by keeps) xs
+
+reached : (keeps : ℤ → Bool) (xs : List Call) (n : Call) (ys : List Call) (c : Content) → IsSound c
+    → RepliesAlong c (xs ++ n ∷ ys) → Reached keeps xs n ys c
+reached keeps [] n ys c s h = record { content = c; sound = s; along = h; counted = omega arith }
+reached keeps (e ∷ xs) n ys c s h =
+    let t = turn keeps e c h.0 h.1 h.2 h.3 in
+    let more = may_le keeps e.op e.returned h.1 h.3 in
+    let r = reached keeps xs n ys h.0 (subst (λ z. IfSome z (λ p. IsSound p.0)) h.2 (sound_next c e.op s)) h.4 in
+    record {
+      content = r.content;
+      sound = r.sound;
+      along = r.along;
+      counted = sums _ _ _ _ _ _ _ _ t.balance
+          more r.counted;
+    }
+  where
+    sums : (after took size put may puts there mays : ℕ) → after + took ≡ size + put → took ≤ may
+        → after + puts ≤ there + mays → size + (put + puts) ≤ there + (may + mays)
+    sums after took size put may puts there mays a b d = omega arith
+
+-- no value of a rising list is less than its first
+none_lesser : (b : ℤ) (vs : List ℤ) → ((v : ℤ) → In v vs → int_lt v b ≡ false)
+    → length (filter (λ v. int_lt v b) vs) ≡ 0
+none_lesser b [] f = refl
+none_lesser b (v ∷ vs) f = go (int_lt v b) (f v (inl refl)) (none_lesser b vs (λ w i. f w (inr i)))
+  where
+    go : (t : Bool) → t ≡ false → length (filter (λ v. int_lt v b) vs) ≡ 0
+        → length (cond t (v ∷ filter (λ v. int_lt v b) vs) (filter (λ v. int_lt v b) vs)) ≡ 0
+    go true e h = absurd (unlike (sym e))
+    go false e h = h
+
+not_lesser : (v w : ℤ) → v ≤ℤ w → int_lt w v ≡ false
+not_lesser v w l = grind (arith, ints)
+
+not_self : (v : ℤ) → int_lt v v ≡ false
+not_self v = grind (arith, ints)
+
+least_first : (v b : ℤ) (vs : List ℤ) → IsRising (v ∷ vs) → v ≡ b → length (filter (λ w. int_lt w b) (v ∷ vs)) ≡ 0
+least_first v b vs s e = subst (λ (z : ℤ). length (filter (λ w. int_lt w z) (v ∷ vs)) ≡ 0) e
+    (none_lesser v (v ∷ vs)
+    (λ w i. elim i
+    [ inl q ↦ subst (λ (z : ℤ). int_lt z v ≡ false) (sym q) (not_self v) | inr j ↦ not_lesser v w (s.0 w j) ]))
+
+pub same_value : (x y : Option ℤ) → Value x ≡ Value y → x ≡ y
+same_value x y e = ap back e
+  where
+    back : AnyReply → Option ℤ
+    back (Value z) = z
+    back (Swapped a b) = None
+    back NotSwapped = None
+
+some_none : (v : ℤ) → Some v ≡ None → ⊥
+some_none v e = absurd (cc e)
+
+-- where a taking finds nothing, the object is empty, and where a heap's finds a value, it contains no lesser one
+emptied : (c : Content) (op : AnyOp) (o : Option ℤ) → IsSound c → (op ≡ Dequeue → o ≡ None)
+    → (op ≡ Pop → o ≡ None) → is_taking op ≡ true
+    → IfSome (next c op) (λ p. p.1 ≡ Value o → kept_size (is_value_ahead o op) c ≡ 0)
+emptied (queue []) Dequeue o s d u t = λ e. refl
+emptied (queue (v ∷ vs)) Dequeue o s d u t = λ e. absurd (some_none v (same_value (Some v) o e ∙ d refl))
+emptied (stack []) Pop o s d u t = λ e. refl
+emptied (stack (v ∷ vs)) Pop None s d u t = λ e. absurd (some_none v (same_value (Some v) None e))
+emptied (stack (v ∷ vs)) Pop (Some b) s d u t = λ e. absurd (some_none b (u refl))
+emptied (heap []) ExtractMin o s d u t = λ e. refl
+emptied (heap (v ∷ vs)) ExtractMin None s d u t = λ e. absurd (some_none v (same_value (Some v) None e))
+emptied (heap (v ∷ vs)) ExtractMin (Some b) s d u t = λ e. least_first v b vs s
+    (same_Some v b (same_value (Some v) (Some b) e))
+emptied (queue vs) (Enqueue v) o s d u t = absurd (unlike t)
+emptied (stack vs) (Push v) o s d u t = absurd (unlike t)
+emptied (heap vs) (Insert v) o s d u t = absurd (unlike t)
+emptied (register x) (Write v) o s d u t = absurd (unlike t)
+emptied (register x) Read o s d u t = absurd (unlike t)
+emptied (register x) (Cas a b) o s d u t = absurd (unlike t)
+emptied (table m) (Put k v) o s d u t = absurd (unlike t)
+emptied (table m) (Get k) o s d u t = absurd (unlike t)
+emptied (table m) (Del k) o s d u t = absurd (unlike t)
+emptied (mutex false) Acquire o s d u t = absurd (unlike t)
+emptied (mutex true) Release o s d u t = absurd (unlike t)
+emptied c op o s d u t = tt
+
+-- what is put in before the taking is taken out before it
+pub spent : (n : Call) (r : Return) (o : Option ℤ) (xs ys : List Call) (k : Kind) → is_taking n.op ≡ true
+    → n.returned ≡ Some r → r.reply ≡ Value o → (n.op ≡ Dequeue → o ≡ None) → (n.op ≡ Pop → o ≡ None)
+    → RepliesAlong (empty k) (xs ++ n ∷ ys) → tally (put_by (is_value_ahead o n.op)) xs ≤ tally
+    (may_by (is_value_ahead o n.op)) xs
+spent n r o xs ys k t e f d u h =
+    let keeps = is_value_ahead o n.op in
+    let at = reached keeps xs n ys (empty k) (sound_empty k) h in
+    let gave : r.reply ≡ at.along.1 = subst (λ z. IfSome z (λ r. r.reply ≡ at.along.1)) e at.along.3 in
+    let none = subst (λ z. IfSome z (λ p. p.1 ≡ Value o → kept_size keeps at.content ≡ 0)) at.along.2
+    (emptied at.content n.op o at.sound d u t) (sym gave ∙ f) in
+    sums _ _ _ _ (size_empty keeps k) none at.counted
+  where
+    sums : (size puts there mays : ℕ) → size ≡ 0 → there ≡ 0 → size + puts ≤ there + mays → puts ≤ mays
+    sums size puts there mays a b l = omega arith

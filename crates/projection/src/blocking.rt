@@ -1,0 +1,247 @@
+//! Counts of what surely was ahead of what a taking found, so that it must have been taken out
+//! before. They need no search.
+
+ghost use Rattle.std.specs.Prelude.{◌≡◌, ◌≢◌, ◌<◌, true, MatchBool, IfSome, All, AllPairs};
+ghost use Rattle.std.specs.Prelude.{Contains, count_by, Option, None, Some, ℕ, ℤ};
+ghost use Rattle.std.specs.List.{find, list_all};
+ghost use Rattle.std.specs.Ordering.{int_eq};
+ghost use Rattle.model.specs.declared.AnyOp.{AnyOp};
+ghost use Rattle.events.specs.Operations.{calls_of};
+ghost use Rattle.order_search.specs.Outcomes.{IsNoneValid};
+ghost use Rattle.projection.specs.Ahead as ahead;
+ghost use Rattle.projection.specs.Ahead.{IsBlocked};
+ghost use Rattle.projection.specs.Parts as parts;
+ghost use Rattle.projection.specs.Pieces as pieces;
+ghost use Rattle.projection.specs.Pieces.{ahead_before_end, first_put_end, found_end, is_put};
+ghost use Rattle.projection.specs.Pieces.{is_put_ahead_end, is_settled_end, IsTaking};
+ghost use Rattle.projection.specs.Pieces.{may_precede_end, may_take_end};
+
+use crate::suffix::{is_before, operation_at};
+use events::{End, Invocation, ObjectHistory};
+use seq_objects::{AnyOp, AnyReply};
+
+/// A taking that returned: its number, that of its response, and what it found.
+#[derive(Clone, Copy)]
+struct Taking {
+    number: u32,
+    op: AnyOp,
+    at: u32,
+    found: Option<i64>,
+}
+
+/// The number of the response of a taking, and what it found.
+fn found_by(op: AnyOp, end: End) -> Option<(u32, Option<i64>)>
+    ensures { result ≡ found_end op «end» }
+{
+    let End::Returned { at, reply } = end else {
+        return None;
+    };
+    match op {
+        AnyOp::Dequeue | AnyOp::Pop | AnyOp::ExtractMin => match reply {
+            AnyReply::Value(found) => Some((at, found)),
+            _ => None,
+        },
+        _ => None,
+    }
+}
+
+/// The taking of this number, if it is one that returned.
+fn taking_at(operations: &[Invocation], number: u32) -> Option<Taking>
+    requires { AllPairs (λ a b. a.number < b.number) operations.now }
+    ensures some { IfSome result (λ t. IsTaking operations.now number t.op t.at t.found) }
+    ensures named { IfSome result (λ t. t.number ≡ number) }
+    ensures none { result ≡ None → (op : AnyOp) (at : ℕ) (found : Option ℤ)
+        → IsTaking operations.now number op at found → ⊥ }
+{
+    let operation = operation_at(operations, number)?;
+    let Some((at, found)) = found_by(operation.op, operation.end) else {
+        return None;
+    };
+    Some(Taking {
+        number,
+        op: operation.op,
+        at,
+        found,
+    })
+}
+
+/// Whether a value can be ahead of what the taking found.
+fn is_value_ahead(taking: Taking, value: i64) -> bool
+    ensures { result ≡ ahead.is_value_ahead taking.found taking.op value }
+{
+    match taking.found {
+        None => true,
+        Some(found) => match taking.op {
+            AnyOp::Dequeue | AnyOp::Pop => true,
+            AnyOp::ExtractMin => value < found,
+            _ => false,
+        },
+    }
+}
+
+/// Whether an operation puts in such a value.
+fn puts_in(taking: Taking, op: AnyOp) -> bool
+    ensures { result ≡ parts.puts_in (ahead.is_value_ahead taking.found taking.op) op }
+{
+    match op {
+        AnyOp::Enqueue(value) => is_value_ahead(taking, value),
+        AnyOp::Push(value) => is_value_ahead(taking, value),
+        AnyOp::Insert(value) => is_value_ahead(taking, value),
+        _ => false,
+    }
+}
+
+/// Whether an operation that did not fail puts in this value.
+fn puts_value(value: i64, operation: &Invocation) -> bool
+    ensures { result ≡ is_put (int_eq value) operation.now.op operation.now.«end» }
+{
+    if operation.end == End::Failed {
+        return false;
+    }
+    match operation.op {
+        AnyOp::Enqueue(new) => value == new,
+        AnyOp::Push(new) => value == new,
+        AnyOp::Insert(new) => value == new,
+        _ => false,
+    }
+}
+
+/// The first operation that did not fail and puts in this value.
+fn first_put_of(operations: &[Invocation], value: i64) -> Option<Invocation>
+    ensures { result ≡ find (λ o. is_put (int_eq value) o.op o.«end») operations.now }
+{
+    for operation in operations {
+        if puts_value(value, operation) {
+            return Some(*operation);
+        }
+    }
+    None
+}
+
+/// Its number; 0: there is none.
+fn first_put(operations: &[Invocation], value: i64) -> u32
+    ensures { result ≡ first_put_end value operations.now }
+{
+    match first_put_of(operations, value) {
+        Some(operation) => operation.number,
+        None => 0,
+    }
+}
+
+/// The number before which a put must have returned, so that it surely was ahead.
+fn ahead_before(operations: &[Invocation], taking: Taking) -> u32
+    ensures { result ≡ ahead_before_end taking.found taking.op taking.number operations.now }
+{
+    match taking.found {
+        None => taking.number,
+        Some(found) => match taking.op {
+            AnyOp::Dequeue => taking.number.min(first_put(operations, found)),
+            _ => taking.number,
+        },
+    }
+}
+
+/// Whether an operation failed, or puts in another value, or returned before this number.
+fn is_settled(value: i64, from: u32, operation: &Invocation) -> bool
+    ensures { result ≡ is_settled_end value from operation.now }
+{
+    !puts_value(value, operation) || is_before(operation.end, from)
+}
+
+/// Whether each operation failed, or puts in another value, or returned before this number.
+fn all_settled(operations: &[Invocation], value: i64, from: u32) -> bool
+    ensures { result ≡ list_all (is_settled_end value from) operations.now }
+{
+    operations.iter().all(|o| is_settled(value, from, o))
+}
+
+/// Whether, if the taking found a value in a stack, each put of it returned before this number.
+fn are_settled(operations: &[Invocation], taking: Taking, from: u32) -> bool
+    ensures { result ≡ pieces.are_settled taking.found taking.op from operations.now }
+{
+    match taking.found {
+        None => true,
+        Some(found) => match taking.op {
+            AnyOp::Pop => all_settled(operations, found, from),
+            _ => true,
+        },
+    }
+}
+
+/// Whether an operation put in what surely was ahead.
+fn is_ahead(taking: Taking, from: u32, before: u32, operation: &Invocation) -> bool
+    ensures { result ≡ is_put_ahead_end (ahead.is_value_ahead taking.found taking.op) from before
+        operation.now.number operation.now.op operation.now.«end» }
+{
+    match operation.end {
+        End::Returned { at, .. } => {
+            puts_in(taking, operation.op) && (at < before && !(operation.number < from))
+        }
+        _ => false,
+    }
+}
+
+/// Whether an operation took out a value that can be ahead, or may have.
+fn may_take(taking: Taking, op: AnyOp, end: End) -> bool
+    ensures { result ≡ may_take_end (ahead.is_value_ahead taking.found taking.op) op «end» }
+{
+    let is_taking = matches!(op, AnyOp::Dequeue | AnyOp::Pop | AnyOp::ExtractMin);
+    match end {
+        End::Returned { reply, .. } => match reply {
+            AnyReply::Value(Some(value)) => is_taking && is_value_ahead(taking, value),
+            _ => false,
+        },
+        End::Pending => is_taking,
+        End::Failed => false,
+    }
+}
+
+/// Whether an operation may have taken out such a value before the taking.
+fn may_precede(taking: Taking, operation: &Invocation) -> bool
+    ensures { result ≡ may_precede_end (ahead.is_value_ahead taking.found taking.op) taking.number
+        taking.at operation.now }
+{
+    may_take(taking, operation.op, operation.end)
+        && !(operation.number == taking.number || taking.at < operation.number)
+}
+
+/// How many operations put in what surely was ahead, and how many may have taken such a value out
+/// before the taking.
+fn times(operations: &[Invocation], taking: Taking, from: u32) -> (usize, usize)
+    ensures ahead { result.0 ≡ count_by (λ o. is_put_ahead_end
+        (ahead.is_value_ahead taking.found taking.op) from
+        (ahead_before_end taking.found taking.op taking.number operations.now) o.number o.op o.«end»)
+        operations.now }
+    ensures takes { result.1 ≡ count_by (may_precede_end
+        (ahead.is_value_ahead taking.found taking.op) taking.number taking.at) operations.now }
+{
+    let before = ahead_before(operations, taking);
+    let ahead = operations
+        .iter()
+        .filter(|o| is_ahead(taking, from, before, o))
+        .count();
+    let takes = operations.iter().filter(|o| may_precede(taking, o)).count();
+    (ahead, takes)
+}
+
+/// Whether more values surely were ahead of what the taking of this number found than other
+/// operations can have taken out before it. Then no order is valid.
+///
+/// Values that surely were ahead are those that were put in before the taking was invoked: if it
+/// found nothing, all of them; of a heap, the lesser ones; of a queue, those whose put returned
+/// before the first put of the found value was invoked; of a stack, those whose put was invoked
+/// after each put of the found value had returned. Only puts count that were invoked at the number
+/// `from` or later; of a stack each put of the found value must have returned before it.
+pub fn is_blocked(history: &ObjectHistory, number: u32, from: u32) -> bool
+    ensures counts { MatchBool result (IsBlocked number from (calls_of history.now.ops))
+        (IsBlocked number from (calls_of history.now.ops) → ⊥) }
+    ensures shows { result ≡ true → IsNoneValid history.now.kind (calls_of history.now.ops) }
+{
+    let operations = history.ops();
+    let Some(taking) = taking_at(operations, number) else {
+        return false;
+    };
+    let settled = are_settled(operations, taking, from);
+    let (ahead, takes) = times(operations, taking, from);
+    settled && takes < ahead
+}
