@@ -63,7 +63,7 @@ def main(words):
     same = "--same" in words
     rest = [word for at, word in enumerate(words) if not word.startswith("--") and (at == 0 or words[at - 1] != "--lines")]
     os.chdir(rest[0] if rest else f"{os.path.dirname(os.path.abspath(__file__))}/..")
-    paths = subprocess.run(["git", "ls-files", "crates/*.rt"], capture_output=True, text=True, check=True).stdout.split()
+    paths = subprocess.run(["git", "ls-files", "crates/*.rt", "tools/*.rs"], capture_output=True, text=True, check=True).stdout.split()
     found = pairs({path: lines_of(path, same) for path in paths}, least)
     for n, *places in found:
         print(n, *(f"{path}:{first}-{last}" for path, first, last in places))

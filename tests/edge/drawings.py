@@ -165,12 +165,22 @@ def in_browser(program, report, wanted):
             report.equal(f"draw: {os.path.basename(it['file'])}: in the browser", [], it["bad"][:6])
 
 
+# A proved program to which an allocation is refused.
+WITHOUT_MEMORY = """#!/bin/sh
+export REFUSE_AT={at} LD_PRELOAD={faults}
+exec {program} "$@"
+"""
+
+
 def page_without_memory(program, report):
-    """What the browser is to find on a page of a history for which memory was refused: that of the first allocation that leads to one."""
-    files = [program.write(HISTORY, rows.OVERLAPPING), program.write(CERTIFICATES, texts.order(1, 0, 4))]
-    _, count, _ = program.counts("draw", *files)
+    """What the browser is to find on a page of a history where memory is refused to the proved program: that of the first allocation that leads
+    to one."""
+    history, certificates = program.write(HISTORY, rows.OVERLAPPING), program.write(CERTIFICATES, texts.order(1, 0, 4))
+    _, count, _ = program.counts("check", history, certificates)
     for at in range(1, count + 1):
-        ran = program.run("draw", *files, faults={"REFUSE_AT": at})
+        without = f"{program.room}/{program.write('without_memory', WITHOUT_MEMORY.format(at=at, faults=program.faults, program=program.path))}"
+        os.chmod(without, 0o755)
+        ran = program.run("draw", history, certificates, env={"FCBENCH": without})
         if ran.status == 3 and b'<body class="memory">' in ran.out:
             report.equal("draw: the lines of a page without memory", "out of memory", Drawn(ran.out).lines)
             path = program.write("memory.html", ran.out)

@@ -3,16 +3,16 @@ import os
 
 from . import rows
 from .answers import through_pipes
-from .rows import CERTIFICATES, HISTORY, REASONS, SCHEDULE
-from .running import Program, Report
+from .rows import CERTIFICATES, EVIDENCE, HISTORY, REASONS, SCHEDULE
+from .running import OF_TOOLS, Program, Report
 
 LONGEST = 268_435_456
 AS_NOBODY = {"user": 65534, "group": 65534, "extra_groups": ()}
-# The commands of one file, with the words before its name.
-OF_ONE_FILE = (("search",), ("find",), ("judge",), ("simulate",))
+# The commands of the proved program of one file. judge is here too: what is wrong with the file the proved program says.
+OF_ONE_FILE = ("search", "judge", "simulate")
 
-# What the second file of a command holds.
-SECOND_TEXTS = {"check": "certificates", "refute": "reasons"}
+# What the second file of a command holds, and the status where that is malformed.
+SECOND_TEXTS = {"check": ("certificates", 2), "refute": ("reasons", 2), "verify": ("evidence", 3)}
 
 
 def fault_of(command, fault):
@@ -25,7 +25,9 @@ def with_each_file(name):
     yield "check", HISTORY, name
     yield "refute", name, REASONS
     yield "refute", HISTORY, name
-    yield from ((*it, name) for it in OF_ONE_FILE)
+    yield "verify", name, EVIDENCE
+    yield "verify", HISTORY, name
+    yield from ((it, name) for it in OF_ONE_FILE)
 
 
 def drawn_with(name):
@@ -35,10 +37,16 @@ def drawn_with(name):
     yield "draw", HISTORY, name
 
 
+def is_named(ran, name):
+    """Whether the tools say that this file cannot be read, and put out nothing."""
+    return (ran.status, ran.out) == (4, b"") and ran.err.startswith(f"fcbench: cannot read {name}: ".encode())
+
+
 def write_good(program):
-    """Writes the texts of a history that is linearizable, its certificates, a reason and a schedule."""
+    """Writes the texts of a history that is linearizable, its certificates, which are evidence too, a reason and a schedule."""
     program.write(HISTORY, rows.OVERLAPPING)
     program.write(CERTIFICATES, rows.order(1, 0, 4))
+    program.write(EVIDENCE, rows.order(1, 0, 4))
     program.write(REASONS, rows.TWO_OF_THREE)
     program.write(SCHEDULE, rows.SERVED_BY_ANOTHER)
 
@@ -52,7 +60,13 @@ def good_runs():
     yield ("judge", HISTORY), (history,), rows.THREE_YES, 0
     refuted = next(it for it in rows.REFUTATIONS if it.name == "refute: two of three values")
     yield ("refute", HISTORY, REASONS), refuted.files(), refuted.out, 1
+    yield ("verify", HISTORY, EVIDENCE), (history, (EVIDENCE, rows.order(1, 0, 4))), rows.THREE_YES, 0
     yield ("simulate", SCHEDULE), ((SCHEDULE, rows.SERVED_BY_ANOTHER),), rows.SERVED_LINES, 0
+
+
+def proved_runs():
+    """Those of them that the proved program does alone."""
+    return (it for it in good_runs() if it[0][0] not in OF_TOOLS)
 
 
 def unreadable(program: Program, report: Report):
@@ -60,8 +74,11 @@ def unreadable(program: Program, report: Report):
     write_good(program)
     os.makedirs(f"{program.room}/folder", exist_ok=True)
     for name in ("missing.edn", "folder"):
-        for words in (*with_each_file(name), *drawn_with(name)):
+        for words in with_each_file(name):
             report.answers(" ".join(words), program.run(*words), "", 4, f"fcbench: cannot read {name}\n")
+        for words in (("find", name), *drawn_with(name)):
+            ran = program.run(*words)
+            report.holds(f"{' '.join(words)}: the file is named", is_named(ran, name), ran)
     ran = program.run("check", "first.edn", "second.edn")
     report.answers("check: both files are missing", ran, "", 4, "fcbench: cannot read first.edn\n")
     # A pipe into which nothing is written: a program that opens it waits.
@@ -77,9 +94,12 @@ def unreadable(program: Program, report: Report):
     os.chmod(f"{program.room}/{secret}", 0)
     # The superuser may read every file, so then the program runs as another user.
     how = AS_NOBODY if os.geteuid() == 0 else {}
-    for words in (*with_each_file(secret), *drawn_with(secret)):
+    for words in with_each_file(secret):
         ran = program.run(*words, **how)
         report.answers(f"{' '.join(words)}, without permission", ran, "", 4, f"fcbench: cannot read {secret}\n")
+    for words in (("find", secret), *drawn_with(secret)):
+        ran = program.run(*words, **how)
+        report.holds(f"{' '.join(words)}, without permission: the file is named", is_named(ran, secret), ran)
 
 
 def each_read_fails(program, report, words, names, reads):
@@ -93,7 +113,7 @@ def each_read_fails(program, report, words, names, reads):
 
 def failing_reads(program, report):
     """Where any one read fails, its file is named and nothing is put out."""
-    for words, files, out, status in good_runs():
+    for words, files, out, status in proved_runs():
         for name, text in files:
             program.write(name, text)
         ran, _, reads = program.counts(*words)
@@ -106,6 +126,30 @@ def failing_reads(program, report):
             ran = program.run(*words, faults={"READ_AT_MOST": 1, "FAIL_READ_AT": at})
             message = f"fcbench: cannot read {name}\n"
             report.answers(f"{' '.join(words)}, a read fails in the middle of {name}", ran, "", 4, message)
+
+
+# Of a judgement the most reads of a process.
+MOST_READS = 12
+
+
+def failing_reads_of_tools(program, report):
+    """Where any one read of each process fails, find and draw name the file. judge ends with 4, or says what verify says of the evidence that came."""
+    program.write(HISTORY, rows.OVERLAPPING)
+    whole = program.run("judge", HISTORY)
+    report.answers("judge, with no read that fails", whole, rows.THREE_YES, 0)
+    for words in (("find", HISTORY), ("draw", HISTORY)):
+        ran = program.run(*words, faults={"FAIL_READ_AT": 1})
+        report.holds(f"{words[0]}, the first read fails: the file is named", is_named(ran, HISTORY), ran)
+    failed = 0
+    for at in range(1, MOST_READS + 1):
+        for more in ({}, {"READ_AT_MOST": 1}):
+            ran = program.run("judge", HISTORY, faults={"FAIL_READ_AT": at, **more})
+            is_unread = (ran.status, ran.out) == (4, b"") and ran.err.startswith(b"fcbench: cannot read ")
+            is_open = (ran.status, ran.out) == (3, b"; object 0: open\n") or ran.status == 70 and ran.out == b""
+            is_well = is_unread or is_open or (ran.status, ran.out) == (whole.status, whole.out)
+            report.holds(f"judge, read {at} of each process fails {more or ''}", is_well, ran)
+            failed += is_unread
+    report.holds("judge: some reads fail", failed > 0, failed)
 
 
 def failing_reads_of_long_texts(program, report):
@@ -124,12 +168,18 @@ def failing_reads_of_long_texts(program, report):
 
 def in_pieces(program, report):
     """Texts that come in pieces, with pauses, and an empty pipe."""
-    for words, files, out, status in good_runs():
+    for words, files, out, status in (it for it in good_runs() if it[0][0] != "judge"):
         for size in (1, 50):
             ran = through_pipes(program, files, words, size, 0.0002 * size)
             report.answers(f"{' '.join(words)}, through pipes in pieces of {size}", ran, out, status)
     ran = through_pipes(program, ((HISTORY, ""), (CERTIFICATES, "")), ("check", HISTORY, CERTIFICATES))
     report.answers("check: two empty pipes", ran, rows.yes(0, 0), 0)
+    # Two programs read the history of judge and draw, so it is no pipe.
+    os.mkfifo(f"{program.room}/pipe.edn")
+    for words in (("judge", "pipe.edn"), ("draw", "pipe.edn")):
+        said = "fcbench: cannot read pipe.edn: it is read twice, so it must be a file\n"
+        report.answers(f"{' '.join(words)}: a pipe", program.run(*words), "", 4, said)
+    os.remove(f"{program.room}/pipe.edn")
 
 
 def with_zeros(program, name, length, first=b""):
@@ -145,10 +195,13 @@ def too_long(program, report):
     with_zeros(program, "long.edn", LONGEST + 1, b"\xff")
     for name in ("long.edn", "/dev/zero"):
         for command, *files in with_each_file(name):
-            out = fault_of(command, "E10 at byte 0")
+            out, status = fault_of(command, "E10 at byte 0"), 2
             if files[-1] == name and len(files) == 2:
-                out = f"malformed {SECOND_TEXTS[command]}: E10 at byte 0\n"
-            report.answers(f"{command} {' '.join(files)}", program.run(command, *files), out, 2)
+                second, status = SECOND_TEXTS[command]
+                out = f"malformed {second}: E10 at byte 0\n"
+            report.answers(f"{command} {' '.join(files)}", program.run(command, *files), out, status)
+        ran = program.run("find", name)
+        report.holds(f"find {name}", (ran.status, ran.out) == (2, b"") and b"malformed history" in ran.err, ran)
         for words in drawn_with(name):
             ran = program.run(*words)
             is_said = ran.status == 2 and b"The text is longer than 268,435,456 bytes." in ran.out and len(ran.out) < 20_000
@@ -161,7 +214,7 @@ def too_long(program, report):
 
 
 def longest(program, report):
-    """A history of the greatest length, whose last map is at its end, counts to its last byte."""
+    """A history of the greatest length, whose last map is at its end, counts to its last byte. So does evidence."""
     text = rows.OVERLAPPING.encode()
     head, _, last = text.rstrip(b"\n").rpartition(b"\n")
     program.write(CERTIFICATES, rows.order(1, 0, 4))
@@ -173,6 +226,16 @@ def longest(program, report):
         file.write(b" ")
     ran = program.run("check", "longest.edn", CERTIFICATES)
     report.answers("check: a history one byte longer", ran, "malformed history: E10 at byte 0\n", 2)
+    program.write(HISTORY, rows.OVERLAPPING)
+    evidence = rows.order(1, 0, 4).encode()
+    with open(f"{program.room}/longest.edn", "wb") as file:
+        file.write(b" " * (LONGEST - len(evidence)) + evidence)
+    ran = program.run("verify", HISTORY, "longest.edn")
+    report.answers("verify: evidence of the greatest length", ran, rows.THREE_YES, 0)
+    with open(f"{program.room}/longest.edn", "ab") as file:
+        file.write(b" ")
+    ran = program.run("verify", HISTORY, "longest.edn")
+    report.answers("verify: evidence one byte longer", ran, "malformed evidence: E10 at byte 0\n", 3)
     os.remove(f"{program.room}/longest.edn")
 
 
@@ -183,4 +246,4 @@ def same_file_twice(program, report):
     report.answers("check: one file twice", ran, rows.yes(0, 0), 0)
 
 
-PARTS = (unreadable, failing_reads, failing_reads_of_long_texts, in_pieces, too_long, longest, same_file_twice)
+PARTS = (unreadable, failing_reads, failing_reads_of_tools, failing_reads_of_long_texts, in_pieces, too_long, longest, same_file_twice)

@@ -8,10 +8,10 @@ import subprocess
 import sys
 from dataclasses import dataclass
 
-from . import reasons, rows, sentences, workloads
+from . import reasons, rows, verifications, workloads
 from .answers import is_accepted
-from .pages import Drawn
-from .running import EXAMPLES, ROOT, SECONDS, Program, Ran
+from .rows import HISTORY
+from .running import EXAMPLES, OF_TOOLS, ROOT, SECONDS, Program, at_once
 
 OUT = b"out of memory\n"
 NO_MEMORY = 3
@@ -62,15 +62,14 @@ def examples():
         if kind == "reasons.edn":
             yield of_example("refute", f"{stem}.history.edn", name)
         if kind == "history.edn":
+            for evidence in (f"{stem}.certificates.edn", f"{stem}.reasons.edn"):
+                if evidence in names:
+                    yield of_example("verify", name, evidence)
             if f"{stem}.certificates.edn" in names:
                 yield of_example("check", name, f"{stem}.certificates.edn")
-                yield of_example("draw", name, f"{stem}.certificates.edn")
             # A search that never ends by itself would take all its steps at each refusal.
             few = ("--steps", "1000") if f"{stem}.reasons.edn" in names else ()
             yield of_example("search", *few, name)
-            yield of_example("find", name)
-            yield of_example("judge", *few, name)
-            yield of_example("draw", *few, name)
 
 
 def of_example(*words):
@@ -86,12 +85,12 @@ def of_example(*words):
 
 
 def cases():
-    """Every allocation of each worked row and of runs of two clients, and some of examples and of longer ones."""
-    for it in rows.ROWS:
-        if len(it.texts[0]) < LONG:
+    """Every allocation of each worked row of the proved program and of runs of two clients, and some of examples and of longer ones."""
+    for it in rows.ROWS + verifications.ROWS:
+        if len(it.texts[0]) < LONG and it.words[0] not in OF_TOOLS:
             yield of_row(it)
-    for name, history, *options in rows.NOT_LINEARIZABLE:
-        yield of_row(rows.judge(name, history, "", 1, *options), stride=3)
+    for name, history, *_ in rows.NOT_LINEARIZABLE:
+        yield of_row(rows.verify(name, history, "{:object 0} {:object 3}", "", 1), stride=3)
     yield of_row(next(it for it in rows.YES if it.texts[0] == rows.TWO_QUEUES), "--workers", "4")
     yield Case(" ".join(ONE_CLIENT), ONE_CLIENT)
     for kind in workloads.KINDS_OF_A_RUN:
@@ -132,12 +131,10 @@ def is_out_of_memory(command, whole, ran):
         return True
     if command == "search":
         return object_is_out_of_memory(whole, ran)
-    if command == "draw" and ran.status == NO_MEMORY:
-        return is_out_of_memory("judge", whole, told_by(ran))
-    if command == "judge":
-        # It tells only the objects that have no certificate. Where no memory is left to look for a reason it searches.
-        lines = rb"(; object \d+: (out of memory|out of steps after \d+)\n)+"
-        return ran.status == NO_MEMORY and re.fullmatch(lines, ran.out) is not None
+    if command == "verify":
+        # It tells only the objects of which no order is shown.
+        lines = rb"(; object \d+: (out of memory|open|out of steps after \d+)\n)+"
+        return ran.status == NO_MEMORY and re.fullmatch(lines, ran.out) is not None and b": out of memory\n" in ran.out
     if command == "refute":
         return ran.status == NO_MEMORY and b": not shown: out of memory\n" in ran.out
     if command in ("run", "simulate") and ran.status == NO_MEMORY:
@@ -145,30 +142,10 @@ def is_out_of_memory(command, whole, ran):
     return False
 
 
-def told_by(ran):
-    """The lines of the verdict on a page, as the output of the run."""
-    return Ran(ran.status, f"{Drawn(ran.out).lines}\n".encode(), ran.err)
-
-
-def is_other_page(program, words, whole, ran):
-    """Whether a page says no for another reason, which holds, or has other orders, which are valid."""
-    if ran.status != whole.status or not ran.out.startswith(b"<!DOCTYPE html>"):
-        return False
-    if "--steps" not in words and len(words) > 2:
-        return False
-    with open(f"{program.room}/{words[-1]}") as file:
-        history = file.read()
-    if ran.status == 1:
-        told = told_by(ran)
-        # Of many lines a page has the first ones: the reason itself is not on it.
-        begun, cut, _ = told.out.rpartition("\n… ".encode())
-        return reasons.is_begun(history, Ran(told.status, begun, told.err)) if cut else is_other_reason(program, words, whole, told)
-    return ran.status == 0 and sentences.why_order_false(Drawn(ran.out), history) is None
-
-
 def is_other_reason(program, words, whole, ran):
-    """Whether a judgement says no as it does with ample memory, and for a reason that holds."""
-    with open(f"{program.room}/{words[-1]}") as file:
+    """Whether a verification or judgement says no as it does with ample memory, and for a reason that holds."""
+    history = next(it for it in words if it.endswith(HISTORY))
+    with open(f"{program.room}/{history}") as file:
         history = file.read()
     return (whole.status, reasons.why_not_explained(program, history, ran)) == (1, None)
 
@@ -202,7 +179,7 @@ def refuse(it):
     is_out = is_out_of_memory(command, whole, ran)
     is_same = (ran.status, ran.out, ran.err) == (whole.status, whole.out, whole.err)
     is_quiet = ran.err == b"" or ran.err == whole.err
-    is_other = {"judge": is_other_reason, "draw": is_other_page}.get(command, is_other_run)
+    is_other = is_other_reason if command == "verify" else is_other_run
     is_well = is_quiet and (is_same or is_out or is_other(it.program, it.words, whole, ran))
     return is_out, ran.out, None if is_well else ran
 
@@ -232,6 +209,40 @@ def refused_memory(program, report):
                 stopped = [at for at, (_, out, _) in zip(numbers, found) if has_pending_call(out)]
                 report.holds(f"memory: {case.name}: no client stops at a call", not stopped, stopped)
             tried += len(numbers)
+    return f"{tried} allocations refused"
+
+
+# Histories that the tools judge without memory: two that are linearizable, and two that are not.
+OF_THE_TOOLS = (rows.OVERLAPPING, rows.TWO_QUEUES, rows.THREE_VALUES, rows.ONE_OF_TWO)
+# How many allocations of each are refused, at most.
+MOST_REFUSED = 60
+
+
+def is_well_without_memory(program, command, whole, ran):
+    """Whether the tools said nothing that does not hold, where each of their processes is refused an allocation. A program in Rust that is refused
+    memory is ended by a signal."""
+    if ran.status not in (0, 1):
+        return ran.status in (NO_MEMORY, 4, 70) or ran.status < 0
+    if (ran.status, ran.out) == (whole.status, whole.out):
+        return True
+    return command == "judge" and is_other_reason(program, (HISTORY,), whole, ran)
+
+
+def refused_memory_of_tools(program, report):
+    """An allocation of each process of judge, find and draw is refused: the status is 0 or 1 only where the answer holds."""
+    tried, ended = 0, set()
+    for text in OF_THE_TOOLS:
+        program.write(HISTORY, text)
+        for command in OF_TOOLS:
+            whole, count, _ = program.counts(command, HISTORY)
+            numbers = sorted({*range(1, 11), *range(1, count + 1, max(1, count // MOST_REFUSED))})
+            runs = at_once(lambda at: program.run(command, HISTORY, faults={"REFUSE_AT": at}), numbers)
+            for at, ran in zip(numbers, runs):
+                is_well = is_well_without_memory(program, command, whole, ran)
+                report.holds(f"memory: {command}: allocation {at} of each process is refused: {text[:60]!r}", is_well, ran)
+            tried += len(numbers)
+            ended |= {ran.status for ran in runs}
+    report.holds("memory: the tools end in several ways", len(ended) >= 3, ended)
     return f"{tried} allocations refused"
 
 
@@ -285,9 +296,9 @@ def limit_time():
 
 
 def peak_of(program, *words, limit=limit_time):
-    """The status of a run, and how much memory it had at most, in KiB."""
+    """The status of a run, and how much memory each of its processes had at most, in KiB."""
     quiet = {"stdin": subprocess.DEVNULL, "stdout": subprocess.DEVNULL, "stderr": subprocess.DEVNULL}
-    run = subprocess.Popen([program.path, *words], cwd=program.room, preexec_fn=limit, **quiet)
+    run = subprocess.Popen(program.line(words), cwd=program.room, preexec_fn=limit, **quiet)
     _, status, usage = os.wait4(run.pid, 0)
     run.returncode = os.waitstatus_to_exitcode(status)
     return run.returncode, usage.ru_maxrss
@@ -356,4 +367,4 @@ def bounded_memory_of_long_histories(program, report):
     return f"{beyond >> 10} MiB beyond the text"
 
 
-PARTS = (refused_memory, bounded_memory, bounded_memory_of_calls_at_once, bounded_memory_of_long_histories)
+PARTS = (refused_memory, refused_memory_of_tools, bounded_memory, bounded_memory_of_calls_at_once, bounded_memory_of_long_histories)

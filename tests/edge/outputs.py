@@ -3,10 +3,10 @@ import os
 import resource
 import signal
 
-from . import faulty, rows, schedules
+from . import rows, schedules, verifications
 from .answers import MUTEX_TWICE
-from .files import AS_NOBODY, good_runs, write_good
-from .rows import CERTIFICATES, HISTORY
+from .files import AS_NOBODY, good_runs, proved_runs, write_good
+from .rows import CERTIFICATES, EVIDENCE, HISTORY
 from .running import at_once
 
 RUN = ("run", "--clients", "2", "--calls", "5")
@@ -17,20 +17,31 @@ def commands():
     yield from (words for words, _, _, _ in good_runs())
     yield RUN
     yield ("--help",)
+    yield ("draw", HISTORY)
+    yield ("judge", "--help")
+
+
+def is_failed(words, ran, out=b""):
+    """Whether a run that put out only this ended as one whose output failed. The tools say why. judge leaves its output to the proved
+    program, which says nothing."""
+    says = words[0] in ("find", "draw") or words == ("judge", "--help")
+    is_said = ran.err.startswith(b"fcbench: the output failed: ") if says else ran.err == b""
+    return (ran.status, ran.out) == (4, out) and is_said
 
 
 def failing_output(program, report):
-    """A full device and a closed pipe give the status 4, and nothing else is said."""
+    """A full device and a closed pipe give the status 4, and the proved program says nothing else."""
     write_good(program)
     for words in commands():
         with open("/dev/full", "wb") as full:
-            report.answers(f"{' '.join(words)} > /dev/full", program.run(*words, stdout=full), "", 4)
+            ran = program.run(*words, stdout=full)
+            report.holds(f"{' '.join(words)} > /dev/full", is_failed(words, ran), ran)
         for action in (signal.SIG_DFL, signal.SIG_IGN):
             reading, writing = os.pipe()
             os.close(reading)
             ran = program.run(*words, stdout=writing, preexec_fn=lambda: signal.signal(signal.SIGPIPE, action))
             os.close(writing)
-            report.answers(f"{' '.join(words)} to a closed pipe, {action.name}", ran, "", 4)
+            report.holds(f"{' '.join(words)} to a closed pipe, {action.name}", is_failed(words, ran), ran)
 
 
 def output_cut_short(program, report):
@@ -53,16 +64,21 @@ def output_cut_short(program, report):
         report.equal(f"check: an output with room for {room} bytes", expected, came)
 
 
+# Evidence whose answers are cut.
+CLAIMS = (rows.order(1, 0, 4), rows.TWO_OF_THREE, verifications.COUNTED, verifications.WHOLE)
+
+
 def cut_rows():
-    """Rows whose outputs are cut after each of their bytes: findings, judgements, records, and one of each other command."""
-    given = [it for it in faulty.ROWS if it.words[0] in ("find", "judge")]
+    """Rows whose outputs are cut after each of their bytes: findings, verifications, records, and one of each other command. In a judgement the
+    output of the finder would be cut too."""
+    given = [it for it in verifications.ROWS if it.words[0] == "verify" and it.texts[1] in (*CLAIMS, "7")]
     given += [it for it in rows.SIMULATIONS if it.texts[0] in (rows.SERVED_BY_ANOTHER, "")]
     given += [it for it in schedules.ROWS if it.out == schedules.TWO_CLIENTS]
-    for it in (*rows.FINDINGS, *rows.JUDGEMENTS, *given):
+    for it in (*rows.FINDINGS, *given):
         if len(it.texts[0]) < 2000:
             yield it.words, it.files(), it.out
     yield ("run", "--kind", "mutex", "--clients", "1", "--calls", "5"), (), MUTEX_TWICE
-    for words, files, out, _ in good_runs():
+    for words, files, out, _ in proved_runs():
         if words[0] in ("check", "search", "refute"):
             yield words, files, out
 
@@ -75,7 +91,7 @@ def beginnings_of_output(program, report):
         whole = out.encode()
         run = lambda room: program.run(*words, faults={"WRITE_IN_ALL": room})
         for room, ran in enumerate(at_once(run, range(len(whole)))):
-            report.answers(f"{' '.join(words)}: {room} of {len(whole)} bytes", ran, whole[:room], 4)
+            report.holds(f"{' '.join(words)}: {room} of {len(whole)} bytes", is_failed(words, ran, whole[:room]), ran)
 
 
 def short_writes(program, report):
@@ -100,6 +116,11 @@ def no_thread(program, report):
     report.answers("run: one client needs no thread", one, "; yes: 0 operations, 0 objects\n", 0)
     ran = program.run("check", "--workers", "2", HISTORY, CERTIFICATES, **how)
     report.answers("check: no thread can be started", ran, rows.QUEUES_YES, 0)
+    program.write(EVIDENCE, rows.TWO_ORDERS)
+    report.answers("verify: no thread can be started", program.run("verify", HISTORY, EVIDENCE, **how), rows.QUEUES_YES, 0)
+    ran = program.run("judge", HISTORY, **how)
+    said = b"fcbench: the proved program cannot be started: "
+    report.holds("judge: no process can be started", (ran.status, ran.out) == (70, b"") and ran.err.startswith(said), ran)
 
 
 PARTS = (failing_output, output_cut_short, beginnings_of_output, short_writes, no_thread)

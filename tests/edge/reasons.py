@@ -217,7 +217,12 @@ def explained_in(out):
             found[-1][1].append(line.removeprefix("; "))
         else:
             others.append(line)
-    return [(on, told[1:-1], told[-1] if told else "") for on, told in found], others
+    return [(on, without_sentence(told[:-1]), told[-1] if told else "") for on, told in found], others
+
+
+def without_sentence(told):
+    """The lines that are told of an object without the sentence, where it has one."""
+    return told if not told or TOLD.fullmatch(told[0]) else told[1:]
 
 
 def operations_on(history, on):
@@ -252,14 +257,6 @@ def why_not_explained(program, history, ran):
         if (again.status, again.out.decode()) != (1, refuted(history, on, operations)):
             return f"object {on}: refute says {again}"
     return None
-
-
-def is_begun(history, ran):
-    """Whether the first lines of a judgement that ends with 1 list operations of the history, where a page leaves the others out."""
-    found, others = explained_in(ran.out)
-    maps = maps_of(history)
-    told = [(on, TOLD.fullmatch(line)) for on, operations, _ in found for line in operations]
-    return ran.status == 1 and not others and bool(told) and all(it and is_of_history(maps, it, on) for on, it in told)
 
 
 def explanations(program, report):

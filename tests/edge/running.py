@@ -73,11 +73,15 @@ class Program:
         return ran, int(allocations), int(reads)
 
     def instructions(self, *words):
-        """How many instructions a run takes in its own process, as valgrind counts them."""
-        with tempfile.NamedTemporaryFile("r", dir=self.room, encoding="utf-8") as counted:
-            valgrind = ["valgrind", "--tool=callgrind", f"--callgrind-out-file={counted.name}"]
+        """How many instructions a run takes, as valgrind counts them in each of its processes."""
+        with tempfile.TemporaryDirectory(dir=self.room) as folder:
+            valgrind = ["valgrind", "--tool=callgrind", "--trace-children=yes", f"--callgrind-out-file={folder}/%p"]
             subprocess.run([*valgrind, *self.line(words)], cwd=self.room, stdout=subprocess.DEVNULL, stderr=subprocess.DEVNULL)
-            return int(re.search(r"^(?:totals|summary): (\d+)", counted.read(), re.M)[1])
+            counted = 0
+            for it in os.scandir(folder):
+                with open(it.path, encoding="utf-8") as file:
+                    counted += int(re.search(r"^(?:totals|summary): (\d+)", file.read(), re.M)[1])
+            return counted
 
     def write(self, name, text):
         """Writes a file into the folder in which the program runs, and returns its name."""

@@ -2,11 +2,15 @@
 import os
 import re
 import shutil
+import subprocess
 
 from . import rows
-from .running import ROOT
+from .rows import CERTIFICATES, HISTORY
+from .running import OF_TOOLS, ROOT
 
-COMMANDS = ("check", "search", "find", "judge", "refute", "draw", "run", "simulate")
+COMMANDS = ("check", "search", "refute", "verify", "run", "simulate")
+# The script that sends each command to the program whose command it is.
+DISPATCH = f"{ROOT}/tools/fcbench.sh"
 
 # Command lines that are refused, after the program's name. None of the files is there.
 REFUSED_LINES = """
@@ -40,8 +44,13 @@ REFUSED_LINES = """
     find
     find h.edn c.edn
     find -e.edn
-    find h.edn --steps 7
-    find --steps 5 h.edn
+    find h.edn --steps
+    find h.edn --steps -1
+    find --steps 1000000001 h.edn
+    find --workers 0 h.edn
+    find h.edn --workers 17
+    find h.edn --workers 2 --workers 2
+    find h.edn --first return
     judge
     judge h.edn c.edn
     judge -e.edn
@@ -51,7 +60,10 @@ REFUSED_LINES = """
     judge h.edn --steps -1
     judge h.edn --steps=7 --steps=7
     judge h.edn --first return
-    judge h.edn --workers 2
+    judge h.edn --workers 0
+    judge h.edn --workers=17
+    judge h.edn --workers many
+    judge h.edn --object 0
     refute
     refute h.edn
     refute h.edn r.edn c.edn
@@ -60,6 +72,18 @@ REFUSED_LINES = """
     refute --steps many h.edn r.edn
     refute h.edn r.edn --first return
     refute h.edn r.edn --workers 2
+    verify
+    verify h.edn
+    verify h.edn e.edn c.edn
+    verify h.edn -e.edn
+    verify h.edn e.edn --steps
+    verify h.edn e.edn --steps 1000000001
+    verify --steps 1000000001 h.edn e.edn
+    verify --steps many h.edn e.edn
+    verify --steps -1 h.edn e.edn
+    verify h.edn e.edn --steps 1 --steps 2
+    verify h.edn e.edn --first return
+    verify h.edn e.edn --workers 2
     draw
     draw h.edn c.edn d.edn
     draw --object -1 h.edn
@@ -105,6 +129,7 @@ JUDGED = (rows.OVERLAPPING,), rows.THREE_YES, 0
 # Each of its 23 operations returned, so no order is found in fewer steps than these.
 SEARCHED = (rows.FIRST_WRITE_LAST,), rows.yes(23, 1, "register: 1 objects, 23 operations"), 0
 REFUTED = (rows.THREE_VALUES, rows.TWO_OF_THREE), rows.refutation(3, 4, rows.ENQUEUE_1, rows.ENQUEUE_2, rows.DEQUEUE_2), 1
+VERIFIED = (rows.OVERLAPPING, rows.order(1, 0, 4)), rows.THREE_YES, 0
 SIMULATED = (rows.SERVED_BY_ANOTHER,), rows.SERVED_LINES, 0
 
 
@@ -129,11 +154,14 @@ ACCEPTED = (
     ("search h.edn --first number", (rows.RETURNS_CROSSED,), rows.order(0, 1), 0),
     ("search h.edn --first return", (rows.RETURNS_CROSSED,), rows.order(1, 0), 0),
     ("find h.edn", *FOUND),
+    ("find --workers 16 --steps=0 h.edn", *FOUND),
     ("find -- -h.edn", *FOUND),
     ("judge h.edn", *SEARCHED),
     ("judge h.edn --steps 7", *out_of_steps(7)),
     ("judge --steps=0 h.edn", *out_of_steps(0)),
     ("judge h.edn --steps 1000000000", *SEARCHED),
+    ("judge --workers=1 h.edn --steps +7", *out_of_steps(7)),
+    ("judge --workers 16 -- h.edn", *SEARCHED),
     ("judge -- -e.edn", *JUDGED),
     ("refute h.edn r.edn", *REFUTED),
     (
@@ -144,6 +172,10 @@ ACCEPTED = (
     ),
     ("refute --steps=1000000000 h.edn r.edn", *REFUTED),
     ("refute -- -h.edn r.edn", *REFUTED),
+    ("verify h.edn e.edn", *VERIFIED),
+    ("verify h.edn --steps 7 e.edn", (rows.FIRST_WRITE_LAST, "{:object 0}"), "; object 0: out of steps after 7\n", 3),
+    ("verify --steps=1000000000 h.edn e.edn", *VERIFIED),
+    ("verify -- -h.edn e.edn", *VERIFIED),
     ("run --kind=mutex --objects 1 --clients 1 --calls 0 --seed 0", (), "; yes: 0 operations, 0 objects\n", 0),
     ("simulate s.edn", *SIMULATED),
     ("simulate -- -s.edn", *SIMULATED),
@@ -158,10 +190,11 @@ def help_texts(program, report):
         report.holds(f"{words[0]} is help", is_well, ran)
         lacks = [it for it in COMMANDS if f"\n  {it} ".encode() not in ran.out]
         report.equal(f"{words[0]} names each command", [], lacks, ran.out)
-    options = {"check": ("--workers",), "search": ("--steps", "--first"), "judge": ("--steps",), "refute": ("--steps",)}
+    options = {"check": ("--workers",), "search": ("--steps", "--first"), "refute": ("--steps",)}
     options["run"] = ("--kind", "--objects", "--clients", "--calls", "--seed")
-    options["draw"] = ("--object", "--from", "--to", "--steps")
-    for command in COMMANDS:
+    options.update(verify=("--steps",), find=("--steps", "--workers"), draw=("--object", "--from", "--to", "--steps"))
+    options["judge"] = options["find"]
+    for command in (*COMMANDS, *OF_TOOLS):
         ran = program.run(command, "--help")
         lacks = [it for it in options.get(command, ()) if it.encode() not in ran.out]
         is_well = (ran.status, ran.err, lacks) == (0, b"", [])
@@ -213,7 +246,7 @@ def bad_words_are_told(program, report):
 def not_utf_8(program, report):
     """Words that are no UTF-8 are refused."""
     message = "fcbench: a word of the command line is not UTF-8\n"
-    for words in ((b"\xff",), (b"check", b"h\xc3.edn", b"c.edn"), (b"search", b"\xed\xa0\x80")):
+    for words in ((b"\xff",), (b"check", b"h\xc3.edn", b"c.edn"), (b"search", b"\xed\xa0\x80"), ("judge", b"\xff"), ("draw", b"h\xc3.edn")):
         report.answers(f"refused: {words}", program.run(*words), "", 64, message)
 
 
@@ -233,4 +266,23 @@ def limits(program, report):
         report.answers(f"search --first {first}", program.run("search", "--first", first, "empty.edn"), "", 0)
 
 
-PARTS = (help_texts, accepted, version, refused, bad_words_are_told, not_utf_8, limits)
+def dispatched(program, report):
+    """The script that is installed as fcbench sends each command line to the program whose command it is."""
+    program.write(HISTORY, rows.OVERLAPPING)
+    program.write(CERTIFICATES, rows.order(1, 0, 4))
+    env = {**os.environ, "FCBENCH": program.path, "FCBENCH_TOOLS": program.tools}
+    script = lambda *words: subprocess.run([DISPATCH, *words], cwd=program.room, env=env, capture_output=True)  # noqa: E731
+    lines = [("judge", HISTORY), ("find", HISTORY), ("draw", HISTORY), ("search", HISTORY), ("verify", HISTORY, CERTIFICATES)]
+    lines += [("check", HISTORY, CERTIFICATES), ("judge",), ("check",), ("--version",), ("jump",), ("judge", "--help"), ("check", "--help")]
+    for words in lines:
+        direct, ran = program.run(*words), script(*words)
+        report.equal(f"fcbench.sh {' '.join(words)}", (direct.status, direct.out, direct.err), (ran.returncode, ran.stdout, ran.stderr))
+    for words in (("--help",), ("-h",), ("help",)):
+        ran = script(*words)
+        lacks = [it for it in (*COMMANDS, *OF_TOOLS) if f"\n  {it} ".encode() not in ran.stdout]
+        report.equal(f"fcbench.sh {words[0]} names each command", (0, []), (ran.returncode, lacks), ran.stdout)
+    for command in OF_TOOLS:
+        report.equal(f"fcbench.sh help {command}", program.run(command, "--help").out, script("help", command).stdout)
+
+
+PARTS = (help_texts, accepted, version, refused, bad_words_are_told, not_utf_8, limits, dispatched)

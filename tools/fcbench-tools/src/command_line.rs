@@ -93,16 +93,24 @@ struct Words {
 }
 
 impl Words {
+    /// The words, of which those after `--` are no options. The number of an option may be after `=`.
     /// `None`: an option is given twice, or has no number.
     fn sort(mut words: impl Iterator<Item = String>) -> Option<Words> {
         let mut sorted = Words::default();
         while let Some(word) = words.next() {
-            if !word.starts_with("--") {
+            if word == "--" {
+                sorted.files.extend(words.by_ref());
+            } else if !word.starts_with('-') {
                 sorted.files.push(word);
-            } else if sorted.numbers.iter().all(|(option, _)| *option != word) {
-                sorted.numbers.push((word, words.next()?.parse().ok()?));
             } else {
-                return None;
+                let (option, number) = match word.split_once('=') {
+                    Some((option, number)) => (option.to_owned(), number.to_owned()),
+                    None => (word, words.next()?),
+                };
+                if sorted.numbers.iter().any(|(other, _)| *other == option) {
+                    return None;
+                }
+                sorted.numbers.push((option, number.parse().ok()?));
             }
         }
         Some(sorted)
@@ -158,7 +166,8 @@ impl Command {
             "--help" | "-h" => return Ok(Command::Help(COMMANDS)),
             _ => return Err(COMMANDS),
         };
-        if words.iter().any(|word| word == "--help" || word == "-h") {
+        let mut options = words.iter().take_while(|word| *word != "--");
+        if options.any(|word| word == "--help" || word == "-h") {
             return Ok(Command::Help(help));
         }
         let words = Words::sort(words.iter().cloned()).ok_or(help)?;
@@ -184,7 +193,17 @@ mod tests {
         let find = Find { history: "h.edn".into(), workers: one_for_each_processor(), steps: None };
         assert_eq!(parsed("find h.edn"), Some(Command::Find(find)));
         let find = Find { history: "h.edn".into(), workers: 4, steps: Some(0) };
-        assert_eq!(parsed("judge --steps 0 h.edn --workers 4"), Some(Command::Judge(find)));
+        for line in [
+            "judge --steps 0 h.edn --workers 4",
+            "judge --steps=0 --workers +4 h.edn",
+            "judge h.edn --workers=4 --steps 0",
+            "judge --workers 4 --steps=0 -- h.edn",
+        ] {
+            assert_eq!(parsed(line), Some(Command::Judge(find.clone())), "{line}");
+        }
+        let find =
+            Find { history: "-h.edn".into(), workers: one_for_each_processor(), steps: None };
+        assert_eq!(parsed("find -- -h.edn"), Some(Command::Find(find)));
         let draw = Draw {
             history: "h.edn".into(),
             certificates: Some("c.edn".into()),

@@ -1,13 +1,13 @@
 //! The command that draws: the answer of the proved program on a page.
 
 use crate::command_line::Draw;
-use crate::find::{read, say_failures, write_evidence};
+use crate::find::{history_in, read, say_failures, write_evidence};
 use crate::judge::answered;
-use crate::program::{path_for_both, proved, say, verifier};
+use crate::program::{path_for_both, proved, put_out, say, verifier};
 use crate::status::Status;
-use finder::{Decision, History, Options, decide, read_history};
+use finder::{Decision, History, Options, decide};
 use pages::{Drawn, Fault, Verdict, Which, malformed_page, memory_page, orders_in};
-use std::io::{self, Read, Write};
+use std::io::Read;
 use std::panic::{AssertUnwindSafe, catch_unwind};
 use std::process::{ChildStdin, Command, Stdio};
 
@@ -75,7 +75,7 @@ impl<'a> Drawing<'a> {
     fn new(command: &'a Draw) -> Result<Drawing<'a>, Status> {
         let history = Text::read(&command.history)?;
         let certificates = command.certificates.as_deref().map(Text::read).transpose()?;
-        let read = read_history(&history.bytes);
+        let read = history_in(&history.bytes);
         Ok(Drawing { command, history, certificates, read, decisions: Vec::new() })
     }
 
@@ -143,9 +143,6 @@ fn drawn(command: &Draw) -> Result<Status, Status> {
         say(format_args!("there is no page on this answer: {lines}"));
         return Err(Status::FAILED);
     };
-    io::stdout().lock().write_all(page.as_bytes()).map_err(|error| {
-        say(format_args!("the output failed: {error}"));
-        Status::UNREADABLE
-    })?;
+    put_out(&page)?;
     Ok(status)
 }

@@ -3,16 +3,28 @@
 use crate::command_line::Find;
 use crate::program::say;
 use crate::status::Status;
-use finder::{Decision, Evidence, Options, decide, read_history};
-use std::fs;
-use std::io::{self, BufWriter, Write};
+use finder::{Decision, Evidence, History, Options, decide, read_history};
+use std::fs::File;
+use std::io::{self, BufWriter, Read, Write};
 
-/// The bytes of a file, or why there are none.
+/// The longest text that is read.
+const LONGEST: u64 = 268_435_456;
+
+/// The bytes of a file, or why there are none. Of one that is too long it is one byte more than the
+/// longest.
 pub fn read(path: &str) -> Result<Vec<u8>, Status> {
-    fs::read(path).map_err(|error| {
+    let mut text = Vec::new();
+    let bytes = File::open(path).and_then(|file| file.take(LONGEST + 1).read_to_end(&mut text));
+    bytes.map_err(|error| {
         say(format_args!("cannot read {path}: {error}"));
         Status::UNREADABLE
-    })
+    })?;
+    Ok(text)
+}
+
+/// The history that a text spells, unless the text is too long.
+pub fn history_in(text: &[u8]) -> Option<History> {
+    read_history(text).filter(|_| text.len() as u64 <= LONGEST)
 }
 
 /// Writes a line for each decision.
@@ -28,7 +40,7 @@ pub fn find(command: &Find) -> Status {
         Ok(text) => text,
         Err(status) => return status,
     };
-    let Some(history) = read_history(&text) else {
+    let Some(history) = history_in(&text) else {
         let path = &command.history;
         say(format_args!("malformed history: fcbench check {path} /dev/null says where"));
         return Status::MALFORMED;

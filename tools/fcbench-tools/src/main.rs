@@ -15,18 +15,23 @@ mod program;
 mod status;
 
 use command_line::Command;
+use program::{put_out, say};
 use status::Status;
+use std::env;
+use std::ffi::OsString;
 use std::process::ExitCode;
 
 fn main() -> ExitCode {
-    let status = match Command::parse(std::env::args().skip(1)) {
+    let words = env::args_os().skip(1).map(OsString::into_string);
+    let Ok(words) = words.collect::<Result<Vec<_>, _>>() else {
+        say(format_args!("a word of the command line is not UTF-8"));
+        return Status::USAGE.into();
+    };
+    let status = match Command::parse(words) {
         Ok(Command::Find(command)) => find::find(&command),
         Ok(Command::Judge(command)) => judge::judge(&command),
         Ok(Command::Draw(command)) => draw::draw(&command),
-        Ok(Command::Help(text)) => {
-            print!("{text}");
-            Status::YES
-        }
+        Ok(Command::Help(text)) => put_out(text).map_or_else(|status| status, |()| Status::YES),
         Err(help) => {
             eprint!("{help}");
             Status::USAGE

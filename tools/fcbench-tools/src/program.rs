@@ -4,6 +4,7 @@ use crate::status::Status;
 use std::env;
 use std::ffi::OsString;
 use std::fs;
+use std::io::{self, Write};
 use std::os::unix::fs::FileTypeExt;
 use std::process::Command;
 
@@ -42,9 +43,22 @@ pub fn path_for_both(history: &str) -> Result<String, Status> {
         say(format_args!("cannot read {history}: it is read twice, so it must be a file"));
         return Err(Status::UNREADABLE);
     }
+    if history.starts_with('-') {
+        // Else the proved program takes it for an option.
+        return Ok(format!("./{history}"));
+    }
     let is_open_file = history.starts_with("/dev/") || history.starts_with("/proc/");
     let path = fs::canonicalize(history).ok().filter(|_| is_open_file);
     Ok(path.and_then(|path| path.into_os_string().into_string().ok()).unwrap_or(history.into()))
+}
+
+/// Writes a text to standard output, or says why not.
+pub fn put_out(text: &str) -> Result<(), Status> {
+    let mut out = io::stdout().lock();
+    out.write_all(text.as_bytes()).and_then(|()| out.flush()).map_err(|error| {
+        say(format_args!("the output failed: {error}"));
+        Status::UNREADABLE
+    })
 }
 
 /// Says on standard error what went wrong.
