@@ -266,17 +266,6 @@ FOUND = [
         0,
     ),
     find(
-        "a value that is taken before it is put in",
-        lines(
-            invoke(0, "dequeue"),
-            ok(0, "dequeue", 1),
-            invoke(0, "enqueue", 1),
-            ok(0, "enqueue", 1),
-        ),
-        "; object 0: open\n",
-        3,
-    ),
-    find(
         "a read of 2 that runs while 2 is written and is over before 3 is; a compare-and-set that fails in between",
         lines(
             invoke(0, "write", 1),

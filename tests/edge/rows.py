@@ -556,6 +556,7 @@ NOT_LINEARIZABLE = [
     ("the first of two objects, and no step", ONE_OF_TWO, "--steps", "0"),
     ("equal enqueues", EQUAL_ENQUEUES),
     ("a free mutex is released", RELEASE_OF_A_FREE_MUTEX),
+    ("a queue gives a value before it is put in", one_process(("dequeue", None, 1), ("enqueue", 1, 1))),
     ("a queue gives a value twice", one_process(("enqueue", 7, 7), ("dequeue", None, 7), ("dequeue", None, 7))),
     ("a stack gives the lower value", one_process(("push", 1, 1), ("push", 2, 2), ("pop", None, 1))),
     ("a heap gives the larger value", one_process(("insert", 1, 1), ("insert", 2, 2), ("extract-min", None, 2))),

@@ -113,7 +113,7 @@ def alone(path, room):
 def in_room(proved, tools, room):
     """The proved program and the tools beside each other in a new folder of this folder. The label is the name of the proved program."""
     label = os.path.basename(proved)
-    own = f"{room}/room of {label}"
+    own = f"{room}/room.of.{label}"
     os.mkdir(own)
     # Some runs are those of another user.
     os.chmod(own, 0o777)

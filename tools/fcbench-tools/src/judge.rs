@@ -7,11 +7,16 @@ use crate::program::{path_for_both, say, verifier};
 use crate::status::Status;
 use std::env;
 use std::io;
+use std::path::PathBuf;
 use std::process::{Child, Command, ExitStatus, Stdio};
 
-/// This program, as the finder of evidence.
+/// The finder of evidence: the program that the environment variable FCBENCH_FINDER names, or else
+/// this one. What it finds is checked, so any program may be named. It is started with the words
+/// `find HISTORY --workers N [--steps N]`, and writes evidence to its standard output. It is waited
+/// for until it closes that.
 fn finder(command: &Find) -> io::Result<Command> {
-    let mut finder = Command::new(env::current_exe()?);
+    let named = env::var_os("FCBENCH_FINDER").map(PathBuf::from);
+    let mut finder = Command::new(named.map_or_else(env::current_exe, Ok)?);
     finder.args(["find", &command.history, "--workers", &command.workers.to_string()]);
     if let Some(steps) = command.steps {
         finder.args(["--steps", &steps.to_string()]);

@@ -2,7 +2,8 @@
 //!
 //! - `find HISTORY` writes evidence for a history: for each object an order of its operations, a
 //!   reason why there is none, or the search that is to decide.
-//! - `judge HISTORY` hands this evidence to `fcbench verify`, and answers what that answers.
+//! - `judge HISTORY` hands this evidence to `fcbench verify`, and answers what that answers. The
+//!   environment variable FCBENCH_FINDER can name another finder.
 //! - `draw HISTORY` puts the answer on a page of HTML; `draw HISTORY CERTIFICATES` that of
 //!   `fcbench check`.
 
