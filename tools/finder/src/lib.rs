@@ -26,6 +26,8 @@ mod reader;
 mod reasons;
 mod residences;
 mod search;
+#[cfg(test)]
+mod small;
 mod splitmix;
 mod timeline;
 mod trees;

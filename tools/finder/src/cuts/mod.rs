@@ -3,6 +3,7 @@
 //! Correctness Condition for Concurrent Objects", TOPLAS 1990, is the model: what is true of
 //! objects in a history is here made true of values, keys and times in the history of one object.
 
+mod ahead;
 mod cells;
 mod counts;
 mod keeping;

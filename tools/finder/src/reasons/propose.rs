@@ -1,7 +1,7 @@
 //! The search for reasons: the patterns, the smallest first, and each made smaller.
 
 use super::cells::{cell_patterns, mutex_patterns, rare_cell_patterns};
-use super::containers::container_patterns;
+use super::containers::{container_patterns, lost_patterns};
 use super::shrink::{Judge, tells};
 use super::value_pairs::value_pairs_of;
 use super::wholes::wholes_of;
@@ -201,6 +201,17 @@ impl Proposer<'_> {
         smallest.map(|found| found.proposal)
     }
 
+    /// The smallest reason to which the patterns of the object lead, if they lead to one. Where that
+    /// of a queue, stack or heap is not small, values that were lost are looked for too.
+    fn best_by_patterns(&self, timeline: &Timeline) -> Option<Confirmed> {
+        let best = self.best_of(self.patterns(timeline));
+        if !self.history.kind.is_container() || best.as_ref().is_some_and(|it| it.size <= FEW) {
+            return best;
+        }
+        let lost = self.best_of(lost_patterns(self.history.kind, timeline));
+        best.into_iter().chain(lost).min_by_key(|found| found.size)
+    }
+
     fn propose(&self, open_key: Option<i64>) -> Option<Proposal> {
         if let Some(proposal) = open_key.and_then(|key| self.propose_from(key)) {
             return Some(proposal);
@@ -208,7 +219,7 @@ impl Proposer<'_> {
         let timeline = Timeline::of(&self.history.ops);
         let mut found = None;
         if open_key.is_none() {
-            found = self.best_of(self.patterns(&timeline));
+            found = self.best_by_patterns(&timeline);
         }
         let found = found
             .or_else(|| self.best_of(self.rare_patterns(&timeline)))
