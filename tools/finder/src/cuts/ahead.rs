@@ -13,7 +13,8 @@ use crate::model::{Op, Reply};
 #[derive(Clone, Copy, Debug)]
 pub struct Ahead {
     number: u32,
-    at: u32,
+    /// The number of its return.
+    pub at: u32,
     /// What it found.
     pub found: Option<i64>,
     op: Op,

@@ -9,6 +9,7 @@ mod counts;
 mod keeping;
 mod suffix;
 
+pub use ahead::Ahead;
 pub use counts::{Count, Counted, is_exceeded};
 
 use crate::history::{End, Invocation, ObjectHistory};

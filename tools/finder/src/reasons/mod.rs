@@ -5,6 +5,7 @@
 
 mod cells;
 mod containers;
+mod lost;
 mod pattern;
 mod plan;
 mod propose;
@@ -13,6 +14,7 @@ mod shrink;
 mod value_pairs;
 mod wholes;
 
+pub use lost::{Lost, LostValue};
 pub use pattern::{Pattern, Sentence};
 pub use reason::{FoundReason, Reason, Search, Shown};
 
@@ -27,7 +29,9 @@ use std::collections::BTreeSet;
 fn confirm(history: &ObjectHistory, proposal: Proposal, steps: u64) -> Option<FoundReason> {
     let Proposal { reason, pattern, key } = proposal;
     let search = Search { first: First::Return, steps };
-    reason.shown(history, search)?;
+    let part = reason.shown(history, search)?;
+    let lost = Lost::by(history, &part, &reason);
+    let pattern = lost.map_or(pattern, Pattern::Lost);
     let shown = reason.count.map_or(Shown::BySearch(search), Shown::ByCount);
     let sentence = Sentence { kind: history.kind, key, pattern };
     Some(FoundReason { cuts: reason.cuts, shown, sentence })
