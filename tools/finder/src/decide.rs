@@ -3,7 +3,7 @@
 use crate::evidence::{Decision, Evidence};
 use crate::history::{History, ObjectHistory};
 use crate::orders::{Quick, open_keys, order_by_contents, quick_order};
-use crate::reasons::{FoundReason, Search, find_by_pairs, find_by_patterns, find_on};
+use crate::reasons::{Search, find_by_pairs, find_by_patterns, find_on, reason_of_all};
 use crate::search::{First, Outcome, search};
 use std::panic::{AssertUnwindSafe, catch_unwind};
 use std::sync::atomic::{AtomicUsize, Ordering};
@@ -76,11 +76,15 @@ fn decide_object(history: &ObjectHistory, steps: Option<u64>) -> Evidence {
     if let Some(reason) = reason {
         return Evidence::Reason(reason);
     }
-    match search(history, first.first, first.steps) {
-        Outcome::Order(order) => Evidence::Order(order),
-        Outcome::Impossible => Evidence::Reason(FoundReason::of_all(history, first)),
-        Outcome::OutOfSteps => Evidence::Search(last_search(history, steps)),
+    let searched = search(history, first.first, first.steps);
+    if let Outcome::Order(order) = searched.outcome {
+        return Evidence::Order(order);
     }
+    let reason = match searched.outcome {
+        Outcome::Impossible => reason_of_all(history, first, searched),
+        _ => None,
+    };
+    reason.map_or_else(|| Evidence::Search(last_search(history, steps)), Evidence::Reason)
 }
 
 /// A fault in the search for evidence leaves the object open, and the others decided.
@@ -143,7 +147,7 @@ mod tests {
                 let history = random.history(kind);
                 let has_order = has_order_as_found(&history);
                 let searched = search(&history, First::Number, 1_000_000);
-                assert_eq!(matches!(searched, Outcome::Order(_)), has_order, "{history:?}");
+                assert_eq!(matches!(searched.outcome, Outcome::Order(_)), has_order, "{history:?}");
                 found[usize::from(has_order)] += 1;
             }
         }

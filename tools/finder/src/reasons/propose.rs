@@ -11,6 +11,7 @@ use crate::history::ObjectHistory;
 use crate::model::Kind;
 use crate::search::First;
 use crate::timeline::Timeline;
+use std::cell::Cell;
 
 /// A reason, with the pattern that led to it, and at a map the key that the pattern is about.
 pub struct Proposal {
@@ -58,10 +59,12 @@ struct Confirmed {
     size: usize,
 }
 
-/// An object's history in which reasons are looked for, and the most steps of a search of one part.
+/// An object's history in which reasons are looked for, the most steps of a search of one part, and
+/// those that are left for all searches by which plans are made smaller.
 struct Proposer<'a> {
     history: &'a ObjectHistory,
     steps: u64,
+    budget: Cell<u64>,
 }
 
 impl Proposer<'_> {
@@ -118,7 +121,7 @@ impl Proposer<'_> {
         let cuts = self.base_cuts(&candidate);
         let from = candidate.plan.from.take();
         let base = Base { part: part_by(self.history, &cuts)?, cuts, from };
-        let mut judge = Judge::new(&base.part, self.steps);
+        let mut judge = Judge::new(&base.part, self.steps, &self.budget);
         if !judge.shrink(&mut candidate.plan) {
             return None;
         }
@@ -234,12 +237,20 @@ impl Proposer<'_> {
 /// where it has no reason that is small enough. The search for an order of one part takes at most
 /// this many steps.
 pub fn propose(history: &ObjectHistory, open_key: Option<i64>, steps: u64) -> Option<Proposal> {
-    Proposer { history, steps }.propose(open_key)
+    let budget = Cell::new(u64::MAX);
+    Proposer { history, steps, budget }.propose(open_key)
+}
+
+/// The same of a part in which a plan is made smaller by as many steps in all.
+pub fn propose_within(part: &ObjectHistory, steps: u64, budget: u64) -> Option<Proposal> {
+    let proposer = Proposer { history: part, steps, budget: Cell::new(budget) };
+    proposer.propose(None)
 }
 
 /// The same of what was done with two values of a queue, stack or heap in which values repeat.
 pub fn propose_by_pairs(history: &ObjectHistory, steps: u64) -> Option<Proposal> {
-    let proposer = Proposer { history, steps: steps.min(STEPS_OF_A_PAIR) };
+    let budget = Cell::new(u64::MAX);
+    let proposer = Proposer { history, steps: steps.min(STEPS_OF_A_PAIR), budget };
     let candidates = value_pairs_of(history.kind, &Timeline::of(&history.ops));
     let shrunk = candidates.into_iter().filter_map(|candidate| proposer.shrink(candidate));
     let found = shrunk.into_iter().find_map(|shrunk| proposer.confirm(shrunk));
