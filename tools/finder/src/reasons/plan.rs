@@ -43,6 +43,8 @@ pub struct Plan {
     pub from: Option<u32>,
     pub until: Option<u32>,
     pub all_values: bool,
+    /// Whether the plan does not begin later than it does: what was before shows what is wrong.
+    pub keeps_beginning: bool,
     pub elements: Vec<Element>,
     /// The count that shows it; without one a search is to.
     pub count: Option<Count>,

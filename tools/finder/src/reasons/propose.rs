@@ -1,6 +1,6 @@
 //! The search for reasons: the patterns, the smallest first, and each made smaller.
 
-use super::cells::{cell_patterns, mutex_patterns, rare_cell_patterns};
+use super::cells::{cell_patterns, mutex_patterns, rare_cell_patterns, rare_mutex_patterns};
 use super::containers::{container_patterns, lost_patterns};
 use super::shrink::{Judge, tells};
 use super::value_pairs::value_pairs_of;
@@ -83,6 +83,7 @@ impl Proposer<'_> {
     fn rare_patterns(&self, timeline: &Timeline) -> Vec<Candidate> {
         let mut candidates = match self.history.kind {
             Kind::Register | Kind::Map => rare_cell_patterns(timeline),
+            Kind::Mutex => rare_mutex_patterns(timeline),
             _ => Vec::new(),
         };
         candidates.sort_by_key(|candidate| candidate.weight);

@@ -149,7 +149,9 @@ impl<'a> Judge<'a> {
         }
         for _ in 0..MOST_ROUNDS {
             let before = (plan.from, plan.until, plan.elements.len());
-            self.begin_late(plan);
+            if !plan.keeps_beginning {
+                self.begin_late(plan);
+            }
             self.end_early(plan);
             self.keep_few(plan);
             if (plan.from, plan.until, plan.elements.len()) == before {

@@ -362,13 +362,11 @@ impl Reason<'_> {
 
     /// A mutex is released twice, and not acquired in between.
     fn twice_released(&self) -> Option<Spans> {
-        let [first, second] = self.part else {
-            return None;
-        };
+        let releases = self.part.iter().filter(|it| it.op() == Op::Release);
+        let [first, second] = releases.collect::<Vec<_>>().try_into().ok()?;
         let (from, to) = (first.number(), first.returned()?.max(second.returned()?));
-        let are_releases = first.op() == Op::Release && second.op() == Op::Release;
         let is_acquired = |it: &Operation| it.op() == Op::Acquire && ran_between(it, from, to);
-        if !are_releases || self.operations.iter().any(is_acquired) {
+        if self.operations.iter().any(is_acquired) {
             return None;
         }
         Some(spans![
