@@ -387,7 +387,7 @@ SMALL = (
     (TAKEN_TOO_OFTEN, "value 5 was popped 3 times and by then pushed 2 times", 5),
     (WRONG_ORDER, "value 1 was enqueued before value 2 and dequeued after it", 3),
     (OUT_OF_ORDER, "value 2 was dequeued while value 1, which was enqueued before it, was still in the queue", 3),
-    (NOT_EMPTY, "the queue was surely not empty when map 2 found nothing", 2),
+    (NOT_EMPTY, "the queue was surely not empty when map 2 found nothing: value 1 was in it (dequeued later, by map 4)", 2),
     (LOWER_FIRST, "value 1 was popped before value 2, which was pushed on it", 3),
     (LEFT_ABOVE, "value 1 was popped while value 2, which was pushed on it, was still in the stack", 3),
     (GREATER_FIRST, "value 2 was extracted while the smaller value 1 was surely in the heap", 3),
@@ -428,7 +428,7 @@ SENTENCES = (
     ),
     (
         one_process(*[("dequeue", None, None)] * 5, ("enqueue", 1, 1), ("dequeue", None, None), ("dequeue", None, 1)),
-        "the queue was surely not empty when map 12 found nothing",
+        "the queue was surely not empty when map 12 found nothing: value 1 was in it (dequeued later, by map 14)",
     ),
     (
         one_process(("insert", 3, 3), ("insert", 5, 5), ("extract-min", None, 5)),

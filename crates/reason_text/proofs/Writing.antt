@@ -1,5 +1,5 @@
 -- The lines that are written for reasons spell forms that denote them.
-use Rattle.std.proofs.Common.{◌≡◌, ℕ, ◌≤◌, ◌==◌, Bool, true, false, zero, suc, List, [], ◌∷◌, ◌++◌, map}
+use Rattle.std.proofs.Common.{◌≡◌, ℕ, ◌≤◌, ◌==◌, Bool, true, false, suc, List, [], ◌∷◌, ◌++◌, map}
 use Rattle.std.proofs.Common.{Option, Some, None, lit<, refl, ap, sym, ◌∙◌, subst, append_assoc}
 use Rattle.std.proofs.Common.{arith, get_or}
 use Rattle.std.specs.Prelude.{ℤ, pos, codes, decimal, if◌then◌else◌, option_map, option_and_then}
@@ -10,6 +10,7 @@ use Rattle.std.specs.Ordering.{nat_cmp, int_cmp}
 use Rattle.std.specs.BTreeSet.{insert_key}
 use Rattle.std.proofs.lemmas.List.{append-nil}
 use Rattle.std.proofs.lemmas.Bool.{le-leb}
+use Rattle.std.proofs.lemmas.Bool.Decides.{nat_tests}
 use Rattle.std.proofs.lemmas.Cmp.{nat_cmp_total, int_cmp_total}
 use Rattle.edn_reader.specs.Bytes.{is_name}
 use Rattle.edn_reader.specs.Datum.{Datum, integer, keyword, boolean, atom, vector, dictionary}
@@ -93,11 +94,13 @@ counted_entries (counted.NoEntry k) n = entry (codes "key") (atom (integer k)) (
 counted_entries counted.Held n = entry (codes "held") (atom (boolean true)) (from_entries n)
 counted_entries counted.Free n = entry (codes "free") (atom (boolean true)) (from_entries n)
 
-abbrev later_entries : ℕ → Entries
-later_entries n = if n == 0 then no_entries else from_entries n
+-- the entry :from of a count of what was ahead, unless it begins at 0
+abbrev start_entries : Bool → ℕ → Entries
+start_entries at_first n = if at_first then no_entries else from_entries n
 
-abbrev ahead_entries : ℕ → ℕ → Entries
-ahead_entries number n = entry (codes "ahead") (atom (integer (pos number))) (later_entries n)
+abbrev ahead_entries : Bool → ℕ → ℕ → Entries
+ahead_entries at_first number n =
+    entry (codes "ahead") (atom (integer (pos number))) (start_entries at_first n)
 
 abbrev first_word : TryFirst → List ℕ
 first_word LeastNumber = codes "number"
@@ -118,7 +121,7 @@ evidence_entries (Search trial) = search_entries trial.first trial.steps
 evidence_entries (Counting c) = entry (codes "count")
     (dictionary (counted_entries c.counted c.from)) no_entries
 evidence_entries (Ahead number from) = entry (codes "count")
-    (dictionary (ahead_entries number from)) no_entries
+    (dictionary (ahead_entries (from == 0) number from)) no_entries
 
 abbrev pub datum_of : Reason → Datum
 datum_of r = dictionary (entry (codes "object") (atom (integer (pos r.object)))
@@ -221,13 +224,16 @@ search_is_text LeastNumber (Some n) =
 search_is_text LeastReturn (Some n) =
     ap (λ t. codes ", :search {:first :return, :steps " ++ t) (ended (decimal n))
 
-ahead_is_text : (number from : ℕ)
-    → ahead_text number from ≡ entries_text false (evidence_entries (Ahead number from))
-ahead_is_text number zero = ap (λ t. codes ", :count {:ahead " ++ t) (ended (decimal number))
-ahead_is_text number (suc n) =
-    ap (λ t. codes ", :count {:ahead " ++ t) (closed (decimal number) (decimal (suc n))
+ahead_is_text : (at_first : Bool) (number n : ℕ)
+    → (codes ", :count {:ahead " ++ decimal number)
+    ++ (if at_first then codes "}" else (codes ", :from " ++ decimal n) ++ codes "}")
+    ≡ entries_text false
+    (entry (codes "count") (dictionary (ahead_entries at_first number n)) no_entries)
+ahead_is_text true number n = ap (λ t. codes ", :count {:ahead " ++ t) (ended (decimal number))
+ahead_is_text false number n =
+    ap (λ t. codes ", :count {:ahead " ++ t) (closed (decimal number) (decimal n)
     ∙ sym (append-nil
-    ((decimal number ++ (codes ", :from " ++ (decimal (suc n) ++ []))) ++ codes "}")))
+    ((decimal number ++ (codes ", :from " ++ (decimal n ++ []))) ++ codes "}")))
 
 evidence_is_text : (e : Evidence) → evidence_text e ≡ entries_text false (evidence_entries e)
 evidence_is_text (Search trial) = search_is_text trial.first trial.steps
@@ -235,7 +241,7 @@ evidence_is_text (Counting c) =
     ap (λ t. codes ", :count {" ++ t) (counted_is_text c.counted c.from)
     ∙ sym (ap (λ t. codes ", :count {" ++ t) (append-nil
     (entries_text true (counted_entries c.counted c.from) ++ codes "}")))
-evidence_is_text (Ahead number from) = ahead_is_text number from
+evidence_is_text (Ahead number from) = ahead_is_text (from == 0) number from
 
 line_is_text : (r : Reason) → line_of r ≡ text_of (datum_of r) ++ 10 ∷ []
 line_is_text r =
@@ -360,14 +366,14 @@ search_fits LeastReturn None = (tt, (lit< tt, (tt, tt, tt)), tt)
 search_fits LeastNumber (Some n) = (tt, (lit< tt, ((first_is_not_steps, tt), tt, (tt, tt, tt))), tt)
 search_fits LeastReturn (Some n) = (tt, (lit< tt, ((first_is_not_steps, tt), tt, (tt, tt, tt))), tt)
 
-ahead_fits : (number from : ℕ) → EntriesFit 14 (ahead_entries number from)
-ahead_fits number zero = (tt, tt, tt)
-ahead_fits number (suc n) = ((λ h. cc, tt), tt, (tt, tt, tt))
+ahead_fits : (at_first : Bool) (number n : ℕ) → EntriesFit 14 (ahead_entries at_first number n)
+ahead_fits true number n = (tt, tt, tt)
+ahead_fits false number n = ((λ h. cc, tt), tt, (tt, tt, tt))
 
 evidence_fits : (e : Evidence) → EntriesFit 15 (evidence_entries e)
 evidence_fits (Search trial) = search_fits trial.first trial.steps
 evidence_fits (Counting c) = (tt, (lit< tt, counted_fits c.counted c.from), tt)
-evidence_fits (Ahead number from) = (tt, (lit< tt, ahead_fits number from), tt)
+evidence_fits (Ahead number from) = (tt, (lit< tt, ahead_fits (from == 0) number from), tt)
 
 object_is_not_search : codes "object" ≡ codes "search" → ⊥
 object_is_not_search h = let first : 111 ≡ 115 = ap (λ k. get_or k 0 0) h in absurd (omega (arith, first))
@@ -467,18 +473,18 @@ search_in_profile LeastNumber (Some n) t =
 search_in_profile LeastReturn (Some n) t =
     (refl, (refl, refl, (refl, number_in_profile n t, tt)), tt)
 
-ahead_in_profile : (number from : ℕ) → number ≤ max_number → from ≤ max_number
-    → EntriesInProfile (ahead_entries number from)
+ahead_in_profile : (at_first : Bool) (number n : ℕ) → number ≤ max_number → n ≤ max_number
+    → EntriesInProfile (ahead_entries at_first number n)
 unfolding is_name
-ahead_in_profile number zero h k = (refl, number_in_profile number h, tt)
-ahead_in_profile number (suc n) h k =
-    (refl, number_in_profile number h, from_in_profile (suc n) k)
+ahead_in_profile true number n h k = (refl, number_in_profile number h, tt)
+ahead_in_profile false number n h k = (refl, number_in_profile number h, from_in_profile n k)
 
 evidence_in_profile : (e : Evidence) → IsTypedEvidence e → EntriesInProfile (evidence_entries e)
 unfolding is_name
 evidence_in_profile (Search trial) t = search_in_profile trial.first trial.steps t
 evidence_in_profile (Counting c) t = (refl, counted_in_profile c.counted c.from t.0 t.1, tt)
-evidence_in_profile (Ahead number from) t = (refl, ahead_in_profile number from t.0 t.1, tt)
+evidence_in_profile (Ahead number from) t =
+    (refl, ahead_in_profile (from == 0) number from t.0 t.1, tt)
 
 datum_in_profile : (r : Reason) → r.object ≤ 65535 → IsTypedReason r → InProfile (datum_of r)
 unfolding is_name
@@ -607,19 +613,24 @@ search_read LeastNumber (Some n) t =
 search_read LeastReturn (Some n) t =
     ap (λ v. spec.search_with (Some LeastReturn) (option_map (λ m. Some m) v)) (number_read n t)
 
-ahead_read : (number from : ℕ) → number ≤ max_number → from ≤ max_number
-    → spec.evidence_of (ahead_entries number from) ≡ Some (Ahead number from)
-ahead_read number zero h k = ap (λ v. spec.ahead_with v (Some 0)) (number_read number h)
-ahead_read number (suc n) h k =
-    ap (λ v. spec.ahead_with v (spec.number_in (Some (atom (integer (pos (suc n)))))))
-    (number_read number h) ∙ ap (spec.ahead_with (Some number)) (number_read (suc n) k)
+ahead_read : (at_first : Bool) (number n : ℕ) → (n == 0) ≡ at_first → number ≤ max_number
+    → n ≤ max_number → spec.evidence_of (ahead_entries at_first number n) ≡ Some (Ahead number n)
+ahead_read true number n is h k =
+    ap (λ v. spec.ahead_with v (Some 0)) (number_read number h)
+    ∙ ap (λ m. Some (Ahead number m)) (zero_is n is)
+  where
+    zero_is : (n : ℕ) → (n == 0) ≡ true → 0 ≡ n
+    zero_is n e = grind (arith, nat_tests)
+ahead_read false number n is h k =
+    ap (λ v. spec.ahead_with v (spec.number_in (Some (atom (integer (pos n))))))
+    (number_read number h) ∙ ap (spec.ahead_with (Some number)) (number_read n k)
 
 evidence_read : (e : Evidence) → IsTypedEvidence e
     → evidence_in (value_at (codes "count") (evidence_entries e))
     (value_at (codes "search") (evidence_entries e)) ≡ Some e
 evidence_read (Search trial) t = search_read trial.first trial.steps t
 evidence_read (Counting c) t = counted_read c.counted c.from t.1
-evidence_read (Ahead number from) t = ahead_read number from t.0 t.1
+evidence_read (Ahead number from) t = ahead_read (from == 0) number from refl t.0 t.1
 
 datum_denotes : (r : Reason) → r.object ≤ 65535 → IsTypedReason r → reason_in (datum_of r)
     ≡ Some (seen r)

@@ -194,13 +194,13 @@ counted_of es =
     (is_some (value_at (codes "held") es)) (is_some (value_at (codes "free") es))
 
 abbrev pub ahead_with : Option ℕ → Option ℕ → Option Evidence
-ahead_with (Some number) (Some from) = Some (Ahead number from)
-ahead_with number from = None
+ahead_with (Some number) (Some start) = Some (Ahead number start)
+ahead_with number start = None
 
 -- what was ahead of the taking with this number, if there is a value; else what is counted
 abbrev pub count_from : Option Datum → Option Counted → Option ℕ → Option Evidence
-count_from None what from = count_with what from
-count_from (Some d) what from = ahead_with (number_in (Some d)) from
+count_from None what start = count_with what start
+count_from (Some d) what start = ahead_with (number_in (Some d)) start
 
 -- The count that a map names. With the key :ahead no other key matters, except :from.
 abbrev pub evidence_of : Entries → Option Evidence

@@ -1,5 +1,6 @@
 //! The words of the command line.
 
+use std::mem;
 use std::num::NonZero;
 use std::thread;
 
@@ -21,6 +22,7 @@ decides whether a history is linearizable: looks for evidence, which the proved 
 Usage: fcbench judge [OPTIONS] <HISTORY>
 
 Options:
+      --all          show all operations of a part on a terminal, and not 200 at most
       --steps <N>    the most steps of the last search of an object, 0 to 1000000000 (default 1000000, or 100 for each operation if that is more)
       --workers <N>  how many threads look for evidence, 1 to 16 (default: one for each processor)
   -h, --help         Print help
@@ -68,11 +70,18 @@ pub struct Draw {
     pub options: pages::Options,
 }
 
+/// Which history is judged, and whether all operations of a part are shown, on a terminal too.
+#[derive(Clone, Debug, PartialEq, Eq)]
+pub struct Judge {
+    pub find: Find,
+    pub shows_all: bool,
+}
+
 /// What the command line asks for.
 #[derive(Clone, Debug, PartialEq, Eq)]
 pub enum Command {
     Find(Find),
-    Judge(Find),
+    Judge(Judge),
     Draw(Draw),
     /// What the words mean.
     Help(&'static str),
@@ -85,11 +94,12 @@ fn one_for_each_processor() -> usize {
     thread::available_parallelism().map_or(1, NonZero::get).min(MOST_WORKERS)
 }
 
-/// The words that are no options, and the numbers of the options.
+/// The words that are no options, the numbers of the options, and whether `--all` is one.
 #[derive(Default)]
 struct Words {
     files: Vec<String>,
     numbers: Vec<(String, u64)>,
+    has_all: bool,
 }
 
 impl Words {
@@ -102,6 +112,8 @@ impl Words {
                 sorted.files.extend(words.by_ref());
             } else if !word.starts_with('-') {
                 sorted.files.push(word);
+            } else if word == "--all" && !sorted.has_all {
+                sorted.has_all = true;
             } else {
                 let (option, number) = match word.split_once('=') {
                     Some((option, number)) => (option.to_owned(), number.to_owned()),
@@ -136,7 +148,13 @@ impl Words {
         let workers = workers.map_or_else(one_for_each_processor, |number| number as usize);
         let steps = self.take("--steps", 0, MOST_STEPS)?;
         let [history] = self.files.try_into().ok()?;
-        self.numbers.is_empty().then_some(Find { history, workers, steps })
+        let is_all = self.numbers.is_empty() && !self.has_all;
+        is_all.then_some(Find { history, workers, steps })
+    }
+
+    fn judge(mut self) -> Option<Judge> {
+        let shows_all = mem::take(&mut self.has_all);
+        Some(Judge { find: self.find()?, shows_all })
     }
 
     fn draw(mut self) -> Option<Draw> {
@@ -148,7 +166,7 @@ impl Words {
         let steps = self.take("--steps", 0, MOST_STEPS)?;
         let mut files = self.files.into_iter();
         let (history, certificates) = (files.next()?, files.next());
-        let is_all = files.next().is_none() && self.numbers.is_empty();
+        let is_all = files.next().is_none() && self.numbers.is_empty() && !self.has_all;
         is_all.then_some(Draw { history, certificates, steps, options })
     }
 }
@@ -173,7 +191,7 @@ impl Command {
         let words = Words::sort(words.iter().cloned()).ok_or(help)?;
         let command = match name.as_str() {
             "find" => words.find().map(Command::Find),
-            "judge" => words.find().map(Command::Judge),
+            "judge" => words.judge().map(Command::Judge),
             _ => words.draw().map(Command::Draw),
         };
         command.ok_or(help)
@@ -193,14 +211,17 @@ mod tests {
         let find = Find { history: "h.edn".into(), workers: one_for_each_processor(), steps: None };
         assert_eq!(parsed("find h.edn"), Some(Command::Find(find)));
         let find = Find { history: "h.edn".into(), workers: 4, steps: Some(0) };
+        let judge = Judge { find: find.clone(), shows_all: false };
         for line in [
             "judge --steps 0 h.edn --workers 4",
             "judge --steps=0 --workers +4 h.edn",
             "judge h.edn --workers=4 --steps 0",
             "judge --workers 4 --steps=0 -- h.edn",
         ] {
-            assert_eq!(parsed(line), Some(Command::Judge(find.clone())), "{line}");
+            assert_eq!(parsed(line), Some(Command::Judge(judge.clone())), "{line}");
         }
+        let judge = Judge { find, shows_all: true };
+        assert_eq!(parsed("judge --steps 0 --all h.edn --workers 4"), Some(Command::Judge(judge)));
         let find =
             Find { history: "-h.edn".into(), workers: one_for_each_processor(), steps: None };
         assert_eq!(parsed("find -- -h.edn"), Some(Command::Find(find)));
@@ -235,6 +256,9 @@ mod tests {
             "find a --steps 1000000001",
             "find a --steps 1 --steps 2",
             "find a --other 1",
+            "find a --all",
+            "judge a --all --all",
+            "draw a --all",
             "judge a --object 1",
             "draw",
             "draw a b c",

@@ -2,11 +2,12 @@
 //! The proved program reads the history while the finder works, writes the answer, and gives the
 //! status. Whatever becomes of the finder, no more follows from it than from the evidence that came.
 
-use crate::command_line::Find;
+use crate::command_line::{Find, Judge};
 use crate::program::{path_for_both, say, verifier};
 use crate::status::Status;
+use crate::terminal::copy_shortened;
 use std::env;
-use std::io;
+use std::io::{self, BufReader, IsTerminal};
 use std::path::PathBuf;
 use std::process::{Child, Command, ExitStatus, Stdio};
 
@@ -61,7 +62,8 @@ fn end_finder(mut finder: Child) {
     }
 }
 
-/// Runs the two programs, the finder's output being the verifier's input.
+/// Runs the two programs, the finder's output being the verifier's input. The answer is shortened
+/// if the verifier's output is a pipe.
 fn run(mut verifier: Command, finder: io::Result<Command>) -> Status {
     let mut verifier = match verifier.stdin(Stdio::piped()).spawn() {
         Ok(verifier) => verifier,
@@ -76,7 +78,12 @@ fn run(mut verifier: Command, finder: io::Result<Command>) -> Status {
     if let Err(error) = &finder {
         say(format_args!("the finder cannot be started, so there is no evidence: {error}"));
     }
+    let copied = verifier
+        .stdout
+        .take()
+        .map_or(Ok(()), |answer| copy_shortened(BufReader::new(answer), io::stdout().lock()));
     let status = answered(verifier.wait()).unwrap_or_else(|status| status);
+    let status = copied.map_or(Status::UNREADABLE, |()| status);
     if let Ok(finder) = finder {
         end_finder(finder);
     }
@@ -84,13 +91,17 @@ fn run(mut verifier: Command, finder: io::Result<Command>) -> Status {
 }
 
 /// Judges a history: looks for evidence, and answers what the proved program makes of it.
-pub fn judge(command: &Find) -> Status {
-    let history = match path_for_both(&command.history) {
+pub fn judge(command: &Judge) -> Status {
+    let history = match path_for_both(&command.find.history) {
         Ok(history) => history,
         Err(status) => return status,
     };
-    let command = Find { history, ..command.clone() };
-    run(verifier(&command.history, command.steps), finder(&command))
+    let find = Find { history, ..command.find.clone() };
+    let mut verifier = verifier(&find.history, find.steps);
+    if io::stdout().is_terminal() && !command.shows_all {
+        verifier.stdout(Stdio::piped());
+    }
+    run(verifier, finder(&find))
 }
 
 #[cfg(test)]

@@ -13,6 +13,7 @@ mod find;
 mod judge;
 mod program;
 mod status;
+mod terminal;
 
 use command_line::Command;
 use program::{put_out, say};

@@ -3,8 +3,8 @@
 //! first.
 
 use crate::model::{Op, Reply};
+use crate::splitmix::NumberTable;
 use crate::timeline::Call;
-use std::collections::HashMap;
 
 /// The number of the content of an empty cell.
 pub const NOTHING: usize = 0;
@@ -67,12 +67,12 @@ pub struct Cell {
     pub accesses: Vec<Access>,
     /// The value of each content.
     contents: Vec<Option<i64>>,
-    numbers: HashMap<i64, usize>,
+    numbers: NumberTable<i64, usize>,
 }
 
 impl Cell {
     fn new(key: Option<i64>) -> Cell {
-        Cell { key, accesses: Vec::new(), contents: vec![None], numbers: HashMap::new() }
+        Cell { key, accesses: Vec::new(), contents: vec![None], numbers: NumberTable::default() }
     }
 
     /// How many contents there are.
@@ -113,7 +113,7 @@ impl Cell {
 /// The cells of a register or map with their calls, in rising order of the keys.
 pub fn cells_of(calls: &[Call]) -> Vec<Cell> {
     let mut cells: Vec<Cell> = Vec::new();
-    let mut places = HashMap::new();
+    let mut places = NumberTable::default();
     for call in calls {
         let Some(effect) = Effect::of(call) else {
             continue;

@@ -3,7 +3,7 @@
 use crate::evidence::{Decision, Evidence};
 use crate::history::{History, ObjectHistory};
 use crate::orders::{Quick, open_keys, order_by_contents, quick_order};
-use crate::reasons::{FoundReason, Search, find_by_pairs, find_by_patterns, find_on};
+use crate::reasons::{Search, find_by_pairs, find_by_patterns, find_on, reason_of_all};
 use crate::search::{First, Outcome, search};
 use std::panic::{AssertUnwindSafe, catch_unwind};
 use std::sync::atomic::{AtomicUsize, Ordering};
@@ -76,11 +76,15 @@ fn decide_object(history: &ObjectHistory, steps: Option<u64>) -> Evidence {
     if let Some(reason) = reason {
         return Evidence::Reason(reason);
     }
-    match search(history, first.first, first.steps) {
-        Outcome::Order(order) => Evidence::Order(order),
-        Outcome::Impossible => Evidence::Reason(FoundReason::of_all(history, first)),
-        Outcome::OutOfSteps => Evidence::Search(last_search(history, steps)),
+    let searched = search(history, first.first, first.steps);
+    if let Outcome::Order(order) = searched.outcome {
+        return Evidence::Order(order);
     }
+    let reason = match searched.outcome {
+        Outcome::Impossible => reason_of_all(history, first, searched),
+        _ => None,
+    };
+    reason.map_or_else(|| Evidence::Search(last_search(history, steps)), Evidence::Reason)
 }
 
 /// A fault in the search for evidence leaves the object open, and the others decided.
@@ -116,103 +120,49 @@ pub fn decide(history: &History, options: Options) -> Vec<Decision> {
 mod tests {
     use super::*;
     use crate::content::Content;
-    use crate::history::{End, Invocation};
-    use crate::model::{Kind, Op, Reply};
+    use crate::history::Invocation;
+    use crate::model::Kind;
+    use crate::small::{Random, has_order};
 
-    /// A generator of numbers (xorshift: Marsaglia, Journal of Statistical Software 8, 2003).
-    struct Random(u64);
-
-    impl Random {
-        fn below(&mut self, bound: u64) -> u64 {
-            self.0 ^= self.0 << 13;
-            self.0 ^= self.0 >> 7;
-            self.0 ^= self.0 << 17;
-            (self.0 >> 20) % bound
+    /// Whether the object has a valid order, which the answer on it must fit.
+    fn has_order_as_found(history: &ObjectHistory) -> bool {
+        let calls = history.ops.iter().filter(|o| !o.has_failed());
+        let calls: Vec<Invocation> = calls.copied().collect();
+        let has_order = has_order(&calls, &Content::empty(history.kind));
+        match decide_object(history, None) {
+            Evidence::Order(_) => assert!(has_order, "{history:?}"),
+            Evidence::Reason(_) => assert!(!has_order, "{history:?}"),
+            evidence => panic!("{evidence:?}: {history:?}"),
         }
-
-        fn value(&mut self) -> i64 {
-            self.below(3) as i64
-        }
-
-        fn op(&mut self, kind: Kind) -> Op {
-            let (value, other) = (self.value(), self.value());
-            let ops: &[Op] = match kind {
-                Kind::Queue => &[Op::Enqueue(value), Op::Dequeue],
-                Kind::Stack => &[Op::Push(value), Op::Pop],
-                Kind::Heap => &[Op::Insert(value), Op::ExtractMin],
-                Kind::Register => &[Op::Write(value), Op::Read, Op::Cas(value, other)],
-                Kind::Map => &[Op::Put(value, other), Op::Get(value), Op::Del(value)],
-                Kind::Mutex => &[Op::Acquire, Op::Release],
-            };
-            ops[self.below(ops.len() as u64) as usize]
-        }
-
-        fn reply(&mut self, op: Op) -> Reply {
-            match op {
-                Op::Enqueue(value) | Op::Push(value) | Op::Insert(value) | Op::Write(value) => {
-                    Reply::Value(Some(value))
-                }
-                Op::Cas(expected, new) if self.below(2) == 0 => Reply::Swapped(expected, new),
-                Op::Cas(..) => Reply::NotSwapped,
-                Op::Acquire | Op::Release => Reply::Value(None),
-                _ if self.below(3) == 0 => Reply::Value(None),
-                _ => Reply::Value(Some(self.value())),
-            }
-        }
-
-        /// A history of a few operations, of which some overlap, and some are pending or failed.
-        fn history(&mut self, kind: Kind) -> ObjectHistory {
-            let count = 2 + self.below(7) as u32;
-            let mut ops: Vec<Invocation> = Vec::new();
-            for number in 0..2 * count {
-                let open: Vec<usize> = (0..ops.len()).filter(|k| ops[*k].is_pending()).collect();
-                if open.is_empty() || open.len() < 4 && self.below(2) == 0 {
-                    ops.push(Invocation { number, op: self.op(kind), end: End::Pending });
-                    continue;
-                }
-                let op = &mut ops[open[self.below(open.len() as u64) as usize]];
-                let reply = self.reply(op.op);
-                let failed = self.below(12) == 0;
-                op.end = if failed { End::Failed } else { End::Returned { at: number, reply } };
-            }
-            ObjectHistory { object: 0, kind, ops }
-        }
-    }
-
-    /// Whether some order of the operations that are left is valid, by trying each that can be next.
-    fn has_order(left: &[Invocation], content: &Content) -> bool {
-        let Some(least) = left.iter().filter_map(Invocation::returned).min() else {
-            return true;
-        };
-        left.iter().enumerate().filter(|(_, o)| o.number < least).any(|(place, operation)| {
-            let mut after = content.clone();
-            let reply = after.apply(operation.op).map(|(reply, _)| reply);
-            let fits = reply.is_some() && operation.reply().is_none_or(|own| Some(own) == reply);
-            fits && has_order(&[&left[..place], &left[place + 1..]].concat(), &after)
-        })
+        has_order
     }
 
     #[test]
     fn what_is_found_of_small_histories_is_so() {
-        let mut random = Random(0x2545_f491_4f6c_dd1d);
+        let mut random = Random::new(0x2545_f491_4f6c_dd1d);
         let kinds = [Kind::Queue, Kind::Stack, Kind::Heap, Kind::Register, Kind::Map, Kind::Mutex];
         let mut found = [0; 2];
         for kind in kinds {
             for _ in 0..2_000 {
                 let history = random.history(kind);
-                let calls = history.ops.iter().filter(|o| !o.has_failed());
-                let calls: Vec<Invocation> = calls.copied().collect();
-                let has_order = has_order(&calls, &Content::empty(kind));
-                match decide_object(&history, None) {
-                    Evidence::Order(_) => assert!(has_order, "{history:?}"),
-                    Evidence::Reason(_) => assert!(!has_order, "{history:?}"),
-                    evidence => panic!("{evidence:?}: {history:?}"),
-                }
+                let has_order = has_order_as_found(&history);
                 let searched = search(&history, First::Number, 1_000_000);
-                assert_eq!(matches!(searched, Outcome::Order(_)), has_order, "{history:?}");
+                assert_eq!(matches!(searched.outcome, Outcome::Order(_)), has_order, "{history:?}");
                 found[usize::from(has_order)] += 1;
             }
         }
         assert!(found.iter().all(|count| *count > 2_000), "{found:?}");
+    }
+
+    #[test]
+    fn what_is_found_of_small_crashes_is_so() {
+        let mut random = Random::new(0x9e37_79b9_7f4a_7c15);
+        let mut found = [0; 2];
+        for kind in [Kind::Queue, Kind::Stack, Kind::Heap] {
+            for _ in 0..1_000 {
+                found[usize::from(has_order_as_found(&random.crash(kind)))] += 1;
+            }
+        }
+        assert!(found.iter().all(|count| *count > 300), "{found:?}");
     }
 }

@@ -93,6 +93,8 @@ impl Display for Count {
             Counted::NoEntry(key) => write!(f, "{{:key {key}")?,
             Counted::Held => f.write_str("{:held true")?,
             Counted::Free => f.write_str("{:free true")?,
+            Counted::Ahead(number) if self.from == 0 => return write!(f, "{{:ahead {number}}}"),
+            Counted::Ahead(number) => write!(f, "{{:ahead {number}")?,
         }
         write!(f, ", :from {}}}", self.from)
     }

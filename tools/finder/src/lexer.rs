@@ -38,13 +38,25 @@ pub struct Lexer<'a> {
     at: usize,
 }
 
-fn is_separator(byte: u8) -> bool {
+const fn is_separator(byte: u8) -> bool {
     matches!(byte, b' ' | b',' | b'\n' | b'\t' | b'\r')
 }
 
+/// Of each byte, whether a word ends before it.
+const WORD_ENDS: [bool; 256] = {
+    let mut ends = [false; 256];
+    let mut byte = 0;
+    while byte < ends.len() {
+        let other = matches!(byte as u8, b'[' | b']' | b'{' | b'}' | b'(' | b')' | b'"' | b';');
+        ends[byte] = other || is_separator(byte as u8);
+        byte += 1;
+    }
+    ends
+};
+
 /// Whether a word ends before this byte.
 pub fn ends_word(byte: u8) -> bool {
-    is_separator(byte) || matches!(byte, b'[' | b']' | b'{' | b'}' | b'(' | b')' | b'"' | b';')
+    WORD_ENDS[usize::from(byte)]
 }
 
 impl<'a> Lexer<'a> {
@@ -61,8 +73,8 @@ impl<'a> Lexer<'a> {
     /// Goes on to the next byte that is in no comment and no separator.
     fn skip_space(&mut self) -> Option<u8> {
         loop {
-            self.at = self.next_place(self.at, |byte| !is_separator(byte));
             match self.text.get(self.at)? {
+                byte if is_separator(*byte) => self.at += 1,
                 b';' => self.at = self.next_place(self.at, |byte| byte == b'\n'),
                 byte => return Some(*byte),
             }

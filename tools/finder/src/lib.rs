@@ -26,6 +26,8 @@ mod reader;
 mod reasons;
 mod residences;
 mod search;
+#[cfg(test)]
+mod small;
 mod splitmix;
 mod timeline;
 mod trees;
@@ -37,5 +39,5 @@ pub use history::{End, History, Invocation, Nemesis, ObjectHistory, Run};
 pub use lexer::{Lexer, Token, TokenKind, ends_word};
 pub use model::{Kind, Op, Reply, Value};
 pub use reader::read_history;
-pub use reasons::{FoundReason, Pattern, Search, Sentence, Shown};
+pub use reasons::{FoundReason, Lost, LostValue, Pattern, Search, Sentence, Shown};
 pub use search::First;

@@ -5,7 +5,7 @@
 use crate::history::{End, History, Invocation, Nemesis, ObjectHistory, Run};
 use crate::lexer::{Lexer, Token, TokenKind};
 use crate::model::{Kind, Op, Value};
-use std::collections::HashMap;
+use crate::splitmix::NumberTable;
 
 /// How many brackets may be open at once.
 const MOST_OPEN: usize = 16;
@@ -91,7 +91,20 @@ impl<'a> Reader<'a> {
 
 /// The integer that a token spells.
 fn integer(token: &[u8]) -> Option<i64> {
-    std::str::from_utf8(token).ok()?.parse().ok()
+    let (is_negative, digits) = match token {
+        [b'-', digits @ ..] => (true, digits),
+        [b'+', digits @ ..] => (false, digits),
+        digits => (false, digits),
+    };
+    if digits.is_empty() {
+        return None;
+    }
+    // The least integer has no opposite, so the number is taken as a negative one.
+    let opposite = digits.iter().try_fold(0_i64, |number, byte| {
+        let digit = byte.is_ascii_digit().then(|| i64::from(byte - b'0'))?;
+        number.checked_mul(10)?.checked_sub(digit)
+    })?;
+    if is_negative { Some(opposite) } else { opposite.checked_neg() }
 }
 
 /// The values of the keys of a map that matter.
@@ -183,10 +196,10 @@ enum Process<'a> {
 #[derive(Default)]
 struct Builder<'a> {
     objects: Vec<ObjectHistory>,
-    places: HashMap<u32, usize>,
+    places: NumberTable<u32, usize>,
     runs: Vec<Run>,
     nemeses: Vec<Nemesis>,
-    processes: HashMap<i64, Process<'a>>,
+    processes: NumberTable<i64, Process<'a>>,
 }
 
 impl<'a> Builder<'a> {

@@ -237,7 +237,7 @@ impl verdict::Answer {
 }
 
 /// The part of an object's history that a reason names; without one, all of it.
-fn part_of<'a>(object: &'a ObjectHistory, cuts: &[Cut], pattern: Pattern) -> Part<'a> {
+fn part_of<'a>(object: &'a ObjectHistory, cuts: &[Cut], pattern: &'a Pattern) -> Part<'a> {
     let part = match part_by(object, cuts) {
         Some(part) => Cow::Owned(part),
         None => Cow::Borrowed(object),
@@ -360,10 +360,10 @@ impl<'a> Drawn<'a> {
         let subject = self.subject(object);
         match (answer, decision.map(|decision| &decision.evidence)) {
             (Some(verdict::Answer::Impossible), Some(Evidence::Reason(reason))) => {
-                draw_impossible(&subject, &part_of(object, &reason.cuts, reason.sentence.pattern))
+                draw_impossible(&subject, &part_of(object, &reason.cuts, &reason.sentence.pattern))
             }
             (Some(verdict::Answer::Impossible), _) => {
-                draw_impossible(&subject, &part_of(object, &[], Pattern::General))
+                draw_impossible(&subject, &part_of(object, &[], &Pattern::General))
             }
             (None, _) => {
                 let order = decision.and_then(found_order);

@@ -1,6 +1,7 @@
-//! Counts: a content that was taken away more often than it can have been there. They need no
-//! search.
+//! Counts: a content that was taken away more often than it can have been there, or values that
+//! surely were ahead of what a removal found. They need no search.
 
+use super::ahead::is_blocked;
 use crate::history::{Invocation, ObjectHistory};
 use crate::model::{Op, Reply};
 
@@ -17,6 +18,8 @@ pub enum Counted {
     Held,
     /// A mutex that is free.
     Free,
+    /// What surely was ahead of what the removal of this number found, in a queue, stack or heap.
+    Ahead(u32),
 }
 
 /// A count from the number of a map on, which is 0 at the beginning.
@@ -89,8 +92,12 @@ impl Count {
 
 /// Whether the content was taken away, by operations that were invoked where the count begins or
 /// later, more often than the object can have contained it before and operations that had not
-/// returned before can have set it. Then no order is valid.
+/// returned before can have set it; or whether more was put in ahead of what a removal found than
+/// can have been taken out before it. Then no order is valid.
 pub fn is_exceeded(history: &ObjectHistory, count: Count) -> bool {
+    if let Counted::Ahead(number) = count.counted {
+        return is_blocked(history, number, count.from);
+    }
     count.most_before(history).is_some_and(|most| {
         let set = history.ops.iter().filter(|o| count.is_set_by(o)).count();
         let taken = history.ops.iter().filter(|o| count.is_taken_by(o)).count();

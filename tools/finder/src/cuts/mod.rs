@@ -3,11 +3,13 @@
 //! Correctness Condition for Concurrent Objects", TOPLAS 1990, is the model: what is true of
 //! objects in a history is here made true of values, keys and times in the history of one object.
 
+mod ahead;
 mod cells;
 mod counts;
 mod keeping;
 mod suffix;
 
+pub use ahead::Ahead;
 pub use counts::{Count, Counted, is_exceeded};
 
 use crate::history::{End, Invocation, ObjectHistory};

@@ -5,6 +5,8 @@
 
 mod cells;
 mod containers;
+mod lost;
+mod narrow;
 mod pattern;
 mod plan;
 mod propose;
@@ -13,24 +15,61 @@ mod shrink;
 mod value_pairs;
 mod wholes;
 
+pub use lost::{Lost, LostValue};
 pub use pattern::{Pattern, Sentence};
-pub use reason::{FoundReason, Reason, Search, Shown};
+pub use reason::{FoundReason, Reason, Refuted, Search, Shown};
 
 use crate::cuts::{Cut, Values};
 use crate::history::ObjectHistory;
-use crate::search::First;
+use crate::search::{First, Searched};
+use narrow::narrowed;
 use plan::{Candidate, Element, Plan};
 use propose::Proposal;
 use std::collections::BTreeSet;
 
-/// The proposal, if it is a reason.
-fn confirm(history: &ObjectHistory, proposal: Proposal, steps: u64) -> Option<FoundReason> {
-    let Proposal { reason, pattern, key } = proposal;
-    let search = Search { first: First::Return, steps };
-    reason.shown(history, search)?;
-    let shown = reason.count.map_or(Shown::BySearch(search), Shown::ByCount);
+/// The proposal, if it is a reason, where its part is searched so.
+fn confirm(history: &ObjectHistory, proposal: Proposal, by: Search) -> Option<FoundReason> {
+    let refuted = proposal.reason.refuted(history, by);
+    found(history, proposal, refuted, by)
+}
+
+/// The proposal whose part was refuted, or one for a smaller part.
+fn found(
+    history: &ObjectHistory,
+    proposal: Proposal,
+    refuted: Refuted,
+    by: Search,
+) -> Option<FoundReason> {
+    let narrower = narrowed(history, &proposal.reason.cuts, &refuted, by);
+    let (Proposal { reason, pattern, key }, part) = match narrower {
+        Some((narrower, part)) => {
+            let key = narrower.key.or(proposal.key);
+            (Proposal { key, ..narrower }, part)
+        }
+        None => (proposal, refuted.part?),
+    };
+    let lost = Lost::by(history, &part, &reason);
+    let pattern = lost.map_or(pattern, Pattern::Lost);
+    let shown = reason.count.map_or(Shown::BySearch(by), Shown::ByCount);
     let sentence = Sentence { kind: history.kind, key, pattern };
     Some(FoundReason { cuts: reason.cuts, shown, sentence })
+}
+
+/// How a part is searched in the end.
+fn by_return(steps: u64) -> Search {
+    Search { first: First::Return, steps }
+}
+
+/// The reason that all operations have no valid order, as this search showed, or a smaller one.
+pub fn reason_of_all(
+    history: &ObjectHistory,
+    by: Search,
+    searched: Searched,
+) -> Option<FoundReason> {
+    let reason = Reason { cuts: Vec::new(), count: None };
+    let refuted = Refuted { part: Some(history.clone()), searched: Some(searched) };
+    let proposal = Proposal { reason, pattern: Pattern::General, key: None };
+    found(history, proposal, refuted, by)
 }
 
 /// A small reason why no order of the object's operations is valid, by patterns. The open key of a
@@ -43,13 +82,13 @@ pub fn find_by_patterns(
     steps: u64,
 ) -> Option<FoundReason> {
     let proposal = propose::propose(history, open_key, steps)?;
-    confirm(history, proposal, steps)
+    confirm(history, proposal, by_return(steps))
 }
 
 /// The same in what was done with two values of a queue, stack or heap in which values repeat.
 pub fn find_by_pairs(history: &ObjectHistory, steps: u64) -> Option<FoundReason> {
     let proposal = propose::propose_by_pairs(history, steps)?;
-    confirm(history, proposal, steps)
+    confirm(history, proposal, by_return(steps))
 }
 
 /// The reason that the operations on one key of a map have no valid order, if a search of at most
@@ -61,5 +100,9 @@ pub fn find_on(history: &ObjectHistory, key: i64, steps: u64) -> Option<FoundRea
         numbers: on_key.map(|o| o.number).collect(),
     };
     let reason = Reason { cuts: vec![cut], count: None };
-    confirm(history, Proposal { reason, pattern: Pattern::General, key: Some(key) }, steps)
+    confirm(
+        history,
+        Proposal { reason, pattern: Pattern::General, key: Some(key) },
+        by_return(steps),
+    )
 }

@@ -1,12 +1,13 @@
 //! Patterns: what is wrong in a history, and the sentence that says it.
 
+use super::Lost;
 use crate::cuts::Counted;
 use crate::model::Kind;
 use std::fmt::{self, Display, Formatter};
 
 /// A fact about an object's whole history that no valid order allows. At a map the values are those
 /// under one key. A number is that of an operation's invocation.
-#[derive(Clone, Copy, Debug, PartialEq, Eq)]
+#[derive(Clone, Debug, PartialEq, Eq)]
 pub enum Pattern {
     /// The value is taken, or seen, and no operation puts it in, or sets it.
     NeverSet(i64),
@@ -42,6 +43,8 @@ pub enum Pattern {
     RefusedUnderItsValue { value: i64, number: u32 },
     /// A content is taken away in a time more often than it can have been there.
     CountExceeded(Counted),
+    /// More values surely were ahead of what a removal found than can have been taken out before.
+    Lost(Lost),
     /// No pattern: a part was found that has no valid order.
     General,
 }
@@ -60,7 +63,7 @@ impl Kind {
     }
 
     /// What is done to one that an operation gives, or shows.
-    fn seen(self) -> &'static str {
+    pub(super) fn seen(self) -> &'static str {
         match self {
             Kind::Queue => "dequeued",
             Kind::Stack => "popped",
@@ -93,7 +96,7 @@ impl Display for Times {
 }
 
 /// What a pattern says of an object of this kind; at a map, of this key.
-#[derive(Clone, Copy, Debug, PartialEq, Eq)]
+#[derive(Clone, Debug, PartialEq, Eq)]
 pub struct Sentence {
     pub kind: Kind,
     pub key: Option<i64>,
@@ -117,6 +120,7 @@ impl Display for Sentence {
                 write!(f, "each of the values {one} and {other} was {seen} before the other, ")?;
                 write!(f, "and each was {put} once")
             }
+            Pattern::Lost(ref lost) => f.write_str(&lost.sentence(self.kind)),
             Pattern::Stale(None) => {
                 write!(f, "nil was {seen} after another content had replaced it")
             }
@@ -136,9 +140,9 @@ impl Display for Sentence {
 
 impl Pattern {
     /// The value that the pattern is about, and what it says of it; none where it is about no value.
-    fn of_value(self, kind: Kind) -> Option<(i64, String)> {
+    fn of_value(&self, kind: Kind) -> Option<(i64, String)> {
         let (put, seen, taken) = (kind.put(), kind.seen(), kind.taken());
-        Some(match self {
+        Some(match *self {
             Pattern::NeverSet(value) => (value, format!("{seen} and never {put}")),
             Pattern::TooEarly(value) => (value, format!("{seen} before it was {put}")),
             Pattern::TakenTwice(value) => (value, format!("{put} once and {taken} twice")),
@@ -161,9 +165,9 @@ impl Pattern {
     }
 
     /// The same of a value and another one.
-    fn of_two_values(self, kind: Kind) -> Option<(i64, String)> {
+    fn of_two_values(&self, kind: Kind) -> Option<(i64, String)> {
         let (put, seen, word) = (kind.put(), kind.seen(), kind.word());
-        Some(match self {
+        Some(match *self {
             Pattern::UnderSmaller { taken: value, smaller } => {
                 let smaller = format!("the smaller value {smaller} was surely in the {word}");
                 (value, format!("{seen} while {smaller}"))

@@ -43,6 +43,8 @@ pub struct Plan {
     pub from: Option<u32>,
     pub until: Option<u32>,
     pub all_values: bool,
+    /// Whether the plan does not begin later than it does: what was before shows what is wrong.
+    pub keeps_beginning: bool,
     pub elements: Vec<Element>,
     /// The count that shows it; without one a search is to.
     pub count: Option<Count>,
@@ -52,6 +54,9 @@ pub struct Plan {
 enum Role {
     Kept,
     Optional,
+    /// A pending removal: kept if it is one of the first, of which there are as many as kept values
+    /// are left over.
+    Pending,
     LeftOut,
 }
 
@@ -61,31 +66,25 @@ impl Role {
     }
 }
 
-/// The values of a plan, and whether some are left for pending removals.
-struct Choice {
-    values: Values,
-    left_over: bool,
-}
-
-impl Choice {
+impl Values {
+    /// How an operation is to the part that keeps these values.
     fn role_of(&self, operation: &Invocation) -> Role {
         if operation.has_failed() {
             return Role::LeftOut;
         }
-        let values = &self.values;
         let reply = operation.reply();
         match operation.op {
             Op::Enqueue(value) | Op::Push(value) | Op::Insert(value) => {
-                Role::kept_if(values.has(value))
+                Role::kept_if(self.has(value))
             }
             Op::Dequeue | Op::Pop | Op::ExtractMin => match reply {
-                Some(Reply::Value(Some(value))) => Role::kept_if(values.has(value)),
+                Some(Reply::Value(Some(value))) => Role::kept_if(self.has(value)),
                 Some(_) => Role::Optional,
-                None => Role::kept_if(self.left_over),
+                None => Role::Pending,
             },
-            Op::Put(key, _) | Op::Get(key) | Op::Del(key) if !values.has(key) => Role::LeftOut,
+            Op::Put(key, _) | Op::Get(key) | Op::Del(key) if !self.has(key) => Role::LeftOut,
             Op::Get(_) | Op::Read if reply.is_none() => Role::LeftOut,
-            Op::Write(_) | Op::Read | Op::Cas(..) if *values != Values::All => match reply {
+            Op::Write(_) | Op::Read | Op::Cas(..) if *self != Values::All => match reply {
                 Some(_) => Role::Optional,
                 None => Role::LeftOut,
             },
@@ -151,17 +150,17 @@ impl Plan {
     /// The cut that keeps the plan's values and operations.
     fn keeping(&self, history: &ObjectHistory) -> Cut {
         let values = self.values();
-        let choice = Choice { left_over: values.left_over(&history.ops) > 0, values };
+        let mut left_over = 0..values.left_over(&history.ops);
         let optional = self.optional();
         let is_register = history.kind == Kind::Register;
         let begun = self.begun(&history.ops);
-        let kept = history.ops.iter().filter(|o| match choice.role_of(o) {
+        let kept = history.ops.iter().filter(|o| match values.role_of(o) {
             Role::Kept => !is_register || self.touches(o),
             Role::Optional => optional.contains(&o.number) || self.is_cut_swap(o, begun),
+            Role::Pending => left_over.next().is_some(),
             Role::LeftOut => false,
         });
         let numbers = kept.map(|o| o.number).collect();
-        let values = choice.values;
         if is_register && !self.all_values {
             return Cut::Cell { key: None, other: other_than(&values), values, numbers };
         }

@@ -1,7 +1,7 @@
 //! The search for reasons: the patterns, the smallest first, and each made smaller.
 
-use super::cells::{cell_patterns, mutex_patterns, rare_cell_patterns};
-use super::containers::container_patterns;
+use super::cells::{cell_patterns, mutex_patterns, rare_cell_patterns, rare_mutex_patterns};
+use super::containers::{container_patterns, lost_patterns};
 use super::shrink::{Judge, tells};
 use super::value_pairs::value_pairs_of;
 use super::wholes::wholes_of;
@@ -11,6 +11,7 @@ use crate::history::ObjectHistory;
 use crate::model::Kind;
 use crate::search::First;
 use crate::timeline::Timeline;
+use std::cell::Cell;
 
 /// A reason, with the pattern that led to it, and at a map the key that the pattern is about.
 pub struct Proposal {
@@ -58,10 +59,12 @@ struct Confirmed {
     size: usize,
 }
 
-/// An object's history in which reasons are looked for, and the most steps of a search of one part.
+/// An object's history in which reasons are looked for, the most steps of a search of one part, and
+/// those that are left for all searches by which plans are made smaller.
 struct Proposer<'a> {
     history: &'a ObjectHistory,
     steps: u64,
+    budget: Cell<u64>,
 }
 
 impl Proposer<'_> {
@@ -80,6 +83,7 @@ impl Proposer<'_> {
     fn rare_patterns(&self, timeline: &Timeline) -> Vec<Candidate> {
         let mut candidates = match self.history.kind {
             Kind::Register | Kind::Map => rare_cell_patterns(timeline),
+            Kind::Mutex => rare_mutex_patterns(timeline),
             _ => Vec::new(),
         };
         candidates.sort_by_key(|candidate| candidate.weight);
@@ -118,7 +122,7 @@ impl Proposer<'_> {
         let cuts = self.base_cuts(&candidate);
         let from = candidate.plan.from.take();
         let base = Base { part: part_by(self.history, &cuts)?, cuts, from };
-        let mut judge = Judge::new(&base.part, self.steps);
+        let mut judge = Judge::new(&base.part, self.steps, &self.budget);
         if !judge.shrink(&mut candidate.plan) {
             return None;
         }
@@ -201,6 +205,17 @@ impl Proposer<'_> {
         smallest.map(|found| found.proposal)
     }
 
+    /// The smallest reason to which the patterns of the object lead, if they lead to one. Where that
+    /// of a queue, stack or heap is not small, values that were lost are looked for too.
+    fn best_by_patterns(&self, timeline: &Timeline) -> Option<Confirmed> {
+        let best = self.best_of(self.patterns(timeline));
+        if !self.history.kind.is_container() || best.as_ref().is_some_and(|it| it.size <= FEW) {
+            return best;
+        }
+        let lost = self.best_of(lost_patterns(self.history.kind, timeline));
+        best.into_iter().chain(lost).min_by_key(|found| found.size)
+    }
+
     fn propose(&self, open_key: Option<i64>) -> Option<Proposal> {
         if let Some(proposal) = open_key.and_then(|key| self.propose_from(key)) {
             return Some(proposal);
@@ -208,7 +223,7 @@ impl Proposer<'_> {
         let timeline = Timeline::of(&self.history.ops);
         let mut found = None;
         if open_key.is_none() {
-            found = self.best_of(self.patterns(&timeline));
+            found = self.best_by_patterns(&timeline);
         }
         let found = found
             .or_else(|| self.best_of(self.rare_patterns(&timeline)))
@@ -223,12 +238,20 @@ impl Proposer<'_> {
 /// where it has no reason that is small enough. The search for an order of one part takes at most
 /// this many steps.
 pub fn propose(history: &ObjectHistory, open_key: Option<i64>, steps: u64) -> Option<Proposal> {
-    Proposer { history, steps }.propose(open_key)
+    let budget = Cell::new(u64::MAX);
+    Proposer { history, steps, budget }.propose(open_key)
+}
+
+/// The same of a part in which a plan is made smaller by as many steps in all.
+pub fn propose_within(part: &ObjectHistory, steps: u64, budget: u64) -> Option<Proposal> {
+    let proposer = Proposer { history: part, steps, budget: Cell::new(budget) };
+    proposer.propose(None)
 }
 
 /// The same of what was done with two values of a queue, stack or heap in which values repeat.
 pub fn propose_by_pairs(history: &ObjectHistory, steps: u64) -> Option<Proposal> {
-    let proposer = Proposer { history, steps: steps.min(STEPS_OF_A_PAIR) };
+    let budget = Cell::new(u64::MAX);
+    let proposer = Proposer { history, steps: steps.min(STEPS_OF_A_PAIR), budget };
     let candidates = value_pairs_of(history.kind, &Timeline::of(&history.ops));
     let shrunk = candidates.into_iter().filter_map(|candidate| proposer.shrink(candidate));
     let found = shrunk.into_iter().find_map(|shrunk| proposer.confirm(shrunk));

@@ -1,9 +1,9 @@
 //! Reasons, and their check.
 
-use super::{Pattern, Sentence};
+use super::Sentence;
 use crate::cuts::{Count, Cut, is_exceeded, part_by};
 use crate::history::ObjectHistory;
-use crate::search::{First, Outcome, search};
+use crate::search::{First, Outcome, Searched, search};
 
 /// An order of trial, and the most steps of a search.
 #[derive(Clone, Copy, Debug, PartialEq, Eq)]
@@ -22,14 +22,31 @@ pub struct Reason {
 impl Reason {
     /// The part that the reason names, if it is shown to have no valid order, where the part is
     /// searched so.
-    pub fn shown(&self, history: &ObjectHistory, by: Search) -> Option<ObjectHistory> {
-        let part = part_by(history, &self.cuts)?;
-        let shown = match self.count {
-            Some(count) => is_exceeded(&part, count),
-            None => search(&part, by.first, by.steps) == Outcome::Impossible,
+    pub fn refuted(&self, history: &ObjectHistory, by: Search) -> Refuted {
+        let Some(part) = part_by(history, &self.cuts) else {
+            return Refuted { part: None, searched: None };
         };
-        shown.then_some(part)
+        let (shown, searched) = match self.count {
+            Some(count) => (is_exceeded(&part, count), None),
+            None => {
+                let searched = search(&part, by.first, by.steps);
+                (searched.outcome == Outcome::Impossible, Some(searched))
+            }
+        };
+        Refuted { part: shown.then_some(part), searched }
     }
+
+    /// The same part.
+    pub fn shown(&self, history: &ObjectHistory, by: Search) -> Option<ObjectHistory> {
+        self.refuted(history, by).part
+    }
+}
+
+/// What came of a reason: the part, if it is shown to have no valid order, and the search of it, if
+/// one was needed.
+pub struct Refuted {
+    pub part: Option<ObjectHistory>,
+    pub searched: Option<Searched>,
 }
 
 /// What shows that a part has no valid order.
@@ -46,12 +63,4 @@ pub struct FoundReason {
     pub shown: Shown,
     /// It is a guess: the pattern that led to the reason.
     pub sentence: Sentence,
-}
-
-impl FoundReason {
-    /// The reason that all operations have no valid order, as this search shows.
-    pub fn of_all(history: &ObjectHistory, search: Search) -> FoundReason {
-        let sentence = Sentence { kind: history.kind, key: None, pattern: Pattern::General };
-        FoundReason { cuts: Vec::new(), shown: Shown::BySearch(search), sentence }
-    }
 }

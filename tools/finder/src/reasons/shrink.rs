@@ -5,6 +5,7 @@ use super::{Element, Plan, Search};
 use crate::history::ObjectHistory;
 use crate::model::{Op, Reply};
 use crate::search::First;
+use std::cell::Cell;
 
 /// The most steps that are tried of one plan.
 const MOST_STEPS: u32 = 400;
@@ -20,6 +21,8 @@ pub struct Judge<'a> {
     base: &'a ObjectHistory,
     search: Search,
     left: u32,
+    /// How many steps all searches may still take.
+    budget: &'a Cell<u64>,
     /// The number of operations of the last part that was confirmed to have no valid order.
     pub size: usize,
 }
@@ -35,17 +38,21 @@ pub fn tells(op: Op, reply: Reply) -> bool {
 }
 
 impl<'a> Judge<'a> {
-    pub fn new(base: &'a ObjectHistory, steps: u64) -> Judge<'a> {
-        Judge { base, search: Search { first: First::Number, steps }, left: MOST_STEPS, size: 0 }
+    pub fn new(base: &'a ObjectHistory, steps: u64, budget: &'a Cell<u64>) -> Judge<'a> {
+        let search = Search { first: First::Number, steps };
+        Judge { base, search, left: MOST_STEPS, budget, size: 0 }
     }
 
     /// Whether the plan's part is confirmed to have no valid order.
     fn holds(&mut self, plan: &Plan) -> bool {
-        if self.left == 0 {
+        if self.left == 0 || self.budget.get() == 0 {
             return false;
         }
         self.left -= 1;
-        let Some(part) = plan.reason(self.base).shown(self.base, self.search) else {
+        let refuted = plan.reason(self.base).refuted(self.base, self.search);
+        let steps = refuted.searched.map_or(0, |searched| searched.steps);
+        self.budget.set(self.budget.get().saturating_sub(steps));
+        let Some(part) = refuted.part else {
             return false;
         };
         self.size = part.ops.len();
@@ -142,7 +149,9 @@ impl<'a> Judge<'a> {
         }
         for _ in 0..MOST_ROUNDS {
             let before = (plan.from, plan.until, plan.elements.len());
-            self.begin_late(plan);
+            if !plan.keeps_beginning {
+                self.begin_late(plan);
+            }
             self.end_early(plan);
             self.keep_few(plan);
             if (plan.from, plan.until, plan.elements.len()) == before {

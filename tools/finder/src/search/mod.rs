@@ -34,11 +34,20 @@ pub enum Outcome {
     OutOfSteps,
 }
 
+/// What a search came to.
+pub struct Searched {
+    pub outcome: Outcome,
+    /// How many steps it took.
+    pub steps: u64,
+    /// Some order that was begun has all operations that returned before this number.
+    pub passed: u32,
+}
+
 /// Searches for a valid order of the operations, depth first, in at most this many steps. A step is
 /// one operation tried.
-pub fn search(history: &ObjectHistory, first: First, steps: u64) -> Outcome {
+pub fn search(history: &ObjectHistory, first: First, steps: u64) -> Searched {
     if history.ops.iter().all(|o| o.returned().is_none()) {
-        return Outcome::Order(Vec::new());
+        return Searched { outcome: Outcome::Order(Vec::new()), steps: 0, passed: u32::MAX };
     }
     Walk::new(history, first).run(steps)
 }
@@ -67,7 +76,7 @@ mod tests {
             operation(4, Op::Dequeue, Some((5, Some(2)))),
         ]);
         for first in [First::Number, First::Return] {
-            assert_eq!(search(&history, first, 100), Outcome::Order(vec![1, 0, 4]));
+            assert_eq!(search(&history, first, 100).outcome, Outcome::Order(vec![1, 0, 4]));
         }
     }
 
@@ -77,7 +86,7 @@ mod tests {
             operation(0, Op::Enqueue(1), None),
             operation(1, Op::Dequeue, Some((2, Some(1)))),
         ]);
-        assert_eq!(search(&history, First::Return, 100), Outcome::Order(vec![0, 1]));
+        assert_eq!(search(&history, First::Return, 100).outcome, Outcome::Order(vec![0, 1]));
     }
 
     #[test]
@@ -86,14 +95,18 @@ mod tests {
             operation(0, Op::Enqueue(1), Some((1, Some(1)))),
             operation(2, Op::Dequeue, Some((3, None))),
         ]);
-        assert_eq!(search(&history, First::Number, 1), Outcome::OutOfSteps);
-        assert_eq!(search(&history, First::Number, 2), Outcome::Impossible);
-        assert_eq!(search(&history, First::Return, 2), Outcome::Impossible);
+        assert_eq!(search(&history, First::Number, 1).outcome, Outcome::OutOfSteps);
+        for first in [First::Number, First::Return] {
+            let searched = search(&history, first, 2);
+            assert_eq!(searched.outcome, Outcome::Impossible);
+            // the enqueue was in the order, the dequeue was not
+            assert_eq!((searched.steps, searched.passed), (2, 3));
+        }
     }
 
     #[test]
     fn nothing_that_returned_has_an_empty_order() {
         let history = queue(vec![operation(0, Op::Dequeue, None)]);
-        assert_eq!(search(&history, First::Number, 0), Outcome::Order(Vec::new()));
+        assert_eq!(search(&history, First::Number, 0).outcome, Outcome::Order(Vec::new()));
     }
 }

@@ -3,7 +3,7 @@
 use super::dead::{Dead, Pair};
 use super::digest::Digest;
 use super::undone::Undone;
-use super::{First, Outcome};
+use super::{First, Outcome, Searched};
 use crate::content::{Content, Undo};
 use crate::history::{Invocation, ObjectHistory};
 use crate::model::{Op, Reply};
@@ -86,6 +86,10 @@ pub(super) struct Walk {
     window: Window,
     /// How many operations returned and are not in the order.
     left: usize,
+    /// How many operations were tried.
+    steps: u64,
+    /// The greatest of the least returns that there were.
+    passed: u32,
 }
 
 impl Walk {
@@ -107,9 +111,12 @@ impl Walk {
             at: 0,
             window: Window { least: 0, pending: trials.pending },
             left: trials.items.iter().filter(|o| o.returned().is_some()).count(),
+            steps: 0,
+            passed: 0,
             trials,
         };
         walk.window.least = walk.least_return();
+        walk.passed = walk.window.least;
         walk
     }
 
@@ -160,6 +167,7 @@ impl Walk {
         self.digest = digest;
         self.high = high;
         self.window = Window { least: self.least_return(), pending };
+        self.passed = self.passed.max(self.window.least);
         self.at = self.undone.first();
         self.left == 0
     }
@@ -191,8 +199,12 @@ impl Walk {
     }
 
     /// Goes on with orders, depth first, until one is done or none is left.
-    pub fn run(mut self, limit: u64) -> Outcome {
-        let mut steps = 0;
+    pub fn run(mut self, limit: u64) -> Searched {
+        let outcome = self.outcome(limit);
+        Searched { outcome, steps: self.steps, passed: self.passed }
+    }
+
+    fn outcome(&mut self, limit: u64) -> Outcome {
         loop {
             if self.is_over() {
                 if !self.come_back() {
@@ -214,10 +226,10 @@ impl Walk {
                 self.pass();
                 continue;
             };
-            if steps == limit {
+            if self.steps == limit {
                 return Outcome::OutOfSteps;
             }
-            steps += 1;
+            self.steps += 1;
             if item.reply().is_some_and(|own| own != reply) {
                 self.content.undo(undo);
                 self.pass();

@@ -244,7 +244,7 @@ pub struct Part<'a> {
     /// The value that stands for all that it does not keep, if one does.
     pub other: Option<i64>,
     /// What led to it.
-    pub pattern: Pattern,
+    pub pattern: &'a Pattern,
 }
 
 impl Part<'_> {

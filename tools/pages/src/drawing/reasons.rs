@@ -4,7 +4,7 @@
 
 use crate::contents::{puts, takes, value_put};
 use crate::timeline::{Operation, Role, Spans, State, Tried, spans};
-use finder::{Counted, Kind, Op, Pattern, Reply};
+use finder::{Counted, Kind, Lost, Op, Pattern, Reply};
 
 /// The operations of an object, and those of a part of which no order is valid. Where the part
 /// begins, if not at the beginning, and the pattern that led to it.
@@ -14,7 +14,7 @@ pub struct Reason<'a> {
     pub operations: &'a [Operation],
     pub part: &'a [Operation],
     pub from: Option<u32>,
-    pub pattern: Pattern,
+    pub pattern: &'a Pattern,
 }
 
 /// How many operations are named one by one at most.
@@ -252,6 +252,28 @@ impl Reason<'_> {
         })
     }
 
+    /// More values were lost than pending removals can have taken.
+    fn lost(&self, lost: &Lost) -> Option<Spans> {
+        let removal = self.part.iter().find(|it| it.number() == lost.number)?;
+        let (end, found) = (removal.returned()?, Reply::Value(lost.found));
+        let has = |value: i64| lost.values.iter().any(|lost| lost.value == value);
+        let puts = self.part.iter().filter(|it| value_put(it).is_some_and(has));
+        let others = self.part.iter().filter(|it| {
+            it.number() != lost.number && it.number() < end && it.role() == Role::Take
+        });
+        let others: Vec<Operation> = others.copied().collect();
+        let mut sentence =
+            spans![*removal, " found ", found, ". But before that it was put in by "];
+        sentence.extend(named(&puts.copied().collect::<Vec<_>>()));
+        sentence.extend(spans![", and no more of it can have been taken out than ", lost.most]);
+        if !others.is_empty() {
+            sentence.extend(spans![", by "]);
+            sentence.extend(named(&others));
+        }
+        sentence.extend(spans!["."]);
+        Some(sentence)
+    }
+
     /// A queue gives the later of two values first.
     fn wrong_turn(&self) -> Option<Spans> {
         let [(first, v), (second, w)] = two_putters(self.part)?;
@@ -340,13 +362,11 @@ impl Reason<'_> {
 
     /// A mutex is released twice, and not acquired in between.
     fn twice_released(&self) -> Option<Spans> {
-        let [first, second] = self.part else {
-            return None;
-        };
+        let releases = self.part.iter().filter(|it| it.op() == Op::Release);
+        let [first, second] = releases.collect::<Vec<_>>().try_into().ok()?;
         let (from, to) = (first.number(), first.returned()?.max(second.returned()?));
-        let are_releases = first.op() == Op::Release && second.op() == Op::Release;
         let is_acquired = |it: &Operation| it.op() == Op::Acquire && ran_between(it, from, to);
-        if !are_releases || self.operations.iter().any(is_acquired) {
+        if self.operations.iter().any(is_acquired) {
             return None;
         }
         Some(spans![
@@ -365,6 +385,7 @@ impl Reason<'_> {
     /// The sentence of the pattern, where its facts hold.
     fn of_pattern(&self) -> Option<Spans> {
         match self.pattern {
+            Pattern::Lost(lost) => self.not_empty().or_else(|| self.lost(lost)),
             Pattern::NeverSet(_) | Pattern::TooEarly(_) => self.never_put(),
             Pattern::SurelyNotEmpty { .. } => self.not_empty(),
             Pattern::Stale(_) => self.out_of_date(),

@@ -1,11 +1,11 @@
 //! How far two lists of values are apart.
 
-use std::collections::HashMap;
+use crate::splitmix::NumberTable;
 
 /// How far two lists of values are apart: the sum, over all lengths of their beginnings, of the
 /// values that are in one of these and not in the other.
 pub fn distance(puts: &[usize], takes: &[usize]) -> i64 {
-    let mut counts: HashMap<usize, i64> = HashMap::new();
+    let mut counts: NumberTable<usize, i64> = NumberTable::default();
     let mut shift = |value: usize, change: i64| {
         let count = counts.entry(value).or_insert(0);
         let before = count.abs();

@@ -1,6 +1,6 @@
 //! Calls that are pending, and which of them were used.
 
-use std::collections::HashMap;
+use crate::splitmix::NumberTable;
 
 /// The list of no pushes.
 pub const UNUSED: u32 = 0;
@@ -15,10 +15,10 @@ struct Use {
 #[derive(Default)]
 pub struct Pending {
     pub pops: Vec<u32>,
-    pushes: HashMap<i64, Vec<u32>>,
+    pushes: NumberTable<i64, Vec<u32>>,
     /// Lists by their numbers, from 1 on.
     uses: Vec<Use>,
-    numbers: HashMap<(i64, u32), u32>,
+    numbers: NumberTable<(i64, u32), u32>,
 }
 
 impl Pending {

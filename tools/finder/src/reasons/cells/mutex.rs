@@ -26,12 +26,34 @@ fn window(takers: &[Call], setters: &[Call], counted: Counted) -> Vec<Candidate>
     candidates.collect()
 }
 
-/// The windows in which a mutex is acquired, or released, too often.
+/// The acquires and the releases.
+fn split(timeline: &Timeline) -> (Vec<Call>, Vec<Call>) {
+    timeline.calls.iter().partition(|call| call.op == Op::Acquire)
+}
+
+/// The candidate that begins before a release, at the last acquire that returned before it, so that
+/// its part has both releases.
+fn with_acquire(candidate: Candidate, acquires: &[Call], releases: &[Call]) -> Option<Candidate> {
+    let from = candidate.plan.from?;
+    let first = releases.iter().find(|call| call.number == from)?;
+    let before = acquires.iter().filter(|call| call.end < first.begin);
+    let acquire = before.max_by_key(|call| call.begin)?;
+    let plan = Plan { from: Some(acquire.number), keeps_beginning: true, ..candidate.plan };
+    Some(Candidate { plan, weight: candidate.weight + 1, ..candidate })
+}
+
+/// The windows in which a mutex is acquired, or released, too often. One of releases begins with an
+/// acquire.
 pub fn mutex_patterns(timeline: &Timeline) -> Vec<Candidate> {
-    let calls = timeline.calls.iter().copied();
-    let (acquires, releases): (Vec<Call>, Vec<Call>) =
-        calls.partition(|call| call.op == Op::Acquire);
+    let (acquires, releases) = split(timeline);
     let mut candidates = window(&acquires, &releases, Counted::Free);
-    candidates.extend(window(&releases, &acquires, Counted::Held));
+    let held = window(&releases, &acquires, Counted::Held).into_iter();
+    candidates.extend(held.filter_map(|it| with_acquire(it, &acquires, &releases)));
     candidates
+}
+
+/// The windows in which a mutex is released too often, from a release on.
+pub fn rare_mutex_patterns(timeline: &Timeline) -> Vec<Candidate> {
+    let (acquires, releases) = split(timeline);
+    window(&releases, &acquires, Counted::Held)
 }

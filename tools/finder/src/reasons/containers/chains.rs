@@ -5,7 +5,7 @@ use crate::reasons::{Element, Plan};
 use crate::timeline::Call;
 
 /// A value with at most this many calls is kept whole.
-const FEW_CALLS: usize = 8;
+pub const FEW_CALLS: usize = 8;
 
 /// The number before which what was done with the value of a run is left out; none where the run is
 /// its first, or the value has few calls.

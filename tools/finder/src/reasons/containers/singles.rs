@@ -1,7 +1,7 @@
 //! Patterns of one value in a queue, stack or heap: it is taken more often, or earlier, than it is
 //! put in.
 
-use super::chains::plan_of_runs;
+use super::chains::{FEW_CALLS, plan_of_runs};
 use super::runs::{Run, Runs};
 use crate::cuts::{Count, Counted};
 use crate::reasons::{Candidate, Pattern};
@@ -26,6 +26,15 @@ fn puts_elsewhere(runs: &Runs, at: usize) -> usize {
     places.map(|place| runs.runs[place].put_count()).sum()
 }
 
+/// The run at this place. If it has no put it comes after the one before it, if that is short: it has
+/// the puts and removals of the value that came right before.
+fn chain_with_puts(runs: &Runs, place: usize) -> Vec<usize> {
+    let run = &runs.runs[place];
+    let before = place.checked_sub(1).filter(|_| run.put_count() == 0 && run.since.is_some());
+    let before = before.filter(|before| runs.runs[*before].size() < FEW_CALLS);
+    before.into_iter().chain([place]).collect()
+}
+
 /// What is wrong with a value that is put in `puts` times in all, when `taken` removals of it have
 /// returned, one more than puts have begun.
 fn pattern_of(value: i64, puts: usize, taken: usize) -> Pattern {
@@ -43,9 +52,12 @@ pub fn singles(runs: &Runs) -> Vec<Candidate> {
         let (before, removal) = excess(runs, run)?;
         let elsewhere = puts_elsewhere(runs, place);
         let pattern = pattern_of(run.value, elsewhere + run.put_count(), elsewhere + before + 1);
-        let mut plan = plan_of_runs(runs, &[place], &[], removal.until());
+        let chain = chain_with_puts(runs, place);
+        let size: usize = runs.weight_of(&chain);
+        let mut plan = plan_of_runs(runs, &chain, &[], removal.until());
+        plan.keeps_beginning = size <= FEW_CALLS;
         plan.count = Some(Count { counted: Counted::Value(run.value), from: 0 });
-        Some(Candidate::without_key(pattern, plan, run.size()))
+        Some(Candidate::without_key(pattern, plan, size))
     });
     found.take(MOST).collect()
 }

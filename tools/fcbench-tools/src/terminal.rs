@@ -1,0 +1,72 @@
+//! What of an answer is shown on a terminal: of a part of many operations the first ones, and how
+//! many follow.
+
+use std::io::{self, BufRead, Write};
+
+/// How many operations of an object are shown.
+const MOST_OPERATIONS: usize = 200;
+
+/// Whether a line says an operation of a part.
+fn is_operation(line: &[u8]) -> bool {
+    line.starts_with(b"; map ") || line.starts_with(b"; maps ")
+}
+
+/// Says how many operations were left out, if there were some.
+fn say_left_out(count: usize, out: &mut impl Write) -> io::Result<()> {
+    match count.saturating_sub(MOST_OPERATIONS) {
+        0 => Ok(()),
+        left_out => writeln!(out, "; and {left_out} more operations, which --all shows"),
+    }
+}
+
+/// Copies the lines of an answer, without the operations of an object that are too many.
+pub fn copy_shortened(lines: impl BufRead, mut out: impl Write) -> io::Result<()> {
+    let mut count = 0;
+    for line in lines.split(b'\n') {
+        let mut line = line?;
+        line.push(b'\n');
+        if is_operation(&line) {
+            count += 1;
+        } else {
+            say_left_out(count, &mut out)?;
+            count = 0;
+        }
+        if count <= MOST_OPERATIONS {
+            out.write_all(&line)?;
+        }
+    }
+    say_left_out(count, &mut out)?;
+    out.flush()
+}
+
+#[cfg(test)]
+mod tests {
+    use super::*;
+
+    fn shortened(text: &str) -> String {
+        let mut out = Vec::new();
+        copy_shortened(text.as_bytes(), &mut out).expect("a vector takes all");
+        String::from_utf8(out).expect("a text")
+    }
+
+    fn part(count: usize) -> String {
+        (0..count).map(|number| format!("; map {number}: pending\n")).collect()
+    }
+
+    #[test]
+    fn a_small_part_is_shown_whole() {
+        let text = format!("; object 0: impossible\n{}; {{:object 0}}\n", part(200));
+        assert_eq!(shortened(&text), text);
+    }
+
+    #[test]
+    fn of_a_large_part_the_first_operations_are_shown() {
+        let text = format!("; a\n{}; b\n; maps 1 and 2: x\n", part(203));
+        let wanted = format!(
+            "; a\n{}; and 3 more operations, which --all shows\n; b\n; maps 1 and 2: x\n",
+            part(200)
+        );
+        assert_eq!(shortened(&text), wanted);
+        assert_eq!(shortened(&part(201)).lines().count(), 201);
+    }
+}

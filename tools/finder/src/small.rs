@@ -1,0 +1,138 @@
+//! Small histories that are drawn, and whether they have an order: for tests.
+
+use crate::content::Content;
+use crate::history::{End, Invocation, ObjectHistory};
+use crate::model::{Kind, Op, Reply};
+
+/// A generator of numbers (xorshift: Marsaglia, Journal of Statistical Software 8, 2003).
+pub struct Random(u64);
+
+/// An operation under way: the place of its invocation, and its reply once it took effect.
+struct Open {
+    place: usize,
+    reply: Option<Reply>,
+}
+
+impl Random {
+    pub fn new(seed: u64) -> Random {
+        Random(seed)
+    }
+
+    pub fn below(&mut self, bound: u64) -> u64 {
+        self.0 ^= self.0 << 13;
+        self.0 ^= self.0 >> 7;
+        self.0 ^= self.0 << 17;
+        (self.0 >> 20) % bound
+    }
+
+    fn value(&mut self) -> i64 {
+        self.below(3) as i64
+    }
+
+    fn op(&mut self, kind: Kind) -> Op {
+        let (value, other) = (self.value(), self.value());
+        let ops: &[Op] = match kind {
+            Kind::Queue => &[Op::Enqueue(value), Op::Dequeue],
+            Kind::Stack => &[Op::Push(value), Op::Pop],
+            Kind::Heap => &[Op::Insert(value), Op::ExtractMin],
+            Kind::Register => &[Op::Write(value), Op::Read, Op::Cas(value, other)],
+            Kind::Map => &[Op::Put(value, other), Op::Get(value), Op::Del(value)],
+            Kind::Mutex => &[Op::Acquire, Op::Release],
+        };
+        ops[self.below(ops.len() as u64) as usize]
+    }
+
+    fn reply(&mut self, op: Op) -> Reply {
+        match op {
+            Op::Enqueue(value) | Op::Push(value) | Op::Insert(value) | Op::Write(value) => {
+                Reply::Value(Some(value))
+            }
+            Op::Cas(expected, new) if self.below(2) == 0 => Reply::Swapped(expected, new),
+            Op::Cas(..) => Reply::NotSwapped,
+            Op::Acquire | Op::Release => Reply::Value(None),
+            _ if self.below(3) == 0 => Reply::Value(None),
+            _ => Reply::Value(Some(self.value())),
+        }
+    }
+
+    /// A history of a few operations, of which some overlap, and some are pending or failed.
+    pub fn history(&mut self, kind: Kind) -> ObjectHistory {
+        let count = 2 + self.below(7) as u32;
+        let mut ops: Vec<Invocation> = Vec::new();
+        for number in 0..2 * count {
+            let open: Vec<usize> = (0..ops.len()).filter(|k| ops[*k].is_pending()).collect();
+            if open.is_empty() || open.len() < 4 && self.below(2) == 0 {
+                ops.push(Invocation { number, op: self.op(kind), end: End::Pending });
+                continue;
+            }
+            let op = &mut ops[open[self.below(open.len() as u64) as usize]];
+            let reply = self.reply(op.op);
+            let failed = self.below(12) == 0;
+            op.end = if failed { End::Failed } else { End::Returned { at: number, reply } };
+        }
+        ObjectHistory { object: 0, kind, ops }
+    }
+
+    /// A history of a queue, stack or heap as three processes record it, whose content is lost now
+    /// and then, and of which some operations never return. Values repeat, or differ.
+    pub fn crash(&mut self, kind: Kind) -> ObjectHistory {
+        let values = [2, 3, 1_000_000][self.below(3) as usize];
+        let mut ops: Vec<Invocation> = Vec::new();
+        let mut content = Content::empty(kind);
+        let mut open: Vec<Open> = Vec::new();
+        let length = 8 + self.below(10) as u32;
+        for number in 0..length {
+            if open.is_empty() || open.len() < 3 && self.below(2) == 0 {
+                let puts = self.below(10) < 6;
+                let op = loop {
+                    let op = self.op(kind);
+                    if op.puts().is_some() == puts {
+                        break op.with_value(self.below(values) as i64);
+                    }
+                };
+                open.push(Open { place: ops.len(), reply: None });
+                ops.push(Invocation { number, op, end: End::Pending });
+                continue;
+            }
+            let mut own = open.swap_remove(self.below(open.len() as u64) as usize);
+            if own.reply.is_none() {
+                own.reply = content.apply(ops[own.place].op).map(|(reply, _)| reply);
+            }
+            match (self.below(12), own.reply) {
+                (0, _) => {}
+                (1..3, _) => open.push(own),
+                (_, Some(reply)) => ops[own.place].end = End::Returned { at: number, reply },
+                _ => {}
+            }
+            if self.below(4) == 0 {
+                content = Content::empty(kind);
+            }
+        }
+        ObjectHistory { object: 0, kind, ops }
+    }
+}
+
+impl Op {
+    /// The put of another value; of another operation this one.
+    fn with_value(self, value: i64) -> Op {
+        match self {
+            Op::Enqueue(_) => Op::Enqueue(value),
+            Op::Push(_) => Op::Push(value),
+            Op::Insert(_) => Op::Insert(value),
+            op => op,
+        }
+    }
+}
+
+/// Whether some order of the operations that are left is valid, by trying each that can be next.
+pub fn has_order(left: &[Invocation], content: &Content) -> bool {
+    let Some(least) = left.iter().filter_map(Invocation::returned).min() else {
+        return true;
+    };
+    left.iter().enumerate().filter(|(_, o)| o.number < least).any(|(place, operation)| {
+        let mut after = content.clone();
+        let reply = after.apply(operation.op).map(|(reply, _)| reply);
+        let fits = reply.is_some() && operation.reply().is_none_or(|own| Some(own) == reply);
+        fits && has_order(&[&left[..place], &left[place + 1..]].concat(), &after)
+    })
+}
