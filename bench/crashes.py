@@ -173,7 +173,7 @@ def is_order(kind, ops, order):
 
 
 def search(kind, ops, most):
-    """Whether the operations have an order; None after so many steps."""
+    """Whether the operations have an order; None if the search has no answer within its steps."""
     seen, steps = set(), 0
     full = frozenset(o.number for o in ops if o.end is not None)
     stack = [(frozenset(), ())]
@@ -216,7 +216,7 @@ def keep(ops, values, numbers):
 
 
 def part_of(ops, cuts):
-    """The part that the cuts leave; None where it is none."""
+    """The part that the cuts leave; None where the cuts name no part."""
     for word, first, _, second in CUT.findall(cuts):
         numbers = [int(n) for n in re.findall(r"-?\d+", first)]
         if word == "keep":

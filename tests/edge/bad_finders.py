@@ -85,7 +85,7 @@ WRONG = {
     "nothing": (lambda evidence: "", "nothing"),
     "a line feed": (lambda evidence: "\n", "nothing"),
     "comments": (lambda evidence: "".join(f"; {it}\n" for it in evidence.splitlines()), "nothing"),
-    "half a line": (lambda evidence: evidence[: len(evidence.rstrip()) // 2], "nothing"),
+    "half a line": (lambda evidence: evidence[: len(evidence.partition("\n")[0]) // 2], "nothing"),
     "all but the last brace": (lambda evidence: evidence.rstrip().removesuffix("}"), "nothing"),
     "no line feed at the end": (str.rstrip, "all"),
     "the right evidence in one line": (lambda evidence: evidence.replace("\n", ""), "all"),
@@ -156,7 +156,7 @@ DYING = {
     "it says that the history is malformed": ("exit 2", "nothing", b""),
     "it says that it found nothing after the right evidence": ('cat "$evidence"; exit 3', "all", b""),
     "it writes slowly": ('head -c 5 "$evidence"; sleep 0.3; tail -c +6 "$evidence"', "all", b""),
-    "it says much that nobody reads": ('head -c 1000000 /dev/zero >&2; cat "$evidence"', "all", b""),
+    "it writes much to standard error": ('head -c 1000000 /dev/zero >&2; cat "$evidence"', "all", b""),
 }
 # The same for finders that go on without end. Each writes the number of its process into the file $evidence.pid.
 ENDLESS = {

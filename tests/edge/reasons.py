@@ -17,7 +17,7 @@ TOLD = re.compile(
     rf"(?:, counted as :([\w-]+) ({VALUE})(?:, :ok ({VALUE}))?)?(, pending)?"
 )
 IMPOSSIBLE = re.compile(r"; object (\d+): impossible")
-OPEN = re.compile(r"; object (\d+): (out of memory|out of steps after \d+)")
+OPEN = re.compile(r"; object (\d+): (open|out of memory|out of steps after \d+)")
 # Of more operations than these not all orders are tried.
 MOST_ORDERED = 12
 

@@ -1,4 +1,4 @@
-//! Removals that are pending, and by when values must be gone that nobody is known to take.
+//! Removals that are pending, and by when values must be gone that no call is known to take.
 
 use super::Gaps;
 use crate::timeline::Span;

@@ -4,7 +4,7 @@
 use super::Touch;
 use crate::timeline::Span;
 
-/// The moment that a value is taken which nobody takes: after that of a call that is pending.
+/// The moment that a value is taken which no call takes: after that of a call that is pending.
 pub const NEVER: u32 = u32::MAX;
 
 /// A value, the call that puts it in, and the one that takes it.

@@ -184,7 +184,7 @@ fn spaced<'a>(items: impl Iterator<Item = &'a Item>) -> String {
     items.map(|item| item.value.to_string()).collect::<Vec<_>>().join(" ")
 }
 
-/// The list of so many items in brackets. Of a long one so many are shown from its beginning.
+/// The list of these items in brackets. Of a long one `first` are shown from its beginning.
 fn list_text<'a>(
     length: usize,
     items: impl Iterator<Item = &'a Item> + Clone,

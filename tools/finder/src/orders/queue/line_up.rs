@@ -26,7 +26,7 @@ enum Move {
     Value(Pair, Option<Pair>),
     /// A value that a pending removal takes.
     Lost(usize),
-    /// A value that nobody takes.
+    /// A value that no removal takes.
     Stays(usize),
 }
 

@@ -3,7 +3,7 @@
 use crate::residences::{Removals, Residence};
 use crate::timeline::Span;
 
-/// By when the values must be gone that nobody is known to take, with their places: a value that
+/// By when the values must be gone that no call is known to take, with their places: a value that
 /// was put before them is taken, or nothing is found, by a call that begins when their put has
 /// returned.
 pub fn dues_of(residences: &[Residence], removals: &mut Removals) -> Vec<(u32, usize)> {
@@ -29,7 +29,7 @@ pub fn dues_of(residences: &[Residence], removals: &mut Removals) -> Vec<(u32, u
     dues
 }
 
-/// Gives removals that are pending to the values that nobody is known to take and that must be
+/// Gives removals that are pending to the values that no call is known to take and that must be
 /// gone.
 pub fn give_removals(residences: &mut [Residence], empties: &[Span], mut removals: Removals) {
     if removals.is_empty() {

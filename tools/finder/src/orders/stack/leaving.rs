@@ -2,7 +2,7 @@
 //!
 //! All other values are ordered first. In that order each value that pending pops may take is put
 //! where the fewest values are in the stack, of the places that its put may have. There it is in
-//! nobody's way until the stack gets lower than that, or nothing is found: just before that it must
+//! no call's way until the stack gets lower than that, or nothing is found: just before that it must
 //! be gone. The values are gone by the pending pops in the order of these moments, the pop that
 //! begins first at the first. No other choice of pops could do more for these places.
 
