@@ -138,8 +138,12 @@ def failing_reads_of_tools(program, report):
     whole = program.run("judge", HISTORY)
     report.answers("judge, with no read that fails", whole, rows.THREE_YES, 0)
     for words in (("find", HISTORY), ("draw", HISTORY)):
-        ran = program.run(*words, faults={"FAIL_READ_AT": 1})
-        report.holds(f"{words[0]}, the first read fails: the file is named", is_named(ran, HISTORY), ran)
+        good = program.run(*words)
+        # What the number of processors is comes from a file too.
+        runs = [program.run(*words, faults={"FAIL_READ_AT": at}) for at in range(1, MOST_READS + 1)]
+        are_well = [is_named(it, HISTORY) or it.status >= 3 and it.out == b"" or (it.status, it.out) == (good.status, good.out) for it in runs]
+        report.equal(f"{words[0]}: runs in which a read fails, and that are wrong", [], [it for it, is_well in zip(runs, are_well) if not is_well])
+        report.holds(f"{words[0]}: where it cannot be read the file is named", any(is_named(it, HISTORY) for it in runs), runs)
     failed = 0
     for at in range(1, MOST_READS + 1):
         for more in ({}, {"READ_AT_MOST": 1}):

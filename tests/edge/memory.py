@@ -89,7 +89,7 @@ def cases():
     for it in rows.ROWS + verifications.ROWS:
         if len(it.texts[0]) < LONG and it.words[0] not in OF_TOOLS:
             yield of_row(it)
-    for name, history, *_ in rows.NOT_LINEARIZABLE:
+    for name, history, *_ in (it for it in rows.NOT_LINEARIZABLE if len(it[1]) < LONG):
         yield of_row(rows.verify(name, history, "{:object 0} {:object 3}", "", 1), stride=3)
     yield of_row(next(it for it in rows.YES if it.texts[0] == rows.TWO_QUEUES), "--workers", "4")
     yield Case(" ".join(ONE_CLIENT), ONE_CLIENT)

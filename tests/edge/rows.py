@@ -216,18 +216,6 @@ def refused_swaps(before, writers):
     )
 
 
-# What a judgement says of swaps that are refused after 4,100 writes and two that overlap: a search finds that no order is valid. It has 20,000 steps,
-# and 20 for each of the 4,104 operations.
-ALL_OF_MANY = lines(
-    "; object 0: impossible",
-    "; these operations have no valid order",
-    *[f"; maps {2 * it} and {2 * it + 1}: process 0, :write 1, :ok 1" for it in range(4100)],
-    "; maps 8200 and 8202: process 0, :write 1, :ok 1",
-    "; maps 8201 and 8203: process 1, :write 2, :ok 2",
-    "; maps 8204 and 8205: process 0, :cas [1 99], :ok false",
-    "; maps 8206 and 8207: process 0, :cas [2 99], :ok false",
-    "; {:object 0, :cuts [], :search {:first :return, :steps 102080}}",
-)
 # Of 16 writes that overlap a search would take some millions of steps. There are 10,032 operations.
 MANY_SWAPS = refused_swaps(10_000, 16)
 
@@ -543,7 +531,6 @@ JUDGEMENTS = [
         yes(4123, 1, "register: 1 objects, 4123 operations"),
         0,
     ),
-    judge("no order of many, and no reason", refused_swaps(4100, 2), ALL_OF_MANY, 1, "--steps", "0"),
     judge("100 steps for each operation of many", MANY_SWAPS, "; object 0: out of steps after 1003200\n", 3),
     judge("fewer steps for many operations", MANY_SWAPS, "; object 0: out of steps after 1000\n", 3, "--steps", "1000"),
     judge("a malformed history", AFTER_INFO, "malformed history: H8 at map 2\n", 2),
@@ -562,6 +549,7 @@ NOT_LINEARIZABLE = [
     ("a heap gives the larger value", one_process(("insert", 1, 1), ("insert", 2, 2), ("extract-min", None, 2))),
     ("a register gives an old value", one_process(("write", 1, 1), ("write", 2, 2), ("read", None, 1))),
     ("a register refuses its value", one_process(("write", 1, 1), ("cas", (1, 2), False))),
+    ("one of two values is there, and swaps of both are refused, after many writes", refused_swaps(4100, 2), "--steps", "0"),
     ("a map loses a value", one_process(("put", (1, 10), None), ("put", (2, 20), None), ("get", 1, None))),
     ("a map gives a value that was removed", one_process(("put", (1, 10), None), ("del", 1, 10), ("get", 1, 10))),
     ("a mutex is acquired twice", one_process(("acquire", None, None), ("acquire", None, None))),
