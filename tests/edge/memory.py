@@ -220,9 +220,9 @@ MOST_REFUSED = 60
 
 def is_well_without_memory(program, command, whole, ran):
     """Whether the tools said nothing that does not hold, where each of their processes is refused an allocation. A program in Rust that is refused
-    memory is ended by a signal."""
+    memory is ended by a signal, and one that is refused a thread ends with 101."""
     if ran.status not in (0, 1):
-        return ran.status in (NO_MEMORY, 4, 70) or ran.status < 0
+        return ran.status in (NO_MEMORY, 4, 70, 101) or ran.status < 0
     if (ran.status, ran.out) == (whole.status, whole.out):
         return True
     return command == "judge" and is_other_reason(program, (HISTORY,), whole, ran)

@@ -10,6 +10,12 @@ use std::env;
 use std::io::{self, BufReader, IsTerminal};
 use std::path::PathBuf;
 use std::process::{Child, Command, ExitStatus, Stdio};
+use std::thread;
+use std::time::Duration;
+
+/// How often it is looked whether the finder has ended, when the answer is there.
+const LOOKS: u32 = 100;
+const BETWEEN_LOOKS: Duration = Duration::from_millis(1);
 
 /// The finder of evidence: the program that the environment variable FCBENCH_FINDER names, or else
 /// this one. What it finds is checked, so any program may be named. It is started with the words
@@ -48,14 +54,24 @@ pub fn answered(ended: io::Result<ExitStatus>) -> Result<Status, Status> {
     }
 }
 
+/// How a finder ended, where it did so by itself: its output may be closed a moment before it ends.
+fn end_of(finder: &mut Child) -> Option<ExitStatus> {
+    (0..LOOKS).find_map(|look| {
+        if look > 0 {
+            thread::sleep(BETWEEN_LOOKS);
+        }
+        finder.try_wait().ok().flatten()
+    })
+}
+
 /// Ends a finder that still works when the answer is there, and says so if it failed before that.
 fn end_finder(mut finder: Child) {
-    match finder.try_wait() {
-        Ok(Some(ended)) if has_found(ended) => {}
-        Ok(Some(ended)) => {
+    match end_of(&mut finder) {
+        Some(ended) if has_found(ended) => {}
+        Some(ended) => {
             say(format_args!("the finder failed, so the evidence is not complete: {ended}"));
         }
-        _ => {
+        None => {
             let _ = finder.kill();
             let _ = finder.wait();
         }
