@@ -7,18 +7,17 @@ from .running import ROOT
 
 TOOLS = f"{ROOT}/tools"
 CHECKS = (
-    ("test", "--release", "--workspace", "--quiet"),
+    ("test", "--workspace", "--quiet"),
     ("fmt", "--all", "--check"),
-    ("clippy", "--release", "--workspace", "--all-targets", "--quiet", "--", "-D", "warnings"),
+    ("clippy", "--workspace", "--all-targets", "--quiet", "--", "-D", "warnings"),
 )
 # What cargo needs for a check beside itself, with Debian's package of it.
 NEEDED = {"fmt": ("rustfmt", "rustfmt"), "clippy": ("cargo-clippy", "rust-clippy")}
 
 
 def built():
-    """The path of the tools, built by cargo."""
-    words = ["cargo", "build", "--release", "--offline", "--quiet", "--package", "fcbench-tools"]
-    subprocess.run(words, cwd=TOOLS, check=True)
+    """The path of the tools, built where that is needed."""
+    subprocess.run([f"{TOOLS}/build"], check=True)
     return f"{TOOLS}/target/release/fcbench-tools"
 
 
