@@ -153,6 +153,31 @@ def is_overdrawn(count, calls):
     return takes > sets + (is_there_at_first if start == 0 else 1)
 
 
+PUTS, REMOVALS = ("enqueue", "push", "insert"), ("dequeue", "pop", "extract-min")
+
+
+def is_settled(f, found, start, puts):
+    """Whether, where a pop found a value, each push of it had returned before a number."""
+    return f != "pop" or found is None or all(at is not None and at < start for _, at, _, value, _ in puts if value == found)
+
+
+def is_blocked(count, calls):
+    """Whether more values surely were ahead of what a removal found than others can have taken out before it."""
+    puts, removals = [it for it in calls if it[2] in PUTS], [it for it in calls if it[2] in REMOVALS]
+    own = next((it for it in removals if it[0] == count["ahead"] and it[1] is not None), None)
+    start = count.get("from", 0)
+    if own is None or not is_settled(own[2], own[4], start, puts):
+        return False
+    number, returned, f, _, found = own
+    before = number
+    if f == "dequeue" and found is not None:
+        before = min(number, next((it[0] for it in puts if it[3] == found), 0))
+    can_be_ahead = lambda value: f != "extract-min" or found is None or value < found
+    ahead = [it for it in puts if can_be_ahead(it[3]) and it[1] is not None and it[1] < before and it[0] >= start]
+    others = [it for it in removals if it[0] != number and it[0] <= returned]
+    return len(ahead) > sum(at is None or reply is not None and can_be_ahead(reply) for _, at, _, _, reply in others)
+
+
 def count_in(reason):
     """The count that a reason names, or None."""
     found = re.search(r":count \{([^}]*)\}", reason)
@@ -200,8 +225,10 @@ def why_not_shown(history, on, operations, reason):
         if not is_of_history(maps, told, on):
             return f"not in the history: {line}"
         calls.append(call_of(told))
-    if count_in(reason):
-        return None if is_overdrawn(count_in(reason), calls) else "the count is not exceeded"
+    count = count_in(reason)
+    if count:
+        is_exceeded = is_blocked if "ahead" in count else is_overdrawn
+        return None if is_exceeded(count, calls) else "the count is not exceeded"
     if not calls or len(calls) <= MOST_ORDERED and has_order(calls):
         return "the operations have a valid order"
     return None

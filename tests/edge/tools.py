@@ -7,16 +7,16 @@ from .running import ROOT
 
 TOOLS = f"{ROOT}/tools"
 CHECKS = (
-    ("test", "--release", "--workspace", "--quiet"),
+    ("test", "--workspace", "--quiet"),
     ("fmt", "--all", "--check"),
-    ("clippy", "--release", "--workspace", "--all-targets", "--quiet", "--", "-D", "warnings"),
+    ("clippy", "--workspace", "--all-targets", "--quiet", "--", "-D", "warnings"),
 )
 # What cargo needs for a check beside itself, with Debian's package of it.
 NEEDED = {"fmt": ("rustfmt", "rustfmt"), "clippy": ("cargo-clippy", "rust-clippy")}
 
 
 def built():
-    """The path of the tools, which are built where they are older than their code."""
+    """The path of the tools, built where that is needed."""
     subprocess.run([f"{TOOLS}/build"], check=True)
     return f"{TOOLS}/target/release/fcbench-tools"
 
@@ -37,8 +37,8 @@ def rust_of_tools(program, report):
             continue
         ran = cargo(command, *words)
         report.equal(f"tools: cargo {command}", 0, ran.returncode, ran.stdout[-3000:] + ran.stderr[-3000:])
-    ran = cargo("metadata", "--format-version=1", "--quiet")
-    report.holds("tools: no library but std", ran.returncode == 0 and '"source":"' not in ran.stdout, ran.stderr)
+    ran = cargo("metadata", "--format-version=1", "--no-deps", "--quiet")
+    report.holds("tools: no library but std", '"source":"' not in ran.stdout and ran.returncode == 0, ran.stderr)
     return "; ".join(skipped)
 
 

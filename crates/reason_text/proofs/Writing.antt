@@ -41,7 +41,7 @@ use Rattle.reason_text.specs.Denotes.{numbers_in, cut_in, cuts_with, evidence_in
 use Rattle.reason_text.specs.Denotes.{reason_with, CutSeen, seen_values, seen_cut, seen}
 use Rattle.reason_text.specs.Lines.{integers_text, naturals_text, values_text, numbers_text}
 use Rattle.reason_text.specs.Lines.{cut_text, cuts_text, counted_text}
-use Rattle.reason_text.specs.Lines.{evidence_text, ahead_text, search_text, line_of, lines_of, AreInRange}
+use Rattle.reason_text.specs.Lines.{evidence_text, search_text, line_of, lines_of, AreInRange}
 use Rattle.reason_text.specs.Lines.{SpellsReasons}
 use Rattle.reason_text.specs.Written.{AreNumberKeys, AreTypedValues, IsTypedCut}
 use Rattle.reason_text.specs.Written.{AreTypedSteps, IsTypedCounted, IsTypedEvidence, IsTypedReason}
