@@ -19,6 +19,9 @@ const FEW: usize = 12;
 /// How many steps may be taken at least after a search that refuted a part.
 const LEAST_BUDGET: u64 = 20_000;
 
+/// A part that a count refuted is made smaller if it has at most this many operations.
+const MOST_COUNTED: usize = 1000;
+
 /// The most steps of a search by which a window is made smaller, and how many steps may be taken at
 /// least after a count.
 const STEPS_OF_A_PART: u64 = 2_000;
@@ -114,6 +117,7 @@ pub fn narrowed(
     let own;
     let searched = match &refuted.searched {
         Some(searched) => searched,
+        None if part.ops.len() > MOST_COUNTED => return None,
         None => {
             own = search(part, First::Return, STEPS_OF_A_PART);
             &own
