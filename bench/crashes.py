@@ -1,16 +1,17 @@
 #!/usr/bin/env python3
 """Histories of queues, stacks and heaps that crashed, and what a finder says of them.
 
-    crashes.py make DIR [--count N] [--seed S]
+    crashes.py make DIR [--count N] [--seed S] [--calls C]
     crashes.py measure PROGRAM DIR [--limit SECONDS]
 
 A history is that of a run of N clients up to a crash: K of them are pending then, some with and some without effect. What the
 object contained is kept, lost, or partly kept. New processes go on, and in the end one of them empties it. Values differ, or are
-drawn below 2, 10 or 100. DIR gets N.edn and N.json, which says what was drawn.
+drawn below 2, 10 or 100. There are fewer than C calls before the crash, and a third of that after it. DIR gets N.edn and N.json, which says what was drawn.
 
 `measure` runs `PROGRAM find` on each and checks what it says by itself: an order is run on the object. A reason is cut out anew;
 a count is counted anew, and a part that was searched is searched anew, by another search. The truth of what is kept is known: it
-has an order. So is that of values which differ, if more are missing at the end than removals are pending. Prints a table in
+has an order. So is that of values which differ, if more are missing at the end than removals are pending, and that of few
+operations, which are all searched. Prints a table in
 Markdown; a wrong answer ends it."""
 import argparse
 import json
@@ -112,25 +113,25 @@ class Run:
                 return
 
 
-def history(kind, values, fate, rng):
+def history(kind, values, fate, most, rng):
     """The lines of a history, and what was drawn."""
     run = Run(kind, VALUES[values], rng)
     clients = rng.choice([2, 3, 4, 8, 16])
     pending = rng.randrange(clients + 1)
-    calls = rng.randrange(20, 300)
+    calls = rng.randrange(most // 15 + 1, most)
     open_calls = run.phase(clients, calls, rng.choice([0.5, 0.55, 0.65]))
     run.crash(open_calls, pending, fate)
-    run.crash(run.phase(clients, rng.randrange(1, 100), 0.5), 0, "kept")
+    run.crash(run.phase(clients, rng.randrange(1, most // 3 + 1), 0.5), 0, "kept")
     run.end()
     return run.lines, {"kind": kind, "values": values, "fate": fate, "clients": clients}
 
 
-def make(folder, count, seed):
+def make(folder, count, seed, calls):
     os.makedirs(folder, exist_ok=True)
     cells = [(kind, values, fate) for kind in PUT for values in VALUES for fate in FATES]
     for number in range(count):
         rng = random.Random("%d %d" % (seed, number))
-        lines, drawn = history(*cells[number % len(cells)], rng)
+        lines, drawn = history(*cells[number % len(cells)], calls, rng)
         with open(os.path.join(folder, "%d.edn" % number), "w") as text:
             text.write("\n".join(lines) + "\n")
         with open(os.path.join(folder, "%d.json" % number), "w") as text:
@@ -160,8 +161,8 @@ def operations(path):
 def is_order(kind, ops, order):
     """Whether the numbers are a valid order of the operations."""
     by_number = {o.number: o for o in ops}
-    content, greatest = (), -1
-    if len(set(order)) < len(order) or not set(order) <= set(by_number):
+    content, greatest, ordered = (), -1, set(order)
+    if len(ordered) < len(order) or not ordered <= set(by_number):
         return False
     for number in order:
         o = by_number[number]
@@ -169,7 +170,7 @@ def is_order(kind, ops, order):
         if o.end is not None and (o.reply != reply or o.end < greatest):
             return False
         greatest = max(greatest, number)
-    return all(o.end is None or o.number in set(order) for o in ops)
+    return all(o.end is None or o.number in ordered for o in ops)
 
 
 def search(kind, ops, most):
@@ -278,10 +279,16 @@ def why_wrong(kind, ops, line):
     return ("it has an order" if answer else "not searched to the end" if answer is None else None), len(part)
 
 
+# Of at most so many operations all orders are tried.
+FEW = 16
+
+
 def truth(ops, drawn):
     """Whether there is an order, as far as it is known from how the history was made."""
     if drawn["fate"] == "kept":
         return True
+    if len(ops) <= FEW:
+        return search(drawn["kind"], ops, 1_000_000)
     if drawn["values"] != "once":
         return None
     taken = {o.reply for o in ops if o.value is None and o.end is not None}
@@ -340,13 +347,14 @@ def main():
     making.add_argument("dir")
     making.add_argument("--count", type=int, default=1000)
     making.add_argument("--seed", type=int, default=1)
+    making.add_argument("--calls", type=int, default=300)
     measuring = commands.add_parser("measure")
     measuring.add_argument("program")
     measuring.add_argument("dir")
     measuring.add_argument("--limit", type=float, default=60)
     asked = words.parse_args()
     if asked.command == "make":
-        make(asked.dir, asked.count, asked.seed)
+        make(asked.dir, asked.count, asked.seed, asked.calls)
     else:
         measure(asked.program, asked.dir, asked.limit)
 

@@ -455,8 +455,9 @@
                                           (if-let [[_ k] (find key-of (Long/parseLong number))]
                                             (str "object " number ", which is key " (pr-str k) ":")
                                             all)))
-      (string/replace #"\bmap (\d+)" (fn [[_ number]] (str "map " (places-words how [number]))))
-      (string/replace #"\b(?:key|value|values) -?\d+(?: and -?\d+)?" (if (empty? values) identity #(with-names values %)))))
+      (string/replace #"\b(maps?) (\d+(?:, \d+)*(?: and \d+)?)"
+                      (fn [[_ word numbers]] (str word " " (places-words how (re-seq #"\d+" numbers)))))
+      (string/replace #"\b(?:key|value|values) -?\d+(?:, -?\d+)*(?: and -?\d+)?" (if (empty? values) identity #(with-names values %)))))
 
 (defn- told [how text]
   (let [text (string/replace-first text #"^; " "")

@@ -232,7 +232,7 @@
     (is (= "operation 1 (:index 9): 1.5 can't be the reply of :read, which is an integer, string or keyword, or nil"
            (refused [(op 0 :invoke :read nil) (assoc (op 0 :ok :read 1.5) :index 9)]))))
   (let [history (concat (done 0 :enqueue 1 1) (done 0 :dequeue nil nil) (done 0 :dequeue nil 1))]
-    (is (= "the queue was surely not empty when map 2 (:index 12) found nothing"
+    (is (= "the queue was surely not empty when map 2 (:index 12) found nothing: value 1 was in it (dequeued later, by map 4 (:index 14))"
            (second (:reason (judged (map #(assoc %1 :index %2) history (range 10 20))))))))
   (is (= ["malformed history: H5 at map 1 (:index 8)"]
          (:reason (judged [(assoc (op 0 :invoke :read nil) :index 7) (assoc (op 0 :invoke :read nil) :index 8)])))))
@@ -322,7 +322,7 @@
   (let [empty-one [(op 0 :invoke :dequeue nil) (assoc (op 0 :fail :dequeue nil) :error :empty)]
         history (concat (done 0 :enqueue 1 1) empty-one (done 0 :dequeue nil 1))]
     (is (true? (:valid? (judged history))))
-    (is (= ["object 0: impossible" "the queue was surely not empty when map 2 found nothing"]
+    (is (= ["object 0: impossible" "the queue was surely not empty when map 2 found nothing: value 1 was in it (dequeued later, by map 4)"]
            (take 2 (:reason (judged history {:fail-is-reply true})))))
     (is (true? (:valid? (judged (map #(dissoc % :error) history) {:fail-is-reply true}))))
     (is (false? (:valid? (judged (map #(dissoc % :error) history) {:fail-is-reply #(= :dequeue (:f %))})))))

@@ -406,7 +406,7 @@ SMALL = (
     (REMOVED_TWICE, "key 7: value 1 was put once and taken away twice", 3),
     (FOUND_NONE, "key 7: it was found without a value more often than it can have been without one", 2),
     (TWO_HOLD, "the lock was acquired more often than it can have been free", 2),
-    (RELEASED_TWICE, "the lock was released more often than it can have been held", 1),
+    (RELEASED_TWICE, "the lock was released more often than it can have been held", 3),
 )
 # A reason of these has at most so many operations.
 LONG = (

@@ -35,6 +35,10 @@ const DEFAULT_STEPS: u64 = 1_000_000;
 /// How many steps it has for each operation of many.
 const STEPS_OF_A_CALL: u64 = 100;
 
+/// How many steps of the last search are tried here at most, so that an order need not be searched
+/// for again, and a reason can be made smaller.
+const MOST_OWN_STEPS: u64 = 1_000_000;
+
 /// Among how many operations at most the last search tries first that of the least number. Where
 /// there are more it goes by their returns, since it then looks at those alone that can come next.
 const MOST_BY_NUMBER: usize = 4096;
@@ -57,7 +61,8 @@ fn last_search(history: &ObjectHistory, steps: Option<u64>) -> Search {
 /// methods stopped, for an order by a search of all that a queue or stack may contain, for a reason
 /// in two values, and at a map by a search of each key that is open. Where these decide nothing
 /// there is a first search of 20,000 steps and 20 more for each operation, which tries first what
-/// returns first. What decides nothing is handed over to the last search.
+/// returns first, and then as much of the last search as takes a million steps. What decides nothing
+/// is handed over to the last search.
 fn decide_object(history: &ObjectHistory, steps: Option<u64>) -> Evidence {
     let open_key = match quick_order(history) {
         Quick::Order(order) => return Evidence::Order(order),
@@ -76,15 +81,20 @@ fn decide_object(history: &ObjectHistory, steps: Option<u64>) -> Evidence {
     if let Some(reason) = reason {
         return Evidence::Reason(reason);
     }
-    let searched = search(history, first.first, first.steps);
-    if let Outcome::Order(order) = searched.outcome {
-        return Evidence::Order(order);
+    let last = last_search(history, steps);
+    let own = Search { steps: last.steps.min(MOST_OWN_STEPS), ..last };
+    let found = by_search(history, first).or_else(|| by_search(history, own));
+    found.unwrap_or(Evidence::Search(last))
+}
+
+/// What a search of all operations finds: an order, or a reason; nothing where it runs out of steps.
+fn by_search(history: &ObjectHistory, by: Search) -> Option<Evidence> {
+    let mut searched = search(history, by.first, by.steps);
+    match std::mem::replace(&mut searched.outcome, Outcome::Impossible) {
+        Outcome::Order(order) => Some(Evidence::Order(order)),
+        Outcome::Impossible => reason_of_all(history, by, searched).map(Evidence::Reason),
+        Outcome::OutOfSteps => None,
     }
-    let reason = match searched.outcome {
-        Outcome::Impossible => reason_of_all(history, first, searched),
-        _ => None,
-    };
-    reason.map_or_else(|| Evidence::Search(last_search(history, steps)), Evidence::Reason)
 }
 
 /// A fault in the search for evidence leaves the object open, and the others decided.

@@ -1,7 +1,7 @@
 //! The lines of evidence, and what is decided of small histories.
 
 use finder::{Count, Counted, Cut, Decision, Evidence, FoundReason, Kind, Options, Pattern};
-use finder::{Sentence, Shown, Values, decide, read_history};
+use finder::{Sentence, Shown, Values, decide, part_by, read_history};
 use std::collections::BTreeSet;
 
 /// A history in which process `p` does each call in turn: its function, argument and reply.
@@ -59,6 +59,42 @@ fn a_search_is_in_the_line() {
     assert!(lines.ends_with(end), "{lines}");
 }
 
+/// Three values are lost while two removals do not return, and a third one finds nothing.
+#[test]
+fn what_was_lost_is_in_the_line() {
+    let mut text =
+        history_of(&[(0, "enqueue", "1", "1"), (0, "enqueue", "2", "2"), (0, "enqueue", "3", "3")]);
+    for process in [1, 2] {
+        text += &format!("{{:process {process}, :type :invoke, :f :dequeue}}\n");
+    }
+    text += &history_of(&[(3, "dequeue", "nil", "nil")]);
+    let lines = "{:object 0, :cuts [{:keep [1 2 3], :numbers [0 2 4 6 7 8]} {:until 10}], \
+                 :count {:ahead 8}, \
+                 :note \"3 values were in the queue before map 8 found nothing, and at most 2 of \
+                 them can have been dequeued by then: values 1, 2 and 3 (never dequeued)\"}\n";
+    assert_eq!(lines_of(&text), lines);
+}
+
+/// A register whose values repeat, and which gives an old one once, after many calls.
+#[test]
+fn what_a_search_refutes_is_cut_to_few_operations() {
+    let values: Vec<String> = (0..400).map(|place| (place % 5).to_string()).collect();
+    let mut calls: Vec<(u32, &str, &str, &str)> = Vec::new();
+    for value in &values {
+        calls.push((0, "write", value, value));
+        calls.push((1, "read", "nil", value));
+    }
+    calls[701].3 = "3";
+    let text = history_of(&calls);
+    let history = read_history(text.as_bytes()).expect("a history");
+    let decisions = decide(&history, Options::default());
+    let Evidence::Reason(reason) = &decisions[0].evidence else {
+        panic!("{}", decisions[0]);
+    };
+    let part = part_by(&history.objects[0], &reason.cuts).expect("a part");
+    assert!(part.ops.len() <= 4, "{}", decisions[0]);
+}
+
 #[test]
 fn what_is_not_decided_is_handed_over() {
     let text = include_str!("undecided.edn");
@@ -106,10 +142,12 @@ fn each_count_has_its_form() {
         (Counted::NoEntry(5), "{:key 5, :from 2}"),
         (Counted::Held, "{:held true, :from 2}"),
         (Counted::Free, "{:free true, :from 2}"),
+        (Counted::Ahead(9), "{:ahead 9, :from 2}"),
     ];
     for (counted, text) in counts {
         assert_eq!(Count { counted, from: 2 }.to_string(), text);
     }
+    assert_eq!(Count { counted: Counted::Ahead(9), from: 0 }.to_string(), "{:ahead 9}");
 }
 
 #[test]

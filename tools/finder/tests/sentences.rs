@@ -1,6 +1,6 @@
 //! The sentence of each pattern.
 
-use finder::{Counted, Kind, Pattern, Sentence};
+use finder::{Counted, Kind, Lost, LostValue, Pattern, Sentence};
 
 fn sentence(kind: Kind, pattern: Pattern) -> String {
     Sentence { kind, key: None, pattern }.to_string()
@@ -89,6 +89,64 @@ fn each_pattern_has_its_sentence() {
             "the lock was acquired more often than it can have been free",
         ),
         (Kind::Queue, Pattern::General, "these operations have no valid order"),
+    ];
+    for (kind, pattern, text) in sentences {
+        assert_eq!(sentence(kind, pattern), text);
+    }
+}
+
+/// What was lost: what map 9 found, how many other removals can have taken, and the values, each
+/// with how often it was put in and the maps that took it later.
+fn lost(found: Option<i64>, most: usize, values: &[(i64, usize, &[u32])]) -> Pattern {
+    let values = values.iter().map(|(value, times, later)| LostValue {
+        value: *value,
+        times: *times,
+        later: later.to_vec(),
+    });
+    Pattern::Lost(Lost { number: 9, found, most, values: values.collect() })
+}
+
+#[test]
+fn what_was_lost_is_named() {
+    let sentences = [
+        (
+            Kind::Queue,
+            lost(None, 0, &[(7, 1, &[])]),
+            "the queue was surely not empty when map 9 found nothing: value 7 was in it \
+             (never dequeued)",
+        ),
+        (
+            Kind::Stack,
+            lost(None, 0, &[(7, 1, &[30])]),
+            "the stack was surely not empty when map 9 found nothing: value 7 was in it \
+             (popped later, by map 30)",
+        ),
+        (
+            Kind::Stack,
+            lost(None, 1, &[(7, 1, &[]), (8, 1, &[])]),
+            "2 values were in the stack before map 9 found nothing, and at most 1 of them can have \
+             been popped by then: values 7 and 8 (never popped)",
+        ),
+        (
+            Kind::Heap,
+            lost(Some(20), 2, &[(7, 1, &[]), (8, 3, &[30, 40]), (9, 2, &[50, 60])]),
+            "6 values were in the heap and less than value 20 before map 9 extracted it, and at \
+             most 2 of them can have been extracted by then: value 7 (never extracted), \
+             value 8, 3 times (extracted later, by maps 30 and 40, the rest never), \
+             value 9, 2 times (extracted later, by maps 50 and 60)",
+        ),
+        (
+            Kind::Queue,
+            lost(Some(20), 0, &[(7, 1, &[])]),
+            "1 value was enqueued before value 20, which map 9 dequeued, and it cannot have \
+             been dequeued by then: value 7 (never dequeued)",
+        ),
+        (
+            Kind::Stack,
+            lost(Some(20), 1, &[(7, 1, &[]), (8, 1, &[])]),
+            "2 values were pushed on value 20, which map 9 popped, and at most 1 of them can have \
+             been popped by then: values 7 and 8 (never popped)",
+        ),
     ];
     for (kind, pattern, text) in sentences {
         assert_eq!(sentence(kind, pattern), text);

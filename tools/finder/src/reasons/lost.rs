@@ -108,13 +108,14 @@ impl Lost {
             return format!("{find}: {lost} was in it ({fate})");
         }
         let were = if self.count() == 1 { "value was" } else { "values were" };
-        let most = match self.most {
-            0 => "none of them".to_owned(),
-            most => format!("at most {most} of them"),
+        let most = match (self.most, self.count()) {
+            (0, 1) => "it cannot".to_owned(),
+            (0, _) => "none of them can".to_owned(),
+            (most, _) => format!("at most {most} of them can"),
         };
         let (count, place, seen) = (self.count(), self.place(kind), kind.seen());
         let values = self.named(kind);
-        format!("{count} {were} {place}, and {most} can have been {seen} by then: {values}")
+        format!("{count} {were} {place}, and {most} have been {seen} by then: {values}")
     }
 
     /// The values, each with what became of it; those together that were never taken.

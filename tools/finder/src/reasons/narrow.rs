@@ -11,15 +11,19 @@ use super::shrink::tells;
 use super::{Pattern, Reason, Search};
 use crate::cuts::{Cut, part_by};
 use crate::history::ObjectHistory;
-use crate::search::{First, Searched, search};
+use crate::search::{First, Outcome, Searched, search};
 
 /// A part of this many operations is small enough.
 const FEW: usize = 12;
 
-/// How many steps may be taken at least.
+/// How many steps may be taken at least after a search that refuted a part.
 const LEAST_BUDGET: u64 = 20_000;
 
-/// The most steps of a search by which a window is made smaller.
+/// A part that a count refuted is made smaller if it has at most this many operations.
+const MOST_COUNTED: usize = 1000;
+
+/// The most steps of a search by which a window is made smaller, and how many steps may be taken at
+/// least after a count.
 const STEPS_OF_A_PART: u64 = 2_000;
 
 /// At how many calls a window may begin.
@@ -51,7 +55,9 @@ impl<'a> Narrowing<'a> {
             tells(o.op, reply).then_some((o.number, at))
         });
         let starts = starts.collect();
-        Narrowing { part, by, left: LEAST_BUDGET.max(searched.steps / 3), ends, starts }
+        let least =
+            if searched.outcome == Outcome::Impossible { LEAST_BUDGET } else { STEPS_OF_A_PART };
+        Narrowing { part, by, left: least.max(searched.steps / 3), ends, starts }
     }
 
     /// Whether the window has no valid order. What it takes to cut it out is counted too.
@@ -111,8 +117,9 @@ pub fn narrowed(
     let own;
     let searched = match &refuted.searched {
         Some(searched) => searched,
+        None if part.ops.len() > MOST_COUNTED => return None,
         None => {
-            own = search(part, First::Return, LEAST_BUDGET);
+            own = search(part, First::Return, STEPS_OF_A_PART);
             &own
         }
     };

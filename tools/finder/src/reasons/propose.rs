@@ -205,15 +205,20 @@ impl Proposer<'_> {
         smallest.map(|found| found.proposal)
     }
 
-    /// The smallest reason to which the patterns of the object lead, if they lead to one. Where that
-    /// of a queue, stack or heap is not small, values that were lost are looked for too.
+    /// The smallest reason to which the patterns of the object lead, if they lead to one. Where it
+    /// is not small values are looked for that a queue, stack or heap lost, and at a mutex the
+    /// patterns that are rare.
     fn best_by_patterns(&self, timeline: &Timeline) -> Option<Confirmed> {
         let best = self.best_of(self.patterns(timeline));
-        if !self.history.kind.is_container() || best.as_ref().is_some_and(|it| it.size <= FEW) {
+        if best.as_ref().is_some_and(|it| it.size <= FEW) {
             return best;
         }
-        let lost = self.best_of(lost_patterns(self.history.kind, timeline));
-        best.into_iter().chain(lost).min_by_key(|found| found.size)
+        let others = match self.history.kind {
+            kind @ (Kind::Queue | Kind::Stack | Kind::Heap) => lost_patterns(kind, timeline),
+            Kind::Mutex => self.rare_patterns(timeline),
+            Kind::Register | Kind::Map => Vec::new(),
+        };
+        best.into_iter().chain(self.best_of(others)).min_by_key(|found| found.size)
     }
 
     fn propose(&self, open_key: Option<i64>) -> Option<Proposal> {
