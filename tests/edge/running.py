@@ -38,7 +38,7 @@ class Program:
 
     def line(self, words):
         """The command line of these words: the program whose command they are, and the words."""
-        return [self.tools if words and words[0] in OF_TOOLS else self.path, *words]
+        return [self.tools if self.tools and words and words[0] in OF_TOOLS else self.path, *words]
 
     def run(self, *words, stdout=subprocess.PIPE, faults=None, env=None, **how):
         """Runs the program of these words, with the faults that faults.c can make, and more in its environment. Faults are made in each

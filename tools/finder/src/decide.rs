@@ -115,12 +115,12 @@ pub fn decide(history: &History, options: Options) -> Vec<Decision> {
             decisions.lock().unwrap_or_else(PoisonError::into_inner).push(decision);
         }
     };
-    thread::scope(|scope| {
-        for _ in 1..options.workers.min(objects.len()) {
-            scope.spawn(work);
-        }
+    let workers = options.workers.min(objects.len());
+    if workers <= 1 {
         work();
-    });
+    } else {
+        thread::scope(|scope| (0..workers).for_each(|_| drop(scope.spawn(work))));
+    }
     let mut decisions = decisions.into_inner().unwrap_or_else(PoisonError::into_inner);
     decisions.sort_unstable_by_key(|decision| decision.object);
     decisions
