@@ -233,10 +233,10 @@ ABORTED = -signal.SIGABRT
 
 def is_without_memory(command, whole, ran):
     """Whether a call that lacked memory answered what it may: 3, with a line that says so or an object that stays open; or as with ample memory. The
-    finder may end the process."""
+    finder may end the process. Where the check of what it found lacked memory, its lines come with 3."""
     if ran.status == ABORTED:
         return command in ("judge", "find")
-    if ran.status == 3 and ran.out.endswith((b"out of memory\n", b": open\n")):
+    if ran.status == 3 and (command == "find" and ran.out == whole.out or ran.out.endswith((b"out of memory\n", b": open\n"))):
         return True
     return ran.status == whole.status and ran.out == whole.out
 

@@ -127,10 +127,10 @@ pub unsafe extern "C" fn fcbench_judge(
     // SAFETY: the caller keeps the rules.
     let history = unsafe { text(history, history_length) };
     let own = (steps != PROGRAM_STEPS).then_some(u64::from(steps));
-    let found = find(history, own);
+    let evidence = find(history, own).map_or_else(String::new, |found| found.lines);
     let lines = Lines { out, capacity, needed };
     // SAFETY: the caller keeps the rules.
-    unsafe { lines.verify(history, found.lines.as_bytes(), steps) }
+    unsafe { lines.verify(history, evidence.as_bytes(), steps) }
 }
 
 /// # Safety
@@ -146,16 +146,14 @@ pub unsafe extern "C" fn fcbench_find(
 ) -> u32 {
     // SAFETY: the caller keeps the rules.
     let history = unsafe { text(history, history_length) };
-    let found = find(history, None);
     let lines = Lines { out, capacity, needed };
-    if found.lines.is_empty() {
-        // There is no object, or the text is malformed: the proved half says which.
+    let Some(found) = find(history, None) else {
+        // What is wrong with a text the proved half says.
         // SAFETY: the caller keeps the rules.
         return unsafe { lines.verify(history, &[], 0) };
-    }
-    let status =
-        if found.are_orders && are_accepted(history, found.lines.as_bytes()) { YES } else { OPEN };
+    };
+    let is_yes = found.are_orders && are_accepted(history, found.lines.as_bytes());
     // SAFETY: the caller keeps the rules.
     unsafe { lines.write(found.lines.as_bytes()) };
-    status
+    if is_yes { YES } else { OPEN }
 }

@@ -5,7 +5,6 @@ use std::panic::{self, AssertUnwindSafe, catch_unwind};
 use std::sync::Once;
 
 /// A line for each object of a history, and whether each of them is an order.
-#[derive(Default)]
 pub struct Found {
     pub lines: String,
     pub are_orders: bool,
@@ -27,11 +26,10 @@ fn found_of(text: &[u8], steps: Option<u64>) -> Option<Found> {
     })
 }
 
-/// What is found of a history: nothing where the text is malformed, or the finder fails.
-pub fn find(text: &[u8], steps: Option<u64>) -> Found {
+/// What is found of a history. `None`: the text is malformed, or the finder failed.
+pub fn find(text: &[u8], steps: Option<u64>) -> Option<Found> {
     fail_in_silence();
-    let found = catch_unwind(AssertUnwindSafe(|| found_of(text, steps)));
-    found.ok().flatten().unwrap_or_default()
+    catch_unwind(AssertUnwindSafe(|| found_of(text, steps))).ok().flatten()
 }
 
 #[cfg(test)]
@@ -42,15 +40,13 @@ mod tests {
 
     #[test]
     fn finds_an_order_for_each_object() {
-        let found = find(PENDING, None);
+        let found = find(PENDING, None).expect("a history");
         assert_eq!(found.lines, "{:object 0, :order []}\n");
         assert!(found.are_orders);
     }
 
     #[test]
     fn finds_nothing_in_a_malformed_text() {
-        let found = find(b"{:process 0", None);
-        assert_eq!(found.lines, "");
-        assert!(!found.are_orders);
+        assert!(find(b"{:process 0", None).is_none());
     }
 }
