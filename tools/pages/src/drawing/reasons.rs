@@ -252,24 +252,33 @@ impl Reason<'_> {
         })
     }
 
-    /// More values were lost than pending removals can have taken.
+    /// More values were ahead of what a removal found than can have been taken out before it.
     fn lost(&self, lost: &Lost) -> Option<Spans> {
         let removal = self.part.iter().find(|it| it.number() == lost.number)?;
-        let (end, found) = (removal.returned()?, Reply::Value(lost.found));
+        let end = removal.returned()?;
         let has = |value: i64| lost.values.iter().any(|lost| lost.value == value);
         let puts = self.part.iter().filter(|it| value_put(it).is_some_and(has));
+        let puts: Vec<Operation> = puts.copied().collect();
         let others = self.part.iter().filter(|it| {
             it.number() != lost.number && it.number() < end && it.role() == Role::Take
         });
         let others: Vec<Operation> = others.copied().collect();
-        let mut sentence =
-            spans![*removal, " found ", found, ". But before that it was put in by "];
-        sentence.extend(named(&puts.copied().collect::<Vec<_>>()));
-        sentence.extend(spans![", and no more of it can have been taken out than ", lost.most]);
-        if !others.is_empty() {
-            sentence.extend(spans![", by "]);
-            sentence.extend(named(&others));
+        let mut sentence = spans![
+            *removal,
+            " returned ",
+            Reply::Value(lost.found),
+            ". But ahead of that was what came in by "
+        ];
+        sentence.extend(named(&puts));
+        sentence.extend(spans![": ", lost.count(), " values were left of it"]);
+        let (many, most) = (others.len(), lost.most);
+        if most == 0 {
+            sentence.extend(spans![", and no call can have taken one."]);
+            return Some(sentence);
         }
+        sentence.extend(spans![", and at most ", most, " can have been taken by then, by "]);
+        sentence.extend(if many > most { spans!["some of "] } else { Spans::new() });
+        sentence.extend(named(&others));
         sentence.extend(spans!["."]);
         Some(sentence)
     }
