@@ -286,11 +286,12 @@ FALSIFIED_OLD_VALUE = (
     ("gives other, returned 1", "gives 0, returned 1"),
     (". “other” is any value that the reason does not keep</caption>", "</caption>"),
 )
+# Its operations are all up to the first that does not fit: the 2,600 that put values in, and 1,302 that took them out.
 FALSIFIED_LONG_REASON = (
     ("Drawn: 200 of them. ", "Drawn: 199 of them. "),
     ("Drawn: 200 of them. ", ""),
-    ("these 5 200 operations", "these 200 operations"),
-    ("5 200 operations of 5 200: these alone", "200 operations of 5 200: these alone"),
+    ("these 3 902 operations", "these 200 operations"),
+    ("3 902 operations of 5 200: these alone", "200 operations of 5 200: these alone"),
     ("more lines", "more line"),
 )
 
@@ -300,7 +301,7 @@ def falsified():
     for stem, those in FALSIFIED.items():
         yield example(stem, stem == "wrong_reply"), those
     yield Case("a put finds an old value", texts.one_process(*dict(old_values())["a put"])), FALSIFIED_OLD_VALUE
-    yield Case("a reason of 5 200 operations", of_two_values(2_600, 1)), FALSIFIED_LONG_REASON
+    yield Case("a reason of 3 902 operations", of_two_values(2_600, 1)), FALSIFIED_LONG_REASON
 
 
 def falsified_pages(program, report):

@@ -179,7 +179,8 @@ def of_no(program):
 
 
 def of_two_values(count, processes, put="enqueue", take="dequeue"):
-    """A history of a queue, or of a stack, of n values, each 0 or 1, of which two are taken out the other way round: no part of it shows that."""
+    """A history of a queue, or of a stack, of n values, each 0 or 1, of which two are taken out the other way round: no part shows that which leaves
+    out something before."""
     rng = random.Random(f"two values {count}")
     values = [rng.randrange(2) for _ in range(count)]
     taken = values[::-1] if take == "pop" else list(values)
