@@ -123,6 +123,13 @@ def of_each(program, name, words, history, count, said, status):
     return [(name, (status, b"", None), (ran.status, ran.err, difference(all_say(count, said), ran.out)))]
 
 
+def of_no_orders(program, name, history, count):
+    """Of each object find is to put out a line, none of which is an order."""
+    ran = program.run("find", history)
+    said = ran.out.count(b"\n"), ran.out.count(b":order [")
+    return [(f"{name}, without an order", (3, b"", (count, 0)), (ran.status, ran.err, said))]
+
+
 def of_orders(program, name, words, history, count):
     """A certificate is to be put out for each object, which check accepts."""
     ran = program.run(*words, history)

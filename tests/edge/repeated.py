@@ -396,11 +396,11 @@ def repeated_values(program, report):
     for kind, valid, why, history in rows:
         report.equal(f"by force: a {kind}: {why}", valid, is_valid(history))
         program.write(HISTORY, history)
-        is_answered(program, report, f"search: a {kind}: {why}", ("search",), valid, "impossible", 1)
-        is_answered(program, report, f"find: a {kind}: {why}", ("find",), valid, "open", 3)
+        is_searched(program, report, f"search: a {kind}: {why}", valid)
+        is_found(program, report, f"find: a {kind}: {why}", valid)
         is_judged(program, report, f"judge: a {kind}: {why}", valid)
         program.write(HISTORY, idle_calls(kind) + history)
-        is_answered(program, report, f"find: a {kind}: {why}, after idle calls", ("find",), valid, "open", 3)
+        is_found(program, report, f"find: a {kind}: {why}, after idle calls", valid)
         is_judged(program, report, f"judge: a {kind}: {why}, after idle calls", valid)
 
 
@@ -410,12 +410,17 @@ def is_judged(program, report, name, valid):
     report.equal(name, 0 if valid else 1, ran.status, ran)
 
 
-def is_answered(program, report, name, words, valid, said, status):
-    """Whether an order is put out that check accepts, or else this is said."""
-    if valid:
-        told = force.of_orders(program, name, words, HISTORY, 1)
-    else:
-        told = force.of_each(program, name, words, HISTORY, 1, said, status)
+def is_searched(program, report, name, valid):
+    """Whether an order is put out that check accepts, or else that there is none."""
+    words = ("search",)
+    told = force.of_orders(program, name, words, HISTORY, 1) if valid else force.of_each(program, name, words, HISTORY, 1, "impossible", 1)
+    for it in told:
+        report.equal(*it)
+
+
+def is_found(program, report, name, valid):
+    """Whether an order is put out that check accepts, or else no order."""
+    told = force.of_orders(program, name, ("find",), HISTORY, 1) if valid else force.of_no_orders(program, name, HISTORY, 1)
     for it in told:
         report.equal(*it)
 

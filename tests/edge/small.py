@@ -107,15 +107,15 @@ def search_both_sorts(program, report, name, histories):
     """Searches in both orders of trying."""
     for first in ("number", "return"):
         words = ("search", "--first", first, "--steps", "1000000")
-        both_sorts(program, report, f"{name}, by {first}", histories, words, "impossible", 1)
+        of_others = lambda history, count: force.of_each(program, f"{name}, by {first}, without an order", words, history, count, "impossible", 1)  # noqa: B023
+        both_sorts(program, report, f"{name}, by {first}", histories, words, of_others)
 
 
-def both_sorts(program, report, name, histories, words, said, status, more="", maps_of_more=0):
-    """An order is put out of each history that has one, which check accepts; and this is said of each that has none."""
+def both_sorts(program, report, name, histories, words, of_others, more="", maps_of_more=0):
+    """An order is put out of each history that has one, which check accepts. At the others another function looks."""
     look = lambda history, _, count: force.of_orders(program, name, words, history, count)
     force.on_texts(program, report, histories.texts(True, more, maps_of_more), look)
-    look = lambda history, _, count: force.of_each(program, f"{name}, without an order", words, history, count, said, status)
-    force.on_texts(program, report, histories.texts(False, more, maps_of_more), look)
+    force.on_texts(program, report, histories.texts(False, more, maps_of_more), lambda history, _, count: of_others(history, count))
 
 
 # ---- find: three processes
@@ -198,7 +198,8 @@ def found_by_force(program, report):
 
 def find_both_sorts(program, report, name, histories, more="", maps_of_more=0):
     """Looks for orders of histories that have one, and of those that have none."""
-    both_sorts(program, report, name, histories, ("find",), "open", 3, more, maps_of_more)
+    of_others = lambda history, count: force.of_no_orders(program, name, history, count)
+    both_sorts(program, report, name, histories, ("find",), of_others, more, maps_of_more)
 
 
 # ---- judge: two processes, whose calls may fail or have no end
