@@ -314,11 +314,20 @@ def go_callers(program, report):
     return None
 
 
+def dispatcher(program):
+    """A program that has all commands, as ./fcbench and the installed one have them."""
+    path = f"{program.room}/dispatcher"
+    with open(path, "w") as file:
+        file.write(f"#!/bin/sh\nFCBENCH={program.path} FCBENCH_TOOLS={program.tools} exec {ROOT}/tools/fcbench.sh \"$@\"\n")
+    os.chmod(path, 0o755)
+    return path
+
+
 def clojure_checker(program, report):
     """The checker for Jepsen: on histories as a store of Jepsen has them, without Jepsen."""
     if missing("clojure"):
         return missing("clojure")
-    words = ["clojure", "-cp", f"{CLIENTS}/clojure", f"{CLIENTS}/clojure/fcbench_test.clj", program.path]
+    words = ["clojure", "-cp", f"{CLIENTS}/clojure", f"{CLIENTS}/clojure/fcbench_test.clj", dispatcher(program)]
     done(report, "Clojure: the converter and the checker", words, "0 failures, 0 errors")
     return converted(program, report)
 
@@ -381,7 +390,7 @@ def tutorial(program, report):
     queue without the bug is a yes."""
     room = f"{program.room}/tutorial"
     os.mkdir(room)
-    for name, path in (("docs", f"{ROOT}/docs"), ("clients", CLIENTS), ("fcbench", program.path)):
+    for name, path in (("docs", f"{ROOT}/docs"), ("clients", CLIENTS), ("fcbench", dispatcher(program))):
         os.symlink(path, f"{room}/{name}")
     how = {"cwd": room, "env": {**os.environ, "PYTHONDONTWRITEBYTECODE": "1"}, "capture_output": True, "text": True, "timeout": SECONDS}
     run = lambda line: subprocess.run(["bash", "-c", line], **how)  # noqa: E731
