@@ -292,6 +292,31 @@ class Said:
             is_so &= (after.f, after.reply, after.on) == ("dequeue", int(v), one.on) and after.number > int(until)
         return is_so and not any(it.f == "dequeue" and (it.end != "ok" or it.reply == int(v)) for it in others)
 
+    def lost(self, n, took, count, lesser, place, how, most, values):
+        call, found = self.calls[int(n)], None if took is None else int(took)
+        live = [it for it in self.on(call.on) if it.is_live() and it.number != call.number]
+        kind, named = KIND_OF[call.f], [(int(v), int(times or 1)) for v, times in re.findall(r"(-?\d+)(?: \((\d+) times\))?", values)]
+        own = [it for it in live if it.f in PUTS and it.argument == found] if found is not None else []
+        # From which number on a put counts, and before which number it must have returned.
+        first = max((it.returned() or call.at for it in own), default=0) if kind == "stack" else 0
+        # Of a queue it is that of the last one that may be meant: a part may leave out what was done with the found value before.
+        limit = max((it.number for it in own if it.number < call.at), default=call.number) if kind == "queue" and own else call.number
+        ahead = [it.argument for it in live if it.f in PUTS and it.number >= first and (it.returned() or call.at) < limit]
+        taken = [it.reply for it in live if it.f in TAKES and it.end == "ok" and it.at < call.at]
+        # What else may have taken one of the values: a removal that returned it late, or one that is pending, if no other took all of it.
+        takers = [it for it in live if it.f in TAKES and it.number < call.at]
+        late = sum(it.end == "ok" and it.at > call.at and it.reply in dict(named) for it in takers)
+        replies = [it.reply for it in live if it.f in TAKES and it.end == "ok"]
+        left = sum(sum(it.f in PUTS and it.argument == v for it in live) - replies.count(v) for v, _ in named)
+        others = late + min(sum(it.end != "ok" for it in takers), left)
+        places = {"heap": f"in the heap before {found} was found", "queue": f"enqueued before {found}", "stack": f"pushed on {found}"}
+        is_so = (call.end, call.reply) == ("ok", found) and place == (f"in the {kind} before that" if found is None else places[kind])
+        is_so &= (lesser is not None) == (found is not None and kind == "heap") and all(not lesser or v < found for v, _ in named)
+        is_so &= all(times <= ahead.count(v) - taken.count(v) for v, times in named)
+        most = int(most) if most else 0
+        counted = sum(times for _, times in named)
+        return is_so and counted > most >= min(others, counted) and (counted == int(count) or values.endswith(" and others"))
+
     def too_often(self, v, put, putters, taken, takers, f, again, until):
         named = [those and [int(it[0]) for it in re.findall(REF, those)] for those in (putters, takers)]
         counts = [TIMES.get(it, None) or number_in(it.removesuffix(" times")) for it in (put, taken)]
@@ -396,6 +421,8 @@ FORMS = {
     "twice_released": rf"Between map (\d+) and map (\d+) the mutex was released twice, by {REF} and {REF}, and no acquire ran in between.",
     "wrong_turn": rf"{REF} returned \(map (\d+)\) before {REF} was invoked, so (-?\d+) went in before (-?\d+). But {REF} took (-?\d+) out, "
     rf"and nothing invoked before map (\d+) took (-?\d+) out(?:\.|: only then {REF} began\.)",
+    "lost": rf"{REF} (?:found nothing|took (-?\d+) out)\. But (\d+) (lesser )?values? (?:was|were) (in the \w+ before that|in the heap before -?\d+ was found|"
+    r"enqueued before -?\d+|pushed on -?\d+), and (none of them|at most (\d+) of them) can have been taken out by then: (.*)\.",
     "left_open": r"No order was found for object (\d+), and none was excluded: ([\w ]+). So the history is not decided.",
     "too_often": r"(-?\d+) was \w+ (once|twice|[\d ]+ times)(?:, by (.*))?, and \w+ (once|twice|[\d ]+ times)(?:, by (.*))?\. No other ([\w-]+) of "
     r"(-?\d+) was invoked before map (\d+).",

@@ -252,34 +252,43 @@ impl Reason<'_> {
         })
     }
 
+    /// Which values were ahead of what a removal found.
+    fn were_ahead(&self, lost: &Lost) -> Spans {
+        let were = if lost.count() == 1 { "value was" } else { "values were" };
+        match (lost.found, self.kind) {
+            (None, kind) => spans![lost.count(), " ", were, " in the ", kind, " before that"],
+            (Some(value), Kind::Heap) => {
+                spans![lost.count(), " lesser ", were, " in the heap before ", value, " was found"]
+            }
+            (Some(value), Kind::Queue) => {
+                spans![lost.count(), " ", were, " enqueued before ", value]
+            }
+            (Some(value), _) => spans![lost.count(), " ", were, " pushed on ", value],
+        }
+    }
+
     /// More values were ahead of what a removal found than can have been taken out before it.
     fn lost(&self, lost: &Lost) -> Option<Spans> {
         let removal = self.part.iter().find(|it| it.number() == lost.number)?;
-        let end = removal.returned()?;
-        let has = |value: i64| lost.values.iter().any(|lost| lost.value == value);
-        let puts = self.part.iter().filter(|it| value_put(it).is_some_and(has));
-        let puts: Vec<Operation> = puts.copied().collect();
-        let others = self.part.iter().filter(|it| {
-            it.number() != lost.number && it.number() < end && it.role() == Role::Take
+        let mut sentence = match lost.found {
+            None => spans![*removal, " found nothing. But "],
+            Some(value) => spans![*removal, " took ", value, " out. But "],
+        };
+        sentence.extend(self.were_ahead(lost));
+        sentence.extend(match lost.most {
+            0 => spans![", and none of them"],
+            most => spans![", and at most ", most, " of them"],
         });
-        let others: Vec<Operation> = others.copied().collect();
-        let mut sentence = spans![
-            *removal,
-            " returned ",
-            Reply::Value(lost.found),
-            ". But ahead of that was what came in by "
-        ];
-        sentence.extend(named(&puts));
-        sentence.extend(spans![": ", lost.count(), " values were left of it"]);
-        let (many, most) = (others.len(), lost.most);
-        if most == 0 {
-            sentence.extend(spans![", and no call can have taken one."]);
-            return Some(sentence);
+        sentence.extend(spans![" can have been taken out by then: "]);
+        for (place, own) in lost.values.iter().take(MOST_NAMED).enumerate() {
+            sentence.extend(if place > 0 { spans![", "] } else { Spans::new() });
+            sentence.extend(spans![own.value]);
+            sentence.extend(
+                (own.times > 1).then(|| spans![" (", own.times, " times)"]).into_iter().flatten(),
+            );
         }
-        sentence.extend(spans![", and at most ", most, " can have been taken by then, by "]);
-        sentence.extend(if many > most { spans!["some of "] } else { Spans::new() });
-        sentence.extend(named(&others));
-        sentence.extend(spans!["."]);
+        let has_more = lost.values.len() > MOST_NAMED;
+        sentence.extend(if has_more { spans![" and others."] } else { spans!["."] });
         Some(sentence)
     }
 
