@@ -1,6 +1,6 @@
 //! The examples of this repository, with what is said of them there.
 
-use finder::{Evidence, History, Options, Shown, decide, read_history};
+use finder::{Evidence, History, Options, decide, read_history};
 use std::fs;
 use std::path::{Path, PathBuf};
 
@@ -83,17 +83,14 @@ fn finds_the_reason_that_the_judgement_prints() {
         let [decision] = &decisions[..] else {
             panic!("{name}: {} objects", decisions.len());
         };
-        let lines = decision.to_string();
-        let lines = match &decision.evidence {
-            Evidence::Reason(reason) => match reason.shown {
-                Shown::ByCount(_) => lines,
-                Shown::BySearch(search) => lines.replace(&format!(", :search {search}"), ""),
-            },
-            evidence => panic!("{name}: {evidence:?}"),
-        };
+        assert!(
+            matches!(decision.evidence, Evidence::Reason(_)),
+            "{name}: {:?}",
+            decision.evidence
+        );
         let note = sentence.strip_prefix("; ").expect("a comment");
         let reason = reason.strip_suffix('}').expect("a map");
-        assert_eq!(lines, format!("{reason}, :note \"{note}\"}}"), "{name}");
+        assert_eq!(decision.to_string(), format!("{reason}, :note \"{note}\"}}"), "{name}");
         found += 1;
     }
     assert!(found >= 9);
