@@ -14,16 +14,27 @@
 // lock. The events in the order of their tickets are the history: where one call returned before another was invoked in the
 // history, it did so in fact. So a history that is not linearizable shows that the object is not.
 //
+// Calls that never overlap show no fault. So after one ticket of an invocation in eight the thread yields, which leaves room for
+// another thread: `fcbench::Recorder recorder(false)` turns this off. `overlap` says how much the calls of the journals overlapped.
+//
 // A journal that is destroyed, or not handed to `history`, takes its calls with it: `history` throws std::logic_error then.
 //
 // The reply of enqueue, push, insert and write is their argument: where the call gives nothing, it is written. `history` throws
-// where the call gives anything else, as a length. The reply of cas is its pair where it swapped, else Value::no().
+// where the call gives anything else, as a length. The reply of cas is its pair where it swapped, else Value::no(). That of put and
+// del is what was there before, or std::nullopt where nothing was: a store that does not tell it has no put, and each of its keys is
+// a register.
+//
+// What a call was may be known only when it has returned, as put-if-absent, which is a put or a get. `invoke` it as the put, since if
+// it times out, it may have put, and end it with returned_as("put", {k, v}, std::nullopt) or returned_as("get", k, found). A
+// fetch-and-add that found n is returned_as("cas", {n, n + 1}, fcbench::Value(n, n + 1)). `invoke` it as a cas of any pair:
+// returned_as sets the right one. If one times out, end the round and leave the history out: its n is not known, and a right counter
+// could get a no.
 //
 // An empty queue is a reply and no failure, so use `call` for `bool try_pop(int &out)`:
 //     journal.call("dequeue", std::nullopt, [&] { int out; return queue.try_pop(out) ? std::optional(out) : std::nullopt; });
 //
 // A call that does not return, as one that throws or times out, may have happened: its operation ends with :info, and the
-// journal goes on as a new process, as Jepsen's threads do. Use `failed` and the false of `try_call` only where the call surely
+// journal goes on as a new process, as Jepsen's threads do. Use `failed` and the false of `try_call` only where the call definitely
 // did not happen: if a call that timed out is written as failed, a correct queue gets a no.
 #ifndef FCBENCH_RECORDER_HPP
 #define FCBENCH_RECORDER_HPP
@@ -32,9 +43,12 @@
 #include <atomic>
 #include <cstddef>
 #include <cstdint>
+#include <map>
 #include <optional>
+#include <set>
 #include <stdexcept>
 #include <string>
+#include <thread>
 #include <type_traits>
 #include <utility>
 #include <vector>
@@ -51,17 +65,18 @@ class Value {
 public:
     Value(std::nullopt_t = std::nullopt) : text_("nil") {}
 
+    // Each of these throws std::out_of_range at a number that does not fit in 64 bits with sign.
     template <class T, if_number<T> = 0>
-    Value(T number) : text_(std::to_string(number)) {}
+    Value(T number) : text_(digits(number)) {}
 
     template <class T, if_number<T> = 0>
-    Value(std::optional<T> number) : text_(number ? std::to_string(*number) : "nil") {}
+    Value(std::optional<T> number) : text_(number ? digits(*number) : "nil") {}
 
     template <class T, if_bool<T> = 0>
-    Value(T) = delete; // `no` says false
+    Value(T) = delete; // a bool is no argument or reply: give the number of your element, or `no` where a cas did not swap
 
     template <class T, class U, if_number<T> = 0, if_number<U> = 0>
-    Value(T first, U second) : text_("[" + std::to_string(first) + " " + std::to_string(second) + "]") {}
+    Value(T first, U second) : text_("[" + digits(first) + " " + digits(second) + "]") {}
 
     // A compare-and-set that found another value.
     static Value no() {
@@ -70,11 +85,28 @@ public:
         return value;
     }
 
+    // No reply: it is enough for functions whose reply is known, as enqueue and acquire.
+    static Value not_given() {
+        Value value;
+        value.is_given_ = false;
+        return value;
+    }
+
+    bool is_given() const noexcept { return is_given_; }
     bool is_nil() const noexcept { return text_ == "nil"; }
     const std::string &text() const noexcept { return text_; }
 
 private:
+    template <class T>
+    static std::string digits(T number) {
+        if (std::is_unsigned_v<T> && static_cast<std::uint64_t>(number) > std::uint64_t{INT64_MAX}) {
+            throw std::out_of_range("a number does not fit in 64 bits with sign: " + std::to_string(number));
+        }
+        return std::to_string(number);
+    }
+
     std::string text_; // of nil, false and numbers below 16 characters it takes no memory
+    bool is_given_ = true;
 };
 
 struct Event {
@@ -114,7 +146,7 @@ public:
         return call_on(0, function, std::move(argument), act);
     }
 
-    // Makes a call that may fail, and records it. `act` gives what is false only where the call surely did not happen: a
+    // Makes a call that may fail, and records it. `act` gives what is false only where the call definitely did not happen: a
     // std::optional of the reply, or a pointer to it, or a bool. A true has no reply, so a bool is for the functions alone whose
     // reply is known: enqueue, push, insert, write, acquire and release. Otherwise the call is not made and std::logic_error thrown.
     template <class Act>
@@ -149,21 +181,38 @@ public:
         // What takes time and memory is done before the ticket of an invocation is drawn.
         events_.push_back({0, process_, object, "invoke", function, std::move(argument)});
         is_pending_ = true;
-        events_.back().ticket = (*tickets_)++;
+        const std::uint64_t ticket = (*tickets_)++;
+        events_.back().ticket = ticket;
+        if (yields_ && mixed(ticket) % calls_to_a_yield == 0) {
+            std::this_thread::yield();
+        }
     }
 
     // Call it just after the call returned.
     template <class Reply>
     void returned(const Reply &reply) {
-        const std::uint64_t ticket = ended();
-        const Event &call = events_.back();
-        Value value(reply);
-        end(ticket, "ok", value.is_nil() && is_put(call.function) ? call.value : std::move(value));
+        constexpr bool is_value = std::is_constructible_v<Value, const Reply &>;
+        static_assert(is_value, "a reply is an integer, a std::optional of one, or fcbench::Value, and neither a pointer nor a bool: "
+                                "give the number of your element");
+        if constexpr (is_value) {
+            const std::uint64_t ticket = ended();
+            const Event &call = events_.back();
+            Value value(reply);
+            end(ticket, "ok", value.is_nil() && is_put(call.function) ? call.value : std::move(value));
+        }
     }
 
-    void returned() { returned(std::nullopt); }
+    void returned() { returned(Value::not_given()); }
 
-    // Call it only where the call surely did not happen: it is written with :fail. A timeout is `gave_up`.
+    // As `returned`, where it is known only now what the call was: its invocation is written with this function and argument.
+    void returned_as(const char *function, Value argument, Value reply) {
+        const std::uint64_t ticket = ended();
+        events_.back().function = function;
+        events_.back().value = std::move(argument);
+        end(ticket, "ok", std::move(reply));
+    }
+
+    // Call it only where the call definitely did not happen: it is written with :fail. A timeout is `gave_up`.
     void failed() { end(ended(), "fail", std::nullopt); }
 
     // Call it where the call may have happened, or may still happen, as after a timeout: it is written with :info, and what
@@ -176,8 +225,14 @@ public:
 
 private:
     friend class Recorder;
-    Journal(std::atomic<std::uint64_t> &tickets, std::atomic<std::uint64_t> &processes)
-        : tickets_(&tickets), processes_(&processes), process_(processes++) {}
+    Journal(std::atomic<std::uint64_t> &tickets, std::atomic<std::uint64_t> &processes, bool yields)
+        : tickets_(&tickets), processes_(&processes), process_(processes++), yields_(yields) {}
+
+    // A thread yields after one ticket of an invocation in this many.
+    static constexpr std::uint64_t calls_to_a_yield = 8;
+
+    // A number that looks drawn, for each ticket.
+    static std::uint64_t mixed(std::uint64_t ticket) { return ticket * 0x9E3779B97F4A7C15u >> 32; }
 
     // Whether the reply of a function is its argument.
     static bool is_put(const std::string &function) {
@@ -187,10 +242,13 @@ private:
     // Whether the reply of a function is nil.
     static bool is_lock(const std::string &function) { return function == "acquire" || function == "release"; }
 
-    // Throws where the reply of a call is to be its argument, and is not.
+    // Throws where the reply of a call is missing, or is to be its argument and is not.
     void want_replies() const {
         for (std::size_t at = 1; at < events_.size(); at++) {
             const Event &call = events_[at - 1], &end = events_[at];
+            if (end.type == std::string("ok") && !end.value.is_given() && !is_lock(end.function)) {
+                throw std::logic_error(end.function + std::string(" was given no reply: std::nullopt says that nothing was there"));
+            }
             if (end.type == std::string("ok") && is_put(end.function) && end.value.text() != call.value.text()) {
                 throw std::logic_error(end.function + (" replied " + end.value.text()) + " and not its argument " + call.value.text()
                     + ": let the call give nothing");
@@ -216,6 +274,7 @@ private:
     std::atomic<std::uint64_t> *tickets_;
     std::atomic<std::uint64_t> *processes_;
     std::uint64_t process_;
+    bool yields_;
     bool is_pending_ = false;
     std::vector<Event> events_;
 };
@@ -223,7 +282,47 @@ private:
 // Gives the tickets, and the numbers of processes. One recorder makes one history.
 class Recorder {
 public:
-    Journal journal() { return Journal(tickets_, processes_); }
+    explicit Recorder(bool yields = true) : yields_(yields) {}
+
+    Journal journal() { return Journal(tickets_, processes_, yields_); }
+
+    // How much calls overlapped: the share that overlapped another one, from 0 to 1, and how many were outstanding at once at most.
+    struct Overlap {
+        double share = 0;
+        std::size_t at_once = 0;
+    };
+
+    // How much the calls of these journals overlapped. Where the share is small, the history could hardly have failed.
+    static Overlap overlap(const std::vector<Journal> &journals) {
+        std::vector<const Event *> events;
+        for (const Journal &journal : journals) {
+            for (const Event &event : journal.events_) {
+                events.push_back(&event);
+            }
+        }
+        std::sort(events.begin(), events.end(), [](const Event *one, const Event *other) { return one->ticket < other->ticket; });
+        std::size_t calls = 0;
+        std::map<std::uint64_t, std::uint64_t> outstanding; // of each process the ticket of its call
+        std::set<std::uint64_t> overlapping;
+        Overlap found;
+        for (const Event *event : events) {
+            if (event->type != std::string("invoke")) {
+                outstanding.erase(event->process);
+                continue;
+            }
+            calls++;
+            outstanding[event->process] = event->ticket;
+            found.at_once = std::max(found.at_once, outstanding.size());
+            if (outstanding.size() == 2) {
+                overlapping.insert(outstanding.begin()->second);
+                overlapping.insert(outstanding.rbegin()->second);
+            } else if (outstanding.size() > 2) {
+                overlapping.insert(event->ticket);
+            }
+        }
+        found.share = calls == 0 ? 0 : static_cast<double>(overlapping.size()) / static_cast<double>(calls);
+        return found;
+    }
 
     // The history, after all threads have ended: each event at the place of its ticket. It takes all journals: without the calls
     // of one of them a correct object could get a no. So it throws where some are missing, also those of a history made before.
@@ -263,6 +362,7 @@ private:
 
     std::atomic<std::uint64_t> tickets_{0};
     std::atomic<std::uint64_t> processes_{0};
+    bool yields_;
 };
 
 } // namespace fcbench

@@ -16,6 +16,7 @@ const (
 	calls          = 50
 	mostOperations = 5
 	mostTurns      = 2000
+	leastOverlap   = 0.5 // of the calls of a right queue on 4 processors
 )
 
 // The dequeue of a queue reads the index of the head and then moves it.
@@ -70,7 +71,7 @@ func work(q *queue, journal *Journal, client int64) {
 	}
 }
 
-func record(hasRace bool) string {
+func record(hasRace bool) (history string, share float64) {
 	q, recorder := &queue{hasRace: hasRace}, &Recorder{}
 	var journals []*Journal
 	var all sync.WaitGroup
@@ -88,7 +89,9 @@ func record(hasRace bool) string {
 	}
 	close(begin)
 	all.Wait()
-	return recorder.History(journals)
+	history = recorder.History(journals)
+	share, _ = recorder.Overlap(journals)
+	return history, share
 }
 
 func runs() int {
@@ -99,17 +102,24 @@ func runs() int {
 }
 
 func TestRightQueue(t *testing.T) {
+	shares := 0.0
 	for run := 0; run < runs(); run++ {
-		if answer := Judge(record(false)); answer.Verdict != Yes {
+		history, share := record(false)
+		if answer := Judge(history); answer.Verdict != Yes {
 			t.Fatal(answer)
 		}
+		shares += share
+	}
+	if shares < leastOverlap*float64(runs()) {
+		t.Fatal("the calls overlap too little: ", shares)
 	}
 }
 
 func TestRace(t *testing.T) {
 	for run := 0; run < runs(); run++ {
-		answer := Judge(record(true))
-		operations := strings.Count(answer.Lines, "\n; map")
+		history, _ := record(true)
+		answer := Judge(history)
+		operations := strings.Count(answer.Lines, "\n; event")
 		if answer.Verdict != No || operations < 1 || operations > mostOperations {
 			t.Fatal(answer)
 		}
@@ -187,6 +197,57 @@ func TestReplyThatIsNotTheArgument(t *testing.T) {
 	journal.Call("enqueue", Number(8), func() Value { return Number(2) })
 	wanted := "enqueue replied 2 and not its argument 8: let the call give Nil"
 	wantMessage(t, wanted, func() { recorder.History([]*Journal{journal}) })
+}
+
+// Only a reply that says so says that nothing was there.
+func TestReplyThatIsNotGiven(t *testing.T) {
+	for function, argument := range map[string]Value{"put": Pair(1, 2), "del": Number(1), "get": Number(1), "dequeue": Nil, "cas": Pair(1, 2)} {
+		recorder := &Recorder{}
+		journal := recorder.Journal()
+		journal.Call(function, argument, func() (none Value) { return })
+		wanted := function + " was given no reply: Nil says that nothing was there"
+		wantMessage(t, wanted, func() { recorder.History([]*Journal{journal}) })
+	}
+}
+
+// Put-if-absent twice on one key, and a fetch-and-add.
+func TestCallThatIsKnownWhenItReturned(t *testing.T) {
+	recorder := &Recorder{NoYields: true}
+	journal := recorder.Journal()
+	journal.Invoke(0, "put", Pair(1, 5))
+	journal.ReturnedAs("put", Pair(1, 5), Nil)
+	journal.Invoke(0, "put", Pair(1, 6))
+	journal.ReturnedAs("get", Number(1), Number(5))
+	journal.CallOn(1, "write", Number(3), func() Value { return Nil })
+	journal.Invoke(1, "cas", Pair(0, 1))
+	journal.ReturnedAs("cas", Pair(3, 4), Pair(3, 4))
+	wanted := `{:process 0, :type :invoke, :f :put, :value [1 5], :object 0}
+{:process 0, :type :ok, :f :put, :value nil, :object 0}
+{:process 0, :type :invoke, :f :get, :value 1, :object 0}
+{:process 0, :type :ok, :f :get, :value 5, :object 0}
+{:process 0, :type :invoke, :f :write, :value 3, :object 1}
+{:process 0, :type :ok, :f :write, :value 3, :object 1}
+{:process 0, :type :invoke, :f :cas, :value [3 4], :object 1}
+{:process 0, :type :ok, :f :cas, :value [3 4], :object 1}
+`
+	text := recorder.History([]*Journal{journal})
+	if answer := Judge(text); text != wanted || !answer.IsYes() {
+		t.Fatal(text, answer)
+	}
+}
+
+// Of five calls the second and third overlap, and the fourth and the one that is pending.
+func TestOverlap(t *testing.T) {
+	recorder := &Recorder{}
+	one, other := recorder.Journal(), recorder.Journal()
+	one.Call("enqueue", Number(1), func() Value { return Nil })
+	one.Invoke(0, "enqueue", Number(2))
+	other.Call("enqueue", Number(3), func() Value { one.Returned(Nil); return Nil })
+	one.Invoke(0, "enqueue", Number(4))
+	other.Invoke(0, "enqueue", Number(5))
+	if share, atOnce := recorder.Overlap([]*Journal{one, other}); share != 0.8 || atOnce != 2 {
+		t.Fatal(share, atOnce)
+	}
 }
 
 // A call in steps: one that timed out, one that failed, and one that returned.

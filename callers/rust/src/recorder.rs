@@ -14,15 +14,26 @@
 //! The events in the order of their tickets are the history: where one call returned before another was invoked in the history,
 //! it did so in fact. So a history that is not linearizable shows that the object is not.
 //!
+//! Calls that never overlap show no fault. So after one ticket of an invocation in eight the thread yields, which leaves room for
+//! another thread: `Recorder::without_yields` turns this off. `overlap` says how much the calls of the journals overlapped.
+//!
 //! A journal that is dropped, or not handed to `history`, takes its calls with it: `history` panics then.
 //!
 //! The reply of `enqueue`, `push`, `insert` and `write` is their argument: where the call gives nothing, it is written. Where it gives
 //! anything else, as a length, drop it by `|| { queue.push(v); }`: `history` panics at another reply.
 //!
+//! The reply of `put` and `del` is what was there before, or `None` where nothing was: a store that does not tell it has no `put`, and
+//! each of its keys is a register.
+//!
+//! What a call was may be known only when it has returned, as put-if-absent, which is a `put` or a `get`. `invoke` it as the `put`, since
+//! if it times out, it may have put, and end it with `returned_as`. A fetch-and-add that found `n` is a `cas`, whose argument and reply
+//! are `Value::pair(n, n + 1)`. `invoke` it as a `cas` of any pair: `returned_as` sets the right one. If one times out, end the round and
+//! leave the history out: its `n` is not known, and a right counter could get a no.
+//!
 //! An empty queue is a reply and no failure: where `pop` gives a `Result`, record `journal.call("dequeue", (), || queue.pop().ok())`.
 //!
 //! A call that does not return, as one that panics or times out, may have happened: its operation ends with `:info`, and the
-//! journal goes on as a new process, as Jepsen's threads do. Use `failed` and an error of `try_call` only where the call surely
+//! journal goes on as a new process, as Jepsen's threads do. Use `failed` and an error of `try_call` only where the call definitely
 //! did not happen: if a call that timed out is written as failed, a correct queue gets a no.
 //!
 //! Threads that are not scoped take a recorder that is leaked, a new one for each history:
@@ -34,13 +45,18 @@
 // A test that copies this file calls only some of it.
 #![allow(dead_code)]
 
+use std::collections::{BTreeMap, BTreeSet};
 use std::fmt::{self, Display, Write};
 use std::ptr;
 use std::sync::atomic::{AtomicU64, Ordering};
+use std::thread;
 
 /// An argument or a reply.
 #[derive(Clone, Copy, Debug, PartialEq, Eq)]
 pub enum Value {
+    /// No reply, as a call gives that returns `()`: it is enough for functions whose reply is known, as `enqueue` and `acquire`. As an
+    /// argument it is nothing.
+    NotGiven,
     /// Nothing, as the argument of `dequeue`, and its reply where the queue is empty.
     Nil,
     /// The reply of a `cas` that found another value.
@@ -114,7 +130,7 @@ numbers!(i8 i16 i32 i64 i128 isize u8 u16 u32 u64 u128 usize);
 
 impl From<()> for Value {
     fn from(_nothing: ()) -> Value {
-        Value::Nil
+        Value::NotGiven
     }
 }
 
@@ -126,7 +142,7 @@ impl<T: Into<Value>> From<Option<T>> for Value {
 
 impl Reply for () {
     fn value(&self) -> Value {
-        Value::Nil
+        Value::NotGiven
     }
 }
 
@@ -157,7 +173,7 @@ impl<T: Reply + ?Sized> Reply for Box<T> {
 impl Display for Value {
     fn fmt(&self, f: &mut fmt::Formatter) -> fmt::Result {
         match self {
-            Value::Nil => f.write_str("nil"),
+            Value::Nil | Value::NotGiven => f.write_str("nil"),
             Value::False => f.write_str("false"),
             Value::Number(number) => write!(f, "{number}"),
             Value::Pair(first, second) => write!(f, "[{first} {second}]"),
@@ -200,8 +216,13 @@ impl Event {
         matches!(self.function, "enqueue" | "push" | "insert" | "write")
     }
 
+    /// Whether the reply of the function is nil.
+    fn is_lock(&self) -> bool {
+        matches!(self.function, "acquire" | "release")
+    }
+
     fn reply(&self, reply: Value) -> Value {
-        if reply == Value::Nil && self.is_put() {
+        if matches!(reply, Value::Nil | Value::NotGiven) && self.is_put() {
             return self.value;
         }
         reply
@@ -216,10 +237,29 @@ impl Display for Event {
 }
 
 /// Gives the tickets, and the numbers of processes. One recorder makes one history.
-#[derive(Debug, Default)]
+#[derive(Debug)]
 pub struct Recorder {
     tickets: AtomicU64,
     processes: AtomicU64,
+    yields: bool,
+}
+
+/// A thread yields after one ticket of an invocation in this many.
+const CALLS_TO_A_YIELD: u64 = 8;
+
+/// How much calls overlapped.
+#[derive(Clone, Copy, Debug, PartialEq)]
+pub struct Overlap {
+    /// Which share of the calls overlapped another one, from 0 to 1. Where it is small, the history could hardly have failed.
+    pub share: f64,
+    /// How many calls were outstanding at once at most.
+    pub at_once: usize,
+}
+
+impl Default for Recorder {
+    fn default() -> Recorder {
+        Recorder::new()
+    }
 }
 
 /// What one thread did.
@@ -238,7 +278,13 @@ impl Recorder {
     /// A recorder that gave no ticket yet. It may be a `static`.
     #[must_use]
     pub const fn new() -> Recorder {
-        Recorder { tickets: AtomicU64::new(0), processes: AtomicU64::new(0) }
+        Recorder { tickets: AtomicU64::new(0), processes: AtomicU64::new(0), yields: true }
+    }
+
+    /// The same, where no thread yields between the ticket of an invocation and the call.
+    #[must_use]
+    pub const fn without_yields() -> Recorder {
+        Recorder { tickets: AtomicU64::new(0), processes: AtomicU64::new(0), yields: false }
     }
 
     /// A journal for one thread, or one task.
@@ -272,6 +318,31 @@ impl Recorder {
     }
 }
 
+/// How much the calls of these journals overlapped.
+#[must_use]
+pub fn overlap(journals: &[Journal]) -> Overlap {
+    let mut events: Vec<&Event> = journals.iter().flat_map(|journal| &journal.events).collect();
+    events.sort_by_key(|event| event.ticket);
+    let (mut calls, mut at_once) = (0, 0);
+    let (mut outstanding, mut overlapping) = (BTreeMap::new(), BTreeSet::new());
+    for event in events {
+        if !matches!(event.kind, Kind::Invoke) {
+            outstanding.remove(&event.process);
+            continue;
+        }
+        calls += 1;
+        outstanding.insert(event.process, event.ticket);
+        at_once = at_once.max(outstanding.len());
+        match outstanding.len() {
+            1 => {}
+            2 => overlapping.extend(outstanding.values().copied()),
+            _ => overlapping.extend([event.ticket]),
+        }
+    }
+    let share = if calls == 0 { 0.0 } else { overlapping.len() as f64 / f64::from(calls) };
+    Overlap { share, at_once }
+}
+
 impl Journal<'_> {
     /// Makes a call on object 0, and records it.
     pub fn call<R: Reply>(&mut self, function: &'static str, argument: impl Into<Value>, act: impl FnOnce() -> R) -> R {
@@ -298,7 +369,7 @@ impl Journal<'_> {
         reply
     }
 
-    /// Makes a call on object 0 that may fail, and records it. `act` gives an error only where the call surely did not happen.
+    /// Makes a call on object 0 that may fail, and records it. `act` gives an error only where the call definitely did not happen.
     pub fn try_call<R: Reply, E>(
         &mut self,
         function: &'static str,
@@ -308,7 +379,7 @@ impl Journal<'_> {
         self.try_call_on(0, function, argument, act)
     }
 
-    /// Makes a call on an object that may fail, and records it. `act` gives an error only where the call surely did not happen.
+    /// Makes a call on an object that may fail, and records it. `act` gives an error only where the call definitely did not happen.
     pub fn try_call_on<R: Reply, E>(
         &mut self,
         object: u16,
@@ -338,6 +409,9 @@ impl Journal<'_> {
         let call = Event { ticket, process, object, kind: Kind::Invoke, function, value };
         self.events.push(call);
         self.outstanding = Some(call);
+        if self.recorder.yields && mixed(ticket) % CALLS_TO_A_YIELD == 0 {
+            thread::yield_now();
+        }
     }
 
     /// Call it just after the call returned.
@@ -349,7 +423,20 @@ impl Journal<'_> {
         self.end(Kind::Ok, reply.into());
     }
 
-    /// Call it only where the call surely did not happen: it is written with `:fail`. A timeout is `gave_up`.
+    /// As `returned`, where it is known only now what the call was: its invocation is written with this function and argument.
+    ///
+    /// # Panics
+    ///
+    /// Where no call is outstanding.
+    pub fn returned_as(&mut self, function: &'static str, argument: impl Into<Value>, reply: impl Into<Value>) {
+        self.end(Kind::Ok, reply.into());
+        let value = argument.into();
+        if let [.., call, end] = &mut self.events[..] {
+            (call.function, call.value, end.function) = (function, value, function);
+        }
+    }
+
+    /// Call it only where the call definitely did not happen: it is written with `:fail`. A timeout is `gave_up`.
     ///
     /// # Panics
     ///
@@ -369,10 +456,12 @@ impl Journal<'_> {
         self.process = next(&self.recorder.processes);
     }
 
-    /// Panics where the reply of a call is to be its argument, and is not.
+    /// Panics where the reply of a call is missing, or is to be its argument and is not.
     fn want_replies(&self) {
         for pair in self.events.windows(2) {
             let (call, end) = (&pair[0], &pair[1]);
+            let is_missing = matches!(end.kind, Kind::Ok) && end.value == Value::NotGiven && !end.is_lock();
+            assert!(!is_missing, "{} was given no reply: None says that nothing was there", end.function);
             let is_right = !matches!(end.kind, Kind::Ok) || !end.is_put() || end.value == call.value;
             assert!(is_right, "{} replied {} and not its argument {}: let the call give nothing", end.function, end.value, call.value);
         }
@@ -389,6 +478,11 @@ impl Journal<'_> {
         };
         self.events.push(Event { ticket, kind, value, ..call });
     }
+}
+
+/// A number that looks drawn, for each ticket.
+fn mixed(ticket: u64) -> u64 {
+    ticket.wrapping_mul(0x9E37_79B9_7F4A_7C15) >> 32
 }
 
 fn next(counter: &AtomicU64) -> u64 {

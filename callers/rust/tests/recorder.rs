@@ -1,7 +1,7 @@
 //! Drives a right queue and one with a race by 4 threads, records them, and judges the histories. FCBENCH_RUNS says how many
 //! runs of each are made.
 
-use fcbench::recorder::{Journal, Recorder, Reply, Value};
+use fcbench::recorder::{overlap, Journal, Overlap, Recorder, Reply, Value};
 use fcbench::{judge, Verdict};
 use std::collections::{BTreeMap, VecDeque};
 use std::panic::{catch_unwind, AssertUnwindSafe};
@@ -13,6 +13,8 @@ const THREADS: usize = 4;
 const CALLS: usize = 50;
 const MOST_OPERATIONS: usize = 5;
 const MOST_TURNS: usize = 2000;
+/// Of the calls of a right queue on 4 processors, this share overlap another one.
+const LEAST_OVERLAP: f64 = 0.5;
 
 /// Its dequeue reads the index of the head and then moves it.
 struct Queue {
@@ -84,7 +86,7 @@ fn work(queue: &Queue, journal: &mut Journal, client: usize) {
     }
 }
 
-fn record(has_race: bool) -> String {
+fn record(has_race: bool) -> (String, Overlap) {
     let (queue, recorder, begin) = (Queue::new(has_race), Recorder::new(), Barrier::new(THREADS));
     let mut journals: Vec<Journal> = (0..THREADS).map(|_| recorder.journal()).collect();
     thread::scope(|scope| {
@@ -96,7 +98,7 @@ fn record(has_race: bool) -> String {
             });
         }
     });
-    recorder.history(&journals)
+    (recorder.history(&journals), overlap(&journals))
 }
 
 fn runs() -> usize {
@@ -105,17 +107,22 @@ fn runs() -> usize {
 
 #[test]
 fn a_right_queue_is_linearizable() {
+    let mut shares = 0.0;
     for _ in 0..runs() {
-        let answer = judge(record(false));
+        let (history, overlap) = record(false);
+        let answer = judge(history);
         assert_eq!(answer.verdict, Verdict::Yes, "{}", answer.lines);
+        assert!((1..=THREADS).contains(&overlap.at_once));
+        shares += overlap.share;
     }
+    assert!(shares > LEAST_OVERLAP * runs() as f64, "{shares}");
 }
 
 #[test]
 fn a_race_is_refuted_by_few_operations() {
     for _ in 0..runs() {
-        let answer = judge(record(true));
-        let operations = answer.lines.lines().filter(|line| line.starts_with("; map")).count();
+        let answer = judge(record(true).0);
+        let operations = answer.lines.lines().filter(|line| line.starts_with("; event")).count();
         assert_eq!(answer.verdict, Verdict::No, "{}", answer.lines);
         assert!(0 < operations && operations <= MOST_OPERATIONS, "{}", answer.lines);
     }
@@ -310,7 +317,7 @@ fn a_store_that_refuses_and_times_out() {
         journal.invoke(0, "enqueue", 8);
         match store.enqueue(8) {
             Ok(()) => journal.returned(()),
-            Err(Refusal::Closed) => journal.failed(), // it surely did not happen
+            Err(Refusal::Closed) => journal.failed(), // it definitely did not happen
             Err(Refusal::TimedOut) => journal.gave_up(), // it may have happened
         }
     }
@@ -444,4 +451,56 @@ fn numbers_of_each_type() {
     for message in [message_of(|| Value::number(u64::MAX).to_string()), message_of(|| Value::from(i128::MIN).to_string())] {
         assert_eq!(message, "a number does not fit in i64");
     }
+}
+
+/// Only a reply that says so says that nothing was there.
+#[test]
+fn a_reply_that_is_not_given() {
+    for (function, argument) in [("put", Value::Pair(1, 2)), ("del", Value::Number(1)), ("get", Value::Number(1)), ("dequeue", Value::Nil)] {
+        let recorder = Recorder::new();
+        let mut journal = recorder.journal();
+        journal.call(function, argument, || ());
+        let said = message_of(|| recorder.history(&[journal]));
+        assert_eq!(said, format!("{function} was given no reply: None says that nothing was there"));
+    }
+}
+
+/// Put-if-absent twice on one key, and a fetch-and-add.
+#[test]
+fn calls_that_are_known_when_they_returned() {
+    let recorder = Recorder::without_yields();
+    let mut journal = recorder.journal();
+    journal.invoke(0, "put", Value::pair(1, 5));
+    journal.returned_as("put", Value::pair(1, 5), Value::Nil);
+    journal.invoke(0, "put", Value::pair(1, 6));
+    journal.returned_as("get", 1, 5);
+    journal.call_on(1, "write", 3, || ());
+    journal.invoke(1, "cas", Value::pair(0, 1));
+    journal.returned_as("cas", Value::pair(3, 4), Value::pair(3, 4));
+    let wanted = "{:process 0, :type :invoke, :f :put, :value [1 5], :object 0}
+{:process 0, :type :ok, :f :put, :value nil, :object 0}
+{:process 0, :type :invoke, :f :get, :value 1, :object 0}
+{:process 0, :type :ok, :f :get, :value 5, :object 0}
+{:process 0, :type :invoke, :f :write, :value 3, :object 1}
+{:process 0, :type :ok, :f :write, :value 3, :object 1}
+{:process 0, :type :invoke, :f :cas, :value [3 4], :object 1}
+{:process 0, :type :ok, :f :cas, :value [3 4], :object 1}
+";
+    let text = recorder.history(&[journal]);
+    assert_eq!(text, wanted);
+    assert!(judge(text).is_yes());
+}
+
+/// Of five calls the second and third overlap, and the fourth and the one that is pending.
+#[test]
+fn overlapping_calls() {
+    let recorder = Recorder::new();
+    let (mut one, mut other) = (recorder.journal(), recorder.journal());
+    one.call("enqueue", 1, || ());
+    one.invoke(0, "enqueue", 2);
+    other.call("enqueue", 3, || one.returned(()));
+    one.invoke(0, "enqueue", 4);
+    other.invoke(0, "enqueue", 5);
+    assert_eq!(overlap(&[one, other]), Overlap { share: 0.8, at_once: 2 });
+    assert_eq!(overlap(&[]), Overlap { share: 0.0, at_once: 0 });
 }

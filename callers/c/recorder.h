@@ -4,9 +4,7 @@
  *     recorder_open(&recorder, 4); // one journal for each of 4 threads
  *     // in a thread, which uses its own journal:
  *     struct journal *journal = &recorder.journals[thread];
- *     size_t call = journal_invoke(journal, 0, "enqueue", fcbench_number(7));
- *     enqueue(queue, 7);
- *     journal_return(journal, call, fcbench_nil());
+ *     JOURNAL_CALL(journal, 0, "enqueue", fcbench_number(7), (enqueue(queue, 7), fcbench_nil()));
  *     // after the threads have ended:
  *     char *text = recorder_text(&recorder, &length); // NULL where events are missing
  *     recorder_close(&recorder);
@@ -16,25 +14,37 @@
  * returned before another was invoked in the history, it did so in fact. So a history that is not
  * linearizable shows that the object is not.
  *
+ * Calls that never overlap show no fault. So after one ticket of an invocation in eight the thread
+ * yields, which leaves room for another thread: `recorder.yields = 0` turns this off.
+ * recorder_overlap says how much the calls overlapped.
+ *
  * The recorder owns the journals, so use them by their addresses: a copy of one takes its calls with
  * it, and recorder_text gives NULL then.
  *
  * The reply of enqueue, push, insert and write is their argument: where the reply is nil, the argument
  * is written, and recorder_text gives NULL where it is anything else. The reply of cas is its pair where
- * it swapped, else fcbench_false().
+ * it swapped, else fcbench_false(). That of put and del is what was there before, or nil where nothing
+ * was: a store that does not tell it has no put, and each of its keys is a register.
+ *
+ * What a call was may be known only when it has returned, as put-if-absent, which is a put or a get.
+ * Invoke it as the put, since if it times out, it may have put, and end it with journal_return_as. A
+ * fetch-and-add that found n is a cas, whose argument and reply are fcbench_pair(n, n + 1). Invoke it as
+ * a cas of any pair: journal_return_as sets the right one. If one times out, end the round and leave the
+ * history out: its n is not known, and a right counter could get a no.
  *
  * An empty queue is a reply and no failure: where the dequeue finds nothing, return fcbench_nil().
  *
  * A call that does not return, as one that timed out, may have happened or may still happen: its
  * operation ends with :info. A thread that goes on after such a call does so as a new process, as
- * Jepsen's threads do, and says so with journal_give_up. Use journal_fail only where the call surely
+ * Jepsen's threads do, and says so with journal_give_up. Use journal_fail only where the call definitely
  * did not happen: if a call that timed out is written as failed, a correct queue gets a no.
  *
- * Needs C11. Where memory is refused the program ends: a history with a gap would be worth nothing. */
+ * Needs C11 and sched_yield of POSIX. Where memory is refused the program ends: a history with a gap would be worth nothing. */
 #ifndef FCBENCH_RECORDER_H
 #define FCBENCH_RECORDER_H
 
 #include <inttypes.h>
+#include <sched.h>
 #include <stdarg.h>
 #include <stdatomic.h>
 #include <stdio.h>
@@ -76,9 +86,13 @@ struct journal {
     struct recorded_call *calls;
 };
 
+/* A thread yields after one ticket of an invocation in this many. */
+enum { RECORDED_CALLS_TO_A_YIELD = 8 };
+
 struct recorder {
     atomic_uint_fast64_t tickets;
     size_t threads;
+    int yields; /* whether a thread yields between the ticket of an invocation and the call */
     struct journal *journals;
 };
 
@@ -94,6 +108,7 @@ static inline void *recorder_memory(void *old, size_t size) {
 static inline void recorder_open(struct recorder *recorder, size_t threads) {
     atomic_init(&recorder->tickets, 0);
     recorder->threads = threads;
+    recorder->yields = 1;
     recorder->journals = recorder_memory(NULL, (threads + 1) * sizeof *recorder->journals);
     for (size_t i = 0; i < threads; i++)
         recorder->journals[i] = (struct journal){recorder, i, 0, 0, NULL};
@@ -117,6 +132,11 @@ static inline int journal_is_pending(const struct journal *journal) {
     return last != NULL && last->end == RECORDED_PENDING && last->process == journal->process;
 }
 
+/* A number that looks drawn, for each ticket. */
+static inline uint64_t recorder_mixed(uint64_t ticket) {
+    return (ticket * UINT64_C(0x9E3779B97F4A7C15)) >> 32;
+}
+
 /* Call it just before the call. It gives the number of the call in this journal. Where the call before is not ended, it is given up. */
 static inline size_t journal_invoke(struct journal *journal, uint16_t object, const char *function, struct fcbench_value argument) {
     if (journal_is_pending(journal))
@@ -128,7 +148,10 @@ static inline size_t journal_invoke(struct journal *journal, uint16_t object, co
     size_t number = journal->count++;
     struct recorded_call *call = &journal->calls[number];
     *call = (struct recorded_call){0, 0, journal->process, object, RECORDED_PENDING, function, argument, fcbench_nil()};
-    call->invoked = atomic_fetch_add(&journal->recorder->tickets, 1);
+    uint64_t ticket = atomic_fetch_add(&journal->recorder->tickets, 1);
+    call->invoked = ticket;
+    if (journal->recorder->yields && recorder_mixed(ticket) % RECORDED_CALLS_TO_A_YIELD == 0)
+        sched_yield();
     return number;
 }
 
@@ -143,33 +166,37 @@ static inline void journal_return(struct journal *journal, size_t call, struct f
     journal_end(journal, call, RECORDED_OK, reply);
 }
 
-/* Call it only where the call surely did not happen. A timeout is journal_give_up. */
+/* Call it only where the call definitely did not happen. A timeout is journal_give_up. */
 static inline void journal_fail(struct journal *journal, size_t call) {
     journal_end(journal, call, RECORDED_FAIL, fcbench_nil());
 }
 
-/* Makes a call on an object, and records it: `act` makes it with `own` and gives its reply. */
-static inline struct fcbench_value journal_call(struct journal *journal, uint16_t object, const char *function, struct fcbench_value argument,
-                                                struct fcbench_value (*act)(void *own), void *own) {
-    size_t call = journal_invoke(journal, object, function, argument);
-    struct fcbench_value reply = act(own);
-    journal_return(journal, call, reply);
-    return reply;
+/* As journal_return, where it is known only now what the call was: its invocation is written with this function and argument. */
+static inline void journal_return_as(struct journal *journal, size_t call, const char *function, struct fcbench_value argument,
+                                     struct fcbench_value reply) {
+    journal_end(journal, call, RECORDED_OK, reply);
+    journal->calls[call].function = function;
+    journal->calls[call].argument = argument;
 }
 
-/* Makes a call that may fail, and records it: `act` gives 0 only where the call surely did not happen, else it writes the reply, which is
- * nil before. It gives what `act` gives. */
-static inline int journal_try_call(struct journal *journal, uint16_t object, const char *function, struct fcbench_value argument,
-                                   int (*act)(void *own, struct fcbench_value *reply), void *own) {
-    struct fcbench_value reply = fcbench_nil();
-    size_t call = journal_invoke(journal, object, function, argument);
-    int is_done = act(own, &reply);
-    if (is_done)
-        journal_return(journal, call, reply);
-    else
-        journal_fail(journal, call);
-    return is_done;
-}
+/* Makes a call on an object, and records it: `reply` is an expression that makes the call and has its reply. */
+#define JOURNAL_CALL(journal, object, function, argument, reply)                                       \
+    do {                                                                                               \
+        size_t journal_call_ = journal_invoke((journal), (object), (function), (argument));            \
+        struct fcbench_value journal_reply_ = (reply);                                                 \
+        journal_return((journal), journal_call_, journal_reply_);                                      \
+    } while (0)
+
+/* Makes a call that may fail, and records it: `is_done` is an expression that makes the call and is 0 only where it definitely did not
+ * happen. Otherwise `reply` is looked at afterwards. */
+#define JOURNAL_TRY_CALL(journal, object, function, argument, is_done, reply)                          \
+    do {                                                                                               \
+        size_t journal_call_ = journal_invoke((journal), (object), (function), (argument));            \
+        if (is_done)                                                                                   \
+            journal_return((journal), journal_call_, (reply));                                         \
+        else                                                                                           \
+            journal_fail((journal), journal_call_);                                                    \
+    } while (0)
 
 /* ---- the text */
 
@@ -248,6 +275,43 @@ static inline int recorder_has_replies(const struct recorder_event *events, uint
         }
     }
     return 1;
+}
+
+/* The ticket by which a call was over: a call that did not return, when its thread went on, or else never. */
+static inline uint64_t recorded_end(const struct journal *journal, size_t call, uint64_t tickets) {
+    if (journal->calls[call].end != RECORDED_PENDING)
+        return journal->calls[call].ended;
+    return call + 1 < journal->count ? journal->calls[call + 1].invoked : tickets;
+}
+
+/* How much the calls overlapped: the share that overlapped another one, from 0 to 1, and in `*at_once` how many were outstanding at once
+ * at most. Where the share is small, the history could hardly have failed. */
+static inline double recorder_overlap(const struct recorder *recorder, size_t *at_once) {
+    uint64_t tickets = atomic_load(&recorder->tickets);
+    size_t calls = 0, overlapping = 0, *begun = recorder_memory(NULL, 2 * (tickets + 1) * sizeof *begun), *over = begun + tickets + 1;
+    memset(begun, 0, 2 * (tickets + 1) * sizeof *begun);
+    for (size_t i = 0; i < recorder->threads; i++) {
+        const struct journal *journal = &recorder->journals[i];
+        for (size_t j = 0; j < journal->count; j++) {
+            begun[journal->calls[j].invoked]++;
+            over[recorded_end(journal, j, tickets)]++;
+        }
+    }
+    *at_once = 0;
+    /* how many were begun, and how many were over, up to each ticket */
+    for (uint64_t ticket = 0; ticket < tickets; ticket++) {
+        *at_once = begun[ticket] - over[ticket] > *at_once ? begun[ticket] - over[ticket] : *at_once;
+        begun[ticket + 1] += begun[ticket];
+        over[ticket + 1] += over[ticket];
+    }
+    for (size_t i = 0; i < recorder->threads; i++) {
+        const struct journal *journal = &recorder->journals[i];
+        for (size_t j = 0; j < journal->count; j++)
+            overlapping += begun[recorded_end(journal, j, tickets) - 1] - over[journal->calls[j].invoked] > 1;
+        calls += journal->count;
+    }
+    free(begun);
+    return calls == 0 ? 0.0 : (double)overlapping / (double)calls;
 }
 
 /* The history, after all threads have ended: each event at the place of its ticket, and a zero byte after the text. The

@@ -13,6 +13,8 @@ from fcbench import Verdict
 from recorder import Failed, Recorder
 
 THREADS, CALLS, MOST_OPERATIONS, MOST_TURNS = 4, 50, 5, 50
+# Of the calls of a right queue on 4 processors, this share overlap another one.
+LEAST_OVERLAP = 0.5
 RUNS = int(os.environ.get("FCBENCH_RUNS", "100"))
 sys.setswitchinterval(0.00001)  # so that threads take turns often
 
@@ -78,19 +80,24 @@ def record(has_race):
         thread.start()
     for thread in threads:
         thread.join()
-    return recorder.history(journals)
+    return recorder.history(journals), recorder.overlap(journals)
 
 
 class Queues(unittest.TestCase):
     def test_right(self):
+        shares = []
         for _ in range(RUNS):
-            answer = fcbench.judge(record(has_race=False))
+            history, overlap = record(has_race=False)
+            answer = fcbench.judge(history)
             self.assertEqual(answer.verdict, Verdict.YES, answer.lines)
+            self.assertIn(overlap.at_once, range(1, THREADS + 1))
+            shares.append(overlap.share)
+        self.assertGreater(sum(shares), LEAST_OVERLAP * RUNS)
 
     def test_race(self):
         for _ in range(RUNS):
-            answer = fcbench.judge(record(has_race=True))
-            operations = sum(line.startswith("; map") for line in answer.lines.splitlines())
+            answer = fcbench.judge(record(has_race=True)[0])
+            operations = sum(line.startswith("; event") for line in answer.lines.splitlines())
             self.assertEqual(answer.verdict, Verdict.NO, answer.lines)
             self.assertIn(operations, range(1, MOST_OPERATIONS + 1), answer.lines)
 
@@ -184,6 +191,93 @@ class Queues(unittest.TestCase):
             journal.call("enqueue", 1, lambda: reply)
             with self.assertRaisesRegex(ValueError, f"^enqueue replied {said} and not its argument 1: let the call give None$"):
                 recorder.history([journal])
+
+    def test_swap_that_replies_true(self):
+        """Many stores say whether a swap took place, and no more."""
+        recorder = Recorder()
+        journal = recorder.journal()
+        journal.call("write", 1, lambda: None)
+        self.assertIs(journal.call("cas", (1, 2), lambda: True), True)
+        self.assertIs(journal.call("cas", (1, 3), lambda: False), False)
+        text = recorder.history([journal])
+        self.assertIn(":type :ok, :f :cas, :value [1 2]", text)
+        self.assertTrue(fcbench.judge(text).is_yes(), text)
+
+    def test_call_that_no_history_can_have(self):
+        """It is refused before it is made, and the journal goes on."""
+        recorder = Recorder()
+        journal = recorder.journal()
+        for function, argument, said in (
+            ("insert_min", 1, "'insert_min' is none of the functions enqueue, dequeue, "),
+            ("put", 1, "1 cannot be the argument of put, which is a pair of integers$"),
+            ("put", (1, 2, 3), r"\(1, 2, 3\) cannot be the argument of put, which is a pair of integers$"),
+            ("write", True, "True cannot be the argument of write, which is an integer$"),
+            ("write", 1.5, "1.5 cannot be the argument of write, which is an integer$"),
+            ("dequeue", 1, "1 cannot be the argument of dequeue, which is None$"),
+            ("write", "a", "'a' cannot be the argument of write: a history has integers, so number your strings$"),
+            ("put", ("k", 1), r"\('k', 1\) cannot be the argument of put: a history has integers, so number your strings$"),
+        ):
+            with self.assertRaisesRegex(ValueError, f"^{said}"):
+                journal.call(function, argument, lambda: self.fail("the call was made"))
+            journal.invoke("read", None, 1)
+            with self.assertRaisesRegex(ValueError, f"^{said}"):
+                journal.returned_as(function, argument, None)
+            journal.returned(None)
+        self.assertTrue(fcbench.judge(recorder.history([journal])).lines.startswith("yes: 8 operations"))
+
+    def test_reply_that_is_not_given(self):
+        """Only a reply that says so says that nothing was there."""
+        for function, argument in (("put", (1, 2)), ("del", 1), ("get", 1), ("dequeue", None), ("cas", (1, 2))):
+            recorder = Recorder()
+            journal = recorder.journal()
+            journal.invoke(function, argument)
+            journal.returned()
+            with self.assertRaisesRegex(ValueError, f"^{function} was given no reply"):
+                recorder.history([journal])
+        recorder = Recorder()
+        journal = recorder.journal()
+        journal.invoke("put", (1, 2))
+        journal.returned(None)
+        self.assertTrue(fcbench.judge(recorder.history([journal])).is_yes())
+
+    def test_call_that_is_known_when_it_returned(self):
+        """Put-if-absent twice on one key, and a fetch-and-add."""
+        recorder, map_of = Recorder(yields=False), {}
+        journal = recorder.journal()
+        for value in (5, 6):
+            journal.invoke("put", (1, value))
+            found = map_of.setdefault(1, value)
+            if found == value:
+                journal.returned_as("put", (1, value), None)
+            else:
+                journal.returned_as("get", 1, found)
+        journal.call("write", 3, lambda: None, number=1)
+        journal.invoke("cas", (0, 1), number=1)
+        journal.returned_as("cas", (3, 4), (3, 4))
+        wanted = """{:process 0, :type :invoke, :f :put, :value [1 5], :object 0}
+{:process 0, :type :ok, :f :put, :value nil, :object 0}
+{:process 0, :type :invoke, :f :get, :value 1, :object 0}
+{:process 0, :type :ok, :f :get, :value 5, :object 0}
+{:process 0, :type :invoke, :f :write, :value 3, :object 1}
+{:process 0, :type :ok, :f :write, :value 3, :object 1}
+{:process 0, :type :invoke, :f :cas, :value [3 4], :object 1}
+{:process 0, :type :ok, :f :cas, :value [3 4], :object 1}
+"""
+        text = recorder.history([journal])
+        self.assertEqual(text, wanted)
+        self.assertTrue(fcbench.judge(text).is_yes())
+
+    def test_overlap(self):
+        """Of five calls the second and third overlap, and the fourth and the one that is pending."""
+        recorder = Recorder()
+        one, other = recorder.journal(), recorder.journal()
+        one.call("enqueue", 1, lambda: None)
+        one.invoke("enqueue", 2)
+        other.call("enqueue", 3, lambda: one.returned(2))
+        one.invoke("enqueue", 4)
+        other.invoke("enqueue", 5)
+        self.assertEqual(recorder.overlap([one, other]), (4 / 5, 2))
+        self.assertEqual(Recorder().overlap([]), (0.0, 0))
 
     def test_steps(self):
         """A call in steps: one that timed out, one that failed, and one that returned."""

@@ -6,11 +6,14 @@
 #include <cstdlib>
 #include <iostream>
 #include <mutex>
+#include <set>
 #include <sstream>
 #include <stdexcept>
 #include <thread>
 
 static constexpr int threads = 4, calls = 50, most_operations = 5, most_turns = 2000;
+// Of the calls of a right queue on 4 processors, this share overlap another one.
+static constexpr double least_overlap = 0.5;
 
 static void want(bool holds, const char *what, const std::string &lines) {
     if (!holds) {
@@ -74,7 +77,7 @@ static void work(Queue &queue, fcbench::Journal &journal, std::int64_t first) {
     }
 }
 
-static std::string record(bool has_race) {
+static std::pair<std::string, double> record(bool has_race) {
     Queue queue(has_race);
     fcbench::Recorder recorder;
     std::vector<fcbench::Journal> journals;
@@ -95,27 +98,32 @@ static std::string record(bool has_race) {
     for (std::thread &client : clients) {
         client.join();
     }
-    return recorder.history(journals);
+    const auto overlap = recorder.overlap(journals);
+    want(0 < overlap.at_once && overlap.at_once <= threads, "at most one call of each thread is outstanding", "");
+    return {recorder.history(journals), overlap.share};
 }
 
 static int operations_in(const std::string &lines) {
     std::istringstream text(lines);
     int count = 0;
     for (std::string line; std::getline(text, line);) {
-        count += line.rfind("; map", 0) == 0;
+        count += line.rfind("; event", 0) == 0;
     }
     return count;
 }
 
-static void judge_run(bool has_race) {
-    const auto answer = fcbench::judge(record(has_race));
+// It gives the share of the calls that overlapped another one.
+static double judge_run(bool has_race) {
+    const auto [history, share] = record(has_race);
+    const auto answer = fcbench::judge(history);
     if (!has_race) {
         want(answer.is_yes(), "the right queue is linearizable", answer.lines());
-        return;
+        return share;
     }
     const int operations = operations_in(answer.lines());
     want(answer.is_no(), "the wrong queue is refuted", answer.lines());
     want(0 < operations && operations <= most_operations, "by a reason of few operations", answer.lines());
+    return share;
 }
 
 // A call that did not return ends with :info, and its thread goes on as a new process.
@@ -212,6 +220,59 @@ static void a_reply_that_is_not_the_argument() {
     want(said == "enqueue replied 2 and not its argument 8: let the call give nothing", "a reply that is not the argument", said);
 }
 
+// Only a reply that says so says that nothing was there.
+static void a_reply_that_is_not_given() {
+    for (const char *function : {"put", "del", "get", "dequeue", "cas"}) {
+        fcbench::Recorder recorder;
+        std::vector<fcbench::Journal> journals;
+        journals.push_back(recorder.journal());
+        journals[0].call(function, 1, [] {});
+        const std::string said = message_of([&] { return recorder.history(journals); });
+        want(said == function + std::string(" was given no reply: std::nullopt says that nothing was there"), "a reply that is not given", said);
+    }
+}
+
+// Put-if-absent twice on one key, and a fetch-and-add.
+static void calls_that_are_known_when_they_returned() {
+    fcbench::Recorder recorder(false);
+    std::vector<fcbench::Journal> journals;
+    journals.push_back(recorder.journal());
+    fcbench::Journal &journal = journals[0];
+    journal.invoke(0, "put", {1, 5});
+    journal.returned_as("put", {1, 5}, std::nullopt);
+    journal.invoke(0, "put", {1, 6});
+    journal.returned_as("get", 1, 5);
+    journal.call_on(1, "write", 3, [] {});
+    journal.invoke(1, "cas", {0, 1});
+    journal.returned_as("cas", {3, 4}, fcbench::Value(3, 4));
+    const std::string text = recorder.history(journals);
+    want(text == "{:process 0, :type :invoke, :f :put, :value [1 5], :object 0}\n"
+                 "{:process 0, :type :ok, :f :put, :value nil, :object 0}\n"
+                 "{:process 0, :type :invoke, :f :get, :value 1, :object 0}\n"
+                 "{:process 0, :type :ok, :f :get, :value 5, :object 0}\n"
+                 "{:process 0, :type :invoke, :f :write, :value 3, :object 1}\n"
+                 "{:process 0, :type :ok, :f :write, :value 3, :object 1}\n"
+                 "{:process 0, :type :invoke, :f :cas, :value [3 4], :object 1}\n"
+                 "{:process 0, :type :ok, :f :cas, :value [3 4], :object 1}\n",
+         "calls that are known when they returned", text);
+    want(fcbench::judge(text).is_yes(), "they are linearizable", text);
+}
+
+// Of five calls the second and third overlap, and the fourth and the one that is pending.
+static void overlap() {
+    fcbench::Recorder recorder;
+    std::vector<fcbench::Journal> journals;
+    journals.push_back(recorder.journal());
+    journals.push_back(recorder.journal());
+    journals[0].call("enqueue", 1, [] {});
+    journals[0].invoke(0, "enqueue", 2);
+    journals[1].call("enqueue", 3, [&] { journals[0].returned(); });
+    journals[0].invoke(0, "enqueue", 4);
+    journals[1].invoke(0, "enqueue", 5);
+    const auto found = recorder.overlap(journals);
+    want(found.share == 0.8 && found.at_once == 2, "four of five calls overlap", "");
+}
+
 // A queue whose pop gives a bool, and writes what it took.
 class PopQueue {
 public:
@@ -258,7 +319,7 @@ static void calls_that_give_a_bool() {
     want(fcbench::judge(text).is_yes(), "a queue whose pop gives a bool is linearizable", text);
 }
 
-// A call that surely failed, and one in steps that timed out, failed or returned.
+// A call that definitely failed, and one in steps that timed out, failed or returned.
 static void failed_calls_and_steps() {
     fcbench::Recorder recorder;
     std::vector<fcbench::Journal> journals;
@@ -307,6 +368,41 @@ static void values() {
     using fcbench::Value;
     static_assert(!std::is_constructible_v<Value, bool> && !std::is_constructible_v<Value, std::optional<bool>>, "`no` says false");
     static_assert(!std::is_constructible_v<Value, double> && !std::is_constructible_v<Value, int, bool>, "integers alone");
+    want(Value(INT64_MIN).text() == "-9223372036854775808" && Value(std::uint64_t{INT64_MAX}).text() == "9223372036854775807", "64 bits", "");
+    const std::uint64_t large = std::uint64_t{INT64_MAX} + 1;
+    for (const std::string &said : {message_of([&] { Value it(large); }), message_of([&] { Value it(std::optional<std::uint64_t>{large}); }),
+                                    message_of([&] { Value it(1, large); })}) {
+        want(said == "a number does not fit in 64 bits with sign: 9223372036854775808", "a number of 64 bits without sign", said);
+    }
+}
+
+// A set, as a map in which the value of each element is 1.
+class Set {
+public:
+    bool add(int key) { return keys_.insert(key).second; }
+    bool remove(int key) { return keys_.erase(key) == 1; }
+    bool contains(int key) const { return keys_.count(key) == 1; }
+
+private:
+    std::set<int> keys_;
+};
+
+static void a_set() {
+    fcbench::Recorder recorder(false);
+    std::vector<fcbench::Journal> journals;
+    journals.push_back(recorder.journal());
+    fcbench::Journal &journal = journals[0];
+    Set set;
+    journal.call("put", {7, 1}, [&] { return set.add(7) ? std::nullopt : std::optional(1); });
+    journal.call("get", 7, [&] { return set.contains(7) ? std::optional(1) : std::nullopt; });
+    for (int key : {7, 7}) { // at first it is there
+        journal.call("put", {key, 1}, [&] { return set.add(key) ? std::nullopt : std::optional(1); });
+        journal.call("del", key, [&] { return set.remove(key) ? std::optional(1) : std::nullopt; });
+        journal.call("get", key, [&] { return set.contains(key) ? std::optional(1) : std::nullopt; });
+    }
+    journal.call("del", 7, [&] { return set.remove(7) ? std::optional(1) : std::nullopt; });
+    const auto answer = fcbench::judge(recorder.history(journals));
+    want(answer.lines().rfind("yes: 9 operations", 0) == 0, "a set is linearizable", answer.lines());
 }
 
 int main(int count, char **words) {
@@ -315,13 +411,19 @@ int main(int count, char **words) {
     a_journal_that_is_not_handed_in();
     replies_of_calls_that_give_nothing();
     a_reply_that_is_not_the_argument();
+    a_reply_that_is_not_given();
+    calls_that_are_known_when_they_returned();
+    overlap();
     calls_that_give_a_bool();
     pending_calls();
     failed_calls_and_steps();
     values();
+    a_set();
+    double shares = 0;
     for (int run = 0; run < runs; run++) {
-        judge_run(false);
+        shares += judge_run(false);
         judge_run(true);
     }
+    want(runs < 10 || shares > least_overlap * runs, "calls overlap", "");
     std::cout << "test_recorder: passed, " << runs << " runs of each\n";
 }

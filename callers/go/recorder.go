@@ -2,6 +2,7 @@ package fcbench
 
 import (
 	"fmt"
+	"runtime"
 	"sort"
 	"strings"
 	"sync/atomic"
@@ -22,33 +23,74 @@ import (
 //
 // A journal that is not handed to History takes its calls with it: History panics then.
 //
+// Calls that never overlap show no fault. So after one ticket of an invocation in eight the goroutine yields, which leaves room for
+// another: NoYields turns this off. Overlap says how much the calls of the journals overlapped.
+//
 // The reply of enqueue, push, insert and write is their argument: where the call gives Nil, the argument is written. History panics
-// where the call gives anything else, as a length. The reply of cas is its pair where it swapped, else False.
+// where the call gives anything else, as a length. The reply of cas is its pair where it swapped, else False. That of put and del is
+// what was there before, or Nil where nothing was: a store that does not tell it has no put, and each of its keys is a register.
+//
+// What a call was may be known only when it has returned, as put-if-absent, which is a put or a get. Invoke it as the put, since if it
+// times out, it may have put, and end it with ReturnedAs("put", Pair(k, v), Nil) or ReturnedAs("get", Number(k), Number(found)). A
+// fetch-and-add that found n is ReturnedAs("cas", Pair(n, n+1), Pair(n, n+1)). Invoke it as a cas of any pair: ReturnedAs sets the right
+// one. If one times out, end the round and leave the history out: its n is not known, and a right counter could get a no.
 //
 // An empty queue is a reply and no failure: where Dequeue gives (int64, bool), give Nil where the bool is false, and use Call.
 //
 // A call that does not return, as one that panics or times out, may have happened: its operation ends with :info, and the
-// journal goes on as a new process, as Jepsen's threads do. Use Failed and an error of TryCall only where the call surely did not
+// journal goes on as a new process, as Jepsen's threads do. Use Failed and an error of TryCall only where the call definitely did not
 // happen: if a call that timed out is written as failed, a correct queue gets a no.
 type Recorder struct {
+	// NoYields says that no goroutine yields between the ticket of an invocation and the call.
+	NoYields           bool
 	tickets, processes int64
 }
 
-// Value is an argument or a reply, as it is written. The zero Value is Nil.
-type Value string
+// A goroutine yields after one ticket of an invocation in this many.
+const callsToAYield = 8
+
+type shape uint8
 
 const (
+	notGiven shape = iota
+	isNil
+	isFalse
+	isNumber
+	isPair
+)
+
+// Value is an argument or a reply. It is written as text only by History, so that no call takes longer for it. The zero Value is no
+// reply: it is enough for functions whose reply is known, as enqueue and acquire.
+type Value struct {
+	shape         shape
+	first, second int64
+}
+
+var (
 	// Nil is nothing, as the argument of dequeue, and its reply where the queue is empty.
-	Nil Value = "nil"
+	Nil = Value{shape: isNil}
 	// False is the reply of a cas that found another value.
-	False Value = "false"
+	False = Value{shape: isFalse}
 )
 
 // Number is what is enqueued, read, written and so on.
-func Number(n int64) Value { return Value(fmt.Sprint(n)) }
+func Number(n int64) Value { return Value{shape: isNumber, first: n} }
 
 // Pair is the argument of put, a key and a value, and that of cas, what is expected and what is new.
-func Pair(first, second int64) Value { return Value(fmt.Sprintf("[%d %d]", first, second)) }
+func Pair(first, second int64) Value { return Value{isPair, first, second} }
+
+// String is the value as a history has it.
+func (v Value) String() string {
+	switch v.shape {
+	case isFalse:
+		return "false"
+	case isNumber:
+		return fmt.Sprint(v.first)
+	case isPair:
+		return fmt.Sprintf("[%d %d]", v.first, v.second)
+	}
+	return "nil"
+}
 
 type event struct {
 	ticket, process int64
@@ -85,12 +127,12 @@ func (j *Journal) CallOn(object uint16, function string, argument Value, act fun
 	return reply
 }
 
-// TryCall makes a call on object 0 that may fail, and records it. act gives an error only where the call surely did not happen.
+// TryCall makes a call on object 0 that may fail, and records it. act gives an error only where the call definitely did not happen.
 func (j *Journal) TryCall(function string, argument Value, act func() (Value, error)) (Value, error) {
 	return j.TryCallOn(0, function, argument, act)
 }
 
-// TryCallOn makes a call on an object that may fail, and records it. act gives an error only where the call surely did not happen.
+// TryCallOn makes a call on an object that may fail, and records it. act gives an error only where the call definitely did not happen.
 func (j *Journal) TryCallOn(object uint16, function string, argument Value, act func() (Value, error)) (Value, error) {
 	j.Invoke(object, function, argument)
 	reply, err := act()
@@ -111,15 +153,31 @@ func (j *Journal) Invoke(object uint16, function string, argument Value) {
 	// The room is made before the ticket of an invocation is drawn.
 	j.events = append(j.events, event{process: j.process, object: object, kind: "invoke", function: function, value: argument})
 	j.isPending = true
-	j.events[len(j.events)-1].ticket = j.recorder.ticket()
+	ticket := j.recorder.ticket()
+	j.events[len(j.events)-1].ticket = ticket
+	if !j.recorder.NoYields && mixed(ticket)%callsToAYield == 0 {
+		runtime.Gosched()
+	}
 }
+
+// mixed is a number that looks drawn, for each ticket.
+func mixed(ticket int64) uint64 { return uint64(ticket) * 0x9E3779B97F4A7C15 >> 32 }
 
 // Returned is called just after the call returned. It panics where no call is outstanding, as Failed and GaveUp do.
 func (j *Journal) Returned(reply Value) {
 	j.end("ok", reply)
 }
 
-// Failed is called only where the call surely did not happen: it is written with :fail. A timeout is GaveUp.
+// ReturnedAs is as Returned, where it is known only now what the call was: its invocation is written with this function and argument.
+func (j *Journal) ReturnedAs(function string, argument, reply Value) {
+	j.end("ok", reply)
+	for at := len(j.events) - 2; at < len(j.events); at++ {
+		j.events[at].function = function
+	}
+	j.events[len(j.events)-2].value = argument
+}
+
+// Failed is called only where the call definitely did not happen: it is written with :fail. A timeout is GaveUp.
 func (j *Journal) Failed() {
 	j.end("fail", Nil)
 }
@@ -139,19 +197,22 @@ func (j *Journal) end(kind string, reply Value) {
 	ticket := j.recorder.ticket()
 	call := j.events[len(j.events)-1]
 	call.ticket, call.kind = ticket, kind
-	if kind == "fail" || kind == "ok" && !(isNil(reply) && isPut(call.function)) {
+	if kind == "fail" || kind == "ok" && !(reply.isNothing() && isPut(call.function)) {
 		call.value = reply
 	}
 	j.events = append(j.events, call)
 	j.isPending = false
 }
 
-func isNil(value Value) bool { return value == Nil || value == "" }
+func (v Value) isNothing() bool { return v.shape == isNil || v.shape == notGiven }
 
 // isPut says whether the reply of a function is its argument.
 func isPut(function string) bool {
 	return function == "enqueue" || function == "push" || function == "insert" || function == "write"
 }
+
+// isLock says whether the reply of a function is nil.
+func isLock(function string) bool { return function == "acquire" || function == "release" }
 
 // History is the history, after all goroutines have ended: each event at the place of its ticket. It panics where it is not handed
 // each journal of this recorder once, also those of a history that it made before: without the calls of one of them a correct
@@ -172,18 +233,52 @@ func (r *Recorder) History(journals []*Journal) string {
 	r.wantEach(events)
 	var text strings.Builder
 	for _, e := range events {
-		if isNil(e.value) {
-			e.value = Nil
-		}
 		fmt.Fprintf(&text, "{:process %d, :type :%s, :f :%s, :value %s, :object %d}\n", e.process, e.kind, e.function, e.value, e.object)
 	}
 	return text.String()
 }
 
-// wantReplies panics where the reply of a call is to be its argument, and is not.
+// Overlap says how much the calls of these journals overlapped: the share that overlapped another one, from 0 to 1, and how many were
+// outstanding at once at most. Where the share is small, the history could hardly have failed.
+func (r *Recorder) Overlap(journals []*Journal) (share float64, atOnce int) {
+	var events []event
+	for _, journal := range journals {
+		events = append(events, journal.events...)
+	}
+	sort.Slice(events, func(a, b int) bool { return events[a].ticket < events[b].ticket })
+	calls, outstanding, overlapped := 0, map[int64]int64{}, map[int64]bool{}
+	for _, e := range events {
+		if e.kind != "invoke" {
+			delete(outstanding, e.process)
+			continue
+		}
+		calls++
+		outstanding[e.process] = e.ticket
+		if len(outstanding) > atOnce {
+			atOnce = len(outstanding)
+		}
+		if len(outstanding) > 1 {
+			overlapped[e.ticket] = true
+		}
+		if len(outstanding) == 2 {
+			for _, ticket := range outstanding {
+				overlapped[ticket] = true
+			}
+		}
+	}
+	if calls > 0 {
+		share = float64(len(overlapped)) / float64(calls)
+	}
+	return share, atOnce
+}
+
+// wantReplies panics where the reply of a call is missing, or is to be its argument and is not.
 func (j *Journal) wantReplies() {
 	for at := 1; at < len(j.events); at++ {
 		call, end := j.events[at-1], j.events[at]
+		if end.kind == "ok" && end.value.shape == notGiven && !isLock(end.function) {
+			panic(fmt.Sprintf("%s was given no reply: Nil says that nothing was there", end.function))
+		}
 		if end.kind == "ok" && isPut(end.function) && end.value != call.value {
 			panic(fmt.Sprintf("%s replied %s and not its argument %s: let the call give Nil", end.function, end.value, call.value))
 		}

@@ -1,10 +1,11 @@
-use fcbench::recorder::Recorder;
+use fcbench::recorder::{overlap, Recorder};
 use std::collections::VecDeque;
 use std::sync::{Barrier, Mutex};
 use std::thread;
 
 #[test]
 fn two_threads_share_a_queue() {
+    let mut shares = 0.0; // of each round, how many of its calls overlapped another one
     for _ in 0..100 {
         let queue = Mutex::new(VecDeque::new()); // your queue
         let (recorder, begin) = (Recorder::new(), Barrier::new(2));
@@ -21,6 +22,7 @@ fn two_threads_share_a_queue() {
                 });
             }
         });
+        shares += overlap(&journals).share;
         let history = recorder.history(&journals);
         let answer = fcbench::judge(&history);
         if !answer.is_yes() {
@@ -29,4 +31,5 @@ fn two_threads_share_a_queue() {
         }
         assert!(answer.lines.starts_with("yes: 400 operations"), "{answer}");
     }
+    assert!(shares > 10.0, "only {shares} % of the calls overlapped another one");
 }

@@ -138,7 +138,7 @@ func RefuteWithSteps(history, reasons string, steps uint32) Answer {
 	})
 }
 
-// Verify checks evidence from anybody, and judges a history by what it shows.
+// Verify checks evidence from any source, and judges a history by what it shows.
 func Verify(history, evidence string) Answer {
 	text, length := bytesOf([]byte(history))
 	claims, count := bytesOf([]byte(evidence))

@@ -1,4 +1,4 @@
-//! Links libfcbench.a, from the folder that FCBENCH_LIB names, or from where `clients/build` leaves it.
+//! Links libfcbench.a, from the folder that FCBENCH_LIB names, or from where `callers/build` leaves it.
 
 use std::env;
 use std::path::PathBuf;
@@ -14,7 +14,7 @@ fn main() {
     println!("cargo:rerun-if-env-changed=FCBENCH_LIB");
     if !folder.join("libfcbench.a").exists() {
         let folder = env::current_dir().map_or(folder.clone(), |from| from.join(&folder));
-        let advice = "run clients/build, or set FCBENCH_LIB to the absolute path of its folder";
+        let advice = "run callers/build, or set FCBENCH_LIB to the absolute path of its folder";
         eprintln!("libfcbench.a is not in {}: {advice}", folder.display());
         process::exit(1);
     }

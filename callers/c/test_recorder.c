@@ -9,6 +9,9 @@
 
 enum { THREADS = 4, CALLS = 50, MOST_OPERATIONS = 5, MOST_TURNS = 2000 };
 
+/* Of the calls of a right queue on 4 processors, this share overlap another one. */
+static const double LEAST_OVERLAP = 0.5;
+
 static void want(bool holds, const char *what, const char *lines) {
     if (!holds) {
         fprintf(stderr, "test_recorder: %s\n%s", what, lines);
@@ -75,15 +78,10 @@ static void *work(void *own) {
     pthread_barrier_wait(client->begin);
     for (int i = 0; i < CALLS; i++) {
         int64_t value = first + i;
-        if (i % 2 == 0) {
-            size_t call = journal_invoke(client->journal, 0, "enqueue", fcbench_number(value));
-            enqueue(client->queue, value);
-            journal_return(client->journal, call, fcbench_nil());
-        } else {
-            size_t call = journal_invoke(client->journal, 0, "dequeue", fcbench_nil());
-            bool is_some = dequeue(client->queue, &value);
-            journal_return(client->journal, call, is_some ? fcbench_number(value) : fcbench_nil());
-        }
+        if (i % 2 == 0)
+            JOURNAL_CALL(client->journal, 0, "enqueue", fcbench_number(value), (enqueue(client->queue, value), fcbench_nil()));
+        else
+            JOURNAL_CALL(client->journal, 0, "dequeue", fcbench_nil(), dequeue(client->queue, &value) ? fcbench_number(value) : fcbench_nil());
     }
     return NULL;
 }
@@ -126,11 +124,14 @@ static size_t lines_that_begin(const char *lines, const char *with) {
     return count;
 }
 
-static void judge_run(bool has_race) {
+/* It gives the share of the calls that overlapped another one. */
+static double judge_run(bool has_race) {
     struct recorder recorder;
     char lines[2048];
-    size_t length, needed;
+    size_t length, needed, at_once;
     record(has_race, &recorder);
+    double share = recorder_overlap(&recorder, &at_once);
+    want(0 < at_once && at_once <= THREADS, "at most one call of each thread is outstanding", "");
     char *text = recorder_text(&recorder, &length);
     want(text != NULL, "no event is missing", "");
     recorder_close(&recorder);
@@ -139,11 +140,12 @@ static void judge_run(bool has_race) {
     free(text);
     if (!has_race) {
         want(status == FCBENCH_YES, "the right queue is linearizable", lines);
-        return;
+        return share;
     }
-    size_t operations = lines_that_begin(lines, "; map");
+    size_t operations = lines_that_begin(lines, "; event");
     want(status == FCBENCH_NO, "the wrong queue is refuted", lines);
     want(0 < operations && operations <= MOST_OPERATIONS, "by a reason of few operations", lines);
+    return share;
 }
 
 /* The text of a recorder is as wanted, and a yes. It closes the recorder. */
@@ -188,9 +190,7 @@ static void the_example_at_the_head(void) {
     struct recorder recorder;
     recorder_open(&recorder, 4); // one journal for each of 4 threads
     struct journal *journal = &recorder.journals[thread];
-    size_t call = journal_invoke(journal, 0, "enqueue", fcbench_number(7));
-    enqueue(queue, 7);
-    journal_return(journal, call, fcbench_nil());
+    JOURNAL_CALL(journal, 0, "enqueue", fcbench_number(7), (enqueue(queue, 7), fcbench_nil()));
     char *text = recorder_text(&recorder, &length); // NULL where events are missing
     recorder_close(&recorder);
     static const char wanted[] = "{:process 0, :type :invoke, :f :enqueue, :value 7, :object 0}\n"
@@ -226,22 +226,6 @@ static void a_reply_that_is_not_the_argument(void) {
     recorder_close(&recorder);
 }
 
-static struct fcbench_value gives_nothing(void *own) {
-    ++*(int *)own;
-    return fcbench_nil();
-}
-
-static int fails_at_first(void *own, struct fcbench_value *reply) {
-    (void)reply;
-    return (*(int *)own)++ > 0;
-}
-
-static int gives_seven(void *own, struct fcbench_value *reply) {
-    (void)own;
-    *reply = fcbench_number(7);
-    return 1;
-}
-
 /* The reply of a function that puts a value in is its argument, also where the call gives nothing. */
 static void replies_of_calls_that_give_nothing(void) {
     static const char *const functions[] = {"enqueue", "push", "insert", "write"};
@@ -250,13 +234,13 @@ static void replies_of_calls_that_give_nothing(void) {
     char wanted[2048] = "";
     recorder_open(&recorder, 1);
     for (uint16_t object = 0; object < 4; object++) {
-        journal_call(&recorder.journals[0], object, functions[object], fcbench_number(7), gives_nothing, &calls);
+        JOURNAL_CALL(&recorder.journals[0], object, functions[object], fcbench_number(7), (calls++, fcbench_nil()));
         for (int end = 0; end < 2; end++) {
             static const char map[] = "{:process 0, :type :%s, :f :%s, :value 7, :object %d}\n";
             snprintf(wanted + strlen(wanted), 100, map, end ? "ok" : "invoke", functions[object], object);
         }
     }
-    journal_call(&recorder.journals[0], 4, "acquire", fcbench_nil(), gives_nothing, &calls);
+    JOURNAL_CALL(&recorder.journals[0], 4, "acquire", fcbench_nil(), (calls++, fcbench_nil()));
     strcat(wanted, "{:process 0, :type :invoke, :f :acquire, :value nil, :object 4}\n"
                    "{:process 0, :type :ok, :f :acquire, :value nil, :object 4}\n");
     want(calls == 5, "each call is made once", "");
@@ -268,9 +252,10 @@ static void calls_that_may_fail(void) {
     int calls = 0;
     recorder_open(&recorder, 1);
     struct journal *journal = &recorder.journals[0];
-    want(!journal_try_call(journal, 0, "enqueue", fcbench_number(7), fails_at_first, &calls), "a call fails", "");
-    want(journal_try_call(journal, 0, "enqueue", fcbench_number(7), fails_at_first, &calls), "and then it does not", "");
-    want(journal_try_call(journal, 0, "dequeue", fcbench_nil(), gives_seven, NULL), "nor does this", "");
+    JOURNAL_TRY_CALL(journal, 0, "enqueue", fcbench_number(7), calls++ > 0, fcbench_nil());
+    JOURNAL_TRY_CALL(journal, 0, "enqueue", fcbench_number(7), calls++ > 0, fcbench_nil());
+    JOURNAL_TRY_CALL(journal, 0, "dequeue", fcbench_nil(), calls++ > 0, fcbench_number(7));
+    want(calls == 3, "each call is made once", "");
     static const char wanted[] = "{:process 0, :type :invoke, :f :enqueue, :value 7, :object 0}\n"
                                  "{:process 0, :type :fail, :f :enqueue, :value nil, :object 0}\n"
                                  "{:process 0, :type :invoke, :f :enqueue, :value 7, :object 0}\n"
@@ -280,18 +265,58 @@ static void calls_that_may_fail(void) {
     want_text(&recorder, wanted, "calls that may fail");
 }
 
+/* Put-if-absent twice on one key, and a fetch-and-add. */
+static void calls_that_are_known_when_they_returned(void) {
+    struct recorder recorder;
+    recorder_open(&recorder, 1);
+    recorder.yields = 0;
+    struct journal *journal = &recorder.journals[0];
+    journal_return_as(journal, journal_invoke(journal, 0, "put", fcbench_pair(1, 5)), "put", fcbench_pair(1, 5), fcbench_nil());
+    journal_return_as(journal, journal_invoke(journal, 0, "put", fcbench_pair(1, 6)), "get", fcbench_number(1), fcbench_number(5));
+    JOURNAL_CALL(journal, 1, "write", fcbench_number(3), fcbench_nil());
+    journal_return_as(journal, journal_invoke(journal, 1, "cas", fcbench_pair(0, 1)), "cas", fcbench_pair(3, 4), fcbench_pair(3, 4));
+    static const char wanted[] = "{:process 0, :type :invoke, :f :put, :value [1 5], :object 0}\n"
+                                 "{:process 0, :type :ok, :f :put, :value nil, :object 0}\n"
+                                 "{:process 0, :type :invoke, :f :get, :value 1, :object 0}\n"
+                                 "{:process 0, :type :ok, :f :get, :value 5, :object 0}\n"
+                                 "{:process 0, :type :invoke, :f :write, :value 3, :object 1}\n"
+                                 "{:process 0, :type :ok, :f :write, :value 3, :object 1}\n"
+                                 "{:process 0, :type :invoke, :f :cas, :value [3 4], :object 1}\n"
+                                 "{:process 0, :type :ok, :f :cas, :value [3 4], :object 1}\n";
+    want_text(&recorder, wanted, "calls that are known when they returned");
+}
+
+/* Of five calls the second and third overlap, and the fourth and the one that did not return. */
+static void overlap(void) {
+    struct recorder recorder;
+    size_t at_once;
+    recorder_open(&recorder, 2);
+    struct journal *one = &recorder.journals[0], *other = &recorder.journals[1];
+    JOURNAL_CALL(one, 0, "enqueue", fcbench_number(1), fcbench_nil());
+    size_t call = journal_invoke(one, 0, "enqueue", fcbench_number(2));
+    JOURNAL_CALL(other, 0, "enqueue", fcbench_number(3), (journal_return(one, call, fcbench_nil()), fcbench_nil()));
+    journal_invoke(one, 0, "enqueue", fcbench_number(4));
+    journal_invoke(other, 0, "enqueue", fcbench_number(5));
+    want(recorder_overlap(&recorder, &at_once) == 0.8 && at_once == 2, "four of five calls overlap", "");
+    recorder_close(&recorder);
+}
+
 int main(int count, char **words) {
     int runs = count > 1 ? atoi(words[1]) : 100;
+    double shares = 0;
     pending_calls();
     the_example_at_the_head();
     a_journal_that_is_lost();
     a_reply_that_is_not_the_argument();
     replies_of_calls_that_give_nothing();
     calls_that_may_fail();
+    calls_that_are_known_when_they_returned();
+    overlap();
     for (int run = 0; run < runs; run++) {
-        judge_run(false);
+        shares += judge_run(false);
         judge_run(true);
     }
+    want(runs < 10 || shares > LEAST_OVERLAP * runs, "calls overlap", "");
     printf("test_recorder: passed, %d runs of each\n", runs);
     return 0;
 }

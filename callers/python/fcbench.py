@@ -3,7 +3,7 @@
     answer = fcbench.judge(history)
     assert answer.is_yes(), answer.lines
 
-A text is bytes or a str. The library is the file that FCBENCH_SO names, or libfcbench.so where the loader or clients/build has it."""
+A text is bytes or a str. The library is the file that FCBENCH_SO names, or libfcbench.so where the loader or callers/build has it."""
 import ctypes
 import enum
 import os
@@ -49,7 +49,7 @@ def _library():
     try:
         library = ctypes.CDLL(there[0])
     except OSError as error:
-        raise ImportError(f"{error}: run clients/build, or set FCBENCH_SO to the file libfcbench.so") from None
+        raise ImportError(f"{error}: run callers/build, or set FCBENCH_SO to the file libfcbench.so") from None
     text = [ctypes.c_char_p, ctypes.c_size_t]
     room = [ctypes.c_char_p, ctypes.c_size_t, ctypes.POINTER(ctypes.c_size_t)]
     steps = [ctypes.c_uint32]
@@ -110,6 +110,6 @@ def refute(history, reasons, steps=STEPS):
 
 
 def verify(history, evidence, steps=STEPS):
-    """Checks evidence from anybody, and judges a history by what it shows. A search for which it names no number of steps takes at most this many."""
+    """Checks evidence from any source, and judges a history by what it shows. A search for which it names no number of steps takes at most this many."""
     text, claims = _bytes(history), _bytes(evidence)
     return _whole(_C.fcbench_verify, text, len(text), claims, len(claims), steps)

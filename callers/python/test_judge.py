@@ -68,7 +68,7 @@ class Calls(unittest.TestCase):
         self.assertEqual(ran.returncode, 1)
         last = ran.stderr.splitlines()[-1]
         self.assertTrue(last.startswith("ImportError: ") and f"{here}/no.so" in last, last)
-        self.assertTrue(last.endswith(": run clients/build, or set FCBENCH_SO to the file libfcbench.so"), last)
+        self.assertTrue(last.endswith(": run callers/build, or set FCBENCH_SO to the file libfcbench.so"), last)
 
     def test_malformed(self):
         self.assertEqual(fcbench.judge("{:process 0"), (Verdict.MALFORMED, "malformed history: E2 at byte 11\n"))

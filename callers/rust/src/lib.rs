@@ -211,18 +211,18 @@ pub fn refute_into(history: &[u8], reasons: &[u8], steps: u32, out: &mut [u8]) -
     })
 }
 
-/// Checks evidence from anybody, and judges a history by what it shows.
+/// Checks evidence from any source, and judges a history by what it shows.
 pub fn verify(history: impl AsRef<[u8]>, evidence: impl AsRef<[u8]>) -> Answer {
     verify_with_steps(history, evidence, STEPS)
 }
 
-/// Checks evidence from anybody, and judges a history by what it shows. A search for which the evidence names no number of steps takes
+/// Checks evidence from any source, and judges a history by what it shows. A search for which the evidence names no number of steps takes
 /// at most `steps` steps.
 pub fn verify_with_steps(history: impl AsRef<[u8]>, evidence: impl AsRef<[u8]>, steps: u32) -> Answer {
     whole(|out| verify_into(history.as_ref(), evidence.as_ref(), steps, out))
 }
 
-/// Checks evidence from anybody, judges a history by what it shows, and writes the lines into `out`. Where it is too small they are cut.
+/// Checks evidence from any source, judges a history by what it shows, and writes the lines into `out`. Where it is too small they are cut.
 /// Also gives how long all lines are.
 #[must_use]
 pub fn verify_into(history: &[u8], evidence: &[u8], steps: u32, out: &mut [u8]) -> (Verdict, usize) {

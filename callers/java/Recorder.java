@@ -1,0 +1,337 @@
+import java.util.ArrayList;
+import java.util.Comparator;
+import java.util.HashMap;
+import java.util.HashSet;
+import java.util.List;
+import java.util.Map;
+import java.util.Set;
+import java.util.concurrent.atomic.AtomicLong;
+import java.util.function.Supplier;
+
+/**
+ * Records the calls of threads on concurrent objects, as a history for fcbench. Copy this file. Needs Java 11.
+ *
+ * <pre>
+ * Recorder recorder = new Recorder();
+ * List&lt;Recorder.Journal&gt; journals = List.of(recorder.journal(), recorder.journal()); // before the threads, one for each
+ * // in a thread, which has its journal:
+ * journal.run("enqueue", 7, () -&gt; queue.add(7L));
+ * journal.call("dequeue", null, () -&gt; queue.poll());
+ * // after the threads have ended:
+ * String text = recorder.history(journals);
+ * </pre>
+ *
+ * An argument or a reply is null, false, a Byte, Short, Integer or Long, or a pair of numbers, which {@link #pair} makes.
+ *
+ * <p>An atomic counter gives a ticket before each call and one after it. A thread writes into its own journal and takes no lock. The
+ * events in the order of their tickets are the history: where one call returned before another was invoked in the history, it did so
+ * in fact. So a history that is not linearizable shows that the object is not.
+ *
+ * <p>Calls that never overlap show no fault. So after one ticket of an invocation in eight the thread yields, which leaves room for
+ * another thread: {@code new Recorder(false)} turns this off. {@link #overlap} says how much the calls of the journals overlapped.
+ *
+ * <p>A journal that is not handed to {@link #history} takes its calls with it: it throws IllegalStateException then.
+ *
+ * <p>The reply of enqueue, push, insert and write is their argument, and that of acquire and release is null: such calls are made by
+ * {@code run}, which drops what they give, as the boolean of {@code add}. The reply of cas is its pair where it swapped, else false.
+ * That of put and del is what was there before, or null where nothing was: a store that does not tell it has no put, and each of its
+ * keys is a register.
+ *
+ * <p>What a call was may be known only when it has returned, as putIfAbsent, which is a put or a get. Invoke it as the put, since if it
+ * times out, it may have put, and end it with {@code returnedAs("put", pair(k, v), null)} or {@code returnedAs("get", k, found)}. A
+ * getAndIncrement that found n is {@code returnedAs("cas", pair(n, n + 1), pair(n, n + 1))}. Invoke it as a cas of any pair: returnedAs
+ * sets the right one. If one times out, end the round and leave the history out: its n is not known, and a right counter could get a no.
+ *
+ * <p>A call that does not return, as one that throws or times out, may have happened: its operation ends with :info, and the journal
+ * goes on as a new process, as Jepsen's threads do. Use {@code failed} and {@link Failed} only where the call definitely did not happen: if a
+ * call that timed out is written as failed, a correct queue gets a no.
+ */
+public final class Recorder {
+    /** A thread yields after one ticket of an invocation in this many. */
+    private static final int CALLS_TO_A_YIELD = 8;
+
+    /** No reply was given. */
+    private static final Object NOT_GIVEN = new Object();
+
+    private final AtomicLong tickets = new AtomicLong(), processes = new AtomicLong();
+    private final boolean yields;
+
+    /** A recorder whose threads yield now and then between the ticket of an invocation and the call. */
+    public Recorder() {
+        this(true);
+    }
+
+    public Recorder(boolean yields) {
+        this.yields = yields;
+    }
+
+    /** The call definitely did not happen. */
+    public static class Failed extends RuntimeException {
+        private static final long serialVersionUID = 1L;
+
+        public Failed(String message) {
+            super(message);
+        }
+    }
+
+    /** The argument of put, a key and a value, and that of cas, what is expected and what is new. */
+    public static Object pair(long first, long second) {
+        return List.of(first, second);
+    }
+
+    private static final class Event {
+        final long ticket, process;
+        final int object;
+        final String kind;
+        String function;
+        Object value;
+
+        Event(long ticket, long process, int object, String kind, String function, Object value) {
+            this.ticket = ticket;
+            this.process = process;
+            this.object = object;
+            this.kind = kind;
+            this.function = function;
+            this.value = value;
+        }
+
+        boolean isOk() {
+            return kind.equals("ok");
+        }
+
+        /** Whether the reply of the function is its argument. */
+        boolean isPut() {
+            return Set.of("enqueue", "push", "insert", "write").contains(function);
+        }
+
+        /** Whether the reply of the function is nil. */
+        boolean isLock() {
+            return Set.of("acquire", "release").contains(function);
+        }
+
+        void appendTo(StringBuilder text) {
+            text.append("{:process ").append(process).append(", :type :").append(kind).append(", :f :").append(function);
+            text.append(", :value ").append(textOf(value)).append(", :object ").append(object).append("}\n");
+        }
+    }
+
+    private static String textOf(Object value) {
+        if (value == null || value == NOT_GIVEN) {
+            return "nil";
+        }
+        if (Boolean.FALSE.equals(value) || value instanceof Byte || value instanceof Short || value instanceof Integer || value instanceof Long) {
+            return value.toString();
+        }
+        if (value instanceof List && ((List<?>) value).size() == 2) {
+            return "[" + textOf(((List<?>) value).get(0)) + " " + textOf(((List<?>) value).get(1)) + "]";
+        }
+        throw new IllegalStateException(value + " is no argument or reply: give a number, a pair, false or null, or use run");
+    }
+
+    /** A number that looks drawn, for each ticket. */
+    private static long mixed(long ticket) {
+        return ticket * 0x9E3779B97F4A7C15L >>> 32;
+    }
+
+    /** What one thread did. */
+    public final class Journal {
+        private final List<Event> events = new ArrayList<>();
+        private long process = processes.getAndIncrement();
+        private boolean isPending;
+
+        private Journal() {}
+
+        private Recorder recorder() {
+            return Recorder.this;
+        }
+
+        /** Makes the call on object 0, and records it: act makes it and gives its reply. */
+        public <T> T call(String function, Object argument, Supplier<T> act) {
+            return callOn(0, function, argument, act);
+        }
+
+        /** Makes a call on an object, and records it. Where act throws Failed, it definitely did not happen. */
+        public <T> T callOn(int object, String function, Object argument, Supplier<T> act) {
+            invoke(object, function, argument);
+            T reply = done(act);
+            returned(reply);
+            return reply;
+        }
+
+        /** Makes the call on object 0, and records it. Its reply is known: what act gives is dropped. */
+        public void run(String function, Object argument, Runnable act) {
+            runOn(0, function, argument, act);
+        }
+
+        /** The same on an object. */
+        public void runOn(int object, String function, Object argument, Runnable act) {
+            invoke(object, function, argument);
+            done(() -> {
+                act.run();
+                return null;
+            });
+            end("ok", NOT_GIVEN);
+        }
+
+        private <T> T done(Supplier<T> act) {
+            try {
+                return act.get();
+            } catch (Failed failed) {
+                failed();
+                throw failed;
+            } catch (RuntimeException | Error error) {
+                gaveUp();
+                throw error;
+            }
+        }
+
+        /**
+         * Call it just before a call, where call and run do not suit. Then call one of returned, failed and gaveUp; where there is none
+         * before the next invoke, it is gaveUp.
+         */
+        public void invoke(int object, String function, Object argument) {
+            if (isPending) {
+                gaveUp();
+            }
+            isPending = true;
+            long ticket = tickets.getAndIncrement();
+            events.add(new Event(ticket, process, object, "invoke", function, argument));
+            if (yields && mixed(ticket) % CALLS_TO_A_YIELD == 0) {
+                Thread.yield();
+            }
+        }
+
+        /** Call it just after the call returned, with its reply, which may be null. */
+        public void returned(Object reply) {
+            end("ok", reply);
+        }
+
+        /** As returned, where it is known only now what the call was: its invocation is written with this function and argument. */
+        public void returnedAs(String function, Object argument, Object reply) {
+            end("ok", reply);
+            Event call = events.get(events.size() - 2);
+            call.function = function;
+            call.value = argument;
+            events.get(events.size() - 1).function = function;
+        }
+
+        /** Call it only where the call definitely did not happen: it is written with :fail. A timeout is gaveUp. */
+        public void failed() {
+            end("fail", null);
+        }
+
+        /**
+         * Call it where the call may have happened, or may still happen, as after a timeout: it is written with :info, and what follows is
+         * of another process.
+         */
+        public void gaveUp() {
+            end("info", null);
+            process = processes.getAndIncrement();
+        }
+
+        /** The ticket of a return is drawn first. */
+        private void end(String kind, Object reply) {
+            if (!isPending) {
+                throw new IllegalStateException("no call is outstanding");
+            }
+            long ticket = tickets.getAndIncrement();
+            Event call = events.get(events.size() - 1);
+            boolean isArgument = kind.equals("info") || kind.equals("ok") && (reply == null || reply == NOT_GIVEN) && call.isPut();
+            events.add(new Event(ticket, process, call.object, kind, call.function, isArgument ? call.value : reply));
+            isPending = false;
+        }
+
+        /** Throws where the reply of a call is missing, or is to be its argument and is not. */
+        private void wantReplies() {
+            for (int at = 1; at < events.size(); at++) {
+                Event call = events.get(at - 1), end = events.get(at);
+                if (end.isOk() && end.value == NOT_GIVEN && !end.isLock()) {
+                    throw new IllegalStateException(end.function + " was given no reply: use call, and give null where nothing was there");
+                }
+                if (end.isOk() && end.isPut() && !textOf(end.value).equals(textOf(call.value))) {
+                    throw new IllegalStateException(end.function + " replied " + textOf(end.value) + " and not its argument "
+                        + textOf(call.value) + ": use run");
+                }
+            }
+        }
+    }
+
+    /** A journal for one thread. */
+    public Journal journal() {
+        return new Journal();
+    }
+
+    /**
+     * The history, after all threads have ended: each event at the place of its ticket. It takes each journal of this recorder once, also
+     * those of a history that it made before: without the calls of one of them a correct object could get a no.
+     */
+    public String history(List<Journal> journals) {
+        for (Journal journal : journals) {
+            if (journal.recorder() != this) {
+                throw new IllegalStateException("a journal of another recorder was handed in");
+            }
+            if (journal.isPending) {
+                journal.gaveUp();
+            }
+            journal.wantReplies();
+        }
+        if (new HashSet<>(journals).size() < journals.size()) {
+            throw new IllegalStateException("a journal was handed in twice");
+        }
+        List<Event> events = eventsOf(journals);
+        long missing = tickets.get() - events.size();
+        if (missing != 0) {
+            throw new IllegalStateException(missing + " events are missing: a journal was not handed in, or this recorder already made a history");
+        }
+        StringBuilder text = new StringBuilder();
+        events.forEach(event -> event.appendTo(text));
+        return text.toString();
+    }
+
+    private static List<Event> eventsOf(List<Journal> journals) {
+        List<Event> events = new ArrayList<>();
+        journals.forEach(journal -> events.addAll(journal.events));
+        events.sort(Comparator.comparingLong(event -> event.ticket));
+        return events;
+    }
+
+    /** How much calls overlapped. */
+    public static final class Overlap {
+        /** Which share of the calls overlapped another one, from 0 to 1. Where it is small, the history could hardly have failed. */
+        public final double share;
+        /** How many calls were outstanding at once at most. */
+        public final int atOnce;
+
+        Overlap(double share, int atOnce) {
+            this.share = share;
+            this.atOnce = atOnce;
+        }
+
+        @Override
+        public String toString() {
+            return String.format("%.0f %% of the calls overlap another one, at most %d at once", 100 * share, atOnce);
+        }
+    }
+
+    /** How much the calls of these journals overlapped. */
+    public static Overlap overlap(List<Journal> journals) {
+        int calls = 0, atOnce = 0;
+        Map<Long, Long> outstanding = new HashMap<>();
+        Set<Long> overlapping = new HashSet<>();
+        for (Event event : eventsOf(journals)) {
+            if (!event.kind.equals("invoke")) {
+                outstanding.remove(event.process);
+                continue;
+            }
+            calls++;
+            outstanding.put(event.process, event.ticket);
+            atOnce = Math.max(atOnce, outstanding.size());
+            if (outstanding.size() == 2) {
+                overlapping.addAll(outstanding.values());
+            } else if (outstanding.size() > 2) {
+                overlapping.add(event.ticket);
+            }
+        }
+        return new Overlap(calls == 0 ? 0 : (double) overlapping.size() / calls, atOnce);
+    }
+}

@@ -1,0 +1,288 @@
+import java.nio.charset.StandardCharsets;
+import java.nio.file.Files;
+import java.nio.file.Path;
+import java.util.ArrayList;
+import java.util.List;
+import java.util.Map;
+import java.util.Queue;
+import java.util.Set;
+import java.util.concurrent.ConcurrentHashMap;
+import java.util.concurrent.ConcurrentLinkedQueue;
+import java.util.concurrent.CyclicBarrier;
+import java.util.concurrent.atomic.AtomicLong;
+
+/**
+ * Drives a ConcurrentLinkedQueue and a queue with a race by 4 threads, records them, and lets the program judge the histories.
+ *
+ * <pre>java RecorderTest PROGRAM RUNS FOLDER</pre>
+ */
+public final class RecorderTest {
+    private static final int THREADS = 4, CALLS = 50, MOST_OPERATIONS = 5, MOST_TURNS = 2000;
+    /** Of the calls of a right queue on 4 processors, this share overlap another one. */
+    private static final double LEAST_OVERLAP = 0.5;
+
+    private static String program;
+    private static Path folder;
+
+    private static void want(boolean holds, String what, Object said) {
+        if (!holds) {
+            System.err.println("RecorderTest: " + what + "\n" + said);
+            System.exit(1);
+        }
+    }
+
+    private interface Ends {
+        void add(long value);
+
+        Long poll();
+    }
+
+    /** The poll of this queue looks at the head and removes it in two steps: another thread may take the same value in between. */
+    private static final class Racy implements Ends {
+        private final Queue<Long> values = new ConcurrentLinkedQueue<>();
+        private final AtomicLong inside = new AtomicLong();
+
+        @Override
+        public void add(long value) {
+            values.add(value);
+        }
+
+        @Override
+        public Long poll() {
+            Long head = values.peek();
+            inside.incrementAndGet();
+            for (int turn = 0; head != null && turn < MOST_TURNS && inside.get() < 2; turn++) {
+                Thread.yield();
+            }
+            inside.decrementAndGet();
+            if (head != null) {
+                values.remove(head);
+            }
+            return head;
+        }
+    }
+
+    private static final class Right implements Ends {
+        private final ConcurrentLinkedQueue<Long> values = new ConcurrentLinkedQueue<>();
+
+        @Override
+        public void add(long value) {
+            values.add(value);
+        }
+
+        @Override
+        public Long poll() {
+            return values.poll();
+        }
+    }
+
+    private static void work(Ends queue, Recorder.Journal journal, int client) {
+        for (int i = 0; i < CALLS; i++) {
+            long value = client * CALLS + i;
+            if (i % 2 == 0) {
+                journal.run("enqueue", value, () -> queue.add(value));
+            } else {
+                journal.call("dequeue", null, queue::poll);
+            }
+        }
+    }
+
+    private static List<Recorder.Journal> record(Recorder recorder, Ends queue) throws Exception {
+        List<Recorder.Journal> journals = new ArrayList<>();
+        List<Thread> threads = new ArrayList<>();
+        CyclicBarrier begin = new CyclicBarrier(THREADS);
+        for (int client = 0; client < THREADS; client++) {
+            journals.add(recorder.journal());
+        }
+        for (int client = 0; client < THREADS; client++) {
+            int own = client;
+            threads.add(new Thread(() -> {
+                try {
+                    begin.await();
+                } catch (Exception error) {
+                    throw new IllegalStateException(error);
+                }
+                work(queue, journals.get(own), own);
+            }));
+        }
+        threads.forEach(Thread::start);
+        for (Thread thread : threads) {
+            thread.join();
+        }
+        return journals;
+    }
+
+    private static final class Answer {
+        final int status;
+        final List<String> lines;
+
+        Answer(int status, List<String> lines) {
+            this.status = status;
+            this.lines = lines;
+        }
+    }
+
+    private static Answer judge(String history) throws Exception {
+        Path file = folder.resolve("java.history.edn"), said = folder.resolve("java.said");
+        Files.write(file, history.getBytes(StandardCharsets.UTF_8));
+        Process judged = new ProcessBuilder(program, "judge", file.toString()).redirectOutput(said.toFile()).start();
+        return new Answer(judged.waitFor(), Files.readAllLines(said));
+    }
+
+    private static void rightQueues(int runs) throws Exception {
+        double shares = 0;
+        for (int run = 0; run < runs; run++) {
+            Recorder recorder = new Recorder();
+            List<Recorder.Journal> journals = record(recorder, new Right());
+            Answer answer = judge(recorder.history(journals));
+            want(answer.status == 0, "a ConcurrentLinkedQueue is linearizable", answer.lines);
+            shares += Recorder.overlap(journals).share;
+        }
+        want(shares > LEAST_OVERLAP * runs, "calls overlap", shares / runs);
+    }
+
+    private static void races(int runs) throws Exception {
+        for (int run = 0; run < runs; run++) {
+            Recorder recorder = new Recorder();
+            Answer answer = judge(recorder.history(record(recorder, new Racy())));
+            long operations = answer.lines.stream().filter(line -> line.contains(": process ")).count();
+            want(answer.status == 1, "a queue with a race is refuted", answer.lines);
+            want(0 < operations && operations <= MOST_OPERATIONS, "by a reason of few operations", answer.lines);
+        }
+    }
+
+    private static void wantText(Recorder recorder, Recorder.Journal journal, String wanted, String what) throws Exception {
+        String text = recorder.history(List.of(journal));
+        want(text.equals(wanted), what, text);
+        want(judge(text).status == 0, what + ": it is linearizable", text);
+    }
+
+    private static void steps() throws Exception {
+        Recorder recorder = new Recorder();
+        Recorder.Journal journal = recorder.journal();
+        journal.invoke(0, "enqueue", 7);
+        journal.gaveUp();
+        journal.invoke(0, "enqueue", 8);
+        journal.failed();
+        journal.run("enqueue", 9, () -> {});
+        journal.call("dequeue", null, () -> 7);
+        journal.runOn(1, "acquire", null, () -> {});
+        wantText(recorder, journal, "{:process 0, :type :invoke, :f :enqueue, :value 7, :object 0}\n"
+            + "{:process 0, :type :info, :f :enqueue, :value 7, :object 0}\n"
+            + "{:process 1, :type :invoke, :f :enqueue, :value 8, :object 0}\n"
+            + "{:process 1, :type :fail, :f :enqueue, :value nil, :object 0}\n"
+            + "{:process 1, :type :invoke, :f :enqueue, :value 9, :object 0}\n"
+            + "{:process 1, :type :ok, :f :enqueue, :value 9, :object 0}\n"
+            + "{:process 1, :type :invoke, :f :dequeue, :value nil, :object 0}\n"
+            + "{:process 1, :type :ok, :f :dequeue, :value 7, :object 0}\n"
+            + "{:process 1, :type :invoke, :f :acquire, :value nil, :object 1}\n"
+            + "{:process 1, :type :ok, :f :acquire, :value nil, :object 1}\n", "calls in steps");
+    }
+
+    private static void callsThatAreKnownWhenTheyReturned() throws Exception {
+        Recorder recorder = new Recorder(false);
+        Recorder.Journal journal = recorder.journal();
+        Map<Long, Long> map = new ConcurrentHashMap<>();
+        for (long value : List.of(5L, 6L)) {
+            journal.invoke(0, "put", Recorder.pair(1, value));
+            Long found = map.putIfAbsent(1L, value);
+            if (found == null) {
+                journal.returnedAs("put", Recorder.pair(1, value), null);
+            } else {
+                journal.returnedAs("get", 1, found);
+            }
+        }
+        AtomicLong counter = new AtomicLong(3);
+        journal.runOn(1, "write", 3, () -> {});
+        journal.invoke(1, "cas", Recorder.pair(0, 1));
+        long n = counter.getAndIncrement();
+        journal.returnedAs("cas", Recorder.pair(n, n + 1), Recorder.pair(n, n + 1));
+        wantText(recorder, journal, "{:process 0, :type :invoke, :f :put, :value [1 5], :object 0}\n"
+            + "{:process 0, :type :ok, :f :put, :value nil, :object 0}\n"
+            + "{:process 0, :type :invoke, :f :get, :value 1, :object 0}\n"
+            + "{:process 0, :type :ok, :f :get, :value 5, :object 0}\n"
+            + "{:process 0, :type :invoke, :f :write, :value 3, :object 1}\n"
+            + "{:process 0, :type :ok, :f :write, :value 3, :object 1}\n"
+            + "{:process 0, :type :invoke, :f :cas, :value [3 4], :object 1}\n"
+            + "{:process 0, :type :ok, :f :cas, :value [3 4], :object 1}\n", "calls that are known when they returned");
+    }
+
+    /** A set is a map in which the value of each element is 1. */
+    private static void aSet() throws Exception {
+        Recorder recorder = new Recorder(false);
+        Recorder.Journal journal = recorder.journal();
+        Set<Long> set = ConcurrentHashMap.newKeySet();
+        journal.call("put", Recorder.pair(7, 1), () -> set.add(7L) ? null : 1);
+        journal.call("get", 7, () -> set.contains(7L) ? 1 : null);
+        for (long key : List.of(7L, 7L)) { // at first it is there
+            journal.call("put", Recorder.pair(key, 1), () -> set.add(key) ? null : 1);
+            journal.call("del", key, () -> set.remove(key) ? 1 : null);
+            journal.call("get", key, () -> set.contains(key) ? 1 : null);
+        }
+        journal.call("del", 7, () -> set.remove(7L) ? 1 : null);
+        Answer answer = judge(recorder.history(List.of(journal)));
+        want(answer.lines.get(0).equals("yes: 9 operations, 1 objects"), "a set is linearizable", answer.lines);
+    }
+
+    private static String messageOf(Runnable act) {
+        try {
+            act.run();
+        } catch (IllegalStateException error) {
+            return error.getMessage();
+        }
+        return "nothing is thrown";
+    }
+
+    private static void refusals() {
+        Recorder recorder = new Recorder();
+        Recorder.Journal lost = recorder.journal(), kept = recorder.journal();
+        lost.run("enqueue", 7, () -> {});
+        lost.invoke(0, "enqueue", 8);
+        kept.call("dequeue", null, () -> 7);
+        String missing = messageOf(() -> recorder.history(List.of(kept)));
+        want(missing.equals("3 events are missing: a journal was not handed in, or this recorder already made a history"), "a lost journal", missing);
+        String other = messageOf(() -> new Recorder().history(List.of(kept)));
+        want(other.equals("a journal of another recorder was handed in"), "another recorder", other);
+        Recorder adds = new Recorder();
+        Recorder.Journal journal = adds.journal();
+        journal.call("enqueue", 7, () -> 2);
+        String length = messageOf(() -> adds.history(List.of(journal)));
+        want(length.equals("enqueue replied 2 and not its argument 7: use run"), "a reply that is not the argument", length);
+        Recorder puts = new Recorder();
+        Recorder.Journal blind = puts.journal();
+        blind.run("put", Recorder.pair(1, 2), () -> {});
+        String none = messageOf(() -> puts.history(List.of(blind)));
+        want(none.equals("put was given no reply: use call, and give null where nothing was there"), "a reply that is not given", none);
+        Recorder words = new Recorder();
+        Recorder.Journal word = words.journal();
+        word.call("read", null, () -> "seven");
+        String text = messageOf(() -> words.history(List.of(word)));
+        want(text.equals("seven is no argument or reply: give a number, a pair, false or null, or use run"), "a word", text);
+    }
+
+    private static void overlap() {
+        Recorder recorder = new Recorder();
+        Recorder.Journal one = recorder.journal(), other = recorder.journal();
+        one.run("enqueue", 1, () -> {});
+        one.invoke(0, "enqueue", 2);
+        other.run("enqueue", 3, () -> one.returned(null));
+        one.invoke(0, "enqueue", 4);
+        other.invoke(0, "enqueue", 5);
+        Recorder.Overlap found = Recorder.overlap(List.of(one, other));
+        want(found.share == 0.8 && found.atOnce == 2, "four of five calls overlap", found.share);
+    }
+
+    public static void main(String[] words) throws Exception {
+        program = words[0];
+        int runs = Integer.parseInt(words[1]);
+        folder = Path.of(words[2]);
+        steps();
+        callsThatAreKnownWhenTheyReturned();
+        refusals();
+        overlap();
+        aSet();
+        rightQueues(runs);
+        races(runs);
+        System.out.println("RecorderTest: passed, " + runs + " runs of each");
+    }
+}
