@@ -47,7 +47,7 @@ are_read r ds e h = subst (λ (o : Option CertFault). IsReadOrFaulty o ds r.cert
 one_each : (ds : List Datum) (cs : List Certificate) → Denotes ds cs → length ds ≡ length cs
 one_each ds cs h = sym (length-map ds certificate_of) ∙ ap length h.each ∙ length-map cs (λ c. Some (reading_of c))
 
--- what is wrong with the form after those that were read, or that memory was refused for it
+-- what is wrong with the form after those that were read, or that an allocation failed for it
 pub found : (ds : List Datum) (cs : List Certificate) (among : ℕ → Bool) (d : Datum) (kind : CertFaultKind) → AreRead ds cs among
     → IsFaultAmong among d kind → IsFoundIn (ds ++ d ∷ []) (record { kind = kind; form = length cs })
 found ds cs among d kind h fault = (

@@ -27,9 +27,6 @@ one_more zs z text mid own behind a s b =
     subst (λ (ts : List Token). BeginWith ts text behind) (sym (numbers_more zs z))
     (both_begin (numbers_tokens zs) (leaf (atom (integer z)) ∷ []) text mid behind a (after_one 32 (leaf (atom (integer z))) [] mid own behind refl s b))
 
-pub number_shorter : (t : Token) (mid own behind : List ℕ) → (mid ≡ own) ⊎ (mid ≡ 32 ∷ own) → BeginWith (t ∷ []) own behind → length behind < length mid
-number_shorter t mid own behind s b = begin_shorter (t ∷ []) mid behind (λ e. absurd cc) (after_one 32 t [] mid own behind refl s b)
-
 -- the bracket that closes it
 pub order_ends : (zs : List ℤ) (text mid own rest : List ℕ) → BeginWith (numbers_tokens zs) text mid → (mid ≡ own) ⊎ (mid ≡ 32 ∷ own) → own ≡ 93 ∷ rest → ReadsOrder text zs rest
 order_ends zs text mid own rest a s q =

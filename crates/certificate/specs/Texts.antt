@@ -14,12 +14,12 @@ use Rattle.certificate.specs.declared.text_reader.Reading.{Reading}
 use Rattle.certificate.specs.Faults.{IsFirstFault, IsSoundAt}
 use Rattle.certificate.specs.Inside.{AreRead, has}
 
--- The first fault of the forms; or memory was refused for one of them, and up to it and with it
+-- The first fault of the forms; or an allocation failed for one of them, and up to it and with it
 -- there is none.
 abbrev pub IsFoundIn : List Datum → CertFault → Type 0
 IsFoundIn ds f = (f.kind ≢ NoMemory → IsFirstFault ds f) × (f.kind ≡ NoMemory → IsSoundAt ds f.form)
 
--- The text is unreadable, or memory was refused for a token; or it is short and spells forms in
+-- The text is unreadable, or an allocation failed for a token; or it is short and spells forms in
 -- which this was found.
 abbrev pub IsTextFault : List ℕ → CertTextFault → Type 0
 IsTextFault text (Text e) =

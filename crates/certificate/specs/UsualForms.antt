@@ -1,4 +1,4 @@
--- What the straight reader finds at the front of a text.
+-- What the usual reader finds at the front of a text.
 use Rattle.std.specs.Prelude.{◌≡◌, ℕ, ℤ, List, [], ◌∷◌, ◌++◌, Some, map}
 use Rattle.std.specs.Str.{IsUtf8}
 use Rattle.edn_reader.specs.Datum.{integer, Datum, atom, items_of}

@@ -11,7 +11,7 @@ pub enum CertFaultKind {
     NotACertificate,
     /// K2: an earlier form is a certificate of the same object.
     TwoForOneObject,
-    /// K3: memory was refused.
+    /// K3: an allocation failed.
     NoMemory,
 }
 

@@ -82,7 +82,7 @@ fn parts_in(form: &Form) -> Option<(u32, &[Form])>
 
 /// The certificate that a form is, if it is one.
 ///
-/// An error: memory was refused for its order.
+/// An error: an allocation failed for its order.
 pub fn certificate_in(alloc: Global, form: &Form) -> Result<Option<Certificate>, AllocError>
     ensures { IfOk result (λ o. option_map spec.reading_of o ≡ spec.certificate_of (view form.now)) }
 {

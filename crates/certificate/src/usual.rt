@@ -45,7 +45,7 @@ fn push(numbers: &mut Vec<i64>, number: i64) -> Result<(), AllocError>
 }
 
 /// The integers of an order after its bracket, and what follows the bracket that closes it. There
-/// may be a space before each of them. Where memory is refused there is none.
+/// may be a space before each of them. Where an allocation fails there is none.
 fn order_after(alloc: Global, text: &[u8]) -> Option<(Vec<i64>, &[u8])>
     ensures { IfSome result (λ x. ReadsOrder text.entry.now x.0.items x.1.now) }
 {
@@ -66,8 +66,8 @@ fn order_after(alloc: Global, text: &[u8]) -> Option<(Vec<i64>, &[u8])>
 
 /// The certificate at the front, and what follows it. Its keys are the object and the order, with a
 /// comma and a space between them. One that is written in another way may be well formed, and is
-/// none here; and where memory is refused for the order there is none.
-pub fn usual_certificate(alloc: Global, text: &[u8]) -> Option<(Certificate, &[u8])>
+/// none here; and where an allocation fails for the order there is none.
+pub(crate) fn usual_certificate(alloc: Global, text: &[u8]) -> Option<(Certificate, &[u8])>
     requires { IsUtf8 text.now }
     ensures { IfSome result (λ x. ReadsUsual text.entry.now x.0 x.1.now) }
 {

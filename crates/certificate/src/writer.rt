@@ -3,7 +3,7 @@
 ghost use Rattle.std.specs.Prelude.{◌≡◌, ◌++◌, false, true, codes, OnOk, IfErr};
 ghost use Rattle.std.specs.Fmt.{signed_decimal};
 ghost use Rattle.std.specs.List.{AllByRecursion};
-ghost use Rattle.byte_streams.specs.Sent.{Writes};
+ghost use Rattle.edn.specs.Sent.{Writes};
 ghost use Rattle.edn_reader.specs.Text.{between, IsInt64};
 ghost use Rattle.certificate.specs.Denotes.{AreDistinct};
 ghost use Rattle.certificate.specs.Lines as text;

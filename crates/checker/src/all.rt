@@ -27,7 +27,7 @@ pub fn places(alloc: Global, certificates: &[Certificate]) -> Result<NumberMap<u
 }
 
 /// Checks the certificate of one object, which stands at the object's place.
-pub fn check_piece(
+pub fn check_object_at(
     alloc: Global,
     object: &ObjectHistory,
     places: &NumberMap<usize>,
@@ -112,7 +112,7 @@ pub fn check_all(
         return Err(Refusal::NoMemory);
     };
     for object in &objects {
-        check_piece(alloc, object, &places, certificates)?;
+        check_object_at(alloc, object, &places, certificates)?;
     }
     match strange_object(&objects, places, certificates) {
         Some(object) => Err(Refusal::StrangeObject { object }),

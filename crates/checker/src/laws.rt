@@ -19,7 +19,7 @@ pub fn one_first_fault()
 {}
 
 /// Certificates of different objects have one first refusal at most. So two checks of the same
-/// certificates, as `check_all` and `check_parallel`, have one answer. Where memory was refused
+/// certificates, as `check_all` and `check_parallel`, have one answer. Where an allocation failed
 /// nothing is said.
 pub fn one_first_refusal()
     ensures refusal { (events : List Event) (certificates : List Certificate)

@@ -43,7 +43,7 @@ fn nearby_place(ops: &[Invocation], entry: i64, near: usize) -> Option<usize>
 
 /// The place of the operation with this number, if there is one that did not fail. It is looked for
 /// near this place first.
-pub fn place_of(ops: &[Invocation], entry: i64, near: usize) -> Option<usize>
+pub(crate) fn place_of(ops: &[Invocation], entry: i64, near: usize) -> Option<usize>
     requires { AllPairs (λ a b. a.number < b.number) ops.now }
     ensures some { IfSome result (λ k. (k < length ops.now)
         × ((c : Call) × (call_named (calls_of ops.now) entry ≡ Some c)

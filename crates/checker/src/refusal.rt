@@ -28,6 +28,6 @@ pub enum Refusal {
     StrangeObject { object: u32 },
     /// The object's order has this fault.
     BadOrder { object: u32, fault: OrderFault },
-    /// C8: memory was refused.
+    /// C8: an allocation failed.
     NoMemory,
 }

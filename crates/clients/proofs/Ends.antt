@@ -1,5 +1,6 @@
 -- How a run begins and ends.
-use Rattle.std.proofs.Common.{◌≡◌, ◌≢◌, ℕ, zero, suc, ◌+◌, ◌<◌, ◌≤◌, List, [], ◌∷◌, ◌++◌, length, map, take, get_or, All, refl, sym, ap, ◌∙◌, subst, arith}
+use Rattle.std.proofs.Common.{◌≡◌, ◌≢◌, ℕ, zero, suc, ◌+◌, ◌<◌, ◌≤◌, List, [], ◌∷◌, ◌++◌, length, map, take, get_or}
+use Rattle.std.proofs.Common.{All, refl, sym, ap, ◌∙◌, subst, arith}
 use Rattle.std.proofs.lemmas.List.Elements.{All-contains, All-push}
 use Rattle.std.proofs.lemmas.List.{take_more, map-append}
 use Rattle.model.specs.declared.AnyOp.{AnyOp}
@@ -11,44 +12,26 @@ use Rattle.model.proofs.Objects.{kind_of_empty}
 use Rattle.seq_objects.specs.declared.any_object.AnyObject.{AnyObject}
 use Rattle.seq_objects.specs.AnyContent.{content_of}
 use Rattle.desk_model.specs.Images.{entry_in, event_in}
-use Rattle.desk_model.specs.World.{AnyDone, AnyEntry, AnyEvent, StartsWith, journal_of}
+use Rattle.desk_model.specs.Limits.{max_calls}
+use Rattle.desk_model.specs.World.{AnyEntry, AnyEvent, StartsWith}
 use Rattle.desk_model.proofs.Entries.{starts_longer, starts_same, events_as_they_are, entries_as_they_are}
 use Rattle.desk_model.specs.Records.{IsSoundRecord}
 use Rattle.desk_invariant.specs.declared.board.Leaving.{Leaving}
-use Rattle.desk_invariant.specs.Views.{journal, end_notice, own_request, seen_of, IsAccount}
-use Rattle.publication.specs.Handles.{DeskId, DeskSeen, Known}
+use Rattle.desk_invariant.specs.Views.{journal, end_notice, seen_of, IsAccount}
+use Rattle.publication.specs.Handles.{DeskSeen, Known}
 use Rattle.recorder.specs.Records.{Recorded, journal_at, log_at}
-use Rattle.workload.specs.Workloads.{Work, Call, IsCall, calls_at}
-use Rattle.clients.specs.Made.{MadeOrStopped, MayWork, Worked, HasWorked, IsNew, IsDeskFor, IsDone, ClosedBy, HasMet, HasMadeNoCall, HasRun, HaveTold, Ran}
+use Rattle.clients.specs.Workloads.{Work, calls_at}
+use Rattle.clients.specs.Made.{MadeOrStopped, IsNew, IsDeskFor, IsDone, ClosedBy, HasMet}
+use Rattle.clients.specs.Made.{HasMadeNoCall, HasRun, HaveTold, Ran}
 
 -- a client that has made no call
-pub is_new : (d : DeskSeen) (w : Work) (n : ℕ) (k : Known) → HasMadeNoCall d.id n k → IsDeskFor d w → n < length w.calls → IsNew d w k
+pub is_new : (d : DeskSeen) (w : Work) (n : ℕ) (k : Known) → HasMadeNoCall d.id n k → IsDeskFor d w → n < length w.calls
+    → IsNew d w k
 is_new d w n k none desk low = record {
   desk = desk;
   low = subst (λ z. z < length w.calls) (sym none.number) low;
   none = record { desk = none.desk; number = refl; idle = none.idle; none = none.none };
 }
-
--- it may make its calls
-pub may_begin : (d : DeskSeen) (w : Work) (k : Known) (cs : List Call) → IsNew d w k → cs ≡ calls_at w k.knows.number → All (IsCall w.kinds) cs → length cs < 10001 → MayWork d k cs
-may_begin d w k cs n calls fit few = record {
-  desk = n.none.desk;
-  idle = n.none.idle;
-  room = subst (λ (t : List AnyDone × DeskId). length t.0 + length cs ≤ t.1.quota) (λ i. (sym n.none.none i, sym n.none.desk i))
-      (let q : length cs ≤ d.id.quota = subst (λ z. length z ≤ d.id.quota) (sym calls) (n.desk.quota k.knows.number n.low) in omega arith);
-  few = few;
-  fit = subst (λ z. All (IsCall z) cs) (sym n.desk.kinds) fit;
-}
-
--- and has made them
-pub has_worked : (d : DeskSeen) (w : Work) (k after : Known) (cs : List Call) → IsNew d w k → cs ≡ calls_at w k.knows.number → after.desk ≡ k.desk
-    → Worked cs k.knows after.knows → HasWorked d w k.knows.number after
-has_worked d w k after cs n calls desk v =
-    let none : journal k.knows ≡ [] = λ i. journal_of (n.none.none i) (own_request (n.none.idle i)) in record {
-      desk = desk ∙ n.none.desk;
-      number = v.number;
-      made = subst (λ z. MadeOrStopped z (journal after.knows)) calls (subst (MadeOrStopped cs) (sym (v.journal ∙ ap (λ z. z ++ v.events) none)) v.made);
-    }
 
 -- client 0 was told of the end of each that it has met
 pub have_told : (d : DeskSeen) (w : Work) (k : Known) → IsDone d w k → HaveTold d k
@@ -61,7 +44,8 @@ have_told d w k e c low other =
     above_zero (suc c) other = omega arith
 
 -- a quota that is greater allows for more tickets
-for_more : (kinds : List Kind) (q n : ℕ) (journals : ℕ → List AnyEvent) (logs : ℕ → List AnyEntry) → q ≤ n → IsSoundRecord kinds q journals logs → IsSoundRecord kinds n journals logs
+for_more : (kinds : List Kind) (q n : ℕ) (journals : ℕ → List AnyEvent) (logs : ℕ → List AnyEntry) → q ≤ n
+    → IsSoundRecord kinds q journals logs → IsSoundRecord kinds n journals logs
 for_more kinds q n journals logs more s = let few = s.few in record {
   count = s.count;
   tickets = s.tickets;
@@ -75,7 +59,8 @@ for_more kinds q n journals logs more s = let few = s.few in record {
   valid = s.valid;
 }
 
-module _ (d : DeskSeen) (w : Work) (k : Known) (r : Recorded AnyOp AnyReply) (desk : IsDeskFor d w) (done : IsDone d w k) (closed : ClosedBy d k r) where
+module _ (d : DeskSeen) (w : Work) (k : Known) (r : Recorded AnyOp AnyReply) (desk : IsDeskFor d w)
+    (done : IsDone d w k) (closed : ClosedBy d k r) where
   events : (n : ℕ) → map (event_in (λ (op : AnyOp). op) (λ (r : AnyReply). r)) (journal_at r n) ≡ journal_at r n
   events n = events_as_they_are (journal_at r n)
 
@@ -86,19 +71,23 @@ module _ (d : DeskSeen) (w : Work) (k : Known) (r : Recorded AnyOp AnyReply) (de
   number = done.worked.number
 
   own : journal_at r 0 ≡ journal k.knows
-  own = sym (events 0) ∙ (ap (λ n. map (event_in (λ (op : AnyOp). op) (λ (r : AnyReply). r)) (journal_at r n)) (sym number) ∙ closed.own)
+  own = sym (events 0)
+      ∙ (ap (λ n. map (event_in (λ (op : AnyOp). op) (λ (r : AnyReply). r)) (journal_at r n)) (sym number) ∙ closed.own)
 
   account : (x : ℕ) → IsAccount x k.knows (log_at r x)
   account x = subst (IsAccount x k.knows) (entries x) (closed.accounts x)
 
   begins : (x : ℕ) → x < length w.kinds → StartsWith (log_at r x) (seen_of k.knows x)
-  begins x low = subst (λ z. StartsWith z (seen_of k.knows x)) (entries x) (closed.seen x (subst (λ (ks : List Kind). x < length ks) (sym desk.kinds) low))
+  begins x low = subst (λ z. StartsWith z (seen_of k.knows x)) (entries x)
+      (closed.seen x (subst (λ (ks : List Kind). x < length ks) (sym desk.kinds) low))
 
   -- what the client that was met told of its end is recorded
   told : (c : ℕ) (m : HasMet w k.knows c) → journal_at r c ≡ journal m.other
   told c m =
-      let journals : ℕ → List AnyEvent = λ n. map (event_in (λ (op : AnyOp). op) (λ (r : AnyReply). r)) (journal_at r n) in
-      let left = All-contains (λ (l : Leaving). journals l.client ≡ l.journal) k.knows.left (end_notice m.other) closed.left m.told in
+      let journals : ℕ → List AnyEvent = λ n. map (event_in (λ (op : AnyOp). op) (λ (r : AnyReply). r))
+      (journal_at r n) in
+      let left = All-contains (λ (l : Leaving). journals l.client ≡ l.journal) k.knows.left (end_notice m.other)
+      closed.left m.told in
       sym (events c) ∙ (ap journals (sym m.number) ∙ left)
 
   has_run : (c : ℕ) → c < length w.calls → HasRun w r k.knows c
@@ -107,15 +96,23 @@ module _ (d : DeskSeen) (w : Work) (k : Known) (r : Recorded AnyOp AnyReply) (de
     knew = k.knows;
     number = number;
     says = own;
-    met = λ x inside. record { seen = log_at r x; begins = starts_same (log_at r x); first = account x; second = account x };
+    met = λ x inside.
+        record { seen = log_at r x; begins = starts_same (log_at r x); first = account x; second = account x };
   }
-  has_run (suc c) low = let m = done.met (suc c) (omega arith) (subst (λ n. suc c < n) (sym desk.clients) low) in let says = told (suc c) m in record {
-    made = subst (MadeOrStopped (calls_at w (suc c))) (sym says) m.made;
-    knew = m.other;
-    number = m.number;
-    says = says;
-    met = λ x inside. let h = m.met x inside in record { seen = h.seen; begins = starts_longer (log_at r x) (seen_of k.knows x) h.seen (begins x inside) h.begins; first = h.first; second = h.second };
-  }
+  has_run (suc c) low = let m = done.met (suc c) (omega arith) (subst (λ n. suc c < n) (sym desk.clients) low) in
+      let says = told (suc c) m in record {
+        made = subst (MadeOrStopped (calls_at w (suc c))) (sym says) m.made;
+        knew = m.other;
+        number = m.number;
+        says = says;
+        met = λ x inside. let h = m.met x inside in
+            record {
+              seen = h.seen;
+              begins = starts_longer (log_at r x) (seen_of k.knows x) h.seen (begins x inside) h.begins;
+              first = h.first;
+              second = h.second;
+            };
+      }
 
   pub ran : Ran w r
   ran = record {
@@ -126,19 +123,23 @@ module _ (d : DeskSeen) (w : Work) (k : Known) (r : Recorded AnyOp AnyReply) (de
     says = own;
     accounts = account;
     each = has_run;
-    sound = for_more w.kinds d.id.quota 10000 (journal_at r) (log_at r) (let few = desk.few_calls in omega arith)
-        (subst (λ (t : List Kind × (ℕ → List AnyEvent) × (ℕ → List AnyEntry)). IsSoundRecord t.0 d.id.quota t.1 t.2) (λ i. (desk.kinds i, λ n. events n i, λ x. entries x i)) closed.sound);
+    sound = for_more w.kinds d.id.quota max_calls (journal_at r) (log_at r) (let few = desk.few_calls in omega arith)
+        (subst (λ (t : List Kind × (ℕ → List AnyEvent) × (ℕ → List AnyEntry)). IsSoundRecord t.0 d.id.quota t.1 t.2)
+        (λ i. (desk.kinds i, λ n. events n i, λ x. entries x i)) closed.sound);
   }
 
 abbrev IsEmpty : AnyObject → Type 0
 IsEmpty o = content_of o ≡ empty (kind_with (content_of o))
 
 -- one empty object more
-pub objects_more : (os more : List AnyObject) (o : AnyObject) (ks : List Kind) (i : ℕ) → map (λ o. kind_with (content_of o)) os ≡ take i ks
+pub objects_more : (os more : List AnyObject) (o : AnyObject) (ks : List Kind) (i : ℕ)
+    → map (λ o. kind_with (content_of o)) os ≡ take i ks
     → All IsEmpty os → content_of o ≡ empty (get_or ks i kind.Queue) → more ≡ os ++ o ∷ [] → i < length ks
     → (map (λ o. kind_with (content_of o)) more ≡ take (i + 1) ks) × All IsEmpty more
 objects_more os more o ks i so_far all is grown low =
-    let f : AnyObject → Kind = λ o. kind_with (content_of o) in let k : Kind = get_or ks i kind.Queue in let here : f o ≡ k = ap kind_with is ∙ kind_of_empty k in (
-      ap (map f) grown ∙ (map-append f os (o ∷ []) ∙ ((λ j. so_far j ++ here j ∷ []) ∙ sym (take_more ks i kind.Queue low))),
+    let f : AnyObject → Kind = λ o. kind_with (content_of o) in let k : Kind = get_or ks i kind.Queue in
+    let here : f o ≡ k = ap kind_with is ∙ kind_of_empty k in (
+      ap (map f) grown
+          ∙ (map-append f os (o ∷ []) ∙ ((λ j. so_far j ++ here j ∷ []) ∙ sym (take_more ks i kind.Queue low))),
       subst (All IsEmpty) (sym grown) (All-push IsEmpty os o all (is ∙ ap empty (sym here))),
     )

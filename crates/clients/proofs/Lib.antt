@@ -1,3 +1,5 @@
+pub mod Streams
+pub mod DrawnCalls
 pub mod Works
 pub mod Meetings
 pub mod News

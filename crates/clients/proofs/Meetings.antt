@@ -9,19 +9,14 @@ use Rattle.desk_model.proofs.Entries.{starts_longer, starts_same}
 use Rattle.desk_invariant.specs.declared.board.Own.{Own}
 use Rattle.desk_invariant.specs.declared.board.Leaving.{Leaving}
 use Rattle.desk_invariant.specs.declared.board.DeskView.{DeskView}
-use Rattle.desk_invariant.specs.Views.{journal, end_notice, own_request, after_meet, seen_of, after_notice, IsAccount, MayHold}
+use Rattle.desk_invariant.specs.Views.{journal, end_notice, own_request, after_meet, seen_of, after_notice, IsAccount}
+use Rattle.desk_invariant.specs.Views.{MayHold}
 use Rattle.combiner.specs.Passes.{KeepsCalls}
 use Rattle.combiner.proofs.Served.{seen_on}
 use Rattle.publication.specs.Handles.{DeskSeen, Known}
 use Rattle.publication.specs.Calls.{Met}
-use Rattle.workload.specs.Workloads.{Work, calls_at}
+use Rattle.clients.specs.Workloads.{Work, calls_at}
 use Rattle.clients.specs.Made.{HasMet, HasMetBelow, HasWorked, HaveSeenAlike, Keeps, MadeOrStopped}
-
-pub keeps_all : (v : DeskView) → Keeps v v
-keeps_all v = record {
-  calls = record { number = refl; kinds = refl; own = refl; done = refl; seen = λ x. starts_same (seen_of v x) };
-  left = λ l c. c;
-}
 
 pub keeps_on : (v w u : DeskView) → Keeps v w → Keeps w u → Keeps v u
 keeps_on v w u a b = record {
@@ -36,7 +31,8 @@ keeps_on v w u a b = record {
 }
 
 -- more of the object x was seen
-pub keeps_seeing : (v w : DeskView) (x : ℕ) (l : List AnyEntry) → w ≡ after_meet x l (record v { received = w.received }) → StartsWith l (seen_of v x) → Keeps v w
+pub keeps_seeing : (v w : DeskView) (x : ℕ) (l : List AnyEntry)
+    → w ≡ after_meet x l (record v { received = w.received }) → StartsWith l (seen_of v x) → Keeps v w
 keeps_seeing v w x l e begins = record {
   calls = record {
     number = ap (λ z. z.number) e;
@@ -49,16 +45,20 @@ keeps_seeing v w x l e begins = record {
 }
 
 -- they have met on one object more
-pub alike_more : (i : ℕ) (one other one' other' : Known) → HaveSeenAlike i one.knows other.knows → Met i one other one' other' → HaveSeenAlike (i + 1) one'.knows other'.knows
+pub alike_more : (i : ℕ) (one other one' other' : Known) → HaveSeenAlike i one.knows other.knows
+    → Met i one other one' other' → HaveSeenAlike (i + 1) one'.knows other'.knows
 alike_more i one other one' other' so_far m x low = dite (ℕ_discrete x i)
     (λ same. subst (λ z. seen_of one'.knows z ≡ seen_of other'.knows z) (sym same) (m.seen_first ∙ sym m.seen_second))
     (λ differ.
     ap (λ z. seen_of z x) m.first ∙ get_or-set_other one.knows.seen i x m.log [] differ
-    ∙ (so_far x (omega arith) ∙ sym (ap (λ z. seen_of z x) m.second ∙ get_or-set_other other.knows.seen i x m.log [] differ)))
+    ∙ (so_far x (omega arith)
+    ∙ sym (ap (λ z. seen_of z x) m.second ∙ get_or-set_other other.knows.seen i x m.log [] differ)))
 
 -- what a log has of a client's calls depends on these alone
-pub same_account : (x : ℕ) (v w : DeskView) (log : List AnyEntry) → KeepsCalls v w → IsAccount x v log → IsAccount x w log
-same_account x v w log k = subst (λ (t : ℕ × Own × List AnyDone). (now : List AnyEntry) × (entries_of t.0 log ≡ served x t.0 t.2 ++ now)
+pub same_account : (x : ℕ) (v w : DeskView) (log : List AnyEntry) → KeepsCalls v w → IsAccount x v log
+    → IsAccount x w log
+same_account x v w log k =
+    subst (λ (t : ℕ × Own × List AnyDone). (now : List AnyEntry) × (entries_of t.0 log ≡ served x t.0 t.2 ++ now)
     × MayHold x t.0 t.1 now) (λ i. (sym k.number i, sym k.own i, sym k.done i))
 
 pub same_journal : (v w : DeskView) → KeepsCalls v w → journal w ≡ journal v
@@ -80,7 +80,8 @@ still_met w v u c k m = record {
 }
 
 -- who has made its calls makes none by meeting others
-pub still_worked : (d : DeskSeen) (w : Work) (c : ℕ) (k u : Known) → HasWorked d w c k → Keeps k.knows u.knows → u.desk ≡ d.id → HasWorked d w c u
+pub still_worked : (d : DeskSeen) (w : Work) (c : ℕ) (k u : Known) → HasWorked d w c k → Keeps k.knows u.knows
+    → u.desk ≡ d.id → HasWorked d w c u
 still_worked d w c k u h kept desk = record {
   desk = desk;
   number = kept.calls.number ∙ h.number;
@@ -88,7 +89,8 @@ still_worked d w c k u h kept desk = record {
 }
 
 -- one more was met
-pub met_more : (w : Work) (v u : Known) (n : ℕ) → HasMetBelow w v n → Keeps v.knows u.knows → HasMet w u.knows n → HasMetBelow w u (n + 1)
+pub met_more : (w : Work) (v u : Known) (n : ℕ) → HasMetBelow w v n → Keeps v.knows u.knows → HasMet w u.knows n
+    → HasMetBelow w u (n + 1)
 met_more w v u n before k last c some low = dite (ℕ_discrete c n)
     (λ same. subst (HasMet w u.knows) (sym same) last)
     (λ differ. still_met w v.knows u.knows c k (before c some (omega arith)))
@@ -100,8 +102,10 @@ keeps_told v l = record {
   left = λ m c. Contains-append_left v.left (l ∷ []) m c;
 }
 
-pub has_met : (d : DeskSeen) (w : Work) (n : ℕ) (k : Known) (v u : DeskView) → HasWorked d w n k → Keeps k.knows u → d.id.kinds ≡ w.kinds → HaveSeenAlike (length d.id.kinds) v u
-    → ((x : ℕ) → IsAccount x v (seen_of v x)) → ((x : ℕ) → IsAccount x u (seen_of u x)) → HasMet w (after_notice (end_notice u ∷ []) v) n
+pub has_met : (d : DeskSeen) (w : Work) (n : ℕ) (k : Known) (v u : DeskView) → HasWorked d w n k → Keeps k.knows u
+    → d.id.kinds ≡ w.kinds → HaveSeenAlike (length d.id.kinds) v u
+    → ((x : ℕ) → IsAccount x v (seen_of v x)) → ((x : ℕ) → IsAccount x u (seen_of u x))
+    → HasMet w (after_notice (end_notice u ∷ []) v) n
 has_met d w n k v u h kept kinds alike first second = record {
   other = u;
   number = kept.calls.number ∙ h.number;

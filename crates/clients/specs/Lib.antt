@@ -1,1 +1,4 @@
+pub mod Workloads
+pub mod Drawing
 pub mod Made
+pub use Rattle.model.specs.Objects

@@ -16,7 +16,7 @@ use Rattle.combiner.specs.Passes.{KeepsCalls}
 use Rattle.publication.specs.Handles.{DeskId, DeskSeen, Known}
 use Rattle.publication.specs.Calls.{Closed}
 use Rattle.recorder.specs.Records.{Recorded, journal_at, log_at}
-use Rattle.workload.specs.Workloads.{Work, Call, calls_at, IsCall}
+use Rattle.clients.specs.Workloads.{Work, Call, calls_at, IsCall}
 use Rattle.desk_model.specs.Limits.{max_calls}
 
 -- the events are those of the calls, in order: the invocation of each, and its return
@@ -164,4 +164,4 @@ pub record Ran (w : Work) (r : Recorded AnyOp AnyReply) : Type 0 where
   pub each : (c : ℕ) → c < length w.calls → HasRun w r knew c
   -- the journals of all clients are a well-formed history, and each log is legal, and a valid order
   -- of the calls on its object
-  pub sound : IsSoundRecord w.kinds 10000 (journal_at r) (log_at r)
+  pub sound : IsSoundRecord w.kinds max_calls (journal_at r) (log_at r)

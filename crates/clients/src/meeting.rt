@@ -1,7 +1,7 @@
 //! A client that parts from the desk: another meets it, and learns of its end.
 
 ghost use Rattle.std.specs.Prelude.{◌≡◌, ◌<◌, ℕ, length};
-ghost use Rattle.workload.specs.Workloads.{Work};
+ghost use Rattle.clients.specs.Workloads.{Work};
 ghost use Rattle.clients.specs.Made.{HasWorked, HasMet, IsDeskFor, Keeps, HaveSeenAlike};
 
 use publication::{Client, Desk};

@@ -5,20 +5,20 @@ ghost use Rattle.desk_model.specs.Limits.{max_clients, max_calls};
 ghost use Rattle.combiner.specs.Passes.{KeepsCalls};
 ghost use Rattle.clients.specs.Made.{AreNew};
 
+use crate::Workload;
 use model::AnyOp;
 use publication::{Client, Desk, Win};
 use seq_objects::AnyObject;
 use std::alloc::AllocError;
-use workload::Workload;
 
-// How many of these calls are on the object.
+// How many of these calls are on the object. Only a bound is proved: it is for room alone.
 fn count_on(calls: &[(u32, AnyOp)], object: u32) -> usize
     ensures { result ≤ length calls.now }
 {
     calls.iter().filter(|call| call.0 == object).count()
 }
 
-// How many calls of the workload are on the object.
+// How many calls of the workload are on the object, of which also only a bound is proved.
 fn calls_on(workload: &Workload, object: u32) -> usize
     ensures { result ≤ max_clients * max_calls }
 {

@@ -6,6 +6,7 @@ ghost use Rattle.model.specs.Objects.{empty, kind_with};
 ghost use Rattle.clients.specs.Made.{HasWorked, IsNew, IsDeskFor, IsDone, ClosedBy, Ran, HaveTold};
 ghost use Rattle.clients.specs.Made.{AreNew};
 
+use crate::Workload;
 use crate::meeting::part;
 use crate::room::reserve_logs;
 use crate::worker::work;
@@ -15,7 +16,6 @@ use seq_objects::{AnyObject, Gate, SeqObject};
 use std::alloc::{AllocError, Global};
 use std::sync::Wait;
 use std::thread::{self, Promise, PromisedHandle, SpawnError, Threads};
-use workload::Workload;
 
 /// Why there is no record.
 #[derive(Clone, Copy, Debug, PartialEq, Eq)]

@@ -4,15 +4,15 @@ ghost use Rattle.std.specs.Prelude.{◌≡◌, ◌<◌, true, false, length};
 ghost use Rattle.desk_model.specs.World.{AnyAnswer};
 ghost use Rattle.desk_invariant.specs.declared.board.Own.TheVariants.{Idle};
 ghost use Rattle.combiner.specs.Waits.{Called, IsOutstanding};
-ghost use Rattle.workload.specs.Workloads.{IsCall};
+ghost use Rattle.clients.specs.Workloads.{IsCall};
 ghost use Rattle.clients.specs.Made.{MayWork, Worked, IsNew, HasWorked};
 
+use crate::Workload;
 use combiner::{CallFault, call};
 use model::AnyOp;
 use publication::{Client, Desk};
 use seq_objects::{AnyObject, Gate};
 use std::sync::Wait;
-use workload::Workload;
 
 /// Makes the client's calls of the workload, one after another, and hands the client back. Where
 /// memory is refused to a call it makes no more, and that one is outstanding. The clause does not

@@ -62,16 +62,6 @@ goes_same p q s = subst (Goes p) (sym s.2) record { desk = refl; object = refl; 
 pub goes_room : (p q : Holding) (n : ℕ) → q ≡ record p { state = record p.state { room = n } } → Goes p q
 goes_room p q n is = subst (Goes p) (sym is) record { desk = refl; object = refl; places = refl; log = starts_same p.log; seen = refl; calls = keeps_all p.knows; ready = λ e. e }
 
--- the client after its pass, which served nothing, was put back
-pub only_learnt : (c : DeskView) (x : ℕ) (p q : Holding) (v : DeskView) (n : ℕ) → p.knows ≡ after_win x p.log c → p.object ≡ x
-    → q ≡ record p { state = record p.state { room = n } } → v ≡ after_release q.object q.log q.knows → seen_of v q.object ≡ q.log → HasLearnt x c v
-only_learnt c x p q v n opened on is knows seen =
-    let at : q.object ≡ x = ap (λ z. z.object) is ∙ on in
-    let log : seen_of v x ≡ q.log = subst (λ y. seen_of v y ≡ q.log) at seen in
-    let same : p.log ≡ seen_of v x = sym (log ∙ ap (λ z. z.log) is) in
-    let held : q.knows ≡ after_win x (seen_of v x) c = ap (λ z. z.knows) is ∙ (opened ∙ ap (λ l. after_win x l c) same) in
-    knows ∙ λ i. after_release (at i) (sym log i) (held i)
-
 pub same_on : (p q r : Holding) → IsSameBut p q → IsSameBut q r → IsSameBut p r
 same_on p q r a b = (b.0, b.1, b.2 ∙ ap (λ (z : Holding). record z { state = record z.state { list = b.0; ages = b.1 } }) a.2)
 

@@ -56,7 +56,7 @@ abbrev pub IsOutstanding : DeskView → ℕ → AnyOp → DeskView → Type 0
 IsOutstanding v object op w = (u : DeskView) × Posted v object op u × KeepsCalls u w
 
 -- why the call on the object x was not answered: it was not posted, and the client is as it was; or
--- memory was refused
+-- an allocation failed
 abbrev pub Faulted : DeskSeen → Known → ℕ → AnyOp → CallFault → Known → Type 0
 Faulted d c x op (fault.Post e) k = (k ≡ c) × PostRefused d c x op e
 Faulted d c x op fault.NoMemory k = IsOutstanding c.knows x op k.knows

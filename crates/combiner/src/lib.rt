@@ -8,4 +8,4 @@ mod passes;
 mod waiting;
 
 pub use passes::{Combined, combine};
-pub use waiting::{CallFault, call, call_at_once, wait_for};
+pub use waiting::{CallFault, call, wait_for};

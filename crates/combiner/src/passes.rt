@@ -1,17 +1,12 @@
 //! One pass over the rows.
 
-ghost use Rattle.std.specs.Prelude.{◌≡◌, ◌<◌, ◌≤◌, length, IfSome, IfNone, ◌+◌};
-ghost use Rattle.model.specs.Objects.{kind_of};
-ghost use Rattle.desk_model.specs.World.{kind_at};
-ghost use Rattle.desk_model.specs.Images.{answer_in};
+ghost use Rattle.std.specs.Prelude.{◌≡◌, ◌<◌, ◌≤◌, length, IfSome, ◌+◌};
 ghost use Rattle.desk_invariant.specs.Views.{after_miss};
-ghost use Rattle.publication.specs.Calls.{MayPost};
-ghost use Rattle.combiner.specs.Waits.{Called};
 ghost use Rattle.combiner.specs.Passes.{Goes, KeepsCalls, IsTried, IsSettled, IsSettledNow};
 ghost use Rattle.combiner.specs.Passes.{IsSameBut, HasLearnt, IfServed, IfBusy, IfNoMemory};
 ghost use Rattle.desk_model.specs.Limits.{max_clients};
 
-use publication::{Answer, Client, Desk, Pass, Picked, Win};
+use publication::{Client, Desk, Pass, Picked, Win};
 use seq_objects::SeqObject;
 
 /// What a try to combine did.
@@ -45,7 +40,8 @@ const IDLE: u64 = 128;
 /// the client's own row, then each other row of the publication list, and then the own one again if
 /// its request was put back. A request whose operation is not possible is put back. In each pass
 /// whose number is a multiple of 64 it takes rows out of the list that were of no use in the last
-/// 128 passes, but never the first.
+/// 128 passes, but never the first. What the clauses say is about the client and its own row: which
+/// other rows are served or taken out, and the numbers in `Served`, are only tested.
 pub fn combine<S: SeqObject>(
     desk: &Desk<S>,
     client: Client<S>,
@@ -76,43 +72,6 @@ pub fn combine<S: SeqObject>(
             (held.release(desk), Combined::Served { pass, count })
         }
     }
-}
-
-/// Tries to win the object. If it is won, and the log has room for a call of each client, serves
-/// each row of the publication list, and then makes a call of the client's own, if the object can
-/// do it: no request goes through the client's row. None: the call was not made.
-pub(crate) fn try_at_once<S: SeqObject>(
-    desk: &Desk<S>,
-    client: Client<S>,
-    object: u32,
-    op: S::Op,
-) -> (Client<S>, Option<Answer<S::Reply>>)
-    requires desk { client.desk ≡ desk.now.id }
-    requires may { MayPost client }
-    requires there { (object < length desk.now.id.kinds)
-        × (kind_of (S.op_in op) ≡ kind_at desk.now.id.kinds object) }
-    ensures desk { result.0.desk ≡ client.desk }
-    ensures made { IfSome result.1
-        (λ a. Called client.knows object (S.op_in op) (answer_in S.reply_in a) result.0.knows) }
-    ensures not { IfNone result.1 (KeepsCalls client.knows result.0.knows) }
-{
-    let mut held = match desk.win(client, object) {
-        Win::Held(client) => return (client, None),
-        Win::Won(held) => held,
-    };
-    let pass = held.count_pass();
-    if held.reserve(desk.clients() as usize).is_err() {
-        return (held.release(desk), None);
-    }
-    let own = held.number();
-    walk(&mut held);
-    let (mut held, _) = serve_others(desk, held, own);
-    clean(&mut held, pass);
-    if !held.possible(&op) {
-        return (held.release(desk), None);
-    }
-    let answer = held.perform(desk, op);
-    (held.release(desk), Some(answer))
 }
 
 // Serves the own row, the others, and the own one again if its request was put back. Answers how

@@ -1,12 +1,11 @@
-//! A call that is posted and waits for its answer, and one that is made at once where the object is
-//! free.
+//! A call that is posted and waits for its answer.
 
 ghost use Rattle.std.specs.Prelude.{◌≡◌, ◌<◌, length, IfOk, IfErr};
 ghost use Rattle.desk_model.specs.Images.{answer_in};
 ghost use Rattle.combiner.specs.Passes.{KeepsCalls};
 ghost use Rattle.combiner.specs.Waits.{Called, Returns, Faulted};
 
-use crate::passes::{Combined, combine, try_at_once};
+use crate::passes::{Combined, combine};
 use crossbeam_utils::Backoff;
 use publication::{Answer, Client, Desk, Post};
 use seq_objects::SeqObject;
@@ -18,7 +17,7 @@ use std::sync::Wait;
 pub enum CallFault {
     /// P1 to P4: it was not posted.
     Post(Post),
-    /// Memory was refused to a pass of its own. The call is outstanding, and `wait_for` goes on
+    /// An allocation failed in a pass of its own. The call is outstanding, and `wait_for` goes on
     /// with it.
     NoMemory,
 }
@@ -50,35 +49,9 @@ pub fn call<S: SeqObject, R: Wait>(
     }
 }
 
-/// Makes a call without posting it, where the client wins the object at its first try and the
-/// object can do the operation after the listed rows. Otherwise it makes the call as `call` does.
-/// This way is no part of flat combining as it was published.
-pub fn call_at_once<S: SeqObject, R: Wait>(
-    rt: &R,
-    desk: &Desk<S>,
-    client: Client<S>,
-    object: u32,
-    op: S::Op,
-) -> (Client<S>, Result<Answer<S::Reply>, CallFault>)
-    requires { client.desk ≡ desk.now.id }
-    ensures desk { result.0.desk ≡ client.desk }
-    // The call is over, and this is its answer.
-    ensures answered { IfOk result.1
-        (λ a. Called client.knows object (S.op_in op) (answer_in S.reply_in a) result.0.knows) }
-    ensures fault { IfErr result.1 (λ e. Faulted desk.now client object (S.op_in op) e result.0) }
-{
-    if let Err(fault) = desk.may_post(&client, object, &op) {
-        return (client, Err(CallFault::Post(fault)));
-    }
-    let (client, made) = try_at_once(desk, client, object, op);
-    match made {
-        Some(answer) => (client, Ok(answer)),
-        None => call(rt, desk, client, object, op),
-    }
-}
-
-/// Polls, enlists the row and combines until the outstanding call is answered, or memory is refused
-/// to a pass of its own. There is a yield after each try, also after a pass that served the call.
+/// Polls, enlists the row and combines until the outstanding call is answered, or an allocation
+/// fails in a pass of its own. There is a yield after each try, also after a pass that served the
+/// call.
 pub fn wait_for<S: SeqObject, R: Wait>(
     rt: &R,
     desk: &Desk<S>,

@@ -1,9 +1,9 @@
 //! Desks of a queue and a stack: their clients, the end of these, and their own.
 
 use crate::bench::{Bench, Closing, Setup};
-use crate::steps::Got::{Nothing, Value};
+use crate::steps::Got::Value;
 use crate::steps::Step::{
-    FindsNone, IsRefused, Performs, Polls, Posts, Retires, RetiresBefore, Serves, Waits,
+    FindsNone, IsRefused, Polls, Posts, Retires, RetiresBefore, Serves, Waits,
 };
 use crate::steps::{Play, closes, take_turns};
 use publication::Post;
@@ -21,39 +21,12 @@ const THREE: Setup = Setup {
 
 const NOTHING_DONE: &str = "yes: 0 operations, 0 objects\n";
 
-const OWN_CALL: &str = "{:process 2, :type :invoke, :f :enqueue, :value 4, :object 0}
-{:process 2, :type :ok, :f :enqueue, :value 4, :object 0}
-{:process 1, :type :invoke, :f :dequeue, :value nil, :object 0}
-{:object 0, :order [0]}
-yes: 2 operations, 1 objects
-queue: 1 objects, 2 operations
-";
-
-pub(crate) const PLAYS: [Play; 2] = [
-    Play {
-        name: "the last client closes",
-        setup: THREE,
-        turns: &[(1, Retires), (0, Retires)],
-        end: Some((2, NOTHING_DONE)),
-    },
-    // No request comes to be in its row, and two tickets are drawn, so that the next call has
-    // ticket 2.
-    Play {
-        name: "a call of one's own goes through no row",
-        setup: THREE,
-        turns: &[
-            (2, Performs(AnyOp::Enqueue(4), Value(4))),
-            (2, Waits(false)),
-            (2, Polls(Nothing)),
-            (1, FindsNone(0, 2)),
-            (1, FindsNone(1, 2)),
-            (1, Posts(0, AnyOp::Dequeue)),
-            (0, Retires),
-            (1, Retires),
-        ],
-        end: Some((2, OWN_CALL)),
-    },
-];
+pub(crate) const PLAYS: [Play; 1] = [Play {
+    name: "the last client closes",
+    setup: THREE,
+    turns: &[(1, Retires), (0, Retires)],
+    end: Some((2, NOTHING_DONE)),
+}];
 
 impl Bench {
     // The number that the client in this seat has of itself.

@@ -6,8 +6,6 @@
 #[cfg(test)]
 mod abandoned;
 #[cfg(test)]
-mod at_once;
-#[cfg(test)]
 mod bench;
 #[cfg(test)]
 mod desks;
@@ -29,3 +27,5 @@ mod refusing;
 mod serving;
 #[cfg(test)]
 mod steps;
+#[cfg(test)]
+mod waiting;

@@ -2,10 +2,10 @@
 
 use crate::bench::{Bench, Setup};
 use crate::steps::Got::Nil;
-use crate::steps::Step::{CallsAtOnce, Enlists, IsRefused, Polls, Posts, Waits};
+use crate::steps::Step::{IsRefused, Waits};
 use crate::steps::{Got, take_turns};
 use combiner::{CallFault, wait_for};
-use publication::{Enlist, Post};
+use publication::Post;
 use seq_objects::{AnyOp, Kind};
 use std::alloc::AllocError;
 use std::process::Abort;
@@ -23,7 +23,7 @@ fn mutex(clients: u32, quota: u32) -> Setup {
 }
 
 impl Bench {
-    // What the client's outstanding call on object 0 comes to; None: memory was refused.
+    // What the client's outstanding call on object 0 comes to; None: an allocation failed.
     fn wait<R: Wait>(&mut self, rt: &R, number: u64) -> Result<Option<Got>, Fail> {
         let Some(client) = self.take(number) else {
             return Err(Fail::new("nobody is there to wait"));
@@ -75,37 +75,4 @@ fn a_call_whose_pass_gets_no_memory_is_outstanding(rt: HostRuntime) -> Result<()
     let mut bench = Bench::new(rt.alloc(), &mutex(1, 1))?;
     let called = bench.call(&rt, 0, AnyOp::Acquire)?;
     ends(&rt, &mut bench, 0, called)
-}
-
-// Client 3 calls acquire after four entries, for which the log has room, with the rows of a release
-// and an acquire listed. It serves the acquire, so that its own and the release are served in its
-// second pass. That pass needs more room, for the first time. `rt try --test --fail-alloc N`
-// refuses a test's Nth allocation: at the one of that room the test prints that the call is
-// outstanding.
-#[test]
-fn a_call_that_was_not_made_at_once_is_outstanding(rt: HostRuntime) -> Result<(), Fail> {
-    let mut bench = Bench::new(rt.alloc(), &mutex(4, 5))?;
-    take_turns(
-        &rt,
-        &mut bench,
-        &[
-            (3, CallsAtOnce(AnyOp::Acquire, Nil)),
-            (3, CallsAtOnce(AnyOp::Release, Nil)),
-            (3, CallsAtOnce(AnyOp::Acquire, Nil)),
-            (3, CallsAtOnce(AnyOp::Release, Nil)),
-            (2, Posts(0, AnyOp::Acquire)),
-            (2, Enlists(Enlist::Listed)),
-            (1, Posts(0, AnyOp::Release)),
-            (1, Enlists(Enlist::Listed)),
-        ],
-        "before",
-    )?;
-    let called = bench.call_at_once(&rt, 3, AnyOp::Acquire)?;
-    ends(&rt, &mut bench, 3, called)?;
-    take_turns(
-        &rt,
-        &mut bench,
-        &[(1, Polls(Nil)), (2, Polls(Nil))],
-        "after",
-    )
 }

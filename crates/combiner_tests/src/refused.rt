@@ -2,7 +2,7 @@
 
 use crate::bench::{Bench, Setup};
 use crate::steps::Got::{Nil, Nothing, Refused, Value};
-use crate::steps::Step::{CallsAtOnce, Combines, Enlists, Polls, Posts, ReservesTooMuch};
+use crate::steps::Step::{Combines, Enlists, Polls, Posts, ReservesTooMuch};
 use crate::steps::{Play, Step, take_turns};
 use combiner::Combined;
 use publication::Enlist;
@@ -79,7 +79,7 @@ const NINE: Step = Posts(0, AnyOp::Enqueue(9));
 
 const GETS: Step = Polls(Value(9));
 
-pub(crate) const PLAYS: [Play; 4] = [
+pub(crate) const PLAYS: [Play; 3] = [
     Play {
         name: "a refused call is in no log",
         setup: Setup {
@@ -95,20 +95,6 @@ pub(crate) const PLAYS: [Play; 4] = [
             (0, Posts(0, AnyOp::Dequeue)),
             (0, Combines(2, 1)),
             (0, Polls(Nil)),
-        ],
-        end: Some((0, REFUSED)),
-    },
-    Play {
-        name: "a call made at once is refused",
-        setup: Setup {
-            kinds: (Kind::Queue, None),
-            left: Some(0),
-            clients: 1,
-            quota: 2,
-        },
-        turns: &[
-            (0, CallsAtOnce(AnyOp::Enqueue(1), Refused)),
-            (0, CallsAtOnce(AnyOp::Dequeue, Nil)),
         ],
         end: Some((0, REFUSED)),
     },

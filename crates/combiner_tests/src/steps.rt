@@ -5,8 +5,8 @@ ghost use Rattle.std.specs.Prelude.{◌≡◌, ◌<◌, length};
 use crate::bench::{Bench, Closing, Setup};
 use crate::lines::says;
 use crate::refusing::Refusing;
-use crate::{abandoned, at_once, desks, listing, many_rows, refused, serving};
-use combiner::{CallFault, Combined, call, call_at_once, combine};
+use crate::{abandoned, desks, listing, many_rows, refused, serving, waiting};
+use combiner::{CallFault, Combined, call, combine};
 use publication::{Answer, Client, Desk, Enlist, Pass, Picked, Post, Win};
 use seq_objects::{AnyOp, AnyReply};
 use std::process::Abort;
@@ -64,14 +64,10 @@ pub(crate) enum Step {
     Polls(Got),
     /// Makes a call on object 0.
     Calls(AnyOp, Got),
-    /// Makes a call on object 0 at once.
-    CallsAtOnce(AnyOp, Got),
     /// Makes no call on object 0, since its quota is used.
     IsSpent(AnyOp),
     /// Has a call outstanding, or not.
     Waits(bool),
-    /// Wins object 0, and makes a call of its own.
-    Performs(AnyOp, Got),
     /// Wins object 0, and holds it while this client combines, which finds it busy.
     HoldsAgainst(u64),
     /// Wins object 0, serves row 0, whose client is this one, and before the answer that one retires.
@@ -232,20 +228,6 @@ impl Bench {
         Ok(got_of(called))
     }
 
-    pub(crate) fn call_at_once<R: Wait>(
-        &mut self,
-        rt: &R,
-        number: u64,
-        op: AnyOp,
-    ) -> Result<Result<Got, CallFault>, Fail> {
-        let Some(client) = self.take(number) else {
-            return Err(Fail::new("nobody is there to call at once"));
-        };
-        let (client, called) = call_at_once(rt, &self.desk, client, 0, op);
-        self.seat(number, client)?;
-        Ok(got_of(called))
-    }
-
     pub(crate) fn is_waiting(&mut self, number: u64) -> Result<bool, Fail> {
         let Some(client) = self.take(number) else {
             return Err(Fail::new("nobody is there to wait"));
@@ -253,28 +235,6 @@ impl Bench {
         let waits = client.outstanding();
         self.seat(number, client)?;
         Ok(waits)
-    }
-
-    fn perform(&mut self, number: u64, op: AnyOp) -> Result<Got, Fail> {
-        let Some(client) = self.take(number) else {
-            return Err(Fail::new("nobody is there to perform"));
-        };
-        let Ok(()) = self.desk.may_post(&client, 0, &op) else {
-            return Err(Fail::new("the call is refused"));
-        };
-        let (client, got) = match self.desk.win(client, 0) {
-            Win::Held(client) => (client, Got::Nothing),
-            Win::Won(mut pass) => {
-                let got = if pass.possible(&op) {
-                    Got::of(Some(pass.perform(&self.desk, op)))
-                } else {
-                    Got::Nothing
-                };
-                (pass.release(&self.desk), got)
-            }
-        };
-        self.seat(number, client)?;
-        Ok(got)
     }
 
     fn hold_against(&mut self, number: u64, other: u64) -> Result<bool, Fail> {
@@ -369,10 +329,8 @@ impl Bench {
             Step::FindsNone(object, row) => self.serve(number, object, &[row])? == Some(0),
             Step::Polls(got) => self.poll(number)? == got,
             Step::Calls(op, got) => self.call(rt, number, op)? == Ok(got),
-            Step::CallsAtOnce(op, got) => self.call_at_once(rt, number, op)? == Ok(got),
             Step::IsSpent(op) => { self.call(rt, number, op)? == Err(CallFault::Post(Post::Spent)) }
             Step::Waits(waits) => self.is_waiting(number)? == waits,
-            Step::Performs(op, got) => self.perform(number, op)? == got,
             Step::HoldsAgainst(other) => self.hold_against(number, other)?,
             Step::ServesAsItRetires(other) => self.serve_as_it_retires(number, other)?,
             Step::ReservesTooMuch => self.reserve_too_much(number)?,
@@ -441,7 +399,7 @@ pub(crate) fn check_plays<R: AllocGlobal + Wait + Abort>(
 #[test]
 fn each_play_goes_as_it_says(rt: HostRuntime) -> Result<(), Fail> {
     check_plays(&rt, &abandoned::PLAYS)?;
-    check_plays(&rt, &at_once::PLAYS)?;
+    check_plays(&rt, &waiting::PLAYS)?;
     check_plays(&rt, &desks::PLAYS)?;
     check_plays(&rt, &listing::PLAYS)?;
     check_plays(&rt, &many_rows::PLAYS)?;

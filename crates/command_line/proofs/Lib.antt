@@ -1,5 +1,2 @@
-pub mod Walks
-pub mod OneFile
-pub mod TwoFiles
-pub mod Parse
-pub mod Sought
+mod Told
+mod Found

@@ -1,2 +1,2 @@
-pub mod Limits
-pub mod Words
+pub mod Command
+pub mod Lines

@@ -1,10 +1,10 @@
 //! What a command line asks for.
 
 ghost use Rattle.std.specs.Prelude.{◌≡◌, ◌<◌, ◌≤◌};
-ghost use Rattle.command_line.specs.Limits.{max_calls, max_clients, max_objects};
+ghost use Rattle.command_line.specs.declared.table.TheConstants.{CALLS, CLIENTS, OBJECTS};
 ghost use Rattle.command_line.specs.declared.asking.LineFault.TheVariants.{NoMemory};
 
-use order_search::TryFirst;
+use search::TryFirst;
 use seq_objects::Kinds;
 use std::alloc::{AllocError, AllocFailed};
 use thiserror::Error as ErrorText;
@@ -21,9 +21,9 @@ pub struct RunOptions {
     pub calls: u32,
     /// What the calls are drawn from.
     pub seed: u64,
-    ghost some_objects: { (0 < objects) × (objects ≤ max_objects) },
-    ghost some_clients: { (0 < clients) × (clients ≤ max_clients) },
-    ghost few_calls: { calls ≤ max_calls },
+    ghost some_objects: { (0 < objects) × (objects ≤ OBJECTS.most) },
+    ghost some_clients: { (0 < clients) × (clients ≤ CLIENTS.most) },
+    ghost few_calls: { calls ≤ CALLS.most },
 }
 
 /// What the words ask for.
@@ -50,9 +50,9 @@ pub enum Line {
         reasons: String,
         steps: u32,
     },
-    /// To check the orders and reasons in another file, from anybody, on the history in a file, and
-    /// to judge it by them, with at most this number of steps for a search of which that file names
-    /// no number.
+    /// To check the orders and reasons in another file, from any source, on the history in a file,
+    /// and to judge it by them, with at most this number of steps for a search of which that file
+    /// names no number.
     Verify {
         history: String,
         evidence: String,

@@ -1,28 +1,33 @@
--- What is put out of a sound record is a yes, except where memory is refused.
+-- The output for a sound record is a yes, except where memory is refused.
 use Rattle.std.proofs.Common.{◌≡◌, ◌≢◌, ◌∙◌, ℕ, List, [], ◌++◌, true, inl, inr, refl, sym, ap, append_assoc}
 use Rattle.model.specs.declared.Kind.{Kind}
 use Rattle.desk_model.specs.World.{AnyEntry, AnyEvent}
 use Rattle.desk_model.specs.Records.{IsSoundRecord}
 use Rattle.report.specs.Lines.{verdict_text}
-use Rattle.verdicts.specs.declared.verdict.Verdict.{Verdict}
-use Rattle.verdicts.specs.declared.verdict.Verdict.TheVariants.{Yes, No, Malformed, NoMemory}
+use Rattle.report.specs.declared.verdict.Verdict.{Verdict}
+use Rattle.report.specs.declared.verdict.Verdict.TheVariants.{Yes, No, Malformed, NoMemory}
 use Rattle.judging.specs.Verdicts.{IsYesUnlessMemory}
 use Rattle.clients.specs.Made.{Ran}
 use Rattle.command_line.specs.declared.asking.RunOptions.{RunOptions}
-use Rattle.outputs.specs.Statuses.{no_status, status_of, yes_status}
+use Rattle.history_commands.specs.Outputs.{status_of}
+use Rattle.history_commands.specs.declared.status.Status.{Status}
+use Rattle.history_commands.specs.declared.status.Status.TheVariants as status_is
 use Rattle.history_commands.specs.Comments.{comment_lines}
-use Rattle.commands.specs.Runs.{IsAcceptedOutput, IsAcceptedRun, IsRecordOutput, IsReported, IsRunOutput, IsSound, Says, journals_of, logs_of, work_of}
+use Rattle.commands.specs.Runs.{IsAcceptedOutput, IsAcceptedRun, IsReported, IsRunOutput, IsSound, Says, journals_of}
+use Rattle.commands.specs.Runs.{logs_of, work_of}
 use Rattle.commands.proofs.Reports.{sound_as_it_is}
 
-module _ (kinds : List Kind) (quota : ℕ) (journals : ℕ → List AnyEvent) (logs : ℕ → List AnyEntry) (between : List ℕ) (sound : IsSoundRecord kinds quota journals logs) where
-  not_no : (v : Verdict) → IsYesUnlessMemory v → status_of v ≡ no_status → ⊥
+module _ (kinds : List Kind) (quota : ℕ) (journals : ℕ → List AnyEvent) (logs : ℕ → List AnyEntry) (between : List ℕ)
+    (sound : IsSoundRecord kinds quota journals logs) where
+  not_no : (v : Verdict) → IsYesUnlessMemory v → status_of v ≡ status_is.No → ⊥
   not_no (Yes counts) k e = absurd cc
   not_no (No n) k e = k
   not_no (Malformed f) k e = k
   not_no NoMemory k e = absurd cc
 
-  accepted_as : (status : ℕ) (out : List ℕ) (h : IsReported journals logs between status out) → (v : Verdict) → h.verdict ≡ v → IsYesUnlessMemory v
-      → status_of v ≡ yes_status → Says journals logs v → IsAcceptedOutput journals logs between out
+  accepted_as : (status : Status) (out : List ℕ) (h : IsReported journals logs between status out) → (v : Verdict)
+      → h.verdict ≡ v → IsYesUnlessMemory v
+      → status_of v ≡ status_is.Yes → Says journals logs v → IsAcceptedOutput journals logs between out
   accepted_as status out h (Yes counts) is k e says = record {
     accepted = says.0;
     history = h.is_text.history;
@@ -32,21 +37,26 @@ module _ (kinds : List Kind) (quota : ℕ) (journals : ℕ → List AnyEvent) (l
     counts = counts;
     are_counts = says.1;
     out_is =
-        h.text_is ∙ (ap (λ xs. xs ++ verdict_text true h.verdict) h.is_text.text_is ∙ (ap (λ w. (h.is_text.history ++ (between ++ comment_lines h.is_text.certificates)) ++ verdict_text true w) is
-        ∙ (append_assoc h.is_text.history (between ++ comment_lines h.is_text.certificates) (verdict_text true (Yes counts))
-        ∙ ap (λ xs. h.is_text.history ++ xs) (append_assoc between (comment_lines h.is_text.certificates) (verdict_text true (Yes counts))))));
+        h.text_is ∙ (ap (λ xs. xs ++ verdict_text true h.verdict) h.is_text.text_is
+        ∙ (ap (λ w. (h.is_text.history ++ (between ++ comment_lines h.is_text.certificates))
+        ++ verdict_text true w) is
+        ∙ (append_assoc h.is_text.history (between ++ comment_lines h.is_text.certificates)
+        (verdict_text true (Yes counts))
+        ∙ ap (λ xs. h.is_text.history ++ xs)
+        (append_assoc between (comment_lines h.is_text.certificates) (verdict_text true (Yes counts))))));
   }
   accepted_as status out h (No n) is k e says = absurd k
   accepted_as status out h (Malformed f) is k e says = absurd k
   accepted_as status out h NoMemory is k e says = absurd cc
 
-  pub record_accepted : (status : ℕ) (out : List ℕ) → IsRecordOutput journals logs between status out → status ≡ yes_status → IsAcceptedOutput journals logs between out
-  record_accepted status out (inl h) e = accepted_as status out h h.verdict refl (h.accepted kinds quota sound) (sym h.status_is ∙ e) h.says
-  record_accepted status out (inr h) e = let t = sym h.0 ∙ e in absurd cc
+  pub record_accepted : (status : Status) (out : List ℕ) → IsReported journals logs between status out
+      → status ≡ status_is.Yes → IsAcceptedOutput journals logs between out
+  record_accepted status out h e =
+      accepted_as status out h h.verdict refl (h.accepted kinds quota sound) (sym h.status_is ∙ e) h.says
 
-  pub record_not_no : (status : ℕ) (out : List ℕ) → IsRecordOutput journals logs between status out → status ≡ no_status → ⊥
-  record_not_no status out (inl h) e = not_no h.verdict (h.accepted kinds quota sound) (sym h.status_is ∙ e)
-  record_not_no status out (inr h) e = let t = sym h.0 ∙ e in absurd cc
+  pub record_not_no : (status : Status) (out : List ℕ) → IsReported journals logs between status out
+      → status ≡ status_is.No → ⊥
+  record_not_no status out h e = not_no h.verdict (h.accepted kinds quota sound) (sym h.status_is ∙ e)
 
 -- ---- the record of a run
 
@@ -54,14 +64,18 @@ module _ (o : RunOptions) where
   sound_run : (r : _) → Ran (work_of o) r → IsSound r
   sound_run r ran = sound_as_it_is r (work_of o).kinds _ ran.sound
 
-  pub run_accepted : (status : ℕ) (out : List ℕ) → IsRunOutput o status out → status ≡ yes_status → IsAcceptedRun o out
+  pub run_accepted : (status : Status) (out : List ℕ) → IsRunOutput o status out → status ≡ status_is.Yes
+      → IsAcceptedRun o out
   run_accepted status out (inl h) e =
       let s = sound_run h.0 h.1 in
-      record { recorded = h.0; ran = h.1; lines = record_accepted s.0 s.1 (journals_of h.0) (logs_of h.0) [] s.2 status out h.2 e }
-  run_accepted status out (inr (inl h)) e = let t = sym h.0 ∙ e in absurd cc
-  run_accepted status out (inr (inr h)) e = let t = sym h.0 ∙ e in absurd cc
+      record {
+        recorded = h.0;
+        ran = h.1;
+        lines = record_accepted s.0 s.1 (journals_of h.0) (logs_of h.0) [] s.2 status out h.2 e;
+      }
+  run_accepted status out (inr h) e = let t = sym h.0 ∙ e in absurd cc
 
-  pub run_not_no : (status : ℕ) (out : List ℕ) → IsRunOutput o status out → status ≢ no_status
-  run_not_no status out (inl h) e = let s = sound_run h.0 h.1 in record_not_no s.0 s.1 (journals_of h.0) (logs_of h.0) [] s.2 status out h.2 e
-  run_not_no status out (inr (inl h)) e = let t = sym h.0 ∙ e in absurd cc
-  run_not_no status out (inr (inr h)) e = let t = sym h.0 ∙ e in absurd cc
+  pub run_not_no : (status : Status) (out : List ℕ) → IsRunOutput o status out → status ≢ status_is.No
+  run_not_no status out (inl h) e =
+      let s = sound_run h.0 h.1 in record_not_no s.0 s.1 (journals_of h.0) (logs_of h.0) [] s.2 status out h.2 e
+  run_not_no status out (inr h) e = let t = sym h.0 ∙ e in absurd cc

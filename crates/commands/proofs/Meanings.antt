@@ -1,13 +1,20 @@
 -- What the status of the output of a run shows, and of a play of a schedule.
 use Rattle.std.proofs.Common.{ℕ, List}
 use Rattle.command_line.specs.declared.asking.RunOptions.{RunOptions}
+use Rattle.history_commands.specs.declared.status.Status.{Status}
 use Rattle.commands.specs.Runs.{IsRun, IsRunOutput}
 use Rattle.commands.specs.Simulated.{IsSimulation, IsSimulateOutput}
 use Rattle.commands.proofs.Accepted.{run_accepted, run_not_no}
 use Rattle.commands.proofs.Simulations as simulation
 
-pub is_run : (o : RunOptions) (status : ℕ) (out : List ℕ) → IsRunOutput o status out → IsRun o status out
-is_run o status out k = record { output = k; accepted = run_accepted o status out k; never_no = run_not_no o status out k }
+pub is_run : (o : RunOptions) (status : Status) (out : List ℕ) → IsRunOutput o status out → IsRun o status out
+is_run o status out k =
+    record { output = k; accepted = run_accepted o status out k; never_no = run_not_no o status out k }
 
-pub is_simulation : (text : List ℕ) (status : ℕ) (out : List ℕ) → IsSimulateOutput text status out → IsSimulation text status out
-is_simulation text status out k = record { output = k; accepted = simulation.accepts text status out k; never_no = simulation.never_no text status out k }
+pub is_simulation : (text : List ℕ) (status : Status) (out : List ℕ) → IsSimulateOutput text status out
+    → IsSimulation text status out
+is_simulation text status out k = record {
+  output = k;
+  accepted = simulation.accepts text status out k;
+  never_no = simulation.never_no text status out k;
+}

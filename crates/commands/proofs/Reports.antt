@@ -1,4 +1,4 @@
--- What is put out of a record.
+-- The output for a record.
 use Rattle.std.proofs.Common.{◌≡◌, ℕ, List, sym, subst}
 use Rattle.model.specs.declared.AnyOp.{AnyOp}
 use Rattle.model.specs.declared.AnyReply.{AnyReply}
@@ -10,25 +10,40 @@ use Rattle.recorder.specs.Records.{Recorded, journal_at, log_at}
 use Rattle.events.specs.declared.event.Event.{Event}
 use Rattle.recorder.specs.Histories.{AreEventsOf}
 use Rattle.transcript.specs.Accounts.{AreCertificatesOf}
-use Rattle.verdicts.specs.declared.verdict.Verdict.{Verdict}
-use Rattle.verdicts.specs.declared.verdict.Verdict.TheVariants.{Yes, No, Malformed, NoMemory}
+use Rattle.report.specs.declared.verdict.Verdict.{Verdict}
+use Rattle.report.specs.declared.verdict.Verdict.TheVariants.{Yes, No, Malformed, NoMemory}
 use Rattle.judging.specs.Verdicts.{JudgesBy}
 use Rattle.commands.specs.Runs.{IsSound, Says, journals_of, logs_of}
 
 -- ---- journals and logs of operations of all kinds are what they stand for
 
-pub sound_as_it_is : (r : Recorded AnyOp AnyReply) (kinds : _) (quota : ℕ) → IsSoundRecord kinds quota (journal_at r) (log_at r) → IsSound r
+pub sound_as_it_is : (r : Recorded AnyOp AnyReply) (kinds : _) (quota : ℕ)
+    → IsSoundRecord kinds quota (journal_at r) (log_at r) → IsSound r
 sound_as_it_is r kinds quota s =
     let journals : journal_at r ≡ journals_of r = λ i c. sym (events_as_they_are (journal_at r c)) i in
-    let logs : log_at r ≡ logs_of r = λ i x. sym (entries_as_they_are (log_at r x)) i in
-    (kinds, quota, subst (λ (js : ℕ → List AnyEvent). IsSoundRecord kinds quota js (logs_of r)) journals (subst (λ (ls : ℕ → List AnyEntry). IsSoundRecord kinds quota (journal_at r) ls) logs s))
+    let logs : log_at r ≡ logs_of r = λ i x. sym (entries_as_they_are (log_at r x)) i in (
+      kinds,
+      quota,
+      subst (λ (js : ℕ → List AnyEvent). IsSoundRecord kinds quota js (logs_of r)) journals
+          (subst (λ (ls : ℕ → List AnyEntry). IsSoundRecord kinds quota (journal_at r) ls) logs s),
+    )
 
 -- ---- the verdict on the certificates of a record
 
 pub says_of : (journals : ℕ → List AnyEvent) (logs : ℕ → List AnyEntry) (es : List Event) (cs : List Certificate)
-    → AreEventsOf journals es → AreCertificatesOf journals logs cs → (v : Verdict) → JudgesBy es cs v → Says journals logs v
-says_of journals logs es cs are_events are_certificates (Yes s) k =
-    (record { events = es; certificates = cs; are_events = are_events; are_certificates = are_certificates; valid = k.0 }, (es, are_events, k.1))
-says_of journals logs es cs are_events are_certificates (No r) k = record { events = es; certificates = cs; are_events = are_events; are_certificates = are_certificates; first = k.0 }
+    → AreEventsOf journals es → AreCertificatesOf journals logs cs → (v : Verdict) → JudgesBy es cs v
+    → Says journals logs v
+says_of journals logs es cs are_events are_certificates (Yes s) k = (
+  record {
+    events = es;
+    certificates = cs;
+    are_events = are_events;
+    are_certificates = are_certificates;
+    valid = k.0;
+  },
+  (es, are_events, k.1),
+)
+says_of journals logs es cs are_events are_certificates (No r) k =
+    record { events = es; certificates = cs; are_events = are_events; are_certificates = are_certificates; first = k.0 }
 says_of journals logs es cs are_events are_certificates (Malformed f) k = k
 says_of journals logs es cs are_events are_certificates NoMemory k = tt

@@ -1,4 +1,5 @@
 pub mod Statuses
+pub mod Left
 pub mod Runs
 pub mod Simulated
 pub mod Performed

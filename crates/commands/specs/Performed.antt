@@ -1,23 +1,115 @@
 -- What the program does for each command line.
-use Rattle.std.specs.Prelude.{ℕ, List}
+use Rattle.std.specs.Prelude.{◌≡◌, ◌⊎◌, ℕ, Bool, true, false, List, [], Option}
+use Rattle.edn.specs.Given.{WasRead}
+use Rattle.judging.specs.Reads.{read_limit, WasRefused}
 use Rattle.command_line.specs.declared.asking.Line.{Line}
 use Rattle.command_line.specs.declared.asking.Line.TheVariants.{Check, Search, Refute, Verify}
 use Rattle.command_line.specs.declared.asking.Line.TheVariants.{Run, Simulate}
-use Rattle.outputs.specs.Checked.{IsCheck}
+use Rattle.history_commands.specs.Checked.{IsCheck}
+use Rattle.history_commands.specs.Outputs.{IsOutOfMemory}
 use Rattle.history_commands.specs.Refuted.{IsRefute}
-use Rattle.commands.specs.Runs.{IsRun}
 use Rattle.history_commands.specs.Searches.{IsSearch}
 use Rattle.history_commands.specs.Verified.{IsVerification}
+use Rattle.history_commands.specs.declared.status.Status.{Status}
+use Rattle.commands.specs.declared.sources.Unread.{Unread}
+use Rattle.commands.specs.declared.sources.Unread.TheVariants.{First, Second}
+use Rattle.commands.specs.Runs.{IsRun}
 use Rattle.commands.specs.Simulated.{IsSimulation}
 
+-- a verification, or one line says that memory was refused
+abbrev pub IsVerificationIn : ℕ → List ℕ → List ℕ → Status → List ℕ → Type 0
+IsVerificationIn steps first second status out =
+    IsVerification first second steps status out ⊎ IsOutOfMemory status out
+
 -- The status and the lines are an output of the command that the line asks for, on the texts of its
--- first and second file.
-abbrev pub IsPerformed : Line → List ℕ → List ℕ → ℕ → List ℕ → Type 0
+-- first and second file; or one line says that memory was refused. A check says so by its verdict.
+abbrev pub IsPerformed : Line → List ℕ → List ℕ → Status → List ℕ → Type 0
 IsPerformed (Check history certs workers) first second status out = IsCheck first second status out
-IsPerformed (Search history steps order) first second status out = IsSearch first steps status out
+IsPerformed (Search history steps order) first second status out =
+    IsSearch first steps status out ⊎ IsOutOfMemory status out
 IsPerformed (Refute history reasons steps) first second status out =
-    IsRefute first second steps status out
+    IsRefute first second steps status out ⊎ IsOutOfMemory status out
 IsPerformed (Verify history evidence steps) first second status out =
-    IsVerification first second steps status out
-IsPerformed (Run options) first second status out = IsRun options status out
-IsPerformed (Simulate schedule) first second status out = IsSimulation first status out
+    IsVerificationIn steps first second status out
+IsPerformed (Run options) first second status out =
+    IsRun options status out ⊎ IsOutOfMemory status out
+IsPerformed (Simulate schedule) first second status out =
+    IsSimulation first status out ⊎ IsOutOfMemory status out
+
+-- ---- what the exit status says of the history in the first file
+
+-- whether 0 says that it is linearizable
+abbrev pub says_yes : Line → Bool
+says_yes (Check history certs workers) = true
+says_yes (Search history steps order) = true
+says_yes (Refute history reasons steps) = false
+says_yes (Verify history evidence steps) = true
+says_yes (Run options) = false
+says_yes (Simulate schedule) = false
+
+-- whether 1 says that it is not
+abbrev pub says_no : Line → Bool
+says_no (Check history certs workers) = false
+says_no (Search history steps order) = true
+says_no (Refute history reasons steps) = true
+says_no (Verify history evidence steps) = true
+says_no (Run options) = false
+says_no (Simulate schedule) = false
+
+-- ---- on files
+
+-- whether the command reads a file, and whether it reads two
+abbrev pub has_first : Line → Bool
+has_first (Check history certs workers) = true
+has_first (Search history steps order) = true
+has_first (Refute history reasons steps) = true
+has_first (Verify history evidence steps) = true
+has_first (Run options) = false
+has_first (Simulate schedule) = true
+
+abbrev pub has_second : Line → Bool
+has_second (Check history certs workers) = true
+has_second (Search history steps order) = false
+has_second (Refute history reasons steps) = true
+has_second (Verify history evidence steps) = true
+has_second (Run options) = false
+has_second (Simulate schedule) = false
+
+-- The text of a file that the command has is what was read of its source. What the source has left
+-- is given as it was before and after. Of a file that it does not have nothing was read.
+abbrev pub IsFileText : Bool → Option (List ℕ) → Option (List ℕ) → List ℕ → Type 0
+IsFileText true before after text = WasRead read_limit before after text
+IsFileText false before after text = (after ≡ before) × (text ≡ [])
+
+-- The texts of a command's files were read, of those that it has, and this holds of them; or memory
+-- for a text was refused.
+abbrev pub OnTexts : Bool → Bool → (List ℕ → List ℕ → Status → List ℕ → Type 0) → Option (List ℕ)
+    → Option (List ℕ) → Option (List ℕ) → Option (List ℕ) → Status → List ℕ → Type 0
+OnTexts has_one has_other IsDone first_before first_after second_before second_after status out =
+    ((first : List ℕ) × (second : List ℕ)
+    × IsFileText has_one first_before first_after first
+    × IsFileText has_other second_before second_after second × IsDone first second status out)
+    ⊎ IsOutOfMemory status out
+
+-- the command that the line asks for was done on the texts of its files
+abbrev pub IsPerformedOn : Line → Option (List ℕ) → Option (List ℕ) → Option (List ℕ)
+    → Option (List ℕ) → Status → List ℕ → Type 0
+IsPerformedOn line = OnTexts (has_first line) (has_second line) (IsPerformed line)
+
+-- Which text of a command was not read, and what that leaves: its source failed, since it refused a
+-- call. Where it is that of the first file, nothing was read of the second; where it is that of the
+-- second, the source of the first has not failed. Nothing was written. What a source has left,
+-- whether it is broken, and what it refuses are given for the first and for the second.
+pub record IsUnread {F G S : Type 0} (first_left : F → Option (List ℕ)) (first_broken : F → Bool)
+    (first_refuses : F → ℕ → F → Type 0) (second_left : G → Option (List ℕ))
+    (second_broken : G → Bool) (second_refuses : G → ℕ → G → Type 0)
+    (first first_after : F) (second second_after : G) (sink sink_after : S) (which : Unread)
+    : Type 0 where
+  pub unread_first : which ≡ First
+      → (first_broken first_after ≡ true) × (second_after ≡ second)
+  pub unread_second : which ≡ Second
+      → (first_broken first_after ≡ false) × (second_broken second_after ≡ true)
+  -- it is named only where its source refused a call
+  pub first_refused : which ≡ First → WasRefused first_left first_refuses first first_after
+  pub second_refused : which ≡ Second → WasRefused second_left second_refuses second second_after
+  pub nothing_written : sink_after ≡ sink

@@ -1,10 +1,10 @@
--- What a run puts out, and its exit status.
+-- The output of a run, and its exit status.
 use Rattle.std.specs.Prelude.{◌≡◌, ◌≢◌, ◌<◌, ◌⊎◌, ⊤, ℕ, List, [], true, ◌++◌, codes, map}
 use Rattle.std.specs.List.{range_with_len}
 use Rattle.model.specs.declared.Kind.{Kind}
 use Rattle.seq_objects.specs.Kinds.{kinds_of}
-use Rattle.workload.specs.Workloads.{Work}
-use Rattle.workload.specs.Drawing.{client_calls}
+use Rattle.clients.specs.Workloads.{Work}
+use Rattle.clients.specs.Drawing.{client_calls}
 use Rattle.clients.specs.Made.{Ran}
 use Rattle.desk_model.specs.World.{AnyEntry, AnyEvent}
 use Rattle.desk_model.specs.Records.{IsSoundRecord}
@@ -13,19 +13,20 @@ use Rattle.model.specs.declared.AnyOp.{AnyOp}
 use Rattle.model.specs.declared.AnyReply.{AnyReply}
 use Rattle.recorder.specs.Histories.{AreEventsOf, journals_in, logs_in}
 use Rattle.recorder.specs.Records.{Recorded}
-use Rattle.verdicts.specs.declared.verdict.Summary.{Summary}
+use Rattle.report.specs.declared.verdict.Summary.{Summary}
 use Rattle.certificate.specs.declared.Certificate.{Certificate}
 use Rattle.transcript.specs.Written.{IsHistoryText}
 use Rattle.transcript.specs.Accounts.{AreCertificatesOf, IsAccepted, IsRefused}
 use Rattle.report.specs.Lines.{verdict_text}
-use Rattle.verdicts.specs.declared.verdict.Verdict.{Verdict}
-use Rattle.verdicts.specs.declared.verdict.Verdict.TheVariants.{Yes, No, Malformed, NoMemory}
-use Rattle.verdicts.specs.Counts.{AreCountsOf}
+use Rattle.report.specs.declared.verdict.Verdict.{Verdict}
+use Rattle.report.specs.declared.verdict.Verdict.TheVariants.{Yes, No, Malformed, NoMemory}
+use Rattle.report.specs.Counts.{AreCountsOf}
 use Rattle.judging.specs.Verdicts.{IsYesUnlessMemory}
 use Rattle.command_line.specs.declared.asking.RunOptions.{RunOptions}
 use Rattle.history_commands.specs.Comments.{comment_lines}
-use Rattle.outputs.specs.Outputs.{IsOutOfMemory}
-use Rattle.outputs.specs.Statuses.{no_memory_status, no_status, status_of, yes_status}
+use Rattle.history_commands.specs.Outputs.{status_of}
+use Rattle.history_commands.specs.declared.status.Status.{Status}
+use Rattle.history_commands.specs.declared.status.Status.TheVariants as status_is
 
 -- a record's journals and logs, as they are
 abbrev pub journals_of : Recorded AnyOp AnyReply → ℕ → List AnyEvent
@@ -63,7 +64,7 @@ pub record IsTextOf (journals : ℕ → List AnyEvent) (logs : ℕ → List AnyE
 -- The same, and the verdict on the record as comments. That of a sound record is yes, except where
 -- memory is refused.
 pub record IsReported (journals : ℕ → List AnyEvent) (logs : ℕ → List AnyEntry) (between : List ℕ)
-    (status : ℕ) (text : List ℕ) : Type 0 where
+    (status : Status) (text : List ℕ) : Type 0 where
   pub own : List ℕ
   pub verdict : Verdict
   pub is_text : IsTextOf journals logs between own
@@ -73,16 +74,10 @@ pub record IsReported (journals : ℕ → List AnyEvent) (logs : ℕ → List An
   pub status_is : status ≡ status_of verdict
   pub text_is : text ≡ own ++ verdict_text true verdict
 
--- There is nothing to judge, and one line says why. A client alone wants no thread.
-abbrev pub IsGivenUp : ℕ → ℕ → List ℕ → Type 0
-IsGivenUp clients status text =
-    IsOutOfMemory status text
-    ⊎ ((status ≡ no_memory_status) × (text ≡ codes "no thread\n") × (1 < clients))
-
--- what is put out of a record
-abbrev pub IsRecordOutput : (ℕ → List AnyEvent) → (ℕ → List AnyEntry) → List ℕ → ℕ → List ℕ → Type 0
-IsRecordOutput journals logs between status text =
-    IsReported journals logs between status text ⊎ IsOutOfMemory status text
+-- A thread could not be started, and one line says so. A client alone wants no thread.
+abbrev pub HasNoThread : ℕ → Status → List ℕ → Type 0
+HasNoThread clients status text =
+    (status ≡ status_is.NoThread) × (text ≡ codes "no thread\n") × (1 < clients)
 
 -- The certificates of the record are accepted. The lines are those of its history, then this text,
 -- its certificates as comments, and a yes with the counts of its history.
@@ -106,13 +101,13 @@ work_of o =
       calls = map (client_calls o.kinds o.objects o.calls o.seed) (range_with_len 0 o.clients);
     }
 
--- What is put out of a run: the record of clients that made these calls, or the line that says why
--- there is none.
-abbrev pub IsRunOutput : RunOptions → ℕ → List ℕ → Type 0
+-- The output of a run: the record of clients that made these calls, or the line that says why there
+-- is none.
+abbrev pub IsRunOutput : RunOptions → Status → List ℕ → Type 0
 IsRunOutput o status text =
     ((r : Recorded AnyOp AnyReply) × Ran (work_of o) r
-    × IsRecordOutput (journals_of r) (logs_of r) [] status text)
-    ⊎ IsGivenUp o.clients status text
+    × IsReported (journals_of r) (logs_of r) [] status text)
+    ⊎ HasNoThread o.clients status text
 
 -- the record of such a run, the certificates of which are accepted, and its lines
 pub record IsAcceptedRun (o : RunOptions) (out : List ℕ) : Type 0 where
@@ -120,9 +115,9 @@ pub record IsAcceptedRun (o : RunOptions) (out : List ℕ) : Type 0 where
   pub ran : Ran (work_of o) recorded
   pub lines : IsAcceptedOutput (journals_of recorded) (logs_of recorded) [] out
 
--- What a run comes to: a yes comes with the record of such a run, the certificates of which are
+-- What a run gives: a yes comes with the record of such a run, the certificates of which are
 -- accepted, and it is never a no.
-pub record IsRun (o : RunOptions) (status : ℕ) (out : List ℕ) : Type 0 where
+pub record IsRun (o : RunOptions) (status : Status) (out : List ℕ) : Type 0 where
   pub output : IsRunOutput o status out
-  pub accepted : status ≡ yes_status → IsAcceptedRun o out
-  pub never_no : status ≢ no_status
+  pub accepted : status ≡ status_is.Yes → IsAcceptedRun o out
+  pub never_no : status ≢ status_is.No

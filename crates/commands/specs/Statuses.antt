@@ -1,15 +1,11 @@
--- The exit status of words that ask for nothing.
-use Rattle.std.specs.Prelude.{ℕ}
+-- How the program ends where words ask for nothing.
 use Rattle.command_line.specs.declared.asking.LineFault.{LineFault}
 use Rattle.command_line.specs.declared.asking.LineFault.TheVariants.{Help, Refused, NoMemory}
-use Rattle.outputs.specs.Statuses.{no_memory_status, yes_status}
+use Rattle.history_commands.specs.declared.status.Status.{Status}
+use Rattle.history_commands.specs.declared.status.Status.TheVariants.{Yes, Usage, OutOfMemory}
 
--- where the command line is refused
-abbrev pub usage_status : ℕ
-usage_status = 64
-
--- the status of words that ask for nothing: that of a yes where they ask for help
-abbrev pub status_of_fault : LineFault → ℕ
-status_of_fault (Help text) = yes_status
-status_of_fault (Refused text) = usage_status
-status_of_fault NoMemory = no_memory_status
+-- how the program ends where words ask for nothing: as with a yes where they ask for help
+abbrev pub status_of_fault : LineFault → Status
+status_of_fault (Help text) = Yes
+status_of_fault (Refused text) = Usage
+status_of_fault NoMemory = OutOfMemory

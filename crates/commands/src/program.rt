@@ -1,15 +1,20 @@
 //! What the program does.
 
-ghost use Rattle.std.specs.Prelude.{◌≡◌, false};
-ghost use Rattle.outputs.specs.Outputs.{Leaves};
-ghost use Rattle.commands.specs.Performed.{IsPerformed};
+ghost use Rattle.std.specs.Prelude.{◌≡◌, false, true, IfOk, IfErr};
+ghost use Rattle.judging.specs.Checks.{IsLinearizableRead, IsNotLinearizableRead};
+ghost use Rattle.history_commands.specs.Outputs.{number_of};
+ghost use Rattle.commands.specs.Left.{Leaves};
+ghost use Rattle.commands.specs.Performed.{IsPerformed, IsPerformedOn, IsUnread, says_no, says_yes};
 
-use crate::running::report_run;
-use crate::simulating::report_simulation;
+use crate::checking::{check_bytes, check_sources};
+use crate::put_out::put_out;
+use crate::running::run;
+use crate::simulating::play;
+use crate::sources::{Unread, file_text, has_first, has_second, stop};
+use crate::verification::verify_sources;
 use command_line::Line;
-use edn::Sink;
-use history_commands::{report_refutation, report_search, report_verification};
-use outputs::report_check;
+use edn::{Sink, Source};
+use history_commands::{Status, refute, search, verify};
 use std::alloc::Global;
 use std::sync::Wait;
 use std::thread::Threads;
@@ -33,27 +38,107 @@ pub fn perform<R: Threads + Wait + Sync, S: Sink>(
         (S.sent sink.old) result (S.sent sink.new) (S.broken sink.new) }
 {
     match line {
+        // The program checks and verifies by `perform_over`, which frees the history's text; here a
+        // caller has both texts in memory.
         Line::Check {
             history: _,
             certs: _,
             workers,
-        } => report_check(rt, alloc, first, second, *workers, sink),
+        } => check_bytes(rt, alloc, first, second, *workers, sink),
         Line::Search {
             history: _,
             steps,
             first: order,
-        } => report_search(alloc, first, *steps, *order, sink),
+        } => put_out(search(alloc, first, *steps, *order), sink),
         Line::Refute {
             history: _,
             reasons: _,
             steps,
-        } => report_refutation(alloc, first, second, *steps, sink),
+        } => put_out(refute(alloc, first, second, *steps), sink),
         Line::Verify {
             history: _,
             evidence: _,
             steps,
-        } => report_verification(alloc, first, second, *steps, sink),
-        Line::Run(options) => report_run(rt, alloc, *options, sink),
-        Line::Simulate { .. } => report_simulation(alloc, first, sink),
+        } => put_out(verify(alloc, first, second, *steps), sink),
+        Line::Run(options) => put_out(run(rt, alloc, *options), sink),
+        Line::Simulate { .. } => put_out(play(alloc, first), sink),
+    }
+}
+
+/// Reads the files of a command, and does it.
+fn perform_on_texts<R: Threads + Wait + Sync, F: Source, G: Source, S: Sink>(
+    rt: &R,
+    alloc: Global,
+    line: &Line,
+    first: &mut F,
+    second: &mut G,
+    sink: &mut S,
+) -> Result<u8, Unread>
+    requires first { F.broken first.old ≡ false }
+    requires second { G.broken second.old ≡ false }
+    requires working { S.broken sink.old ≡ false }
+    ensures performs { IfOk result (λ number. Leaves (IsPerformedOn line.now
+        (F.remaining first.old) (F.remaining first.new)
+        (G.remaining second.old) (G.remaining second.new))
+        (S.sent sink.old) number (S.sent sink.new) (S.broken sink.new)) }
+    ensures unread { IfErr result (IsUnread F.remaining F.broken F.refuses
+        G.remaining G.broken G.refuses first.old first.new second.old second.new
+        sink.old sink.new) }
+{
+    let one = match file_text(alloc, has_first(line), first) {
+        Ok(text) => text,
+        Err(fault) => return stop(fault, Unread::First, sink),
+    };
+    let other = match file_text(alloc, has_second(line), second) {
+        Ok(text) => text,
+        Err(fault) => return stop(fault, Unread::Second, sink),
+    };
+    Ok(perform(rt, alloc, line, &one, &other, sink))
+}
+
+/// Does the command on its files, the first of which is read first, each to its end or to one byte
+/// more than the longest text that is judged; writes its output, and gives the exit status, as
+/// `perform` does. An error of a read is a failure, and is not tried again. Of a file that the
+/// command does not have nothing is read.
+///
+/// A check and a verification free the history's text as soon as it is read.
+pub fn perform_over<R: Threads + Wait + Sync, F: Source, G: Source, S: Sink>(
+    rt: &R,
+    alloc: Global,
+    line: &Line,
+    first: &mut F,
+    second: &mut G,
+    sink: &mut S,
+) -> Result<u8, Unread>
+    requires first { F.broken first.old ≡ false }
+    requires second { G.broken second.old ≡ false }
+    requires working { S.broken sink.old ≡ false }
+    ensures linearizable { IfOk result (λ number. says_yes line.now ≡ true →
+        number ≡ number_of Status.Yes →
+        IsLinearizableRead (F.remaining first.old) (F.remaining first.new)) }
+    ensures refuted { IfOk result (λ number. says_no line.now ≡ true →
+        number ≡ number_of Status.No →
+        IsNotLinearizableRead (F.remaining first.old) (F.remaining first.new)) }
+    ensures performs { IfOk result (λ number. Leaves (IsPerformedOn line.now
+        (F.remaining first.old) (F.remaining first.new)
+        (G.remaining second.old) (G.remaining second.new))
+        (S.sent sink.old) number (S.sent sink.new) (S.broken sink.new)) }
+    // The first text that could not be read is named, and nothing is written.
+    ensures unread { IfErr result (IsUnread F.remaining F.broken F.refuses
+        G.remaining G.broken G.refuses first.old first.new second.old second.new
+        sink.old sink.new) }
+{
+    match line {
+        Line::Check {
+            history: _,
+            certs: _,
+            workers,
+        } => check_sources(rt, alloc, first, second, *workers, sink),
+        Line::Verify {
+            history: _,
+            evidence: _,
+            steps,
+        } => verify_sources(alloc, first, second, *steps, sink),
+        _ => perform_on_texts(rt, alloc, line, first, second, sink),
     }
 }

@@ -1,25 +1,22 @@
 //! A run: clients make calls on objects, and what they did is judged.
 
-ghost use Rattle.std.specs.Prelude.{◌≡◌, ◌<◌, ◌++◌, ℕ, List, false, IfOk, IfErr};
+ghost use Rattle.std.specs.Prelude.{◌≡◌, ◌<◌, ◌++◌, ℕ, List, IfOk, IfErr};
 ghost use Rattle.model.specs.declared.Kind.{Kind};
 ghost use Rattle.desk_model.specs.Records.{IsSoundRecord};
 ghost use Rattle.certificate.specs.Denotes.{AreDistinct};
 ghost use Rattle.checker.specs.Refusals.{AreValid};
 ghost use Rattle.judging.specs.Verdicts.{IsYesUnlessMemory, JudgesBy};
-ghost use Rattle.outputs.specs.Outputs.{Leaves};
 ghost use Rattle.history_commands.specs.Comments.{comment_lines};
-ghost use Rattle.commands.specs.Runs.{IsRecordOutput, IsRun, IsTextOf, Says, journals_of, logs_of};
+ghost use Rattle.commands.specs.Runs.{IsReported, IsRun, IsTextOf, Says, journals_of, logs_of};
 ghost use Rattle.commands.specs.Runs.{work_of};
 ghost use Rattle.clients.specs.Made.{Ran};
 
 use certificate::Certificate;
 use checker::check_all;
-use clients::{RunFault, run_workers};
+use clients::{RunFault, run_workers, workload};
 use command_line::RunOptions;
-use edn::Sink;
 use history::History;
-use history_commands::comments_text;
-use outputs::{NO_MEMORY, send, send_both, send_out_of_memory};
+use history_commands::{Output, Status, comments_text, with_verdict};
 use recorder::Record;
 use report::{Verdict, verdict_on_check};
 use seq_objects::{AnyObject, Open};
@@ -27,7 +24,6 @@ use std::alloc::{AllocError, Global};
 use std::sync::Wait;
 use std::thread::Threads;
 use transcript::{Account, account_of, sound_record_is_accepted};
-use workload::workload;
 
 /// The text of a history, then this text, and the certificates as comments.
 fn text_of(
@@ -82,23 +78,17 @@ fn report_of(
     Ok((text, verdict))
 }
 
-/// Puts out the history of the record, this text, its certificates and the verdict on it, and gives
-/// the exit status.
-pub(crate) fn report_record<S: Sink>(
+/// The history of the record, this text, its certificates and the verdict on it.
+pub(crate) fn record_output(
     alloc: Global,
     record: &Record<AnyObject>,
     between: &[u8],
-    sink: &mut S,
-) -> u8
-    requires working { S.broken sink.old ≡ false }
-    ensures leaves { Leaves
-        (IsRecordOutput (journals_of record.now) (logs_of record.now) between.now)
-        (S.sent sink.old) result (S.sent sink.new) (S.broken sink.new) }
+) -> Result<Output, AllocError>
+    ensures { IfOk result (λ o. IsReported (journals_of record.now) (logs_of record.now)
+        between.now o.status o.text.items) }
 {
-    match report_of(alloc, record, between) {
-        Ok((text, verdict)) => send_both(&text, &verdict, sink),
-        Err(AllocError) => send_out_of_memory(sink),
-    }
+    let (text, verdict) = report_of(alloc, record, between)?;
+    with_verdict(text, &verdict, true)
 }
 
 /// What the clients did, each in a thread of its own.
@@ -122,20 +112,20 @@ fn record_of<R: Threads + Wait + Sync>(
     run_workers(rt, alloc, &workload, &Open)
 }
 
-/// Runs the clients, puts out what they did and the verdict on it, and gives the exit status.
-pub fn report_run<R: Threads + Wait + Sync, S: Sink>(
+/// Runs the clients: what they did, and the verdict on it.
+pub(crate) fn run<R: Threads + Wait + Sync>(
     rt: &R,
     alloc: Global,
     options: RunOptions,
-    sink: &mut S,
-) -> u8
-    requires working { S.broken sink.old ≡ false }
-    ensures leaves { Leaves (IsRun options)
-        (S.sent sink.old) result (S.sent sink.new) (S.broken sink.new) }
+) -> Result<Output, AllocError>
+    ensures { IfOk result (λ o. IsRun options o.status o.text.items) }
 {
     match record_of(rt, alloc, options) {
-        Ok(record) => report_record(alloc, &record, b"", sink),
-        Err(RunFault::NoMemory) => send_out_of_memory(sink),
-        Err(RunFault::NoThread) => send(b"no thread\n", NO_MEMORY, sink),
+        Ok(record) => record_output(alloc, &record, b""),
+        Err(RunFault::NoMemory) => Err(AllocError),
+        Err(RunFault::NoThread) => Ok(Output {
+            status: Status::NoThread,
+            text: Vec::from_slice(alloc, b"no thread\n")?,
+        }),
     }
 }

@@ -1,22 +1,18 @@
-//! The exit status of words that ask for nothing.
+//! How the program ends where words ask for nothing.
 
 ghost use Rattle.std.specs.Prelude.{◌≡◌};
 ghost use Rattle.commands.specs.Statuses as spec;
 
 use command_line::LineFault;
-use outputs::{NO_MEMORY, YES};
+use history_commands::Status;
 
-/// The exit status where the command line is refused.
-pub const USAGE: u8 = 64;
-
-/// The exit status where the words ask for nothing: 0 where they ask for help, 64 where they are
-/// refused, 3 where memory was refused.
-pub fn status_of_fault(fault: &LineFault) -> u8
+/// How the program ends where the words ask for nothing: well, where they ask for help.
+pub fn status_of_fault(fault: &LineFault) -> Status
     ensures { result ≡ spec.status_of_fault fault.now }
 {
     match fault {
-        LineFault::Help(_) => YES,
-        LineFault::Refused(_) => USAGE,
-        LineFault::NoMemory => NO_MEMORY,
+        LineFault::Help(_) => Status::Yes,
+        LineFault::Refused(_) => Status::Usage,
+        LineFault::NoMemory => Status::OutOfMemory,
     }
 }

@@ -1,17 +1,16 @@
 //! How long calls on a desk take.
 //!
 //! This many threads, each with a client of its own, make calls on one object. Printed are for each
-//! kind of object and number of threads two least times of a call in nanoseconds, over all rounds,
-//! that of `call` and that of `call_at_once`: the time of a whole round, through the number of its
-//! calls. The word is the number of rounds; with none there is one round of each, and no time is
-//! printed.
+//! kind of object and number of threads the least time of a call in nanoseconds, over all rounds: the
+//! time of a whole round, through the number of its calls. The word is the number of rounds; with
+//! none there is one round of each, and no time is printed.
 #![tactic(auto)]
 
 ghost use Rattle.std.specs.Prelude.{◌≡◌, ◌+◌, ◌<◌, length, IfOk};
 ghost use Rattle.publication.specs.Handles.{AllBegun};
 ghost use Rattle.desk_model.specs.Limits.{max_clients};
 
-use combiner::{call, call_at_once};
+use combiner::call;
 use publication::{Client, Desk};
 use seq_objects::{AnyObject, AnyOp, Kind};
 use std::alloc::{AllocError, Global};
@@ -30,22 +29,6 @@ trait Host: Threads + Wait + Sync + Clock + AllocGlobal + Print {}
 
 impl<R: Threads + Wait + Sync + Clock + AllocGlobal + Print> Host for R {}
 
-/// Which of the two calls is timed.
-#[derive(Clone, Copy)]
-enum Way {
-    /// `call`, which posts.
-    Posted,
-    /// `call_at_once`, which posts only where the object is held.
-    AtOnce,
-}
-
-/// The object, and the calls that are made on it.
-#[derive(Clone, Copy)]
-struct Job {
-    kind: Kind,
-    way: Way,
-}
-
 /// The call of this number that a thread makes.
 fn op_of(kind: Kind, thread: u32, i: u32) -> AnyOp {
     let x = ((i as u64 * 7919 + thread as u64 * 104_729) % 1000) as i64;
@@ -61,17 +44,14 @@ fn op_of(kind: Kind, thread: u32, i: u32) -> AnyOp {
 }
 
 /// Makes the calls of one client.
-fn work<R: Wait>(rt: &R, desk: &Desk<AnyObject>, client: Client<AnyObject>, job: Job)
+fn work<R: Wait>(rt: &R, desk: &Desk<AnyObject>, client: Client<AnyObject>, kind: Kind)
     requires { client.desk ≡ desk.now.id }
 {
     let mut client = client;
     let thread = client.number();
     for i in 0..CALLS {
-        let op = op_of(job.kind, thread, i);
-        let (after, _) = match job.way {
-            Way::Posted => call(rt, desk, client, 0, op),
-            Way::AtOnce => call_at_once(rt, desk, client, 0, op),
-        };
+        let op = op_of(kind, thread, i);
+        let (after, _) = call(rt, desk, client, 0, op);
         client = after;
     }
 }
@@ -95,15 +75,15 @@ fn two_work<R: Threads + Wait + Sync>(
     desk: &Desk<AnyObject>,
     one: Client<AnyObject>,
     other: Client<AnyObject>,
-    job: Job,
+    kind: Kind,
 )
     requires one { one.desk ≡ desk.now.id }
     requires other { other.desk ≡ desk.now.id }
 {
     join(
         rt,
-        || work(rt, desk, one, job),
-        || work(rt, desk, other, job),
+        || work(rt, desk, one, kind),
+        || work(rt, desk, other, kind),
     );
 }
 
@@ -112,7 +92,7 @@ fn four_work<R: Threads + Wait + Sync>(
     rt: &R,
     desk: &Desk<AnyObject>,
     clients: &mut Vec<Client<AnyObject>>,
-    job: Job,
+    kind: Kind,
 )
     requires { (length clients.old.items ≡ 4) × AllBegun desk.now.id clients.old.items }
 {
@@ -122,10 +102,10 @@ fn four_work<R: Threads + Wait + Sync>(
         rt,
         || -> ()
             requires { (a.desk ≡ desk.now.id) × (b.desk ≡ desk.now.id) }
-        { two_work(rt, desk, a, b, job) },
+        { two_work(rt, desk, a, b, kind) },
         || -> ()
             requires { (c.desk ≡ desk.now.id) × (d.desk ≡ desk.now.id) }
-        { two_work(rt, desk, c, d, job) },
+        { two_work(rt, desk, c, d, kind) },
     );
 }
 
@@ -134,14 +114,14 @@ fn all_work<R: Threads + Wait + Sync>(
     rt: &R,
     desk: &Desk<AnyObject>,
     clients: &mut Vec<Client<AnyObject>>,
-    job: Job,
+    kind: Kind,
 )
     requires { AllBegun desk.now.id clients.old.items }
 {
     match clients.len() {
-        1 => work(rt, desk, next(desk, clients), job),
-        2 => two_work(rt, desk, next(desk, clients), next(desk, clients), job),
-        4 => four_work(rt, desk, clients, job),
+        1 => work(rt, desk, next(desk, clients), kind),
+        2 => two_work(rt, desk, next(desk, clients), next(desk, clients), kind),
+        4 => four_work(rt, desk, clients, kind),
         _ => {}
     }
 }
@@ -160,22 +140,22 @@ fn new_desk(
 }
 
 /// The nanoseconds of one round.
-fn round<R: Host>(rt: &R, job: Job, clients: u32) -> io::Result<u64>
+fn round<R: Host>(rt: &R, kind: Kind, clients: u32) -> io::Result<u64>
     requires { (0 < clients) × (clients < 1 + max_clients) }
 {
-    let (desk, mut all) = new_desk(rt.alloc(), job.kind, clients)?;
+    let (desk, mut all) = new_desk(rt.alloc(), kind, clients)?;
     let start = Instant::now(rt)?;
-    all_work(rt, &desk, &mut all, job);
+    all_work(rt, &desk, &mut all, kind);
     Ok(u64::try_from(start.elapsed(rt)?.as_nanos()).unwrap_or(u64::MAX))
 }
 
 /// The least nanoseconds of a call in this many rounds.
-fn least<R: Host>(rt: &R, job: Job, clients: u32, rounds: u32) -> io::Result<u64>
+fn least<R: Host>(rt: &R, kind: Kind, clients: u32, rounds: u32) -> io::Result<u64>
     requires { (0 < clients) × (clients < 1 + max_clients) }
 {
     let mut least = u64::MAX;
     for _ in 0..rounds {
-        least = least.min(round(rt, job, clients)?);
+        least = least.min(round(rt, kind, clients)?);
     }
     Ok(least / (clients as u64 * CALLS as u64))
 }
@@ -189,21 +169,15 @@ fn name_of(kind: Kind) -> &'static str {
 }
 
 fn measure<R: Host>(rt: &R, kind: Kind, rounds: Option<u32>) -> io::Result<()> {
-    let way = Way::Posted;
-    let posted = Job { kind, way };
-    let way = Way::AtOnce;
-    let at_once = Job { kind, way };
     let name = name_of(kind);
     for clients in [1, 2, 4] {
         match rounds {
             Some(rounds) => {
-                let first = least(rt, posted, clients, rounds)?;
-                let second = least(rt, at_once, clients, rounds)?;
-                rt.println(format_args!("{name} {clients} {first} {second}"))?;
+                let nanoseconds = least(rt, kind, clients, rounds)?;
+                rt.println(format_args!("{name} {clients} {nanoseconds}"))?;
             }
             None => {
-                round(rt, posted, clients)?;
-                round(rt, at_once, clients)?;
+                round(rt, kind, clients)?;
                 rt.println(format_args!("{name} {clients}"))?;
             }
         }

@@ -149,14 +149,6 @@ module _ {S O R : Type 0} (content : S → Content) (op_in : O → AnyOp) (reply
       → Allows K slots id m clock_place (λ x. (x + 1) % 2 ^ 64) (play.draws content op_in reply_in (step slots clock_place 1 0 maybe.none) m)
   draw_keeps_rule slots id i m p tl cl is going carried on fits few = draws_where slots id i m p tl cl is going carried (λ s k at. on) fits few
 
-  -- who holds an object knows that it is there
-  pub draws_holding : (slots id i : ℕ) (m : Me (Slot S O R) DeskView) (p : Request O) (l : List AnyEntry) (tl : List (ℕ × Slot S O R))
-      → m.0.role ≡ role.Client → m.0.own ≡ own.Idle → m.0.held ≡ held.Pass p.object l → m.0.ended ≡ false
-      → m.1 ≡ (i, slot.Request p) ∷ tl → kind_of (op_in p.op) ≡ kind_at kinds p.object → length m.0.done < quota
-      → Allows K slots id m clock_place (λ x. (x + 1) % 2 ^ 64) (play.draws content op_in reply_in (step slots clock_place 1 0 maybe.none) m)
-  draws_holding slots id i m p l tl cl is pass going carried fits few = draws_where slots id i m p tl cl is going carried
-      (λ s k at. (subst (HeldOk (length kinds) k.world m.0.number) pass (mine content op_in reply_in kinds clients quota s k id m.0 cl at).held).0) fits few
-
   abbrev pub request_known : AnyRequest → Own → AnyRequest
   request_known d (own.Drawn q) = q
   request_known d (own.Waiting q) = q

@@ -4,7 +4,6 @@ pub mod Seeing
 pub mod Locks
 pub mod Rows
 pub mod Calls
-pub mod Performs
 pub mod Beginnings
 pub mod Messages
 pub mod Ends

@@ -20,7 +20,7 @@ use Rattle.desk_model.specs.Images.{request_in, answer_in}
 use Rattle.desk_invariant.specs.Views.{row_place, end_place, seen_of, received_of, after_miss}
 use Rattle.desk_invariant.specs.Views.{after_row_miss, after_win, after_pick, after_put_back}
 use Rattle.desk_invariant.specs.Views.{after_answer, IsAccount, after_release, with_own, after_take}
-use Rattle.desk_invariant.specs.Views.{after_return, after_perform, after_meet, after_end}
+use Rattle.desk_invariant.specs.Views.{after_return, after_meet, after_end}
 use Rattle.desk_invariant.specs.Views.{after_end_seen, after_end_unset}
 use Rattle.desk_invariant.specs.Rule.{Fits}
 use Rattle.desk_invariant.specs.Views.{answered_word, call_slot, journal_slot}
@@ -165,30 +165,6 @@ module _ {S O R : Type 0} (content : S → Content) (op_in : O → AnyOp) (reply
         (q : AnyRequest) (a : AnyAnswer) → (known before).own ≡ own.Taken q a
         → (after ≡ (after_return q a found (known before), taken_slots before))
         × All (λ e. e.ticket < found) (seen_of (known before) q.object)
-
-    -- The client that holds the object served the own request that has its ticket: in one moment it
-    -- was posted, picked up, answered and taken, and has the ticket of its return. The log has
-    -- grown by what the answer in hand says; it begins with what was seen, has of the own calls
-    -- those that are over and this one, and each ticket in it is less than that of the return.
-    abbrev pub performs : Step (Slot S O R) → Hands → ℕ → Hands → Type 0
-    performs step before found after =
-        (i : ℕ) (l : List AnyEntry) (q : AnyRequest) (b : Answer R) (tl : List (ℕ × Slot S O R))
-        → (known before).held ≡ held.Pass q.object l → (known before).own ≡ own.Drawn q
-        → taken_slots before ≡ (i, slot.Answer b) ∷ tl
-        → (after
-        ≡ (
-          after_perform q (answer_in reply_in b)
-              (l ++ logged (known before).number q (answer_in reply_in b))
-              found (known before),
-          (taken_slots before),
-        ))
-        × All (λ e. e.ticket < found) (l ++ logged (known before).number q (answer_in reply_in b))
-        × StartsWith (l ++ logged (known before).number q (answer_in reply_in b))
-        (seen_of (known before) q.object)
-        × (entries_of (known before).number
-        (l ++ logged (known before).number q (answer_in reply_in b))
-        ≡ served q.object (known before).number (known before).done
-        ++ logged (known before).number q (answer_in reply_in b))
 
     -- the client's own slots came out of their places
     abbrev pub begins : Step (Slot S O R) → Hands → ℕ → Hands → Type 0

@@ -191,12 +191,6 @@ after_return q a t v =
     record v
     { own = own.Idle; done = v.done ++ record { request = q; answer = a; returned = t } ∷ [] }
 
--- The own call, which had its ticket, was served by the client itself while it held the object,
--- whose log is this now: it is over, and its return has the ticket t.
-abbrev pub after_perform : AnyRequest → AnyAnswer → List AnyEntry → ℕ → DeskView → DeskView
-after_perform q a l t v =
-    record (after_return q a t (after_take q a l v)) { held = held.Pass q.object l }
-
 -- this log of the object x was seen
 abbrev pub after_meet : ℕ → List AnyEntry → DeskView → DeskView
 after_meet x l v = record v { seen = slice_set v.seen x l }

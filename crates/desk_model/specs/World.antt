@@ -164,7 +164,7 @@ IsLegal kind log = (after : Content) × Replays (empty kind) log after
 abbrev pub StartsWith : List AnyEntry → List AnyEntry → Type 0
 StartsWith log seen = (more : List AnyEntry) × (log ≡ seen ++ more)
 
--- what serving an operation did: it was done, or memory was refused and nothing was done
+-- what serving an operation did: it was done, or an allocation failed and nothing was done
 abbrev pub Serves : Content → AnyOp → AnyAnswer → Content → Type 0
 Serves c op (Reply r) after = next c op ≡ Some (after, r)
 Serves c op Refused after = after ≡ c

@@ -1,10 +1,10 @@
 //! Calls that were worked out from the published generator, whose first words for state 42 and
 //! stream 54 are a15c02b7, 7b47f409, ba1d3330, .., by a program of its own.
 
+use clients::workload;
 use model::{AnyOp, Kind};
 use seq_objects::Kinds;
 use std::test::Fail;
-use workload::workload;
 
 /// The kinds, how many objects, the seed, the client, and its calls.
 type Row = (Kinds, u32, u64, u32, &'static [(u32, AnyOp)]);

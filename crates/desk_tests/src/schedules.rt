@@ -1,14 +1,16 @@
 //! What comes of schedules: random ones, and texts.
 
 ghost use Rattle.std.specs.Prelude.{◌<◌, ◌≤◌};
-ghost use Rattle.schedule.specs.Schedules.{IsWithin};
+ghost use Rattle.simulation.specs.Schedules.{IsWithin};
 
 use edn::{EdnFault, FaultKind};
 use machine::Step;
 use model::{AnyOp, Kind};
-use schedule::{Header, Schedule, ScheduleFault, ScheduleFaultKind};
 use seq_objects::Kinds;
-use simulation::{PlayFault, Played, SimulationFault, machine_of, play, simulate};
+use simulation::{
+    Header, PlayFault, Played, Schedule, ScheduleFault, ScheduleFaultKind, SimulationFault,
+    machine_of, play, simulate,
+};
 use std::alloc::{AllocError, Global};
 use std::process::Abort;
 use std::test::Fail;

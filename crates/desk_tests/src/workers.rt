@@ -2,7 +2,7 @@
 
 ghost use Rattle.std.specs.Prelude.{◌<◌, ◌≤◌};
 
-use clients::run_workers;
+use clients::{Workload, run_workers, workload};
 use model::{AnyOp, AnyReply, Kind};
 use publication::{Answer, JournalEvent, LogEntry, Record};
 use seq_objects::{AnyObject, Gate, Kinds, Open};
@@ -11,7 +11,6 @@ use std::sync::Wait;
 use std::sync::atomic::{AtomicU64, Ordering};
 use std::test::Fail;
 use std::thread::{Threads, yield_now};
-use workload::{Workload, workload};
 
 type Event = JournalEvent<AnyOp, AnyReply>;
 

@@ -1,11 +1,18 @@
-//! Reads and writes EDN, in a profile of its own: hands on what `byte_streams`, `edn_reader` and
-//! `edn_writer` have in public, so that a caller names one crate.
+//! Reads and writes EDN, in a profile of its own: bytes in and out, the text of forms, and what
+//! `edn_reader` has in public, so that a caller names one crate.
 #![tactic(auto)]
 
-pub use byte_streams::{Device, Failed, In, Out, Sink, Source, Supply};
+mod decimal;
+mod sink;
+mod source;
+mod writer;
+
+pub use decimal::{push_integer, push_natural, write_integer, write_natural};
 pub use edn_reader::{
     EdnFault, Elements, FaultKind, Form, MAX_LENGTH, Name, Piece, after, after_line_feed,
     ends_word, fits, integer_at, joined_spell, lines_spell, natural_at, one_reading, read_forms,
     text_spells,
 };
-pub use edn_writer::{WriteFault, write_bytes, write_form, write_integer};
+pub use sink::{Device, Failed, Out, Sink};
+pub use source::{In, Source, Supply};
+pub use writer::{WriteFault, write_bytes, write_form};

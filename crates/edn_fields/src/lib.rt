@@ -40,7 +40,7 @@ pub fn value_at<'a>(entries: &'a [(Name, Form)], key: &[u8]) -> Option<&'a Form>
     None
 }
 
-/// The integer, where the form is one.
+/// The integer that the form is, if it is one.
 pub fn integer(form: &Form) -> Option<i64>
     ensures { result ≡ integer_in (view form.now) }
 {
@@ -50,7 +50,7 @@ pub fn integer(form: &Form) -> Option<i64>
     }
 }
 
-/// The number, where it is not negative.
+/// The natural number that the form is, if there is a form and it is one.
 pub fn natural(value: Option<&Form>) -> Option<u64>
     ensures { result ≡ spec.natural_in (option_map (λ f. view f.now) value.entry) }
 {
@@ -60,7 +60,7 @@ pub fn natural(value: Option<&Form>) -> Option<u64>
     }
 }
 
-/// The keyword without its colon.
+/// The keyword that the form is, without its colon, if there is a form and it is one.
 pub fn keyword<'a>(value: Option<&'a Form>) -> Option<&'a Name>
     ensures { option_map (λ k. name_bytes k.now) result
         ≡ spec.keyword_in (option_map (λ f. view f.now) value.entry) }
@@ -71,7 +71,7 @@ pub fn keyword<'a>(value: Option<&'a Form>) -> Option<&'a Name>
     }
 }
 
-/// The number of an object.
+/// The number as one of an object, if it is not too great for one.
 pub fn object(number: Option<u64>) -> Option<u32>
     ensures { result ≡ spec.object_in number }
 {

@@ -14,7 +14,7 @@ use edn::Piece;
 
 /// The token buffer after the bracket that opens a map.
 #[inline]
-pub fn behind_bracket<'p, 'a>(pieces: &'p [Piece<'a>]) -> Option<&'p [Piece<'a>]>
+pub(crate) fn behind_bracket<'p, 'a>(pieces: &'p [Piece<'a>]) -> Option<&'p [Piece<'a>]>
     ensures { MatchOption result (NoMap (token_buffer_tokens pieces.entry.now))
         (λ inside. token_buffer_tokens pieces.entry.now ≡ open_map ∷ token_buffer_tokens
         inside.now) }
@@ -27,7 +27,7 @@ pub fn behind_bracket<'p, 'a>(pieces: &'p [Piece<'a>]) -> Option<&'p [Piece<'a>]
 
 /// The key at the front, and the token buffer after it.
 #[inline]
-pub fn pair_at<'p, 'a>(pieces: &'p [Piece<'a>]) -> Option<(&'a str, &'p [Piece<'a>])>
+pub(crate) fn pair_at<'p, 'a>(pieces: &'p [Piece<'a>]) -> Option<(&'a str, &'p [Piece<'a>])>
     ensures { MatchOption result (NoPair (token_buffer_tokens pieces.entry.now))
         (λ x. token_buffer_tokens pieces.entry.now ≡ leaf (atom (keyword x.0.now))
         ∷ token_buffer_tokens x.1.now) }

@@ -33,7 +33,7 @@ fn behind<'p, 'a>(pieces: &'p [Piece<'a>]) -> &'p [Piece<'a>]
 
 /// What follows the element at the front.
 #[inline]
-pub fn after_value<'p, 'a>(pieces: &'p [Piece<'a>]) -> &'p [Piece<'a>]
+pub(crate) fn after_value<'p, 'a>(pieces: &'p [Piece<'a>]) -> &'p [Piece<'a>]
     ensures tokens { token_buffer_tokens result.now
         ≡ spec.after_one (token_buffer_tokens pieces.entry.now) }
     ensures within { length result.now ≤ length pieces.entry.now }

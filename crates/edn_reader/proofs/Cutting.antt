@@ -8,10 +8,6 @@ use Rattle.edn_reader.specs.Token.{Token, open_vector, close_vector, open_map, c
 use Rattle.edn_reader.specs.Truncation.{most_items, truncated_item, truncated_items, truncated_value, truncated_entries, truncated, kept_of, Keep}
 use Rattle.edn_reader.specs.Truncation.{nothing_kept, keep_outside, keep_item, keep_inside, pass_over, keep, keep_all}
 
-pub keep_append : (ts us : List Token) (k : Keep) → keep_all (ts ++ us) k ≡ keep_all us (keep_all ts k)
-keep_append [] us k = refl
-keep_append (t ∷ ts) us k = keep_append ts us (keep t k)
-
 abbrev at : List Token → Bool → ℕ → ℕ → Keep
 at ts m b r = record { tokens = ts; cuts = true; in_map = m; below = b; room = r }
 

@@ -35,12 +35,6 @@ mutual
 abbrev pub with_rest : List ℕ → State → State × List ℕ
 with_rest rest s = (s, rest)
 
-pub mapped_pair : (o : Option State) (q : List ℕ) (z : State) (r : List ℕ) → option_map (with_rest q) o ≡ Some (z, r) → (o ≡ Some z) × (q ≡ r)
-mapped_pair None q z r e = absurd cc
-mapped_pair (Some x) q z r e =
-    let p = some_is {A = State × List ℕ} (x, q) (z, r) e in
-    (ap (λ (y : State × List ℕ). Some y.0) p, ap (λ (y : State × List ℕ). y.1) p)
-
 -- what follows a token is shorter
 abbrev pub LeavesLess : List ℕ → Next → Type 0
 LeavesLess t end = Unit {0}

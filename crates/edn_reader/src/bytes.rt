@@ -21,35 +21,35 @@ static CLASS: [u8; 256] = *b"\
     22222222222222222222222222222222";
 
 #[inline]
-pub fn is_separator(b: u8) -> bool
+pub(crate) fn is_separator(b: u8) -> bool
     ensures { result ≡ spec.is_separator b }
 {
     CLASS[b as usize] & SEPARATOR != 0
 }
 
 #[inline]
-pub fn is_token_byte(b: u8) -> bool
+pub(crate) fn is_token_byte(b: u8) -> bool
     ensures { result ≡ spec.is_token_byte b }
 {
     CLASS[b as usize] & TOKEN != 0
 }
 
 #[inline]
-pub fn is_digit(b: u8) -> bool
+pub(crate) fn is_digit(b: u8) -> bool
     ensures { result ≡ spec.is_digit b }
 {
     b'0' <= b && b <= b'9'
 }
 
 #[inline]
-pub fn is_letter(b: u8) -> bool
+pub(crate) fn is_letter(b: u8) -> bool
     ensures { result ≡ spec.is_letter b }
 {
     b'A' <= b && b <= b'Z' || b'a' <= b && b <= b'z'
 }
 
 #[inline]
-pub fn is_name_byte(b: u8) -> bool
+pub(crate) fn is_name_byte(b: u8) -> bool
     ensures { result ≡ spec.is_name_byte b }
 {
     CLASS[b as usize] & NAME != 0
@@ -69,7 +69,7 @@ fn are_name_bytes(bytes: &[u8]) -> bool
 }
 
 #[tactic(auto, unfolding(crate::specs::Bytes::is_name))]
-pub fn is_name(bytes: &[u8]) -> bool
+pub(crate) fn is_name(bytes: &[u8]) -> bool
     ensures { result ≡ spec.is_name bytes.now }
 {
     match bytes {
@@ -78,7 +78,7 @@ pub fn is_name(bytes: &[u8]) -> bool
     }
 }
 
-pub fn are_digits(bytes: &[u8]) -> bool
+pub(crate) fn are_digits(bytes: &[u8]) -> bool
     ensures { result ≡ list_all spec.is_digit bytes.now }
 {
     let mut rest = bytes;
@@ -92,7 +92,7 @@ pub fn are_digits(bytes: &[u8]) -> bool
 }
 
 /// After the digits at the front.
-pub fn after_digits(bytes: &[u8]) -> &[u8] {
+pub(crate) fn after_digits(bytes: &[u8]) -> &[u8] {
     let mut rest = bytes;
     'bytes: while let [b, tail @ ..] = rest {
         if !is_digit(*b) {

@@ -132,7 +132,7 @@ impl<'p, 'a> Tokens<'p, 'a> {
 }
 
 /// The form whose tokens stand at the front.
-pub fn form_at(alloc: Global, pieces: &[Piece]) -> Result<Form, AllocError>
+pub(crate) fn form_at(alloc: Global, pieces: &[Piece]) -> Result<Form, AllocError>
     requires { BeginsForm (token_buffer_tokens pieces.now) }
     ensures { IfOk result (λ form. (behind : List Token)
         × (token_buffer_tokens pieces.now ≡ tokens_of (view form) ++ behind)) }

@@ -21,7 +21,7 @@ fn behind_comment(text: &[u8]) -> &[u8]
 
 /// After separators and comments.
 #[inline]
-pub fn skip(text: &[u8]) -> &[u8]
+pub(crate) fn skip(text: &[u8]) -> &[u8]
     ensures { result.now ≡ spec.skip text.now }
 {
     let mut rest = text;
@@ -53,7 +53,7 @@ fn after_word(text: &[u8]) -> &[u8]
 
 /// A word, and what follows it.
 #[tactic(auto, using(crate::proofs::Words::word_is_front, crate::proofs::Words::after_word_within))]
-pub fn split_word(text: &[u8]) -> (&[u8], &[u8])
+pub(crate) fn split_word(text: &[u8]) -> (&[u8], &[u8])
     ensures word { result.0.now ≡ spec.word text.now }
     ensures rest { result.1.now ≡ spec.after_word text.now }
 {

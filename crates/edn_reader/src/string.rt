@@ -6,7 +6,7 @@ ghost use Rattle.edn_reader.specs.Pieces.{unquoted};
 
 use std::alloc::{AllocError, Global};
 
-pub fn escape_of(c: u8) -> Option<u8>
+pub(crate) fn escape_of(c: u8) -> Option<u8>
     ensures { result ≡ spec.escape_of c }
 {
     match c {
@@ -20,7 +20,7 @@ pub fn escape_of(c: u8) -> Option<u8>
 }
 
 /// What stands between quotes, with the escapes resolved.
-pub fn string_in(alloc: Global, raw: &[u8]) -> Result<String, AllocError>
+pub(crate) fn string_in(alloc: Global, raw: &[u8]) -> Result<String, AllocError>
     requires { IsUtf8 (unquoted raw.now) }
     ensures { IfOk result (λ s. string_bytes s ≡ unquoted raw.now) }
 {

@@ -67,7 +67,7 @@ fn negative(digits: &[u8]) -> Option<i64>
 }
 
 #[tactic(auto, unfolding(crate::specs::Reading::integer_of))]
-pub fn integer(word: &[u8]) -> Option<i64>
+pub(crate) fn integer(word: &[u8]) -> Option<i64>
     ensures { result ≡ integer_of word.now }
 {
     match word {
@@ -79,7 +79,7 @@ pub fn integer(word: &[u8]) -> Option<i64>
 }
 
 /// What is wrong with a word that is no element and begins with no colon.
-pub fn fault_of(word: &[u8]) -> Cause
+pub(crate) fn fault_of(word: &[u8]) -> Cause
     ensures { result ≢ Cause.NoMemory }
 {
     let digits = match word {

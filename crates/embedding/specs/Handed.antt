@@ -1,6 +1,8 @@
 -- What is handed to the caller.
 use Rattle.std.specs.Prelude.{◌≡◌, ◌⊎◌, ◌++◌, ℕ, List, codes, length, take, drop, min}
-use Rattle.outputs.specs.Statuses.{no_memory_status}
+use Rattle.history_commands.specs.Outputs.{number_of}
+use Rattle.history_commands.specs.declared.status.Status.{Status}
+use Rattle.history_commands.specs.declared.status.Status.TheVariants.{OutOfMemory}
 
 -- The beginning of the caller's buffer is the text, or as much of it as there is room for, and the
 -- rest of the buffer is as before. The caller is told how long the text is.
@@ -9,10 +11,11 @@ pub record IsHandedOut (text before after : List ℕ) (told : ℕ) : Type 0 wher
       ++ drop (min (length text) (length before)) before
   pub needed : told ≡ length text
 
--- `IsOutput` holds of the status and of a text that is handed out; or memory for the text was
--- refused, and one line says so.
-abbrev pub IsAnswered : (ℕ → List ℕ → Type 0) → ℕ → List ℕ → List ℕ → ℕ → Type 0
-IsAnswered IsOutput status before after told =
-    ((text : List ℕ) × IsOutput status text × IsHandedOut text before after told)
-    ⊎ ((status ≡ no_memory_status)
+-- `IsOutput` holds of a status, whose number is answered, and of a text that is handed out; or memory
+-- for the text was refused, and one line says so.
+abbrev pub IsAnswered : (Status → List ℕ → Type 0) → ℕ → List ℕ → List ℕ → ℕ → Type 0
+IsAnswered IsOutput result before after told =
+    ((status : Status) × (text : List ℕ) × IsOutput status text × (result ≡ number_of status)
+    × IsHandedOut text before after told)
+    ⊎ ((result ≡ number_of OutOfMemory)
     × IsHandedOut (codes "out of memory\n") before after told)

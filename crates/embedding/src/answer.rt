@@ -1,10 +1,11 @@
 //! Answers in the caller's buffer.
 
-ghost use Rattle.std.specs.Prelude.{◌≡◌, ◌≢◌, codes};
-ghost use Rattle.outputs.specs.Statuses.{failed_status, no_memory_status};
+ghost use Rattle.std.specs.Prelude.{◌≡◌, IfOk, IfErr, codes};
+ghost use Rattle.history_commands.specs.Outputs.{number_of};
 ghost use Rattle.embedding.specs.Handed.{IsHandedOut};
 
-use outputs::{FAILED, NO_MEMORY};
+use history_commands::{Output, Status};
+use std::alloc::AllocError;
 
 /// Writes the lines, or as much of them as there is room for, and says how long they are.
 fn hand_out(lines: &[u8], out: &mut [u8], needed: &mut usize)
@@ -15,18 +16,21 @@ fn hand_out(lines: &[u8], out: &mut [u8], needed: &mut usize)
     *needed = lines.len();
 }
 
-/// Hands out the lines and gives their status. Where memory for the lines was refused, it says so in
-/// their place.
-pub(crate) fn answer(status: u8, lines: &[u8], out: &mut [u8], needed: &mut usize) -> u32
-    ensures whole { status ≢ failed_status →
-        (result ≡ status) × IsHandedOut lines.now out.old out.new needed.new }
-    ensures memory { status ≡ failed_status → (result ≡ no_memory_status)
-        × IsHandedOut (codes "out of memory\n") out.old out.new needed.new }
+/// Hands out what was made, and gives the number of its status. Where memory was refused, it says so.
+pub(crate) fn answer(made: Result<Output, AllocError>, out: &mut [u8], needed: &mut usize) -> u32
+    ensures made { IfOk made (λ o. (result ≡ number_of o.status)
+        × IsHandedOut o.text.items out.old out.new needed.new) }
+    ensures memory { IfErr made (λ _. (result ≡ number_of Status.OutOfMemory)
+        × IsHandedOut (codes "out of memory\n") out.old out.new needed.new) }
 {
-    if status == FAILED {
-        hand_out(b"out of memory\n", out, needed);
-        return u32::from(NO_MEMORY);
+    match made {
+        Ok(output) => {
+            hand_out(&output.text, out, needed);
+            u32::from(output.status.number())
+        }
+        Err(AllocError) => {
+            hand_out(b"out of memory\n", out, needed);
+            u32::from(Status::OutOfMemory.number())
+        }
     }
-    hand_out(lines, out, needed);
-    u32::from(status)
 }

@@ -2,14 +2,13 @@
 
 ghost use Rattle.std.specs.Prelude.{◌≡◌, ◌⊎◌};
 ghost use Rattle.judging.specs.Texts.{AreValidTexts, IsLinearizableText};
-ghost use Rattle.outputs.specs.Checked.{IsCheck};
-ghost use Rattle.outputs.specs.Statuses.{no_memory_status, yes_status};
+ghost use Rattle.history_commands.specs.Checked.{IsCheck};
+ghost use Rattle.history_commands.specs.Outputs.{number_of};
 ghost use Rattle.embedding.specs.Handed.{IsAnswered};
 
 use crate::answer::answer;
-use edn::Out;
+use history_commands::{Status, verdict_output};
 use judging::judge_alone;
-use outputs::send_verdict;
 use std::alloc::Global;
 
 /// Judges a history by certificates, and writes the lines of the verdict, or as much of them as
@@ -26,16 +25,14 @@ pub extern "C" fn fcbench_check(
     needed: &mut usize,
 ) -> u32
     // The headline: where it answers 0, the history that the bytes denote is linearizable.
-    ensures linearizable { result ≡ yes_status → IsLinearizableText history.now }
+    ensures linearizable { result ≡ number_of Status.Yes → IsLinearizableText history.now }
     // The lines are those of a verdict that holds, with its status, or memory for them was refused.
     ensures checked { IsAnswered (IsCheck history.now certificates.now)
         result out.old out.new needed.new }
     // Valid certificates are accepted, except where memory is refused.
     ensures accepts { AreValidTexts history.now certificates.now →
-        (result ≡ yes_status) ⊎ (result ≡ no_memory_status) }
+        (result ≡ number_of Status.Yes) ⊎ (result ≡ number_of Status.OutOfMemory) }
 {
     let verdict = judge_alone(alloc, history, certificates);
-    let mut sink = Out::new(Vec::new(alloc));
-    let status = send_verdict(&verdict, false, &mut sink);
-    answer(status, &sink.into_inner(), out, needed)
+    answer(verdict_output(alloc, &verdict), out, needed)
 }

@@ -2,19 +2,18 @@
 
 ghost use Rattle.std.specs.Prelude.{◌≡◌};
 ghost use Rattle.history_commands.specs.Refuted.{IsRefute};
-ghost use Rattle.history_commands.specs.Searches.{IsNotLinearizableText};
-ghost use Rattle.outputs.specs.Statuses.{no_status};
+ghost use Rattle.judging.specs.Texts.{IsNotLinearizableText};
+ghost use Rattle.history_commands.specs.Outputs.{number_of};
 ghost use Rattle.embedding.specs.Handed.{IsAnswered};
 ghost use Rattle.embedding.specs.Steps as spec;
 
 use crate::answer::answer;
 use crate::steps::search_steps;
-use edn::Out;
-use history_commands::report_refutation;
+use history_commands::{Status, refute};
 use std::alloc::Global;
 
 /// Checks reasons why the history is not linearizable, and writes the lines of the answers. The
-/// search of a part takes at most `steps` steps. 4,294,967,295 stands for the program's own number:
+/// search of a part has a limit of `steps` steps. 4,294,967,295 stands for the program's own number:
 /// 1,000,000.
 ///
 /// 1: some reason shows that the history is not linearizable. 2: a text is malformed. 3: no reason
@@ -29,12 +28,14 @@ pub extern "C" fn fcbench_refute(
     needed: &mut usize,
 ) -> u32
     // Where it answers 1, the history that the bytes denote is not linearizable.
-    ensures refuted { result ≡ no_status → IsNotLinearizableText history.now }
+    ensures refuted { result ≡ number_of Status.No → IsNotLinearizableText history.now }
     // The lines are the answers to the reasons, with their status, or memory for them was refused.
     ensures answered { IsAnswered (IsRefute history.now reasons.now (spec.search_steps steps))
         result out.old out.new needed.new }
 {
-    let mut sink = Out::new(Vec::new(alloc));
-    let status = report_refutation(alloc, history, reasons, search_steps(steps), &mut sink);
-    answer(status, &sink.into_inner(), out, needed)
+    answer(
+        refute(alloc, history, reasons, search_steps(steps)),
+        out,
+        needed,
+    )
 }

@@ -1,22 +1,21 @@
-//! The verification of a history by evidence from anybody.
+//! The verification of a history by evidence from any source.
 
 ghost use Rattle.std.specs.Prelude.{◌≡◌};
 ghost use Rattle.judging.specs.Texts.{IsLinearizableText};
-ghost use Rattle.history_commands.specs.Searches.{IsNotLinearizableText};
+ghost use Rattle.judging.specs.Texts.{IsNotLinearizableText};
 ghost use Rattle.history_commands.specs.Verified.{IsVerification};
-ghost use Rattle.outputs.specs.Statuses.{no_status, yes_status};
+ghost use Rattle.history_commands.specs.Outputs.{number_of};
 ghost use Rattle.embedding.specs.Handed.{IsAnswered};
 ghost use Rattle.embedding.specs.Steps as spec;
 
 use crate::answer::answer;
 use crate::steps::search_steps;
-use edn::Out;
-use history_commands::report_verification;
+use history_commands::{Status, verify};
 use std::alloc::Global;
 
-/// Checks evidence, from anybody and whatever it holds: orders, reasons and searches for the
+/// Checks evidence, from any source and whatever it holds: orders, reasons and searches for the
 /// objects of the history. Judges the history by what is shown, and writes the lines of the verification. A
-/// search for which the evidence names no number of steps takes at most `steps` steps.
+/// search for which the evidence names no number of steps has a limit of `steps` steps.
 /// 4,294,967,295 stands for the program's own number: 1,000,000.
 ///
 /// 0: the history is linearizable. 1: it is not. 2: it is malformed. 3: that is open, the evidence
@@ -31,15 +30,17 @@ pub extern "C" fn fcbench_verify(
     needed: &mut usize,
 ) -> u32
     // The headline: where it answers 0, the history that the bytes denote is linearizable.
-    ensures linearizable { result ≡ yes_status → IsLinearizableText history.now }
+    ensures linearizable { result ≡ number_of Status.Yes → IsLinearizableText history.now }
     // Where it answers 1, that history is not linearizable.
-    ensures refuted { result ≡ no_status → IsNotLinearizableText history.now }
+    ensures refuted { result ≡ number_of Status.No → IsNotLinearizableText history.now }
     // The lines are those of a verification with this status, or memory for them was refused.
     ensures verified { IsAnswered
         (IsVerification history.now evidence.now (spec.search_steps steps))
         result out.old out.new needed.new }
 {
-    let mut sink = Out::new(Vec::new(alloc));
-    let status = report_verification(alloc, history, evidence, search_steps(steps), &mut sink);
-    answer(status, &sink.into_inner(), out, needed)
+    answer(
+        verify(alloc, history, evidence, search_steps(steps)),
+        out,
+        needed,
+    )
 }

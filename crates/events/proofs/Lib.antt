@@ -1,4 +1,3 @@
-pub mod EventRows
 pub mod Runs
 pub mod WellFormed
 pub mod Calls
@@ -6,5 +5,3 @@ pub mod Parts
 pub mod Gathering
 pub mod Splitting
 pub mod Owned
-pub mod Joining
-pub mod TableRows

@@ -1,6 +1,5 @@
 pub mod Events
 pub mod Operations
-pub mod Rows
 pub use Rattle.model.specs.Objects
 pub use Rattle.model.specs.Histories
 pub use Rattle.model.specs.Linearizable

@@ -20,7 +20,7 @@ pub enum Action {
 pub struct Event {
     /// The place among all maps of the history's text, from 0.
     pub number: u32,
-    pub process: u64,
     pub object: u32,
+    pub process: u64,
     pub action: Action,
 }

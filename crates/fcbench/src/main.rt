@@ -2,8 +2,7 @@
 #![tactic(auto)]
 
 use commands::{
-    FAILED, In, Line, LineFault, NO_MEMORY, NamedFile, ReadFault, Text, USAGE, YES, check_sources,
-    line, perform, read_text, status_of_fault,
+    In, Line, LineFault, NamedFile, Status, Unread, line, perform_over, status_of_fault,
 };
 use edn::Out;
 use std::fs::File;
@@ -17,12 +16,12 @@ use std::thread::{Threads, join, sleep};
 use std::time::{Clock, Duration};
 
 /// The version of the program, and the kit that proves it.
-const VERSION: &str = "fcbench 3.0.0, proved by rattle-kit-13b";
+const VERSION: &str = "fcbench 4.0.0, proved by rattle-kit-13f";
 
-/// How often it is looked whether the command is done, and how many milliseconds after each other:
-/// for a second in all.
+/// How many times `watch` checks whether the command is done.
 const LOOKS: u32 = 200;
 
+/// The milliseconds between two such checks: one second in all.
 const MILLISECONDS_BETWEEN_LOOKS: u64 = 5;
 
 /// What a command uses of the host.
@@ -31,96 +30,51 @@ trait Host: Files<File = File> + AllocGlobal + Print + Eprint + Clock + Threads 
 impl<R: Files<File = File> + AllocGlobal + Print + Eprint + Clock + Threads + Wait + Sync> Host
     for R {}
 
-/// Says that memory was refused before the command began.
+/// Says that an allocation failed before the command began.
 fn no_memory<R: Print>(rt: &R) -> io::Result<u8> {
     rt.println("out of memory")?;
-    Ok(NO_MEMORY)
+    Ok(Status::OutOfMemory.number())
 }
 
-/// Says why a file could not be read: memory was refused, or another reason.
+/// Says why a file could not be read: an allocation failed, or another reason.
 fn report_unreadable<R: Print + Eprint>(rt: &R, name: &str, lacks_memory: bool) -> io::Result<u8> {
     if lacks_memory {
         return no_memory(rt);
     }
     rt.eprintln(format_args!("fcbench: cannot read {name}"))?;
-    Ok(FAILED)
+    Ok(Status::Failed.number())
 }
 
-/// Does the command on the bytes of its files.
-fn do_line<R: Host>(rt: &R, line: &Line, first: &[u8], second: &[u8]) -> u8 {
-    let mut output = Out::new(io::writer(rt));
-    perform(rt, rt.alloc(), line, first, second, &mut output)
-}
-
-/// Judges the files of a check.
-fn run_check<R: Host>(rt: &R, history: &str, certs: &str, workers: u32) -> io::Result<u8> {
-    let mut first = In::new(NamedFile::new(rt, history));
-    let mut second = In::new(NamedFile::new(rt, certs));
-    let mut output = Out::new(io::writer(rt));
-    match check_sources(
-        rt,
-        rt.alloc(),
-        &mut first,
-        &mut second,
-        workers,
-        &mut output,
-    ) {
-        Ok(status) => Ok(status),
-        Err(Text::History) => report_unreadable(rt, history, first.lacks_memory()),
-        Err(Text::Certificates) => report_unreadable(rt, certs, second.lacks_memory()),
-    }
-}
-
-/// The bytes of a file, or else the exit status, after it was said why they could not be read.
-fn bytes_of<R: Host>(rt: &R, name: &str) -> io::Result<Result<Vec<u8>, u8>> {
-    let mut file = In::new(NamedFile::new(rt, name));
-    match read_text(rt.alloc(), &mut file) {
-        Ok(bytes) => Ok(Ok(bytes)),
-        Err(ReadFault::Failed) => Ok(Err(report_unreadable(rt, name, file.lacks_memory())?)),
-        Err(ReadFault::NoMemory) => Ok(Err(no_memory(rt)?)),
-    }
-}
-
-/// Reads the one file of a command, and does it.
-fn run_on_file<R: Host>(rt: &R, line: &Line, name: &str) -> io::Result<u8> {
-    match bytes_of(rt, name)? {
-        Ok(bytes) => Ok(do_line(rt, line, &bytes, b"")),
-        Err(status) => Ok(status),
-    }
-}
-
-/// Reads the two files of a command, and does it.
-fn run_on_files<R: Host>(rt: &R, line: &Line, first: &str, second: &str) -> io::Result<u8> {
-    let first = match bytes_of(rt, first)? {
-        Ok(bytes) => bytes,
-        Err(status) => return Ok(status),
-    };
-    match bytes_of(rt, second)? {
-        Ok(second) => Ok(do_line(rt, line, &first, &second)),
-        Err(status) => Ok(status),
-    }
-}
-
-fn run_line<R: Host>(rt: &R, line: &Line) -> io::Result<u8> {
+/// The names of the files of a command. Where it has none, the name is empty.
+fn files_of(line: &Line) -> (&str, &str) {
     match line {
-        Line::Check {
-            history,
-            certs,
-            workers,
-        } => run_check(rt, history, certs, *workers),
-        Line::Search { history, .. } => run_on_file(rt, line, history),
+        Line::Check { history, certs, .. } => (history, certs),
+        Line::Search { history, .. } => (history, ""),
         Line::Refute {
             history,
             reasons,
             ..
-        } => run_on_files(rt, line, history, reasons),
+        } => (history, reasons),
         Line::Verify {
             history,
             evidence,
             ..
-        } => run_on_files(rt, line, history, evidence),
-        Line::Run(_) => Ok(do_line(rt, line, b"", b"")),
-        Line::Simulate { schedule } => run_on_file(rt, line, schedule),
+        } => (history, evidence),
+        Line::Run(_) => ("", ""),
+        Line::Simulate { schedule } => (schedule, ""),
+    }
+}
+
+/// Does the command on its files.
+fn run_line<R: Host>(rt: &R, line: &Line) -> io::Result<u8> {
+    let (first_name, second_name) = files_of(line);
+    let mut first = In::new(NamedFile::new(rt, first_name));
+    let mut second = In::new(NamedFile::new(rt, second_name));
+    let mut output = Out::new(io::writer(rt));
+    match perform_over(rt, rt.alloc(), line, &mut first, &mut second, &mut output) {
+        Ok(status) => Ok(status),
+        Err(Unread::First) => report_unreadable(rt, first_name, first.lacks_memory()),
+        Err(Unread::Second) => report_unreadable(rt, second_name, second.lacks_memory()),
     }
 }
 
@@ -135,7 +89,7 @@ fn ask_for_version(words: &[String]) -> bool {
 fn run_words<R: Host>(rt: &R, words: &[String]) -> io::Result<u8> {
     if ask_for_version(words) {
         rt.println(VERSION)?;
-        return Ok(YES);
+        return Ok(Status::Yes.number());
     }
     match line(rt.alloc(), words) {
         Ok(line) => run_line(rt, &line),
@@ -143,14 +97,14 @@ fn run_words<R: Host>(rt: &R, words: &[String]) -> io::Result<u8> {
     }
 }
 
-/// Says why the words ask for nothing: help goes to standard output.
+/// Says why the command line is refused. Help goes to standard output.
 fn explain<R: Print + Eprint>(rt: &R, fault: &LineFault) -> io::Result<u8> {
     match fault {
         LineFault::Help(text) => rt.print(text.as_str())?,
         LineFault::Refused(text) => rt.eprint(text.as_str())?,
-        LineFault::NoMemory => rt.println("out of memory")?,
+        LineFault::NoMemory => return no_memory(rt),
     }
-    Ok(status_of_fault(fault))
+    Ok(status_of_fault(fault).number())
 }
 
 /// The words of the command line, the program's name first.
@@ -164,7 +118,7 @@ fn run<R: Host + Env>(rt: &R) -> io::Result<u8> {
         Err(error) if error.kind() == io::ErrorKind::OutOfMemory => no_memory(rt),
         Err(_) => {
             rt.eprintln("fcbench: a word of the command line is not UTF-8")?;
-            Ok(USAGE)
+            Ok(Status::Usage.number())
         }
     }
 }
@@ -202,5 +156,5 @@ fn run_watched<R: Host, F: FnOnce() -> u8 + Send>(rt: &R, may_watch: bool, work:
 fn main(rt: HostRuntime) -> ExitCode {
     let may_watch = rt.stderr().is_terminal();
     let rt = &rt;
-    ExitCode::from(run_watched(rt, may_watch, || run(rt).unwrap_or(FAILED)))
+    ExitCode::from(run_watched(rt, may_watch, || run(rt).unwrap_or(Status::Failed.number())))
 }

@@ -1,21 +1,22 @@
 -- One more map of a part.
-use Rattle.std.proofs.Common.{◌≡◌, ◌≢◌, ℕ, ◌+◌, ◌<◌, ◌≤◌, ◌↔◌, inl, inr, true, List, [], ◌∷◌, ◌++◌, map, length, Option, Some, None, All, refl, ap, sym, ◌∙◌, subst, append_assoc, zero-add, arith}
-use Rattle.std.specs.Prelude.{Result, Ok, Err, OnOk}
+use Rattle.std.proofs.Common.{◌≡◌, ◌≢◌, ℕ, ◌+◌, ◌<◌, ◌≤◌, inl, inr, true, List, [], ◌∷◌, ◌++◌}
+use Rattle.std.proofs.Common.{map, length, Option, Some, None, All, refl, ap, sym, ◌∙◌, subst}
+use Rattle.std.proofs.Common.{append_assoc, zero-add, arith}
+use Rattle.std.specs.Prelude.{Result, Ok, Err, is_ok, Contains, if◌then◌else◌}
 use Rattle.std.specs.Option.{option_or}
 use Rattle.std.specs.Result.{result_ok}
 use Rattle.std.proofs.lemmas.Bool.{cases_eq}
 use Rattle.std.proofs.lemmas.List.{append-nil, length-append, map-append}
 use Rattle.number_map.specs.Lookup.{value_of}
 use Rattle.model.specs.declared.Kind.{Kind}
-use Rattle.model.proofs.Lists.{all_from_in, all_at, in_left, in_right}
+use Rattle.model.proofs.Lists.{all_from_in, all_at, contains_from_in, in_from_contains, in_left, in_right}
 use Rattle.edn_reader.specs.Datum.{Datum}
 use Rattle.edn_reader.proofs.Following.{Along}
 use Rattle.seq_objects.specs.declared.function.Function.{Function}
 use Rattle.seq_objects.specs.Functions.{kind_of_function}
 use Rattle.events.specs.declared.event.Action.{Action}
 use Rattle.events.specs.declared.event.Event.{Event}
-use Rattle.events.specs.Events.{next_event}
-use Rattle.events.specs.Rows.{IsRowsOf, AreFirstEvents}
+use Rattle.events.specs.Operations.{IsListed}
 use Rattle.history.specs.declared.client_map.ClientMap as code
 use Rattle.history.specs.declared.seen.Process.{Process}
 use Rattle.history.specs.declared.part.FirstMap.{FirstMap}
@@ -32,166 +33,224 @@ use Rattle.history.proofs.Noting.{does_so, kept_more_of, kept_skip}
 use Rattle.history.proofs.FirstFaults.{PassesShape, PassesAll, passes_kind, process_allows, none_of_all}
 use Rattle.history.proofs.OneMore.{no_fault_of, ignored_faultless}
 use Rattle.history.proofs.Reading.{events_push, faultless_push}
-use Rattle.history.proofs.PartEvents.{next_other, next_own, first_added, later_skipped}
 
 -- ---- after any forms
 
 -- one map more, after any forms after which its process and its object allow it
-pub goes_on_more : (ds : List Datum) (d : Datum) (m : ClientMap) (f : Function) (a : Action) (old new : ℕ → Option Process) (was now : ℕ → Option Kind)
-    → IsSeenBy old was ds → IsFaultless ds → client_of d ≡ Some m → m.function ≡ Some f → action_of m.type m ≡ Some a → length ds < max_maps
+pub goes_on_more : (ds : List Datum) (d : Datum) (m : ClientMap) (f : Function) (a : Action)
+    (old new : ℕ → Option Process) (was now : ℕ → Option Kind)
+    → IsSeenBy old was ds → IsFaultless ds → client_of d ≡ Some m → m.function ≡ Some f → action_of m.type m
+    ≡ Some a → length ds < max_maps
     → IsProcessFault (old m.process) m.type f m.object None → IsNoOther (was m.object) (kind_of_function f)
-    → new m.process ≡ Some (doing_after m.type f m.object) → ((p : ℕ) → p ≢ m.process → new p ≡ old p) → now m.object ≡ Some (kind_of_function f)
+    → new m.process ≡ Some (doing_after m.type f m.object) → ((p : ℕ) → p ≢ m.process → new p ≡ old p)
+    → now m.object ≡ Some (kind_of_function f)
     → ((x : ℕ) → x ≢ m.object → now x ≡ was x) → IsFaultless (ds ++ d ∷ []) × IsSeenBy new now (ds ++ d ∷ [])
-goes_on_more ds d m f a old new was now seen faultless is known action few allowed kind own others own_kind other_kinds =
+goes_on_more ds d m f a old new was now seen faultless is known action few allowed kind own others own_kind
+    other_kinds =
     let shape : PassesShape m f a = record { known = known; action = action } in
     let passes : PassesAll ds m f a = record {
       kind = passes_kind ds m f a (was m.object) shape (seen.kinds m.object) kind;
-      process = process_allows (clients ds) m f (old m.process) known (seen.processes m.process) (seen.closed m.process) allowed;
+      process = process_allows (clients ds) m f (old m.process) known (seen.processes m.process)
+          (seen.closed m.process) allowed;
     } in
     let none = none_of_all ds m f a passes few in (
       faultless_push ds d faultless (no_fault_of ds d m is none),
-      kept_more_of old new was now ds d m f (doing_after m.type f m.object) seen is known kind (none AfterInfo) (does_so m.type f m refl known) own others own_kind other_kinds,
+      kept_more_of old new was now ds d m f (doing_after m.type f m.object) seen is known kind (none AfterInfo)
+          (does_so m.type f m refl known) own others own_kind other_kinds,
     )
 
--- a map that is allowed after those of its process in the part, or where it is the first one after those before the part
-allowed_after : (kept before : Option Process) (old new : List FirstMap) (m : FirstMap) → IsFirstOrAllowed kept old new m
-    → (new ≡ old ++ m ∷ [] → IsProcessFault before (map_type m.map_type) m.function m.event.object None)
-    → IsProcessFault (option_or kept before) (map_type m.map_type) m.function m.event.object None
+-- a map that is allowed after those of its process in the part, or where it is the first one
+-- after those before the part
+allowed_after : (kept before : Option Process) (old new : List FirstMap) (m : FirstMap)
+    → IsFirstOrAllowed kept old new m
+    → (new ≡ old ++ m ∷ [] → IsProcessFault before (map_type m.map_type) m.function m.object None)
+    → IsProcessFault (option_or kept before) (map_type m.map_type) m.function m.object None
 allowed_after None before old new m h first = first h
 allowed_after (Some p) before old new m h first = h.1
 
 -- the first maps so far are among those with one more map
-fewer_firsts : (P : FirstMap → Type 0) (kept : Option Process) (old new : List FirstMap) (m : FirstMap) → IsFirstOrAllowed kept old new m → All P new → All P old
-fewer_firsts P None old new m h all = all_from_in P old (λ x i. all_at P (old ++ m ∷ []) (subst (All P) h all) x (in_left x old (m ∷ []) i))
+fewer_firsts : (P : FirstMap → Type 0) (kept : Option Process) (old new : List FirstMap) (m : FirstMap)
+    → IsFirstOrAllowed kept old new m → All P new → All P old
+fewer_firsts P None old new m h all = all_from_in P old
+    (λ x i. all_at P (old ++ m ∷ []) (subst (All P) h all) x (in_left x old (m ∷ []) i))
 fewer_firsts P (Some p) old new m h all = subst (All P) h.0 all
 
-no_other_after : (own before : Option Kind) (kind : Kind) → IsNoOther own kind → IsNoOther before kind → IsNoOther (option_or own before) kind
+no_other_after : (own before : Option Kind) (kind : Kind) → IsNoOther own kind → IsNoOther before kind
+    → IsNoOther (option_or own before) kind
 no_other_after None before kind h k = k
 no_other_after (Some l) before kind h k = h
 
 -- what a part keeps of one more map of a client without a fault of its own
-abbrev pub noted_map : code.ClientMap → Function → ℕ → Action → FirstMap
-noted_map c f n a = record { map_type = c.map_type; function = f; event = record { number = n; process = c.process; object = c.object; action = a } }
+abbrev pub noted_map : code.ClientMap → Function → FirstMap
+noted_map c f = record { map_type = c.map_type; function = f; process = c.process; object = c.object }
+
+-- and its event
+abbrev pub noted_event : code.ClientMap → ℕ → Action → Event
+noted_event c n a = record { number = n; process = c.process; object = c.object; action = a }
 
 -- the new part's needs contain those of the old one, and what the map needs
-pub continues_more : (old new : Part) (ds : List Datum) (d : Datum) (c : code.ClientMap) (w : Datum) (f : Function) (n : ℕ) (a : Action)
-    → ContinuesWhereItFits old ds → client_of d ≡ Some (client_map c w) → c.function ≡ Some f → action_of (map_type c.map_type) (client_map c w) ≡ Some a
-    → NotesProcess (value_of old.seen.processes) (value_of new.seen.processes) old.firsts.items new.firsts.items (noted_map c f n a)
+pub continues_more : (old new : Part) (ds : List Datum) (d : Datum) (c : code.ClientMap) (w : Datum) (f : Function)
+    (a : Action)
+    → ContinuesWhereItFits old ds → client_of d ≡ Some (client_map c w) → c.function ≡ Some f
+    → action_of (map_type c.map_type) (client_map c w) ≡ Some a
+    → NotesProcess (value_of old.seen.processes) (value_of new.seen.processes) old.firsts.items new.firsts.items
+    (noted_map c f)
     → NotesObject (value_of old.seen.kinds) (value_of new.seen.kinds) old.objects.items new.objects.items c.object f
     → ContinuesWhereItFits new (ds ++ d ∷ [])
-continues_more old new ds d c w f n a h is known action process object before s k seen faultless fits few =
+continues_more old new ds d c w f a h is known action process object before s k seen faultless fits few =
     let m = client_map c w in
     let own = value_of old.seen.processes in
     let kinds = value_of old.seen.kinds in
     let long : length (ds ++ d ∷ []) ≡ length ds + 1 = length-append ds (d ∷ []) in
     let both : length (before ++ ds) ≡ length before + length ds = length-append before ds in
-    let kind_fits : IsNoOther (k c.object) (kind_of_function f) = fits.of_kind c.object (kind_of_function f) object.own in
-    let of_kind : (x : ℕ) (kind : Kind) → kinds x ≡ Some kind → IsNoOther (k x) kind = λ x kind q. elim (cases_eq x c.object) [
+    let kind_fits : IsNoOther (k c.object) (kind_of_function f) = fits.of_kind c.object
+    (kind_of_function f) object.own in
+    let of_kind : (x : ℕ) (kind : Kind) → kinds x ≡ Some kind
+    → IsNoOther (k x) kind = λ x kind q. elim (cases_eq x c.object) [
       | inl e ↦
           let same : kind ≡ kind_of_function f = object.checked kind (subst (λ y. kinds y ≡ Some kind) e q) in
           subst (λ y. IsNoOther (k y) kind) (sym e) (subst (IsNoOther (k c.object)) (sym same) kind_fits)
       | inr ne ↦ fits.of_kind x kind (object.others x ne ∙ q)
     ] in
     let fits_before : FitsAfter old s k = record {
-      allowed = fewer_firsts (IsAllowed s) (own c.process) old.firsts.items new.firsts.items (noted_map c f n a) process.checked fits.allowed;
+      allowed = fewer_firsts (IsAllowed s) (own c.process) old.firsts.items new.firsts.items
+          (noted_map c f) process.checked fits.allowed;
       of_kind = of_kind;
     } in
     let so_far = h before s k seen faultless fits_before (omega (arith, few, long)) in
     let room : length (before ++ ds) < max_maps = omega (arith, few, long, both) in
-    let allowed = allowed_after (own c.process) (s c.process) old.firsts.items new.firsts.items (noted_map c f n a) process.checked
-    (λ q. all_at (IsAllowed s) (old.firsts.items ++ noted_map c f n a ∷ []) (subst (All (IsAllowed s)) q fits.allowed) (noted_map c f n a) (in_right (noted_map c f n a) old.firsts.items (noted_map c f n a ∷ []) (inl refl))) in
-    let more = goes_on_more (before ++ ds) d m f a (kept_after s own) (kept_after s (value_of new.seen.processes)) (kept_after k kinds) (kept_after k (value_of new.seen.kinds))
-    so_far.1 so_far.0 is known action room allowed (no_other_after (kinds c.object) (k c.object) (kind_of_function f) object.checked kind_fits)
-    (ap (λ (o : Option Process). option_or o (s c.process)) process.own) (λ p ne. ap (λ (o : Option Process). option_or o (s p)) (process.others p ne))
-    (ap (λ (o : Option Kind). option_or o (k c.object)) object.own) (λ x ne. ap (λ (o : Option Kind). option_or o (k x)) (object.others x ne)) in
-    let same = append_assoc before ds (d ∷ []) in
-    (subst IsFaultless same more.0, subst (IsSeenBy (kept_after s (value_of new.seen.processes)) (kept_after k (value_of new.seen.kinds))) same more.1)
+    let allowed = allowed_after (own c.process) (s c.process) old.firsts.items new.firsts.items
+    (noted_map c f) process.checked
+    (λ q. all_at (IsAllowed s) (old.firsts.items ++ noted_map c f ∷ []) (subst (All (IsAllowed s)) q fits.allowed)
+    (noted_map c f) (in_right (noted_map c f) old.firsts.items (noted_map c f ∷ []) (inl refl))) in
+    let more = goes_on_more (before ++ ds) d m f a (kept_after s own) (kept_after s (value_of new.seen.processes))
+    (kept_after k kinds) (kept_after k (value_of new.seen.kinds))
+    so_far.1 so_far.0 is known action room allowed
+    (no_other_after (kinds c.object) (k c.object) (kind_of_function f) object.checked kind_fits)
+    (ap (λ (o : Option Process). option_or o (s c.process)) process.own)
+    (λ p ne. ap (λ (o : Option Process). option_or o (s p)) (process.others p ne))
+    (ap (λ (o : Option Kind). option_or o (k c.object)) object.own)
+    (λ x ne. ap (λ (o : Option Kind). option_or o (k x)) (object.others x ne)) in
+    let same = append_assoc before ds (d ∷ []) in (
+      subst IsFaultless same more.0,
+      subst (IsSeenBy (kept_after s (value_of new.seen.processes))
+          (kept_after k (value_of new.seen.kinds))) same more.1,
+    )
 
 -- ---- one map more
 
 -- the events of forms and one more map of a client
-event_added : (ds : List Datum) (d : Datum) (c : code.ClientMap) (w : Datum) (f : Function) (n : ℕ) (a : Action) → n ≡ length ds → client_of d ≡ Some (client_map c w)
-    → action_of (map_type c.map_type) (client_map c w) ≡ Some a → events_from 0 (ds ++ d ∷ []) ≡ events_from 0 ds ++ (noted_map c f n a).event ∷ []
-event_added ds d c w f n a count is action =
+event_added : (ds : List Datum) (d : Datum) (c : code.ClientMap) (w : Datum) (n : ℕ) (a : Action) → n ≡ length ds
+    → client_of d ≡ Some (client_map c w)
+    → action_of (map_type c.map_type) (client_map c w) ≡ Some a → events_from 0 (ds ++ d ∷ [])
+    ≡ events_from 0 ds ++ noted_event c n a ∷ []
+event_added ds d c w n a count is action =
     let m = client_map c w in
     events_push 0 ds d
-    ∙ ap (λ t. events_from 0 ds ++ t) (ap (λ k. event_of k (client_of d)) (zero-add (length ds) ∙ sym count) ∙ (ap (event_of n) is ∙ ap (event_with n m) action))
+    ∙ ap (λ t. events_from 0 ds ++ t) (ap (λ k. event_of k (client_of d)) (zero-add (length ds) ∙ sym count)
+    ∙ (ap (event_of n) is ∙ ap (event_with n m) action))
 
--- the first events, by whether the process had one
-firsts_more : (kept : Option Process) (old new : List FirstMap) (es : List Event) (m : FirstMap) → IsFirstOrAllowed kept old new m
-    → (kept ≡ None) ↔ (next_event m.event.process es ≡ None) → AreFirstEvents (map (λ x. x.event) old) es → AreFirstEvents (map (λ x. x.event) new) (es ++ m.event ∷ [])
-firsts_more None old new es m h known are =
-    subst (λ fs. AreFirstEvents fs (es ++ m.event ∷ [])) (sym (ap (map (λ x. x.event)) h ∙ map-append (λ x. x.event) old (m ∷ [])))
-    (first_added (map (λ x. x.event) old) es m.event are (known.0 refl))
-firsts_more (Some p) old new es m h known are =
-    subst (λ ms. AreFirstEvents (map (λ x. x.event) ms) (es ++ m.event ∷ [])) (sym h.0)
-    (later_skipped (map (λ x. x.event) old) es m.event are (λ none. let q = known.1 none in cc q))
-
-processes_more : (old new : ℕ → Option Process) (es : List Event) (e : Event) (doing : Process) → ((p : ℕ) → (old p ≡ None) ↔ (next_event p es ≡ None))
-    → new e.process ≡ Some doing → ((p : ℕ) → p ≢ e.process → new p ≡ old p) → (p : ℕ) → (new p ≡ None) ↔ (next_event p (es ++ e ∷ []) ≡ None)
-processes_more old new es e doing h own others p = elim (cases_eq p e.process) [
-  | inl q ↦ subst (λ n. (new n ≡ None) ↔ (next_event n (es ++ e ∷ []) ≡ None)) (sym q) (λ none. absurd (cc (own, none)), λ none. absurd (next_own es e none))
-  | inr ne ↦ (λ none. next_other p es e ne ∙ (h p).0 (sym (others p ne) ∙ none), λ none. others p ne ∙ (h p).1 (sym (next_other p es e ne) ∙ none))
+-- the processes so far have a first map, and that of one more map has one too
+firsts_more : (old new : ℕ → Option Process) (was now : List FirstMap) (m : FirstMap) → NotesProcess old new was now m
+    → ((p : ℕ) → IsListed (old p) (map (λ x. x.process) was) p) → (p : ℕ)
+    → IsListed (new p) (map (λ x. x.process) now) p
+firsts_more old new was now m h listed p = elim (cases_eq p m.process) [
+  | inl e ↦ subst (λ n. IsListed (new n) (map (λ x. x.process) now) n) (sym e)
+      (inr (own (old m.process) h.checked (listed m.process)))
+  | inr ne ↦ subst (λ o. IsListed o (map (λ x. x.process) now) p) (sym (h.others p ne))
+      (other (old m.process) h.checked (listed p))
 ]
+  where
+    ends : now ≡ was ++ m ∷ [] → map (λ x. x.process) now ≡ map (λ x. x.process) was ++ m.process ∷ []
+    ends q = ap (map (λ x. x.process)) q ∙ map-append (λ x. x.process) was (m ∷ [])
+
+    own : (o : Option Process) → IsFirstOrAllowed o was now m → IsListed o (map (λ x. x.process) was) m.process
+        → Contains (map (λ x. x.process) now) m.process
+    own None c l = subst (λ xs. Contains xs m.process) (sym (ends c))
+        (contains_from_in (map (λ x. x.process) was ++ m.process ∷ []) m.process
+        (in_right m.process (map (λ x. x.process) was) (m.process ∷ []) (inl refl)))
+    own (Some v) c l = elim l [
+      | inl q ↦ absurd (cc q)
+      | inr k ↦ subst
+          (λ ms. Contains (map (λ x. x.process) ms) m.process) (sym c.0) k
+    ]
+
+    other : (o : Option Process) → IsFirstOrAllowed o was now m → IsListed (old p) (map (λ x. x.process) was) p
+        → IsListed (old p) (map (λ x. x.process) now) p
+    other None c (inl q) = inl q
+    other None c (inr k) = inr (subst (λ xs. Contains xs p) (sym (ends c))
+        (contains_from_in (map (λ x. x.process) was ++ m.process ∷ []) p
+        (in_left p (map (λ x. x.process) was) (m.process ∷ []) (in_from_contains (map (λ x. x.process) was) p k))))
+    other (Some v) c l = subst (λ ms. IsListed (old p) (map (λ x. x.process) ms) p) (sym c.0) l
 
 -- one map more of a client
-pub part_more : (old new : Part) (ds : List Datum) (d : Datum) (c : code.ClientMap) (w : Datum) (f : Function) (a : Action) → IsPartOf old ds
-    → client_of d ≡ Some (client_map c w) → c.function ≡ Some f → action_of (map_type c.map_type) (client_map c w) ≡ Some a
-    → NotesProcess (value_of old.seen.processes) (value_of new.seen.processes) old.firsts.items new.firsts.items (noted_map c f old.maps a)
+pub part_more : (old new : Part) (ds : List Datum) (d : Datum) (c : code.ClientMap) (w : Datum) (f : Function)
+    (a : Action) → IsPartOf old ds
+    → client_of d ≡ Some (client_map c w) → c.function ≡ Some f → action_of (map_type c.map_type) (client_map c w)
+    ≡ Some a
+    → NotesProcess (value_of old.seen.processes) (value_of new.seen.processes) old.firsts.items new.firsts.items
+    (noted_map c f)
     → NotesObject (value_of old.seen.kinds) (value_of new.seen.kinds) old.objects.items new.objects.items c.object f
-    → new.maps ≡ old.maps + 1
-    → ((es : List Event) → IsRowsOf old.rows es → IsRowsOf new.rows (es ++ (noted_map c f old.maps a).event ∷ [])) → IsPartOf new (ds ++ d ∷ [])
-part_more old new ds d c w f a h is known action process object count rows =
-    let m = noted_map c f old.maps a in
-    let es = events_from 0 ds in
-    let events : events_from 0 (ds ++ d ∷ []) ≡ es ++ m.event ∷ [] = event_added ds d c w f old.maps a h.count is action in
-    let long : length (ds ++ d ∷ []) ≡ length ds + 1 = length-append ds (d ∷ []) in
-    record {
-      count = count ∙ (ap (λ k. k + 1) h.count ∙ sym long);
-      firsts = subst (AreFirstEvents (map (λ x. x.event) new.firsts.items)) (sym events)
-          (firsts_more (value_of old.seen.processes c.process) old.firsts.items new.firsts.items es m process.checked (h.processes c.process) h.firsts);
-      processes = subst (λ xs. (p : ℕ) → (value_of new.seen.processes p ≡ None) ↔ (next_event p xs ≡ None)) (sym events)
-          (processes_more (value_of old.seen.processes) (value_of new.seen.processes) es m.event _ h.processes process.own process.others);
-      objects = λ x. object.listed x (h.objects x);
-      rows = subst (IsRowsOf new.rows) (sym events) (rows es h.rows);
-      continues = continues_more old new ds d c w f old.maps a h.continues is known action process object;
-    }
+    → new.maps ≡ old.maps + 1 → new.events.items ≡ old.events.items ++ noted_event c old.maps a ∷ []
+    → IsPartOf new (ds ++ d ∷ [])
+part_more old new ds d c w f a h is known action process object count events = record {
+  count = count ∙ (ap (λ k. k + 1) h.count ∙ sym (length-append ds (d ∷ [])));
+  events = events ∙ (ap (λ es. es ++ noted_event c old.maps a ∷ []) h.events
+      ∙ sym (event_added ds d c w old.maps a h.count is action));
+  processes = firsts_more (value_of old.seen.processes)
+      (value_of new.seen.processes) old.firsts.items new.firsts.items (noted_map c f) process h.processes;
+  objects = λ x. object.listed x (h.objects x);
+  continues = continues_more old new ds d c w f a h.continues is known action process object;
+}
 
 -- ---- a map that is no client's
 
-continues_skip : (part : Part) (ds : List Datum) (d : Datum) → client_of d ≡ None → is_ignored d ≡ true → ContinuesWhereItFits part ds
-    → (before : List Datum) (s : ℕ → Option Process) (k : ℕ → Option Kind) → IsSeenBy s k before → IsFaultless before → FitsAfter part s k
+continues_skip : (part : Part) (ds : List Datum) (d : Datum) → client_of d ≡ None → is_ignored d ≡ true
+    → ContinuesWhereItFits part ds
+    → (before : List Datum) (s : ℕ → Option Process) (k : ℕ → Option Kind) → IsSeenBy s k before
+    → IsFaultless before → FitsAfter part s k
     → length before + length (ds ++ d ∷ []) ≤ max_maps
-    → IsFaultless (before ++ (ds ++ d ∷ [])) × IsSeenBy (kept_after s (value_of part.seen.processes)) (kept_after k (value_of part.seen.kinds)) (before ++ (ds ++ d ∷ []))
+    → IsFaultless (before ++ (ds ++ d ∷ [])) × IsSeenBy (kept_after s (value_of part.seen.processes))
+    (kept_after k (value_of part.seen.kinds)) (before ++ (ds ++ d ∷ []))
 continues_skip part ds d none ignored h before s k seen faultless fits few =
     let long : length (ds ++ d ∷ []) ≡ length ds + 1 = length-append ds (d ∷ []) in
     let both : length (before ++ ds) ≡ length before + length ds = length-append before ds in
     let so_far = h before s k seen faultless fits (omega (arith, few, long)) in
     let room : length (before ++ ds) < max_maps = omega (arith, few, long, both) in
     let same = append_assoc before ds (d ∷ []) in (
-      subst IsFaultless same (faultless_push (before ++ ds) d so_far.0 (ignored_faultless (before ++ ds) d none ignored room)),
+      subst IsFaultless same (faultless_push (before ++ ds) d so_far.0
+          (ignored_faultless (before ++ ds) d none ignored room)),
       subst (IsSeenBy (kept_after s (value_of part.seen.processes)) (kept_after k (value_of part.seen.kinds))) same
-          (kept_skip (kept_after s (value_of part.seen.processes)) (kept_after k (value_of part.seen.kinds)) (before ++ ds) d so_far.1 none),
+          (kept_skip (kept_after s (value_of part.seen.processes)) (kept_after k (value_of part.seen.kinds))
+          (before ++ ds) d so_far.1 none),
     )
 
-pub part_skip : (old new : Part) (ds : List Datum) (d : Datum) → IsPartOf old ds → client_of d ≡ None → is_ignored d ≡ true
-    → new ≡ record { seen = old.seen; firsts = old.firsts; objects = old.objects; maps = old.maps + 1; rows = old.rows } → IsPartOf new (ds ++ d ∷ [])
+pub part_skip : (old new : Part) (ds : List Datum) (d : Datum) → IsPartOf old ds → client_of d ≡ None
+    → is_ignored d ≡ true
+    → new ≡ record {
+      seen = old.seen;
+      firsts = old.firsts;
+      objects = old.objects;
+      maps = old.maps + 1;
+      events = old.events;
+    } → IsPartOf new (ds ++ d ∷ [])
 part_skip old new ds d h none ignored same =
-    let events : events_from 0 (ds ++ d ∷ []) ≡ events_from 0 ds = events_push 0 ds d ∙ (ap (λ c. events_from 0 ds ++ event_of (0 + length ds) c) none ∙ append-nil (events_from 0 ds)) in
-    let long : length (ds ++ d ∷ []) ≡ length ds + 1 = length-append ds (d ∷ []) in
+    let events : events_from 0 (ds ++ d ∷ []) ≡ events_from 0 ds = events_push 0 ds d
+    ∙ (ap (λ c. events_from 0 ds ++ event_of (0 + length ds) c) none ∙ append-nil (events_from 0 ds)) in
     subst (λ p. IsPartOf p (ds ++ d ∷ [])) (sym same) (record {
-      count = ap (λ k. k + 1) h.count ∙ sym long;
-      firsts = subst (AreFirstEvents (map (λ x. x.event) old.firsts.items)) (sym events) h.firsts;
-      processes = subst (λ xs. (p : ℕ) → (value_of old.seen.processes p ≡ None) ↔ (next_event p xs ≡ None)) (sym events) h.processes;
+      count = ap (λ k. k + 1) h.count ∙ sym (length-append ds (d ∷ []));
+      events = h.events ∙ sym events;
+      processes = h.processes;
       objects = h.objects;
-      rows = subst (IsRowsOf old.rows) (sym events) h.rows;
-      continues = λ before s k seen faultless fits few. continues_skip old ds d none ignored h.continues before s k seen faultless (record { allowed = fits.allowed; of_kind = fits.of_kind }) few;
+      continues = λ before s k seen faultless fits few. continues_skip old ds d none ignored h.continues before s k
+          seen faultless (record { allowed = fits.allowed; of_kind = fits.of_kind }) few;
     })
 
 -- ---- no maps
 
 -- what is kept is the same by other functions
-pub seen_same : (s t : ℕ → Option Process) (k l : ℕ → Option Kind) (ds : List Datum) → IsSeenBy s k ds → ((p : ℕ) → t p ≡ s p) → ((x : ℕ) → l x ≡ k x) → IsSeenBy t l ds
+pub seen_same : (s t : ℕ → Option Process) (k l : ℕ → Option Kind) (ds : List Datum) → IsSeenBy s k ds
+    → ((p : ℕ) → t p ≡ s p) → ((x : ℕ) → l x ≡ k x) → IsSeenBy t l ds
 seen_same s t k l ds h sp kx = record {
   processes = λ p. subst (λ o. IsKept o (last_map p (clients ds))) (sym (sp p)) (h.processes p);
   kinds = λ x. subst (λ o. IsKindOf o (clients ds) x) (sym (kx x)) (h.kinds x);
@@ -206,28 +265,33 @@ no_kind_kept : (o : Option Kind) (x : ℕ) → IsKindOf o [] x → o ≡ None
 no_kind_kept None x h = refl
 no_kind_kept (Some k) x h = let l = h.0.1.stands.1 in absurd (omega (arith, l))
 
-pub no_maps : (part : Part) → IsSeen part.seen [] → part.firsts.items ≡ [] → part.maps ≡ 0 → IsRowsOf part.rows [] → IsPartOf part []
-no_maps part seen firsts count rows =
-    let processes : (p : ℕ) → value_of part.seen.processes p ≡ None = λ p. no_process_kept (value_of part.seen.processes p) (seen.processes p) in
-    let kinds : (x : ℕ) → value_of part.seen.kinds x ≡ None = λ x. no_kind_kept (value_of part.seen.kinds x) x (seen.kinds x) in
+pub no_maps : (part : Part) → IsSeen part.seen [] → part.maps ≡ 0 → part.events.items ≡ [] → IsPartOf part []
+no_maps part seen count events =
+    let processes : (p : ℕ) → value_of part.seen.processes p
+    ≡ None = λ p. no_process_kept (value_of part.seen.processes p) (seen.processes p) in
+    let kinds : (x : ℕ) → value_of part.seen.kinds x ≡ None = λ x. no_kind_kept (value_of part.seen.kinds x) x
+    (seen.kinds x) in
     record {
       count = count;
-      firsts = subst (λ ms. AreFirstEvents (map (λ x. x.event) ms) []) (sym firsts) (record { each = λ p. refl; once = λ i j d l m. absurd (omega (arith, m)) });
-      processes = λ p. (λ none. refl, λ none. processes p);
+      events = events;
+      processes = λ p. inl (processes p);
       objects = λ x. inl (kinds x);
-      rows = rows;
       continues = λ before s k kept faultless fits few. (
         subst IsFaultless (sym (append-nil before)) faultless,
-        subst (IsSeenBy (kept_after s (value_of part.seen.processes)) (kept_after k (value_of part.seen.kinds))) (sym (append-nil before))
-            (seen_same s (kept_after s (value_of part.seen.processes)) k (kept_after k (value_of part.seen.kinds)) before kept
-            (λ p. ap (λ (o : Option Process). option_or o (s p)) (processes p)) (λ x. ap (λ (o : Option Kind). option_or o (k x)) (kinds x))),
+        subst (IsSeenBy (kept_after s (value_of part.seen.processes)) (kept_after k (value_of part.seen.kinds)))
+            (sym (append-nil before))
+            (seen_same s (kept_after s (value_of part.seen.processes)) k
+            (kept_after k (value_of part.seen.kinds)) before kept
+            (λ p. ap (λ (o : Option Process). option_or o (s p)) (processes p))
+            (λ x. ap (λ (o : Option Kind). option_or o (k x)) (kinds x))),
       );
     }
 
--- a result that was good
-pub was_ok : {T E : Type 0} (r : Result T E) (x : T) (P : Type 0) → Some x ≡ result_ok r → OnOk r P → P
-was_ok (Ok y) x P q h = h
-was_ok (Err e) x P q h = absurd (cc q)
+-- a value that was pushed
+pub pushed : {T E X : Type 0} (r : Result T E) (x : T) (new a b : List X) → Some x ≡ result_ok r → new
+    ≡ (if is_ok r then a else b) → new ≡ a
+pushed (Ok y) x new a b q h = h
+pushed (Err e) x new a b q h = absurd (cc q)
 
 -- ---- the forms of a text
 

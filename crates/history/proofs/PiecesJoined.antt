@@ -1,50 +1,50 @@
 -- A text in pieces, and the parts that are read from them.
-use Rattle.std.proofs.Common.{◌≡◌, ℕ, zero, suc, ◌<◌, List, [], ◌∷◌, ◌++◌, length, get_or, Option, Some, IfSome, refl, ap, sym, ◌∙◌, subst, append_assoc, arith}
+use Rattle.std.proofs.Common.{◌≡◌, ℕ, zero, suc, ◌<◌, List, [], ◌∷◌, ◌++◌, length, get_or, Option}
+use Rattle.std.proofs.Common.{Some, IfSome, refl, ap, sym, ◌∙◌, subst, append_assoc, arith}
 use Rattle.std.proofs.lemmas.List.{append-nil}
-use Rattle.std.specs.Prelude.{Result, Ok, Err, is_ok, if◌then◌else◌}
-use Rattle.std.specs.Result.{result_ok}
 use Rattle.edn_reader.specs.Datum.{Datum}
 use Rattle.edn_reader.specs.Spells.{Spells}
 use Rattle.edn_reader.proofs.Joined.{joined_spell, nothing_spelled}
 use Rattle.edn_reader.proofs.Progress.{one_reading_of}
-use Rattle.events.specs.declared.rows.Row.{Row}
-use Rattle.events.specs.Rows.{IsTableOf}
 use Rattle.history.specs.declared.part.Part.{Part}
 use Rattle.history.specs.declared.seams.Seams.{Seams}
-use Rattle.history.specs.Denotes.{events_from}
 use Rattle.history.specs.Parts.{IsPartOf, AreJoined}
-use Rattle.history.specs.Pieces.{HasRows, joined_by_feeds, IsReadFrom, AreReadFrom}
+use Rattle.history.specs.Pieces.{joined_by_feeds, IsReadFrom, AreReadFrom}
 
 -- ---- pieces
 
-joined_cons : (a : List ℕ) (ps : List (List ℕ)) (b : List ℕ) (qs : List (List ℕ)) → joined_by_feeds (a ∷ (ps ++ b ∷ qs)) ≡ a ++ 10 ∷ joined_by_feeds (ps ++ b ∷ qs)
+joined_cons : (a : List ℕ) (ps : List (List ℕ)) (b : List ℕ) (qs : List (List ℕ))
+    → joined_by_feeds (a ∷ (ps ++ b ∷ qs)) ≡ a ++ 10 ∷ joined_by_feeds (ps ++ b ∷ qs)
 joined_cons a [] b qs = refl
 joined_cons a (p ∷ ps) b qs = refl
 
 -- a piece falls into two at a line feed
-joined_cut : (ps : List (List ℕ)) (a b : List ℕ) → joined_by_feeds (ps ++ a ∷ b ∷ []) ≡ joined_by_feeds (ps ++ (a ++ 10 ∷ b) ∷ [])
+joined_cut : (ps : List (List ℕ)) (a b : List ℕ) → joined_by_feeds (ps ++ a ∷ b ∷ [])
+    ≡ joined_by_feeds (ps ++ (a ++ 10 ∷ b) ∷ [])
 joined_cut [] a b = refl
-joined_cut (p ∷ ps) a b = joined_cons p ps a (b ∷ []) ∙ (ap (λ t. p ++ 10 ∷ t) (joined_cut ps a b) ∙ sym (joined_cons p ps (a ++ 10 ∷ b) []))
+joined_cut (p ∷ ps) a b = joined_cons p ps a (b ∷ []) ∙
+    (ap (λ t. p ++ 10 ∷ t) (joined_cut ps a b) ∙ sym (joined_cons p ps (a ++ 10 ∷ b) []))
 
 -- one more piece is cut off
-pub piece_more : (ps : List (List ℕ)) (rest a b : List ℕ) (text : List ℕ) → rest ≡ a ++ 10 ∷ b → joined_by_feeds (ps ++ rest ∷ []) ≡ text
+pub piece_more : (ps : List (List ℕ)) (rest a b : List ℕ) (text : List ℕ) → rest ≡ a ++ 10 ∷ b
+    → joined_by_feeds (ps ++ rest ∷ []) ≡ text
     → joined_by_feeds ((ps ++ a ∷ []) ++ b ∷ []) ≡ text
-piece_more ps rest a b text q h = ap joined_by_feeds (append_assoc ps (a ∷ []) (b ∷ [])) ∙ (joined_cut ps a b ∙ (ap (λ r. joined_by_feeds (ps ++ r ∷ [])) (sym q) ∙ h))
-
--- a value that was pushed
-pub pushed : {T E X : Type 0} (r : Result T E) (x : T) (new a b : List X) → Some x ≡ result_ok r → new ≡ (if is_ok r then a else b) → new ≡ a
-pushed (Ok y) x new a b q h = h
-pushed (Err e) x new a b q h = absurd (cc q)
+piece_more ps rest a b text q h = ap joined_by_feeds (append_assoc ps (a ∷ []) (b ∷ []))
+    ∙ (joined_cut ps a b ∙ (ap (λ r. joined_by_feeds (ps ++ r ∷ [])) (sym q) ∙ h))
 
 -- ---- parts
 
 -- each piece was read, by its place
 pub read_each : (ps : List (List ℕ)) (rs : List (Option Part)) → length rs ≡ length ps
-    → ((i : ℕ) (d : Option Part) → i < length rs → IfSome (get_or rs i d) (IsReadFrom (get_or ps i []))) → AreReadFrom ps rs
+    → ((i : ℕ) (d : Option Part) → i < length rs → IfSome (get_or rs i d) (IsReadFrom (get_or ps i [])))
+    → AreReadFrom ps rs
 read_each [] [] l h = tt
 read_each [] (r ∷ rs) l h = absurd (omega (arith, l))
 read_each (p ∷ ps) [] l h = absurd (omega (arith, l))
-read_each (p ∷ ps) (r ∷ rs) l h = (h zero r (omega arith), read_each ps rs (omega (arith, l)) (λ i d m. h (suc i) d (omega (arith, m))))
+read_each (p ∷ ps) (r ∷ rs) l h = (
+  h zero r (omega arith),
+  read_each ps rs (omega (arith, l)) (λ i d m. h (suc i) d (omega (arith, m))),
+)
 
 -- The forms so far, which are joined; and what the pieces left spell, the text spells after them.
 pub record IsJoinedTo (text : List ℕ) (seams : Seams) (rest : List (Option Part)) : Type 0 where
@@ -54,18 +54,26 @@ pub record IsJoinedTo (text : List ℕ) (seams : Seams) (rest : List (Option Par
   pub joined : AreJoined seams forms
   pub spelled : (es : List Datum) → Spells es (joined_by_feeds pieces) → Spells (forms ++ es) text
 
-pub nothing_joined : (pieces : List (List ℕ)) (seams : Seams) (parts : List (Option Part)) → AreReadFrom pieces parts → AreJoined seams [] → IsJoinedTo (joined_by_feeds pieces) seams parts
-nothing_joined pieces seams parts are joined = record { pieces = pieces; forms = []; are = are; joined = joined; spelled = λ es k. k }
+pub nothing_joined : (pieces : List (List ℕ)) (seams : Seams) (parts : List (Option Part))
+    → AreReadFrom pieces parts → AreJoined seams [] → IsJoinedTo (joined_by_feeds pieces) seams parts
+nothing_joined pieces seams parts are joined = record
+    { pieces = pieces; forms = []; are = are; joined = joined; spelled = λ es k. k }
 
-piece_first : (ds es : List Datum) (p : List ℕ) (ps : List (List ℕ)) → Spells ds p → Spells es (joined_by_feeds ps) → Spells (ds ++ es) (joined_by_feeds (p ∷ ps))
-piece_first ds es p [] h k = subst (λ xs. Spells (ds ++ xs) p) (one_reading_of [] es [] nothing_spelled k) (subst (λ xs. Spells xs p) (sym (append-nil ds)) h)
+piece_first : (ds es : List Datum) (p : List ℕ) (ps : List (List ℕ)) → Spells ds p → Spells es (joined_by_feeds ps)
+    → Spells (ds ++ es) (joined_by_feeds (p ∷ ps))
+piece_first ds es p [] h k = subst (λ xs. Spells (ds ++ xs) p) (one_reading_of [] es [] nothing_spelled k)
+    (subst (λ xs. Spells xs p) (sym (append-nil ds)) h)
 piece_first ds es p (q ∷ qs) h k = joined_spell ds es p (joined_by_feeds (q ∷ qs)) h k
 
-pub join_more : (text : List ℕ) (old new : Seams) (part : Part) (rest later : List (Option Part)) → IsJoinedTo text old rest → rest ≡ Some part ∷ later
-    → ((ds es : List Datum) → AreJoined old ds → IsPartOf part es → AreJoined new (ds ++ es)) → IsJoinedTo text new later
+pub join_more : (text : List ℕ) (old new : Seams) (part : Part) (rest later : List (Option Part))
+    → IsJoinedTo text old rest → rest ≡ Some part ∷ later
+    → ((ds es : List Datum) → AreJoined old ds → IsPartOf part es → AreJoined new (ds ++ es))
+    → IsJoinedTo text new later
 join_more text old new part rest later h is add = go h.pieces (subst (AreReadFrom h.pieces) is h.are) h.spelled
   where
-    go : (ps : List (List ℕ)) → AreReadFrom ps (Some part ∷ later) → ((es : List Datum) → Spells es (joined_by_feeds ps) → Spells (h.forms ++ es) text) → IsJoinedTo text new later
+    go : (ps : List (List ℕ)) → AreReadFrom ps (Some part ∷ later)
+        → ((es : List Datum) → Spells es (joined_by_feeds ps) → Spells (h.forms ++ es) text)
+        → IsJoinedTo text new later
     go [] a k = absurd a
     go (p ∷ ps) a k =
         let read = a.0 in
@@ -74,23 +82,16 @@ join_more text old new part rest later h is add = go h.pieces (subst (AreReadFro
           forms = h.forms ++ read.0;
           are = a.1;
           joined = add h.forms read.0 h.joined read.2;
-          spelled = λ es l. subst (λ xs. Spells xs text) (sym (append_assoc h.forms read.0 es)) (k (read.0 ++ es) (piece_first read.0 es p ps read.1 l));
+          spelled = λ es l. subst (λ xs. Spells xs text) (sym (append_assoc h.forms read.0 es))
+              (k (read.0 ++ es) (piece_first read.0 es p ps read.1 l));
         }
 
-pub all_joined : (text : List ℕ) (seams : Seams) (rest : List (Option Part)) → rest ≡ [] → IsJoinedTo text seams rest → (ds : List Datum) × AreJoined seams ds × Spells ds text
+pub all_joined : (text : List ℕ) (seams : Seams) (rest : List (Option Part)) → rest ≡ []
+    → IsJoinedTo text seams rest → (ds : List Datum) × AreJoined seams ds × Spells ds text
 all_joined text seams rest is h = go h.pieces (subst (AreReadFrom h.pieces) is h.are) h.spelled
   where
-    go : (ps : List (List ℕ)) → AreReadFrom ps [] → ((es : List Datum) → Spells es (joined_by_feeds ps) → Spells (h.forms ++ es) text)
+    go : (ps : List (List ℕ)) → AreReadFrom ps [] →
+        ((es : List Datum) → Spells es (joined_by_feeds ps) → Spells (h.forms ++ es) text)
         → (ds : List Datum) × AreJoined seams ds × Spells ds text
     go [] a k = (h.forms, h.joined, subst (λ xs. Spells xs text) (append-nil h.forms) (k [] nothing_spelled))
     go (p ∷ ps) a k = absurd a
-
-pub has_rows : (text : List ℕ) (seams : Seams) (rows : List Row) → ((ds : List Datum) → AreJoined seams ds → IsTableOf rows (events_from 0 ds))
-    → (ds : List Datum) × AreJoined seams ds × Spells ds text → HasRows text rows
-has_rows text seams rows table (ds, joined, spelled) = record {
-  forms = ds;
-  client_events = events_from 0 ds;
-  spelled = spelled;
-  denoted = record { faultless = joined.faultless; events = refl };
-  table = table ds joined;
-}

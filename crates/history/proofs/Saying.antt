@@ -76,10 +76,6 @@ plain_is ps (Some d) h = ap plain_first h.1 ∙ plain_by d h.0
 
 -- ---- the object
 
-pub object_absent : (ps : List Piece) (o : Option Datum) → true ≡ (length ps == 0) → IsValue ps o → Some 0 ≡ object_at o
-object_absent ps None e h = refl
-object_absent ps (Some d) e h = absurd (not_nothing d h.0 (sym (ap token_buffer_tokens (empty_is ps e)) ∙ h.1))
-
 pub object_there : (ps : List Piece) (o : Option Datum) → false ≡ (length ps == 0) → IsValue ps o → object_in (natural_first (token_buffer_tokens ps)) ≡ object_at o
 object_there ps None e h = let z : (length ps == 0) ≡ true = ap (λ (x : List Piece). length x == 0) h in absurd cc
 object_there ps (Some d) e h = ap object_in (natural_is ps (Some d) h)
@@ -104,18 +100,6 @@ client_is r p t f x v es map value ep et ef ex ev =
         → IfSome o (λ c. c.value ≡ v) → IsClient o (client_in es)
     by_result None e h = sym e
     by_result (Some c) e h = (value_in (value_at (codes "value") es), sym e, sym (h ∙ ev))
-
-pub no_map : (tokens : List Token) → ((es : Entries) → tokens ≡ tokens_of (dictionary es) → ⊥) → (d : Datum) → tokens ≡ tokens_of d → Says Neither d
-no_map tokens h (atom a) e = (refl, refl)
-no_map tokens h (vector ds) e = (refl, refl)
-no_map tokens h (dictionary es) e = absurd (h es e)
-
-pub a_client : (v : OperationValues) (d : Datum) (c : ClientMap) → IsMapWith v d → ((es : Entries) → HasValues v es → IsClient (Some c) (client_in es)) → Says (OfClient c) d
-a_client v d c (es, q, h) k = subst (λ (x : Datum). Says (OfClient c) x) (sym q) (k es h)
-
-pub an_ignored : (v : OperationValues) (d : Datum) → IsMapWith v d → ((es : Entries) → HasValues v es → IsClient None (client_in es))
-    → is_some (keyword_first (token_buffer_tokens v.process.now)) ≡ true → Says Ignored d
-an_ignored v d (es, q, h) k e = subst (λ (x : Datum). Says Ignored x) (sym q) (k es h, sym (ap is_some (keyword_is v.process.now (value_at (codes "process") es) h.process)) ∙ e)
 
 pub neither : (v : OperationValues) (d : Datum) → IsMapWith v d → ((es : Entries) → HasValues v es → IsClient None (client_in es))
     → is_some (keyword_first (token_buffer_tokens v.process.now)) ≡ false → Says Neither d

@@ -1,17 +1,17 @@
 -- One more part after those that are joined.
-use Rattle.std.proofs.Common.{◌≡◌, ℕ, ◌+◌, ◌<◌, ◌≤◌, ◌==◌, ◌⊎◌, inl, inr, Bool, true, false, cond, List, [], ◌∷◌, ◌++◌, map, length, take, drop, get_or, suc, drop-cons, Option, Some, None, All, refl, ap, sym, ◌∙◌, subst, zero-add, arith}
+use Rattle.std.proofs.Common.{◌≡◌, ℕ, ◌+◌, ◌<◌, ◌≤◌, ◌⊎◌, inl, inr, false}
+use Rattle.std.proofs.Common.{List, [], ◌∷◌, ◌++◌, map, length, take, drop, get_or, suc}
+use Rattle.std.proofs.Common.{drop-cons, Option, Some, None, All, refl, ap, sym, ◌∙◌, subst}
+use Rattle.std.proofs.Common.{arith}
 use Rattle.std.specs.Option.{option_or, is_some}
-use Rattle.std.proofs.lemmas.Bool.{cases_eq, eqb-true}
+use Rattle.std.proofs.lemmas.Bool.{cases_eq}
 use Rattle.std.proofs.lemmas.List.{length-append, take_more, take_all}
 use Rattle.std.proofs.lemmas.List.Elements.{All-append}
 use Rattle.number_map.specs.Lookup.{value_of}
 use Rattle.model.specs.declared.Kind.{Kind}
-use Rattle.model.proofs.Lists.{In, in_from_contains, contains_from_in, all_at, all_from_in}
+use Rattle.model.proofs.Lists.{In, in_from_contains, all_at, all_from_in}
 use Rattle.edn_reader.specs.Datum.{Datum}
-use Rattle.events.specs.declared.event.Event.{Event}
-use Rattle.events.specs.Events.{next_event}
 use Rattle.events.specs.Operations.{IsListed}
-use Rattle.events.specs.Rows.{IsRowsOf, IsJoinedOf, AreFirstEvents, shift_event}
 use Rattle.history.specs.declared.seen.Process.{Process}
 use Rattle.history.specs.declared.part.FirstMap.{FirstMap}
 use Rattle.history.specs.declared.part.Part.{Part}
@@ -21,10 +21,10 @@ use Rattle.history.specs.Faults.{max_maps}
 use Rattle.history.specs.Denotes.{events_from}
 use Rattle.history.specs.Seen.{IsProcessFault}
 use Rattle.history.specs.Views.{map_type}
-use Rattle.history.specs.Noting.{TakesOver, IsOneKind}
+use Rattle.history.specs.Noting.{TakesOver, IsOneKind, shift_event}
 use Rattle.history.specs.Parts.{kept_after, IsAllowed, FitsAfter, IsPartOf, AreJoined}
 use Rattle.history.proofs.PartMore.{seen_same}
-use Rattle.history.proofs.PartEvents.{events_join, events_shift, numbers_within}
+use Rattle.history.proofs.PartEvents.{events_after}
 
 -- ---- what is taken over from a part
 
@@ -32,21 +32,26 @@ use Rattle.history.proofs.PartEvents.{events_join, events_shift, numbers_within}
 abbrev pub IsTakenOver : {V : Type 0} → (ℕ → Option V) → (ℕ → Option V) → (ℕ → Option V) → List ℕ → ℕ → Type 0
 IsTakenOver old own now left k = (now k ≡ kept_after old own k) ⊎ ((now k ≡ old k) × In k left)
 
-pub taken_first : {V : Type 0} (old own : ℕ → Option V) (keys : List ℕ) (k : ℕ) → IsListed (own k) keys k → IsTakenOver old own old keys k
+pub taken_first : {V : Type 0} (old own : ℕ → Option V) (keys : List ℕ) (k : ℕ) → IsListed (own k) keys k
+    → IsTakenOver old own old keys k
 taken_first {V} old own keys k h = elim h [
   | inl none ↦ inl (sym (ap (λ (o : Option V). option_or o (old k)) none))
   | inr c ↦ inr (refl, in_from_contains keys k c)
 ]
 
 -- a value that is taken over twice is the same
-twice : {V : Type 0} (own old now : Option V) → (now ≡ option_or own old) ⊎ (now ≡ old) → option_or own now ≡ option_or own old
+twice : {V : Type 0} (own old now : Option V) → (now ≡ option_or own old) ⊎ (now ≡ old) → option_or own now
+    ≡ option_or own old
 twice None old now h = elim h [ inl q ↦ q | inr q ↦ q ]
 twice (Some v) old now h = refl
 
-pub taken_more : {V : Type 0} (old own now new : ℕ → Option V) (key : ℕ) (later : List ℕ) (k : ℕ) → TakesOver now own new key
+pub taken_more : {V : Type 0} (old own now new : ℕ → Option V) (key : ℕ) (later : List ℕ) (k : ℕ)
+    → TakesOver now own new key
     → IsTakenOver old own now (key ∷ later) k → IsTakenOver old own new later k
 taken_more {V} old own now new key later k t h = elim (cases_eq k key) [
-  | inl e ↦ inl (subst (λ n. new n ≡ kept_after old own n) (sym e) (t.at_key ∙ twice (own key) (old key) (now key) (subst (λ n. (now n ≡ kept_after old own n) ⊎ (now n ≡ old n)) e kept)))
+  | inl e ↦ inl (subst (λ n. new n ≡ kept_after old own n) (sym e)
+      (t.at_key ∙ twice (own key) (old key) (now key)
+      (subst (λ n. (now n ≡ kept_after old own n) ⊎ (now n ≡ old n)) e kept)))
   | inr ne ↦ elim h [
     | inl q ↦ inl (t.others k ne ∙ q)
     | inr s ↦ elim s.1 [
@@ -59,75 +64,56 @@ taken_more {V} old own now new key later k t h = elim (cases_eq k key) [
     kept : (now k ≡ kept_after old own k) ⊎ (now k ≡ old k)
     kept = elim h [ inl q ↦ inl q | inr s ↦ inr s.0 ]
 
-pub taken_all : {V : Type 0} (old own now : ℕ → Option V) (k : ℕ) → IsTakenOver old own now [] k → now k ≡ kept_after old own k
-taken_all old own now k h = elim h [ inl q ↦ q | inr s ↦ absurd s.1 ]
-
 -- ---- a part that fits
 
--- the processes of which something is kept have a first map
-named : (ms : List FirstMap) (p : ℕ) → (next_event p (map (λ m. m.event) ms) ≡ None → ⊥) → In p (map (λ m. m.event.process) ms)
-named [] p h = h refl
-named (m ∷ ms) p h = go (m.event.process == p) refl h (named ms p)
-  where
-    go : (b : Bool) → (m.event.process == p) ≡ b → (cond b (Some m.event) (next_event p (map (λ x. x.event) ms)) ≡ None → ⊥)
-        → ((next_event p (map (λ x. x.event) ms) ≡ None → ⊥) → In p (map (λ x. x.event.process) ms)) → In p (map (λ x. x.event.process) (m ∷ ms))
-    go true q n f = inl (sym (eqb-true m.event.process p q))
-    go false q n f = inr (f n)
-
-pub processes_listed : (part : Part) (es : List Datum) (p : ℕ) → IsPartOf part es → IsListed (value_of part.seen.processes p) (map (λ m. m.event.process) part.firsts.items) p
-processes_listed part es p h = go (value_of part.seen.processes p) refl
-  where
-    go : (o : Option Process) → value_of part.seen.processes p ≡ o → IsListed o (map (λ m. m.event.process) part.firsts.items) p
-    go None q = inl refl
-    go (Some v) q = inr (contains_from_in (map (λ m. m.event.process) part.firsts.items) p
-        (named part.firsts.items p (λ none. let l = (h.processes p).1 (sym (h.firsts.each p) ∙ none) in cc (q, l))))
-
 pub fits : (part : Part) (es : List Datum) (processes : ℕ → Option Process) (kinds : ℕ → Option Kind) → IsPartOf part es
-    → All (IsAllowed processes) part.firsts.items → All (λ x. IsOneKind (kinds x) (value_of part.seen.kinds x)) part.objects.items → FitsAfter part processes kinds
+    → All (IsAllowed processes) part.firsts.items → All
+    (λ x. IsOneKind (kinds x) (value_of part.seen.kinds x)) part.objects.items → FitsAfter part processes kinds
 fits part es processes kinds h allowed one = record {
   allowed = allowed;
   of_kind = λ x kind q. elim (h.objects x) [
     | inl none ↦ absurd (cc (q, none))
-    | inr c ↦ all_at (λ (y : ℕ). IsOneKind (kinds y) (value_of part.seen.kinds y)) part.objects.items one x (in_from_contains part.objects.items x c) kind q
+    | inr c ↦ all_at (λ (y : ℕ). IsOneKind (kinds y) (value_of part.seen.kinds y)) part.objects.items one x
+        (in_from_contains part.objects.items x c) kind q
   ];
 }
 
 -- ---- joined
 
-pub joined_more : (old new : Seams) (part : Part) (firsts : List Event) (ds es : List Datum) → AreJoined old ds → IsPartOf part es
+pub joined_more : (old new : Seams) (part : Part) (ds es : List Datum) → AreJoined old ds → IsPartOf part es
     → All (IsAllowed (value_of old.seen.processes)) part.firsts.items
     → All (λ x. IsOneKind (value_of old.seen.kinds x) (value_of part.seen.kinds x)) part.objects.items
-    → part.maps + old.joined.maps ≤ max_maps
-    → ((p : ℕ) → IsListed (value_of part.seen.processes p) (map (λ m. m.event.process) part.firsts.items) p
+    → part.maps + old.maps ≤ max_maps
+    → ((p : ℕ) → IsListed (value_of part.seen.processes p) (map (λ m. m.process) part.firsts.items) p
     → value_of new.seen.processes p ≡ kept_after (value_of old.seen.processes) (value_of part.seen.processes) p)
     → ((x : ℕ) → IsListed (value_of part.seen.kinds x) part.objects.items x
     → value_of new.seen.kinds x ≡ kept_after (value_of old.seen.kinds) (value_of part.seen.kinds) x)
-    → firsts ≡ map (λ m. m.event) part.firsts.items
-    → ((n : ℕ) (xs fs : List Event) → IsJoinedOf old.joined n xs → IsRowsOf part.rows fs → AreFirstEvents firsts fs → All (λ e. e.number < part.maps) fs
-    → IsJoinedOf new.joined (n + part.maps) (xs ++ map (shift_event n) fs))
+    → new.events.items ≡ old.events.items ++ map (shift_event old.maps) part.events.items → new.maps
+    ≡ old.maps + part.maps
     → AreJoined new (ds ++ es)
-joined_more old new part firsts ds es h p allowed one few processes kinds are join =
-    let counted : old.joined.maps ≡ length ds = h.joined.counted in
+joined_more old new part ds es h p allowed one few processes kinds events maps =
+    let counted : length ds ≡ old.maps = h.count in
     let own : part.maps ≡ length es = p.count in
     let whole = p.continues ds (value_of old.seen.processes) (value_of old.seen.kinds) h.kept h.faultless
-    (fits part es (value_of old.seen.processes) (value_of old.seen.kinds) p allowed one) (omega (arith, few, counted, own)) in
-    let joined = join (length ds) (events_from 0 ds) (events_from 0 es) h.joined p.rows (subst (λ xs. AreFirstEvents xs (events_from 0 es)) (sym are) p.firsts)
-    (subst (λ n. All (λ (e : Event). e.number < n) (events_from 0 es)) (sym own) (numbers_within es)) in
-    let long : length (ds ++ es) ≡ length ds + part.maps = length-append ds es ∙ ap (λ n. length ds + n) (sym own) in
-    let events : events_from 0 (ds ++ es) ≡ events_from 0 ds ++ map (shift_event (length ds)) (events_from 0 es) =
-    events_join 0 ds es ∙ ap (λ xs. events_from 0 ds ++ xs) (ap (λ n. events_from n es) (zero-add (length ds)) ∙ events_shift (length ds) es) in
+    (fits part es (value_of old.seen.processes) (value_of old.seen.kinds) p allowed one)
+    (omega (arith, few, counted, own)) in
     record {
-      kept = seen_same (kept_after (value_of old.seen.processes) (value_of part.seen.processes)) (value_of new.seen.processes)
+      kept = seen_same (kept_after (value_of old.seen.processes) (value_of part.seen.processes))
+          (value_of new.seen.processes)
           (kept_after (value_of old.seen.kinds) (value_of part.seen.kinds)) (value_of new.seen.kinds) (ds ++ es) whole.1
-          (λ k. processes k (processes_listed part es k p)) (λ x. kinds x (p.objects x));
+          (λ k. processes k (p.processes k)) (λ x. kinds x (p.objects x));
       faultless = whole.0;
-      joined = subst (λ xs. IsJoinedOf new.joined (length (ds ++ es)) xs) (sym events)
-          (subst (λ n. IsJoinedOf new.joined n (events_from 0 ds ++ map (shift_event (length ds)) (events_from 0 es))) (sym long) joined);
+      events = events ∙ (ap (λ xs. xs ++ map (shift_event old.maps) part.events.items) h.events
+          ∙ (ap (λ xs. events_from 0 ds ++ map (shift_event old.maps) xs) p.events
+          ∙ (ap (λ n. events_from 0 ds ++ map (shift_event n) (events_from 0 es)) (sym counted)
+          ∙ sym (events_after ds es))));
+      count = omega (arith, length-append ds es, counted, own, maps);
     }
 
 -- ---- along a list
 
-pub all_more : {X : Type 0} (P : X → Type 0) (xs : List X) (i : ℕ) (d : X) → i < length xs → All P (take i xs) → P (get_or xs i d) → All P (take (i + 1) xs)
+pub all_more : {X : Type 0} (P : X → Type 0) (xs : List X) (i : ℕ) (d : X) → i < length xs → All P (take i xs)
+    → P (get_or xs i d) → All P (take (i + 1) xs)
 all_more P xs i d l h p = subst (All P) (sym (take_more xs i d l)) (All-append P (take i xs) (get_or xs i d ∷ []) h
     (all_from_in P (get_or xs i d ∷ []) (λ x j. elim j [ inl e ↦ subst P (sym e) p | inr k ↦ absurd k ])))
 
@@ -141,8 +127,10 @@ was_none : {X : Type 0} (o : Option X) → false ≡ is_some o → o ≡ None
 was_none None q = refl
 was_none (Some x) q = absurd (cc q)
 
-pub allowed_at : (processes : ℕ → Option Process) (m : FirstMap) (kept : Option Process) (found : Option HistoryFaultKind) → kept ≡ processes m.event.process
-    → false ≡ is_some found → IsProcessFault kept (map_type m.map_type) m.function m.event.object found → IsAllowed processes m
+pub allowed_at : (processes : ℕ → Option Process) (m : FirstMap) (kept : Option Process)
+    (found : Option HistoryFaultKind) → kept ≡ processes m.process
+    → false ≡ is_some found → IsProcessFault kept (map_type m.map_type) m.function m.object found
+    → IsAllowed processes m
 allowed_at processes m kept found is none h =
-    subst (λ o. IsProcessFault o (map_type m.map_type) m.function m.event.object None) is
-    (subst (IsProcessFault kept (map_type m.map_type) m.function m.event.object) (was_none found none) h)
+    subst (λ o. IsProcessFault o (map_type m.map_type) m.function m.object None) is
+    (subst (IsProcessFault kept (map_type m.map_type) m.function m.object) (was_none found none) h)

@@ -1,10 +1,11 @@
 -- What is noted of one more map of a part, of its process and of its object; and what is taken over
 -- from one more part. No public clause names these.
-use Rattle.std.specs.Prelude.{◌≡◌, ◌≢◌, ℕ, List, [], ◌∷◌, ◌++◌, Option, Some, None}
+use Rattle.std.specs.Prelude.{◌≡◌, ◌≢◌, ℕ, ◌+◌, List, [], ◌∷◌, ◌++◌, Option, Some, None}
 use Rattle.std.specs.Option.{option_or}
 use Rattle.model.specs.declared.Kind.{Kind}
 use Rattle.seq_objects.specs.declared.function.Function.{Function}
 use Rattle.seq_objects.specs.Functions.{kind_of_function}
+use Rattle.events.specs.declared.event.Event.{Event}
 use Rattle.events.specs.Operations.{IsListed}
 use Rattle.history.specs.declared.seen.Process.{Process}
 use Rattle.history.specs.declared.part.FirstMap.{FirstMap}
@@ -16,14 +17,14 @@ abbrev pub IsFirstOrAllowed : Option Process → List FirstMap → List FirstMap
 IsFirstOrAllowed None old new m = new ≡ old ++ m ∷ []
 IsFirstOrAllowed (Some p) old new m =
     (new ≡ old)
-    × IsProcessFault (Some p) (map_type m.map_type) m.function m.event.object None
+    × IsProcessFault (Some p) (map_type m.map_type) m.function m.object None
 
 -- the process of one more map
 pub record NotesProcess (old new : ℕ → Option Process) (old_firsts new_firsts : List FirstMap)
     (m : FirstMap) : Type 0 where
-  pub checked : IsFirstOrAllowed (old m.event.process) old_firsts new_firsts m
-  pub own : new m.event.process ≡ Some (doing_after (map_type m.map_type) m.function m.event.object)
-  pub others : (p : ℕ) → p ≢ m.event.process → new p ≡ old p
+  pub checked : IsFirstOrAllowed (old m.process) old_firsts new_firsts m
+  pub own : new m.process ≡ Some (doing_after (map_type m.map_type) m.function m.object)
+  pub others : (p : ℕ) → p ≢ m.process → new p ≡ old p
 
 -- the object of one more map, which has this function
 pub record NotesObject (old new : ℕ → Option Kind) (old_objects new_objects : List ℕ) (object : ℕ)
@@ -34,6 +35,11 @@ pub record NotesObject (old new : ℕ → Option Kind) (old_objects new_objects 
   pub listed : (x : ℕ) → IsListed (old x) old_objects x → IsListed (new x) new_objects x
 
 -- ---- one more part
+
+-- the event with its number counted from n maps earlier
+abbrev pub shift_event : ℕ → Event → Event
+shift_event n e =
+    record { number = n + e.number; process = e.process; object = e.object; action = e.action }
 
 -- where two kinds are kept of an object they are one
 abbrev pub IsOneKind : Option Kind → Option Kind → Type 0

@@ -1,20 +1,18 @@
 -- What a part of a history's text says by itself, and the parts that are joined so far.
-use Rattle.std.specs.Prelude.{◌≡◌, ℕ, ◌+◌, ◌≤◌, ◌↔◌, List, ◌++◌, length, map, Option, Some, None}
-use Rattle.std.specs.Prelude.{All}
+use Rattle.std.specs.Prelude.{◌≡◌, ℕ, ◌+◌, ◌≤◌, List, ◌++◌, length, map, Option, Some, None, All}
 use Rattle.std.specs.Option.{option_or}
 use Rattle.number_map.specs.Lookup.{value_of}
 use Rattle.edn_reader.specs.Datum.{Datum}
 use Rattle.model.specs.declared.Kind.{Kind}
-use Rattle.events.specs.Events.{next_event}
 use Rattle.events.specs.Operations.{IsListed}
-use Rattle.events.specs.Rows.{IsRowsOf, IsJoinedOf, AreFirstEvents}
 use Rattle.history.specs.declared.seen.Process.{Process}
 use Rattle.history.specs.declared.part.FirstMap.{FirstMap}
 use Rattle.history.specs.declared.part.Part.{Part}
 use Rattle.history.specs.declared.seams.Seams.{Seams}
 use Rattle.history.specs.Faults.{IsFaultless, max_maps}
 use Rattle.history.specs.Denotes.{events_from}
-use Rattle.history.specs.Seen.{IsProcessFault, IsNoOther, IsSeen, IsSeenBy}
+use Rattle.history.specs.Seen.{IsProcessFault, IsNoOther, IsSeenBy}
+use Rattle.history.specs.Texts.{AreRead}
 use Rattle.history.specs.Views.{map_type}
 
 -- ---- a part after earlier maps
@@ -27,7 +25,7 @@ kept_after before own k = option_or (own k) (before k)
 -- the process of this map may do what the map says, where so much is kept of each process
 abbrev pub IsAllowed : (ℕ → Option Process) → FirstMap → Type 0
 IsAllowed processes m =
-    IsProcessFault (processes m.event.process) (map_type m.map_type) m.function m.event.object None
+    IsProcessFault (processes m.process) (map_type m.map_type) m.function m.object None
 
 -- A part fits after what is kept of earlier maps: each of its processes may do what its first map
 -- in the part says, and no object is of one kind before the part and of another in it.
@@ -52,19 +50,15 @@ ContinuesWhereItFits part ds =
 -- are counted from the part's first form.
 pub record IsPartOf (part : Part) (ds : List Datum) : Type 0 where
   pub count : part.maps ≡ length ds
-  pub firsts : AreFirstEvents (map (λ m. m.event) part.firsts.items) (events_from 0 ds)
-  -- something is kept of the processes that have an event, and of no other
+  pub events : part.events.items ≡ events_from 0 ds
+  -- each process of which something is kept has a first map, and each object is listed
   pub processes : (p : ℕ) →
-      (value_of part.seen.processes p ≡ None) ↔ (next_event p (events_from 0 ds) ≡ None)
-  -- each object of which something is kept is listed
+      IsListed (value_of part.seen.processes p) (map (λ m. m.process) part.firsts.items) p
   pub objects : (x : ℕ) → IsListed (value_of part.seen.kinds x) part.objects.items x
-  pub rows : IsRowsOf part.rows (events_from 0 ds)
   pub continues : ContinuesWhereItFits part ds
 
 -- ---- parts that are joined
 
 -- What is kept of the parts so far is what these forms say, which have no fault.
-pub record AreJoined (seams : Seams) (ds : List Datum) : Type 0 where
-  pub kept : IsSeen seams.seen ds
-  pub faultless : IsFaultless ds
-  pub joined : IsJoinedOf seams.joined (length ds) (events_from 0 ds)
+abbrev pub AreJoined : Seams → List Datum → Type 0
+AreJoined seams ds = AreRead seams.seen seams.maps ds seams.events.items

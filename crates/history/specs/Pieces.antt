@@ -2,11 +2,7 @@
 use Rattle.std.specs.Prelude.{⊤, ℕ, List, [], ◌∷◌, ◌++◌, Option, IfSome}
 use Rattle.edn_reader.specs.Datum.{Datum}
 use Rattle.edn_reader.specs.Spells.{Spells}
-use Rattle.events.specs.declared.event.Event.{Event}
-use Rattle.events.specs.declared.rows.Row.{Row}
-use Rattle.events.specs.Rows.{IsTableOf}
 use Rattle.history.specs.declared.part.Part.{Part}
-use Rattle.history.specs.Denotes.{Denotes}
 use Rattle.history.specs.Parts.{IsPartOf}
 
 -- the text that pieces make with a line feed between each two of them
@@ -26,11 +22,3 @@ AreReadFrom (piece ∷ pieces) (part ∷ parts) =
     IfSome part (IsReadFrom piece) × AreReadFrom pieces parts
 AreReadFrom [] (part ∷ parts) = ⊥
 AreReadFrom (piece ∷ pieces) [] = ⊥
-
--- These rows are the operations of the history that the text's forms denote.
-pub record HasRows (text : List ℕ) (rows : List Row) : Type 0 where
-  pub forms : List Datum
-  pub client_events : List Event
-  pub spelled : Spells forms text
-  pub denoted : Denotes forms client_events
-  pub table : IsTableOf rows client_events

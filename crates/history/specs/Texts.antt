@@ -24,14 +24,14 @@ IsHistorySound h =
     ⊎ ((ds : List Datum) × Spells ds h × (map : ℕ) × (map < length ds)
     × IsFaultless (take (map + 1) ds)))
 
--- The first fault of the forms; or memory was refused for one of them, and up to it and with it
+-- The first fault of the forms; or an allocation failed for one of them, and up to it and with it
 -- there is none.
 abbrev pub IsFoundIn : List Datum → HistoryFault → Type 0
 IsFoundIn ds f =
     (f.kind ≢ NoMemory → IsFirstFault ds f)
     × (f.kind ≡ NoMemory → (f.map < length ds) × IsFaultless (take (f.map + 1) ds))
 
--- The text is unreadable, or memory was refused for a token; or it is short and spells forms in
+-- The text is unreadable, or an allocation failed for a token; or it is short and spells forms in
 -- which this was found.
 abbrev pub IsTextFault : List ℕ → TextFault → Type 0
 IsTextFault text (Text e) =

@@ -14,30 +14,32 @@ use crate::map_faults::{is_of_other_kind, process_fault};
 use crate::seen::{MAX_MAPS, Process, Seen, process_after};
 use crate::usual_map::usual_map;
 use edn::Elements;
-use events::{Event, Rows};
+use events::Event;
 use number_map::NumberMap;
 use seq_objects::{Function, Kind};
 use std::alloc::Global;
 
-/// A map of a client without a fault of its own. Of each process a part keeps its first one.
+/// What a map of a client without a fault of its own asks of its process. Of each process a part
+/// keeps its first one.
 #[derive(Clone, Copy)]
 pub struct FirstMap {
     pub(crate) map_type: MapType,
     pub(crate) function: Function,
-    pub(crate) event: Event,
+    pub(crate) process: u64,
+    pub(crate) object: u32,
 }
 
 /// What a part of a history says by itself: what its maps leave of each process and of each object
-/// that they name, the first map of each process, a list of the objects, the number of the maps, and
-/// the operations. Whether the part may follow other maps depends on its first maps and its objects
-/// alone.
+/// that they name, the first map of each process, a list of the objects, the number of the maps,
+/// and the events, whose numbers are counted from the part's first map. Whether the part may follow
+/// other maps depends on its first maps and its objects alone.
 #[derive(Drop)]
 pub struct Part {
     pub(crate) seen: Seen,
     pub(crate) firsts: Vec<FirstMap>,
     pub(crate) objects: Vec<u32>,
     pub(crate) maps: usize,
-    pub(crate) rows: Rows,
+    pub(crate) events: Vec<Event>,
 }
 
 /// Takes in what one more map says of its process. The first map of a process is kept, and each
@@ -54,18 +56,19 @@ fn note_process(
     let FirstMap {
         map_type,
         function,
-        event,
+        process,
+        object,
     } = map;
-    match processes.get(event.process) {
+    match processes.get(process) {
         None => firsts.push(map).ok()?,
         kept => {
-            if process_fault(kept, map_type, function, event.object).is_some() {
+            if process_fault(kept, map_type, function, object).is_some() {
                 return None;
             }
         }
     }
-    let process = process_after(map_type, function, event.object);
-    processes.insert(event.process, process).ok()
+    let doing = process_after(map_type, function, object);
+    processes.insert(process, doing).ok()
 }
 
 /// Takes in that one more map has this function on this object. The object is listed with its kind
@@ -103,7 +106,7 @@ impl Part {
             firsts: Vec::new(alloc),
             objects: Vec::new(alloc),
             maps: 0,
-            rows: Rows::new(alloc),
+            events: Vec::new(alloc),
         }
     }
 
@@ -122,15 +125,15 @@ impl Part {
             object: m.object,
             action,
         };
-        let map_type = m.map_type;
         let map = FirstMap {
-            map_type,
+            map_type: m.map_type,
             function,
-            event,
+            process: m.process,
+            object: m.object,
         };
         note_process(&mut self.seen.processes, &mut self.firsts, map)?;
         note_object(&mut self.seen.kinds, &mut self.objects, m.object, function)?;
-        self.rows.push(&event).ok()?;
+        self.events.push(event).ok()?;
         self.maps += 1;
         Some(())
     }
@@ -156,7 +159,7 @@ impl Part {
 
     /// Takes in the maps of these lines, in which each form is one operation map. None says nothing
     /// of the lines, and then nothing is known of the part: the lines spell no forms, a map of them
-    /// has a fault after those of the part before it, they are too many, or memory was refused.
+    /// has a fault after those of the part before it, they are too many, or an allocation failed.
     pub fn read_lines(&mut self, alloc: Global, lines: &[u8]) -> Option<()>
         ensures { OnSome result ((ds : List Datum) → IsPartOf self.old ds
             → (es : List Datum) × Spells es lines.now × IsPartOf self.new (ds ++ es)) }

@@ -1,11 +1,14 @@
 //! A history's text in pieces, of which each can be read by a worker of its own.
 
 ghost use Rattle.std.specs.Prelude.{◌≡◌, ◌<◌, ◌++◌, ◌∷◌, ℕ, List, length, map, get_or, IfSome};
-ghost use Rattle.history.specs.Pieces.{joined_by_feeds, IsReadFrom, AreReadFrom, HasRows};
+ghost use Rattle.edn_reader.specs.Datum.{Datum};
+ghost use Rattle.edn_reader.specs.Spells.{Spells};
+ghost use Rattle.history.specs.Denotes.{Denotes};
+ghost use Rattle.history.specs.Pieces.{joined_by_feeds, IsReadFrom, AreReadFrom};
 
 use crate::part::Part;
 use crate::seams::Seams;
-use events::Table;
+use events::History;
 use std::alloc::Global;
 
 /// How far a text is read at first, to see whether its lines can be read by themselves.
@@ -53,7 +56,7 @@ fn begins_in_lines(alloc: Global, text: &[u8]) -> bool {
 
 /// The text in pieces, with a line feed between each two. They are this many and of nearly one
 /// length, but no answer depends on that. None says nothing of the text: its first lines cannot be
-/// read by themselves, its lines are too few or too long, or memory was refused.
+/// read by themselves, its lines are too few or too long, or an allocation failed.
 pub fn pieces_of(alloc: Global, text: &[u8], count: usize) -> Option<Vec<&[u8]>>
     ensures { IfSome result (λ v. joined_by_feeds (map (λ p. p.now) v.items) ≡ text.entry.now) }
 {
@@ -71,17 +74,17 @@ pub fn pieces_of(alloc: Global, text: &[u8], count: usize) -> Option<Vec<&[u8]>>
     Some(pieces)
 }
 
-/// The table of the text whose pieces were read into these parts. None says nothing of the text: a
-/// piece was not read, a map has a fault after those of the pieces before, the maps are too many, or
-/// memory was refused.
-pub fn join_parts(alloc: Global, parts: Vec<Option<Part>>) -> Option<Table>
+/// The history that the text denotes whose pieces were read into these parts. None says nothing of
+/// the text: a piece was not read, a map has a fault after those of the pieces before, the maps are
+/// too many, or an allocation failed.
+pub fn join_parts(alloc: Global, parts: Vec<Option<Part>>) -> Option<History>
     requires { (pieces : List (List ℕ)) × AreReadFrom pieces parts.items }
-    ensures { IfSome result (λ t. (pieces : List (List ℕ)) → AreReadFrom pieces parts.items →
-        HasRows (joined_by_feeds pieces) t) }
+    ensures { IfSome result (λ h. (pieces : List (List ℕ)) → AreReadFrom pieces parts.items →
+        (ds : List Datum) × Spells ds (joined_by_feeds pieces) × Denotes ds h) }
 {
     let mut seams = Seams::new(alloc);
     for part in parts {
-        seams = seams.add(alloc, part?)?;
+        seams = seams.add(part?)?;
     }
-    Some(seams.into_table())
+    Some(seams.into_history())
 }

@@ -5,25 +5,25 @@ ghost use Rattle.number_map.specs.Lookup.{value_of};
 ghost use Rattle.edn_reader.specs.Datum.{Datum};
 ghost use Rattle.model.specs.declared.Kind.{Kind};
 ghost use Rattle.events.specs.Operations.{IsListed};
-ghost use Rattle.events.specs.Rows.{IsTableOf};
-ghost use Rattle.history.specs.Denotes.{events_from};
-ghost use Rattle.history.specs.Noting.{TakesOver, IsOneKind};
+ghost use Rattle.history.specs.Denotes.{Denotes};
+ghost use Rattle.history.specs.Noting.{TakesOver, IsOneKind, shift_event};
 ghost use Rattle.history.specs.Parts.{IsAllowed, IsPartOf, AreJoined, kept_after};
 
 use crate::map_faults::{is_one_kind, process_fault};
 use crate::part::{FirstMap, Part};
 use crate::seen::{MAX_MAPS, Process, Seen};
-use events::{Event, JoinedRows, Table};
+use events::{Event, History};
 use number_map::NumberMap;
 use seq_objects::Kind;
 use std::alloc::Global;
 
-/// The parts so far: what their maps leave of each process and of each object, and their
-/// operations, with the ends that come in a later part.
+/// The parts so far: what their maps leave of each process and of each object, their events, and
+/// the number of their maps.
 #[derive(Drop)]
 pub(crate) struct Seams {
     seen: Seen,
-    joined: JoinedRows,
+    events: Vec<Event>,
+    maps: usize,
 }
 
 /// Whether each process may do what its first map says.
@@ -31,8 +31,8 @@ fn are_allowed(processes: &NumberMap<Process>, firsts: &[FirstMap]) -> bool
     ensures { result ≡ true → All (IsAllowed (value_of processes.now)) firsts.now }
 {
     for first in firsts {
-        let kept = processes.get(first.event.process);
-        let object = first.event.object;
+        let kept = processes.get(first.process);
+        let object = first.object;
         if process_fault(kept, first.map_type, first.function, object).is_some() {
             return false;
         }
@@ -73,11 +73,11 @@ fn keep_processes(
     firsts: &[FirstMap],
 ) -> Option<()>
     ensures { OnSome result ((p : ℕ) →
-        IsListed (value_of own.now p) (map (λ m. m.event.process) firsts.now) p
+        IsListed (value_of own.now p) (map (λ m. m.process) firsts.now) p
         → value_of processes.new p ≡ kept_after (value_of processes.old) (value_of own.now) p) }
 {
     for first in firsts {
-        take_over(processes, own, first.event.process)?;
+        take_over(processes, own, first.process)?;
     }
     Some(())
 }
@@ -93,15 +93,35 @@ fn keep_kinds(kinds: &mut NumberMap<Kind>, own: &NumberMap<Kind>, objects: &[u32
     Some(())
 }
 
-/// The events of the first maps.
-fn events_of(alloc: Global, firsts: &[FirstMap]) -> Option<Vec<Event>>
-    ensures { IfSome result (λ v. v.items ≡ map (λ m. m.event) firsts.now) }
+/// The event with its number counted from this many maps earlier.
+#[inline(always)]
+fn shifted(event: &Event, earlier: u32) -> Option<Event>
+    ensures { IfSome result (λ e. e ≡ shift_event earlier event.now) }
 {
-    let mut events = Vec::new(alloc);
-    for first in firsts {
-        events.push(first.event).ok()?;
+    let number = earlier.checked_add(event.number)?;
+    Some(Event { number, ..*event })
+}
+
+/// Puts events after others, with their numbers counted from this many maps earlier.
+fn append(events: Vec<Event>, more: &[Event], earlier: u32) -> Option<Vec<Event>>
+    ensures { IfSome result (λ v. v.items ≡ events.items ++ map (shift_event earlier) more.now) }
+{
+    let mut joined = events;
+    for event in more {
+        joined.push(shifted(event, earlier)?).ok()?;
     }
-    Some(events)
+    Some(joined)
+}
+
+/// The events of the parts so far, which have this many maps, and those of one part more. Where
+/// there are none so far, the part's list is taken as it is.
+fn join_events(events: Vec<Event>, more: Vec<Event>, earlier: u32) -> Option<Vec<Event>>
+    ensures { IfSome result (λ v. v.items ≡ events.items ++ map (shift_event earlier) more.items) }
+{
+    if earlier == 0 && events.is_empty() {
+        return Some(more);
+    }
+    append(events, &more, earlier)
 }
 
 impl Seams {
@@ -111,25 +131,29 @@ impl Seams {
     {
         Seams {
             seen: Seen::new(alloc),
-            joined: JoinedRows::new(alloc),
+            events: Vec::new(alloc),
+            maps: 0,
         }
     }
 
-    /// Joins one part more to those before it. None says nothing of the parts: a map of this one has
-    /// a fault after theirs, their maps are too many, or memory was refused.
-    pub fn add(self, alloc: Global, part: Part) -> Option<Seams>
+    /// Joins one part more to those before it. None says nothing of the parts: a map of this one
+    /// has a fault after theirs, their maps are too many, or an allocation failed.
+    pub fn add(self, part: Part) -> Option<Seams>
         ensures { IfSome result (λ s. (ds es : List Datum) → AreJoined self ds → IsPartOf part es
             → AreJoined s (ds ++ es)) }
     {
-        let Seams { mut seen, joined } = self;
+        let Seams {
+            mut seen,
+            events,
+            maps: before,
+        } = self;
         let Part {
             seen: own,
             firsts,
             objects,
             maps,
-            rows,
+            events: more,
         } = part;
-        let before = joined.maps() as usize;
         if maps > MAX_MAPS || before > MAX_MAPS - maps {
             return None;
         }
@@ -141,16 +165,16 @@ impl Seams {
         }
         keep_processes(&mut seen.processes, &own.processes, &firsts)?;
         keep_kinds(&mut seen.kinds, &own.kinds, &objects)?;
-        let first_events = events_of(alloc, &firsts)?;
-        let joined = joined.add(rows, &first_events, maps as u32)?;
-        Some(Seams { seen, joined })
+        let events = join_events(events, more, before as u32)?;
+        let maps = before + maps;
+        Some(Seams { seen, events, maps })
     }
 
-    /// The operations of the history, where the parts so far are all.
-    pub fn into_table(self) -> Table
+    /// The history, where the parts so far are all.
+    pub fn into_history(self) -> History
         requires { (ds : List Datum) × AreJoined self ds }
-        ensures { (ds : List Datum) → AreJoined self ds → IsTableOf result (events_from 0 ds) }
+        ensures { (ds : List Datum) → AreJoined self ds → Denotes ds result }
     {
-        Table::new(self.joined)
+        History::new(self.events)
     }
 }

@@ -33,7 +33,7 @@ fn type_front(text: &[u8]) -> Option<(MapType, &[u8])>
 
 /// The type of a map, and what follows it.
 #[inline(always)]
-pub fn type_at(text: &[u8]) -> Option<(MapType, &[u8])>
+pub(crate) fn type_at(text: &[u8]) -> Option<(MapType, &[u8])>
     ensures { IfSome result (λ x.
         BeginWith (leaf (atom (keyword (type_name x.0))) ∷ []) text.entry.now x.1.now) }
 {
@@ -92,7 +92,7 @@ fn function_after(first: u8, text: &[u8]) -> Option<(Function, &[u8])>
 
 /// The function of a map, and what follows its name.
 #[inline(always)]
-pub fn function_at(text: &[u8]) -> Option<(Function, &[u8])>
+pub(crate) fn function_at(text: &[u8]) -> Option<(Function, &[u8])>
     ensures { IfSome result (λ x.
         BeginWith (leaf (atom (keyword (name_of x.0))) ∷ []) text.entry.now x.1.now) }
 {
@@ -135,7 +135,7 @@ fn word_at<'a, const N: usize>(
 
 /// An argument or a reply, and what follows it.
 #[inline(always)]
-pub fn value_at(text: &[u8]) -> Option<(Value, &[u8])>
+pub(crate) fn value_at(text: &[u8]) -> Option<(Value, &[u8])>
     ensures { IfSome result (λ x. ReadsValue text.entry.now x.0 x.1.now) }
 {
     match text {

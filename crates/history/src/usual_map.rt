@@ -41,7 +41,7 @@ fn after_atom(text: &[u8]) -> Option<&[u8]>
 }
 
 /// What follows a map whose last pair has a key without a meaning.
-// Apart from what reads the maps that have none.
+// Not inlined, since most maps have no such pair.
 #[inline(never)]
 fn after_note(text: &[u8]) -> Option<&[u8]>
     ensures { IfSome result (λ rest. ReadsLast keys_to_index text.entry.now 0 rest.now) }
@@ -54,7 +54,7 @@ fn after_note(text: &[u8]) -> Option<&[u8]>
     after(rest, b"}")
 }
 
-/// The same, or what follows a map that has no pair more.
+/// What follows a map that has no more pairs, or one whose key has no meaning.
 #[inline(always)]
 fn after_pairs(text: &[u8]) -> Option<&[u8]>
     ensures { IfSome result (λ rest. ReadsLast keys_to_index text.entry.now 0 rest.now) }
@@ -65,7 +65,7 @@ fn after_pairs(text: &[u8]) -> Option<&[u8]>
     }
 }
 
-/// The same with an index before.
+/// What follows a map that has an index and such pairs, or some of these.
 #[inline(always)]
 fn after_index(text: &[u8]) -> Option<&[u8]>
     ensures { IfSome result (λ rest. ReadsLast keys_to_time text.entry.now 0 rest.now) }
@@ -77,7 +77,7 @@ fn after_index(text: &[u8]) -> Option<&[u8]>
     after_pairs(rest)
 }
 
-/// The same with a time before.
+/// What follows a map that has a time, an index and such pairs, or some of these.
 #[inline(always)]
 fn after_time(text: &[u8]) -> Option<&[u8]>
     ensures { IfSome result (λ rest. ReadsLast keys_to_object text.entry.now 0 rest.now) }
@@ -148,11 +148,16 @@ fn index_first(text: &[u8]) -> Option<(ClientMap, &[u8])>
 }
 
 /// The operation map of a client at the front, and what follows it. Its keys are in one of two
-/// orders, a comma and a space before each but the first. In the first order one key without a
-/// meaning may be the last. A map that is written in another way may be well formed, and is none
-/// here.
+/// orders, with a comma and a space before each except the first:
+///
+///     {:process 0, :type :ok, :f :read, :value 1, :object 0, :time 7, :index 1, :note 5}
+///     {:index 1, :time 7, :type :ok, :process 0, :f :read, :value 1}
+///
+/// In the first order each key from `:object` on may be absent, and the last may be any key without
+/// a meaning. A map that is written in another way may be well formed, and is not found here. No
+/// clause says that a map is found: where none is, the slower reader is asked.
 #[inline(always)]
-pub fn usual_map(text: &[u8]) -> Option<(ClientMap, &[u8])>
+pub(crate) fn usual_map(text: &[u8]) -> Option<(ClientMap, &[u8])>
     requires { IsUtf8 text.now }
     ensures { IfSome result (λ x. ReadsUsual text.entry.now x.0 x.1.now) }
 {

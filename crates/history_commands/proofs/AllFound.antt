@@ -1,32 +1,25 @@
 -- Where a certificate is found for each object, and the text that is made of the certificates.
-use Rattle.std.proofs.Common.{◌≡◌, ◌≢◌, ◌∙◌, ◌&&◌, Bool, true, false, ℕ, List, [], ◌∷◌, ◌++◌, All, Option, Some, IsSome, refl, ap, sym, subst, inl, inr}
-use Rattle.std.specs.Prelude.{if◌then◌else◌}
+use Rattle.std.proofs.Common.{◌≡◌, ◌∙◌, ◌&&◌, Bool, true, false, ℕ, List, [], ◌∷◌, ◌++◌, All, Option, Some, IsSome}
+use Rattle.std.proofs.Common.{refl, ap, sym, subst, inl, inr}
 use Rattle.std.specs.List.{list_all, cons_option, filter_map}
 use Rattle.std.proofs.lemmas.List.{append-nil}
 use Rattle.model.proofs.Lists.{In, all_from_in}
 use Rattle.certificate.specs.declared.Certificate.{Certificate}
 use Rattle.certificate.specs.Lines.{line_of, lines_of}
-use Rattle.outputs.specs.Statuses.{yes_status, no_status, no_memory_status, failed_status}
+use Rattle.history_commands.specs.Outputs.{status_by}
+use Rattle.history_commands.specs.declared.status.Status.TheVariants as status_is
 
 -- ---- by the status
 
-abbrev Status : Bool → Bool → ℕ
-Status b c = if b then no_status else if c then yes_status else no_memory_status
-
-pub yes_of : (b c : Bool) → Status b c ≡ yes_status → c ≡ true
+pub yes_of : (b c : Bool) → status_by b c ≡ status_is.Yes → c ≡ true
 yes_of true c e = absurd cc
 yes_of false true e = refl
 yes_of false false e = absurd cc
 
-pub no_of : (b c : Bool) → Status b c ≡ no_status → b ≡ true
+pub no_of : (b c : Bool) → status_by b c ≡ status_is.No → b ≡ true
 no_of true c e = refl
 no_of false true e = absurd cc
 no_of false false e = absurd cc
-
-pub not_failed : (b c : Bool) → Status b c ≢ failed_status
-not_failed true c e = absurd cc
-not_failed false true e = absurd cc
-not_failed false false e = absurd cc
 
 -- ---- all found
 
@@ -36,7 +29,8 @@ both true false e = absurd cc
 both false b e = absurd cc
 
 -- answers with or without a certificate, and the text that their lines make up
-module _ {A : Type 0} (is_found : A → Bool) (certificate : A → Option Certificate) (line : A → List ℕ) (text : List A → List ℕ)
+module _ {A : Type 0} (is_found : A → Bool) (certificate : A → Option Certificate) (line : A → List ℕ)
+    (text : List A → List ℕ)
     (found : (a : A) → is_found a ≡ true → (c : Certificate) × (certificate a ≡ Some c) × (line a ≡ lines_of (c ∷ [])))
     (nothing : text [] ≡ []) (more : (a : A) (rest : List A) → text (a ∷ rest) ≡ line a ++ text rest) where
   each_in : (answers : List A) → list_all is_found answers ≡ true → (a : A) → In a answers → IsSome (certificate a)
@@ -51,10 +45,12 @@ module _ {A : Type 0} (is_found : A → Bool) (certificate : A → Option Certif
   pub each_found : (answers : List A) → list_all is_found answers ≡ true → All (λ a. IsSome (certificate a)) answers
   each_found answers e = all_from_in (λ (a : A). IsSome (certificate a)) answers (each_in answers e)
 
-  pub found_text : (answers : List A) → list_all is_found answers ≡ true → text answers ≡ lines_of (filter_map certificate answers)
+  pub found_text : (answers : List A) → list_all is_found answers ≡ true
+      → text answers ≡ lines_of (filter_map certificate answers)
   found_text [] e = nothing
   found_text (a ∷ rest) e =
       let parts = both (is_found a) (list_all is_found rest) e in
       let one = found a parts.0 in
-      more a rest ∙ ap (λ x. x ++ text rest) (one.2 ∙ append-nil (line_of one.0)) ∙ ap (λ x. line_of one.0 ++ x) (found_text rest parts.1)
+      more a rest ∙ ap (λ x. x ++ text rest) (one.2 ∙ append-nil (line_of one.0))
+      ∙ ap (λ x. line_of one.0 ++ x) (found_text rest parts.1)
       ∙ ap (λ (o : Option Certificate). lines_of (cons_option o (filter_map certificate rest))) (sym one.1)

@@ -1,5 +1,7 @@
 -- What the answers of a search show, and the text that is made of them.
-use Rattle.std.proofs.Common.{◌≡◌, ◌≢◌, ◌∙◌, ◌<◌, ◌||◌, ℕ, suc, true, List, [], ◌∷◌, map, All, Any, AllPairs, Contains, Option, Some, refl, sym, arith}
+use Rattle.std.proofs.Common.{◌≡◌, ◌∙◌, ◌<◌, ◌||◌, ℕ, suc, true, List, [], ◌∷◌, map, All, Any, AllPairs, Contains}
+use Rattle.std.proofs.Common.{Option}
+use Rattle.std.proofs.Common.{Some, refl, sym, arith}
 use Rattle.std.specs.Prelude.{◌↔◌}
 use Rattle.std.specs.List.{list_all, list_any}
 use Rattle.model.specs.Linearizable.{IsLinearizable}
@@ -15,13 +17,16 @@ use Rattle.search.specs.declared.found.SearchOutcome.{SearchOutcome}
 use Rattle.search.specs.declared.found.SearchOutcome.TheVariants as found
 use Rattle.search.specs.declared.found.SearchOutcome.TheVariants.{Impossible, OutOfSteps, TooLarge, NoMemory}
 use Rattle.search.specs.Answers.{IsAnswerOn, IsFound, certificate_in, certificates_in}
-use Rattle.outputs.specs.Statuses.{failed_status}
-use Rattle.history_commands.specs.Searches.{answer_line, answers_text, is_impossible, is_found, search_status, AreSearched}
-use Rattle.history_commands.proofs.AllFound.{each_found, found_text, no_of, not_failed, yes_of}
+use Rattle.history_commands.specs.Searches.{answer_line, outcome_line, is_impossible, is_found, search_status}
+use Rattle.history_commands.specs.Searches.{AreSearched}
+use Rattle.history_commands.specs.Outputs.{lines_on}
+use Rattle.history_commands.specs.declared.status.Status.{Status}
+use Rattle.history_commands.proofs.AllFound.{each_found, found_text, no_of, yes_of}
 
 -- ---- one impossible
 
-pub one_impossible : (answers : List (ℕ × Search)) → list_any (λ a. is_impossible a.1.found) answers ≡ true → Any (λ a. a.1.found ≡ Impossible) answers
+pub one_impossible : (answers : List (ℕ × Search)) → list_any (λ a. is_impossible a.1.found) answers ≡ true
+    → Any (λ a. a.1.found ≡ Impossible) answers
 one_impossible [] e = absurd cc
 one_impossible (a ∷ rest) e = go a.1.found refl e (one_impossible rest)
   where
@@ -39,30 +44,31 @@ one_impossible (a ∷ rest) e = go a.1.found refl e (one_impossible rest)
 
 -- ---- all found
 
-has_one : (a : ℕ × Search) → is_found a.1.found ≡ true → (c : Certificate) × (certificate_in a.1.found ≡ Some c) × (answer_line a.0 a.1.steps a.1.found ≡ lines_of (c ∷ []))
+abbrev certificate_of : ℕ × Search → Option Certificate
+certificate_of a = certificate_in a.1.found
+
+abbrev line_of : ℕ × Search → List ℕ
+line_of a = answer_line a.0 a.1
+
+has_one : (a : ℕ × Search) → is_found a.1.found ≡ true
+    → (c : Certificate) × (certificate_in a.1.found ≡ Some c) × (line_of a ≡ lines_of (c ∷ []))
 has_one a = go a.1.found
   where
-    go : (f : SearchOutcome) → is_found f ≡ true → (c : Certificate) × (certificate_in f ≡ Some c) × (answer_line a.0 a.1.steps f ≡ lines_of (c ∷ []))
+    go : (f : SearchOutcome) → is_found f ≡ true
+        → (c : Certificate) × (certificate_in f ≡ Some c) × (outcome_line a.0 a.1.steps f ≡ lines_of (c ∷ []))
     go (found.Found c) e = (c, refl, refl)
     go Impossible e = absurd cc
     go OutOfSteps e = absurd cc
     go TooLarge e = absurd cc
     go NoMemory e = absurd cc
 
-abbrev certificate_of : ℕ × Search → Option Certificate
-certificate_of a = certificate_in a.1.found
-
-abbrev line_on : ℕ × Search → List ℕ
-line_on a = answer_line a.0 a.1.steps a.1.found
-
-pub never_failed : {status : ℕ} (answers : List (ℕ × Search)) → status ≡ search_status answers → status ≢ failed_status
-never_failed answers is e = not_failed (list_any (λ (a : ℕ × Search). is_impossible a.1.found) answers) (list_all (λ (a : ℕ × Search). is_found a.1.found) answers) (sym is ∙ e)
-
-pub searched : (es : List Event) (limit : ℕ) (answers : List (ℕ × Search)) → AllPairs (λ a b. a.0 < b.0) answers
-    → ((x : ℕ) → Contains (map (λ a. a.0) answers) x ↔ IsNamed es x) → All (λ a. IsAnswerOn es limit a.0 a.1) answers
-    → (Any (λ a. a.1.found ≡ Impossible) answers → IsLinearizable (kind_at es) (events (denoted es)) → ⊥) → (All (λ a. IsFound a.1) answers → AreValid es (certificates_in answers))
-    → AreDistinct (certificates_in answers) → AreSearched es limit (search_status answers) (answers_text answers)
-searched es limit answers rising named each impossible valid distinct =
+pub searched : (es : List Event) (limit : ℕ) (status : Status) (text : List ℕ) (answers : List (ℕ × Search))
+    → AllPairs (λ a b. a.0 < b.0) answers → ((x : ℕ) → Contains (map (λ a. a.0) answers) x ↔ IsNamed es x)
+    → All (λ a. IsAnswerOn es limit a.0 a.1) answers
+    → (Any (λ a. a.1.found ≡ Impossible) answers → IsLinearizable (kind_at es) (events (denoted es)) → ⊥)
+    → (All (λ a. IsFound a.1) answers → AreValid es (certificates_in answers)) → AreDistinct (certificates_in answers)
+    → status ≡ search_status answers → text ≡ lines_on answer_line answers → AreSearched es limit status text
+searched es limit status text answers rising named each impossible valid distinct s t =
     let any = list_any (λ (a : ℕ × Search). is_impossible a.1.found) answers in
     let all = list_all (λ (a : ℕ × Search). is_found a.1.found) answers in
     record {
@@ -70,14 +76,19 @@ searched es limit answers rising named each impossible valid distinct =
       rising = rising;
       named = named;
       each = each;
-      status_is = refl;
-      text_is = refl;
-      certified = λ e. let all_is = yes_of any all e in (
+      status_is = s;
+      text_is = t;
+      certified = λ e. let all_is = yes_of any all (sym s ∙ e) in (
         certificates_in answers,
         valid
-            (each_found (λ (a : ℕ × Search). is_found a.1.found) certificate_of line_on answers_text has_one refl (λ a rest. refl) answers all_is),
+            (each_found (λ (a : ℕ × Search). is_found a.1.found) certificate_of line_of (lines_on answer_line) has_one
+            refl
+            (λ a rest. refl) answers all_is),
         distinct,
-        found_text (λ (a : ℕ × Search). is_found a.1.found) certificate_of line_on answers_text has_one refl (λ a rest. refl) answers all_is,
+        t
+            ∙ found_text (λ (a : ℕ × Search). is_found a.1.found) certificate_of line_of (lines_on answer_line) has_one
+            refl
+            (λ a rest. refl) answers all_is,
       );
-      refuted = λ e. impossible (one_impossible answers (no_of any all e));
+      refuted = λ e. impossible (one_impossible answers (no_of any all (sym s ∙ e)));
     }

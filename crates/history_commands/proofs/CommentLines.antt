@@ -5,7 +5,9 @@ use Rattle.certificate.specs.declared.Certificate.{Certificate}
 use Rattle.certificate.specs.Lines.{line_of}
 use Rattle.history_commands.specs.Comments.{comment_lines}
 
-pub comments_left : (cs : List Certificate) (i : ℕ) (c : Certificate) → i < length cs → c ≡ get_or cs i c → comment_lines (drop i cs) ≡ (codes "; " ++ line_of c) ++ comment_lines (drop (i + 1) cs)
+pub comments_left : (cs : List Certificate) (i : ℕ) (c : Certificate) → i < length cs → c ≡ get_or cs i c
+    → comment_lines (drop i cs) ≡ (codes "; " ++ line_of c) ++ comment_lines (drop (i + 1) cs)
 comments_left cs i c lt e =
-    let here : drop i cs ≡ c ∷ drop (i + 1) cs = drop_more cs i c lt ∙ ap (λ (y : Certificate). y ∷ drop (i + 1) cs) (sym e) in
+    let here : drop i cs ≡ c ∷ drop (i + 1) cs = drop_more cs i c lt
+    ∙ ap (λ (y : Certificate). y ∷ drop (i + 1) cs) (sym e) in
     rw here refl

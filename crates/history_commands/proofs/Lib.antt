@@ -5,3 +5,5 @@ pub mod Answering
 pub mod Refuted
 pub mod Meanings
 pub mod Verified
+pub mod Checked
+pub mod Numbers

@@ -3,9 +3,9 @@ use Rattle.std.proofs.Common.{ℕ, List}
 use Rattle.judging.specs.declared.texts.TextFailure.{TextFailure}
 use Rattle.judging.specs.declared.texts.TextFailure.TheVariants.{Faulty, NoMemory}
 use Rattle.judging.specs.Texts.{IsHistoryFault, verdict_of}
-use Rattle.history_commands.specs.Searches.{IsUnsearched}
+use Rattle.history_commands.specs.Searches.{IsHistoryUnread}
 
 -- what stops the reading of a history stops a search of it
-pub stops_search : (h : List ℕ) (s : TextFailure) → IsHistoryFault h s → IsUnsearched h (verdict_of s)
+pub stops_search : (h : List ℕ) (s : TextFailure) → IsHistoryFault h s → IsHistoryUnread h (verdict_of s)
 stops_search h (Faulty f) k = k
 stops_search h NoMemory k = tt

@@ -1,3 +1,5 @@
+pub mod Outputs
+pub mod Checked
 pub mod Comments
 pub mod Searches
 pub mod Refuted

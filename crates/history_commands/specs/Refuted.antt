@@ -1,6 +1,5 @@
--- What is put out where reasons are checked why a history is not linearizable, and the exit status.
+-- The output of a check of reasons why a history is not linearizable, and the exit status.
 use Rattle.std.specs.Prelude.{◌≡◌, ◌≢◌, ◌⊎◌, ℕ, false, List, [], ◌∷◌, ◌++◌, codes, decimal, length}
-use Rattle.std.specs.Prelude.{if◌then◌else◌}
 use Rattle.std.specs.List.{list_any, AllZip}
 use Rattle.edn_reader.specs.Datum.{Datum}
 use Rattle.edn_reader.specs.Sound.{IsShort}
@@ -21,16 +20,17 @@ use Rattle.refutation.specs.declared.refuting.Refutation.TheVariants.{Impossible
 use Rattle.refutation.specs.declared.refuting.Refutation.TheVariants.{OtherObject}
 use Rattle.refutation.specs.Refutations.{IsAnswer, is_impossible, steps_of}
 use Rattle.reason_report.specs.Operations.{operations_text}
-use Rattle.reason_text.specs.Denotes.{Denotes}
-use Rattle.reason_text.specs.Faults.{number_of}
-use Rattle.reason_text.specs.Texts.{IsTextFault}
-use Rattle.reason_text.specs.declared.fault.ReasonFaultKind.TheVariants as form_kind
-use Rattle.reason_text.specs.declared.fault.ReasonTextFault.{ReasonTextFault}
-use Rattle.reason_text.specs.declared.fault.ReasonTextFault.TheVariants.{Text, Forms}
-use Rattle.judging.specs.Texts.{DenotesHistory}
-use Rattle.history_commands.specs.Searches.{IsNotLinearizableText, IsUnsearched}
-use Rattle.outputs.specs.Outputs.{IsExactly, IsOutput}
-use Rattle.outputs.specs.Statuses.{malformed_status, no_memory_status, no_status}
+use Rattle.refutation.specs.Denotes.{Denotes}
+use Rattle.refutation.specs.Faults.{number_of}
+use Rattle.refutation.specs.Texts.{IsTextFault}
+use Rattle.refutation.specs.declared.fault.ReasonFaultKind.TheVariants as form_kind
+use Rattle.refutation.specs.declared.fault.ReasonTextFault.{ReasonTextFault}
+use Rattle.refutation.specs.declared.fault.ReasonTextFault.TheVariants.{Text, Forms}
+use Rattle.judging.specs.Texts.{DenotesHistory, IsNotLinearizableText}
+use Rattle.history_commands.specs.Searches.{IsHistoryUnread}
+use Rattle.history_commands.specs.Outputs.{IsExactly, IsOutput, status_by}
+use Rattle.history_commands.specs.declared.status.Status.{Status}
+use Rattle.history_commands.specs.declared.status.Status.TheVariants as ends
 
 -- ---- reasons that are no reasons
 
@@ -49,10 +49,10 @@ IsOfText (Text e) = e.kind ≢ edn_kind.NoMemory
 IsOfText (Forms f) = f.kind ≢ form_kind.NoMemory
 
 -- the text of reasons has this fault, and its line says so
-abbrev pub IsReasonsFault : List ℕ → ℕ → List ℕ → Type 0
+abbrev pub IsReasonsFault : List ℕ → Status → List ℕ → Type 0
 IsReasonsFault r status text =
     (f : ReasonTextFault) × IsTextFault r f × IsOfText f
-    × IsExactly malformed_status (reasons_fault_line f) status text
+    × IsExactly ends.Malformed (reasons_fault_line f) status text
 
 -- ---- the answers to reasons
 
@@ -103,38 +103,38 @@ refutations_text es limit (r ∷ rs) (a ∷ answers) =
     refutation_lines es (call_count_on es r) limit r a ++ refutations_text es limit rs answers
 
 -- no, where one reason shows it, else open
-abbrev pub refute_status : List Refutation → ℕ
-refute_status answers = if list_any is_impossible answers then no_status else no_memory_status
+abbrev pub refute_status : List Refutation → Status
+refute_status answers = status_by (list_any is_impossible answers) false
 
 -- What is answered to the reasons, one by one, and what it shows.
-pub record AreAnswered (es : List Event) (reasons : List Reason) (limit status : ℕ)
-    (text : List ℕ) : Type 0 where
+pub record AreAnswered (es : List Event) (reasons : List Reason) (limit : ℕ)
+    (status : Status) (text : List ℕ) : Type 0 where
   pub answers : List Refutation
   pub each : AllZip (IsAnswer es) reasons answers
   pub status_is : status ≡ refute_status answers
   pub text_is : text ≡ refutations_text es limit reasons answers
   -- where it is a no the history is not linearizable
-  pub refuted : status ≡ no_status → IsLinearizable (kind_at es) (events (denoted es)) → ⊥
+  pub refuted : status ≡ ends.No → IsLinearizable (kind_at es) (events (denoted es)) → ⊥
 
 -- The same of the reasons that a text denotes, which is not too long to be read.
-abbrev pub AreAnsweredIn : List Event → List ℕ → ℕ → ℕ → List ℕ → Type 0
+abbrev pub AreAnsweredIn : List Event → List ℕ → ℕ → Status → List ℕ → Type 0
 AreAnsweredIn es r limit status text =
     IsShort r × (ds : List Datum) × Spells ds r × (reasons : List Reason) × Denotes ds reasons
     × AreAnswered es reasons limit status text
 
 -- The history's text is not too long to be read, and denotes a history. The reasons are answered
 -- on it, or their text is faulty.
-abbrev pub IsRefuteText : List ℕ → List ℕ → ℕ → ℕ → List ℕ → Type 0
+abbrev pub IsRefuteText : List ℕ → List ℕ → ℕ → Status → List ℕ → Type 0
 IsRefuteText h r limit status text =
     IsShort h × (es : List Event) × DenotesHistory h es
     × (AreAnsweredIn es r limit status text ⊎ IsReasonsFault r status text)
 
--- what is put out of a check of reasons
-abbrev pub IsRefuteOutput : List ℕ → List ℕ → ℕ → ℕ → List ℕ → Type 0
+-- the output of a check of reasons
+abbrev pub IsRefuteOutput : List ℕ → List ℕ → ℕ → Status → List ℕ → Type 0
 IsRefuteOutput h r limit status text =
-    IsOutput (IsRefuteText h r limit) (IsUnsearched h) status text
+    IsOutput (IsRefuteText h r limit) (IsHistoryUnread h) status text
 
 -- The result of a check of reasons: if it is a no the history is not linearizable.
-pub record IsRefute (h r : List ℕ) (limit status : ℕ) (out : List ℕ) : Type 0 where
+pub record IsRefute (h r : List ℕ) (limit : ℕ) (status : Status) (out : List ℕ) : Type 0 where
   pub output : IsRefuteOutput h r limit status out
-  pub refuted : status ≡ no_status → IsNotLinearizableText h
+  pub refuted : status ≡ ends.No → IsNotLinearizableText h

@@ -1,8 +1,8 @@
--- What is put out where a history is verified by claims, and the exit status.
-use Rattle.std.specs.Prelude.{◌≡◌, ◌≢◌, ◌⊎◌, ℕ, true, false, ⊤, List, [], ◌∷◌, ◌++◌, codes, decimal}
-use Rattle.std.specs.Prelude.{Option, Some, None, if◌then◌else◌}
+-- The output of a verification of a history by claims, and the exit status.
+use Rattle.std.specs.Prelude.{◌≡◌, ◌≢◌, ◌⊎◌, ℕ, true, false, ⊤, List, [], ◌++◌, codes, decimal}
+use Rattle.std.specs.Prelude.{Option, Some, None}
 use Rattle.std.specs.Global.{Vec}
-use Rattle.std.specs.List.{list_all, list_any}
+use Rattle.std.specs.List.{list_all}
 use Rattle.edn_reader.specs.Datum.{Datum}
 use Rattle.edn_reader.specs.Sound.{IsShort}
 use Rattle.edn_reader.specs.Spells.{Spells}
@@ -13,31 +13,32 @@ use Rattle.model.specs.Orders.{calls_on, events}
 use Rattle.events.specs.declared.event.Event.{Event}
 use Rattle.events.specs.Events.{kind_at, denoted}
 use Rattle.checker.specs.Refusals.{AreValid}
-use Rattle.reason_text.specs.Lines.{line_of}
+use Rattle.refutation.specs.Lines.{line_of}
 use Rattle.reason_report.specs.Operations.{operations_text}
-use Rattle.claims.specs.declared.claim.Claim.{Claim}
-use Rattle.claims.specs.declared.fault.ClaimFaultKind.{ClaimFaultKind}
-use Rattle.claims.specs.declared.fault.ClaimFaultKind.TheVariants.{NotACertificate, NotAReason}
-use Rattle.claims.specs.declared.fault.ClaimFaultKind.TheVariants as form_kind
-use Rattle.claims.specs.declared.fault.ClaimTextFault.{ClaimTextFault}
-use Rattle.claims.specs.declared.fault.ClaimTextFault.TheVariants.{Text, Forms}
-use Rattle.claims.specs.Denotes.{Denotes}
-use Rattle.claims.specs.Texts.{IsTextFault}
+use Rattle.verifying.specs.declared.claim.Claim.{Claim}
+use Rattle.verifying.specs.declared.fault.ClaimFaultKind.{ClaimFaultKind}
+use Rattle.verifying.specs.declared.fault.ClaimFaultKind.TheVariants.{NotACertificate, NotAReason}
+use Rattle.verifying.specs.declared.fault.ClaimFaultKind.TheVariants as form_kind
+use Rattle.verifying.specs.declared.fault.ClaimTextFault.{ClaimTextFault}
+use Rattle.verifying.specs.declared.fault.ClaimTextFault.TheVariants.{Text, Forms}
+use Rattle.verifying.specs.Denotes.{Denotes}
+use Rattle.verifying.specs.Texts.{IsTextFault}
 use Rattle.verifying.specs.declared.decision.Refuted.{Refuted}
 use Rattle.verifying.specs.declared.decision.Decision.{Decision}
 use Rattle.verifying.specs.declared.decision.Decision.TheVariants.{Order, Impossible, OutOfSteps}
 use Rattle.verifying.specs.declared.decision.Decision.TheVariants.{NoMemory, Open}
 use Rattle.verifying.specs.Decisions.{AreDecisionsOn, IsRefutation, certificates_in}
 use Rattle.verifying.specs.Decisions.{is_impossible, is_order}
-use Rattle.verdicts.specs.declared.verdict.Summary.{Summary}
-use Rattle.verdicts.specs.declared.verdict.Verdict.{Verdict}
-use Rattle.verdicts.specs.declared.verdict.Verdict.TheVariants as verdict
-use Rattle.verdicts.specs.Counts.{AreCountsOf}
+use Rattle.report.specs.declared.verdict.Summary.{Summary}
+use Rattle.report.specs.declared.verdict.Verdict.{Verdict}
+use Rattle.report.specs.declared.verdict.Verdict.TheVariants as verdict
+use Rattle.report.specs.Counts.{AreCountsOf}
 use Rattle.judging.specs.declared.texts.TextFailure.TheVariants.{Faulty}
 use Rattle.judging.specs.Texts.{DenotesHistory, IsHistoryFault, IsLinearizableText}
-use Rattle.history_commands.specs.Searches.{IsNotLinearizableText}
-use Rattle.outputs.specs.Outputs.{IsExactly, IsOutput}
-use Rattle.outputs.specs.Statuses.{no_memory_status, no_status, yes_status}
+use Rattle.judging.specs.Texts.{IsNotLinearizableText}
+use Rattle.history_commands.specs.Outputs.{IsExactly, IsOutput, lines_on, status_on}
+use Rattle.history_commands.specs.declared.status.Status.{Status}
+use Rattle.history_commands.specs.declared.status.Status.TheVariants as ends
 
 -- ---- evidence that denotes no claims
 
@@ -62,10 +63,10 @@ IsOfText (Text e) = e.kind ≢ edn_kind.NoMemory
 IsOfText (Forms f) = f.kind ≢ form_kind.NoMemory
 
 -- The text of claims has this fault, and its line says so. Nothing is decided.
-abbrev pub IsEvidenceFault : List ℕ → ℕ → List ℕ → Type 0
+abbrev pub IsEvidenceFault : List ℕ → Status → List ℕ → Type 0
 IsEvidenceFault e status text =
     (f : ClaimTextFault) × IsTextFault e f × IsOfText f
-    × IsExactly no_memory_status (evidence_fault_line f) status text
+    × IsExactly ends.Undecided (evidence_fault_line f) status text
 
 -- the text, which is not too long to be read, denotes these claims
 abbrev pub DenotesClaims : List ℕ → List Claim → Type 0
@@ -95,15 +96,9 @@ decision_lines es x (OutOfSteps n) =
 decision_lines es x NoMemory = (codes "; object " ++ decimal x) ++ codes ": out of memory\n"
 decision_lines es x Open = (codes "; object " ++ decimal x) ++ codes ": open\n"
 
-abbrev pub decisions_text : List Event → List (ℕ × Decision) → List ℕ
-decisions_text es [] = []
-decisions_text es (a ∷ rest) = decision_lines es a.0 a.1 ++ decisions_text es rest
-
 -- no, where some object is impossible; yes, where each has an order
-abbrev pub verified_status : List (ℕ × Decision) → ℕ
-verified_status answers =
-    if list_any (λ a. is_impossible a.1) answers then no_status
-    else if list_all (λ a. is_order a.1) answers then yes_status else no_memory_status
+abbrev pub verified_status : List (ℕ × Decision) → Status
+verified_status answers = status_on is_impossible is_order answers
 
 -- ---- what is decided
 
@@ -119,16 +114,16 @@ pub record IsExplained (es : List Event) (text : List ℕ) : Type 0 where
 
 -- Some object of the history has no order: the decisions on all objects by these claims, and what
 -- they show.
-pub record AreOpen (es : List Event) (claims : List Claim) (limit status : ℕ) (text : List ℕ)
+pub record AreOpen (es : List Event) (claims : List Claim) (limit : ℕ) (status : Status) (text : List ℕ)
     : Type 0 where
   pub answers : List (ℕ × Decision)
   pub decided : AreDecisionsOn es claims limit answers
   pub some_open : list_all (λ a. is_order a.1) answers ≡ false
   pub status_is : status ≡ verified_status answers
-  pub text_is : text ≡ decisions_text es answers
+  pub text_is : text ≡ lines_on (decision_lines es) answers
   -- where it is a no the history is not linearizable, and the text says why
-  pub refuted : status ≡ no_status → IsLinearizable (kind_at es) (events (denoted es)) → ⊥
-  pub explained : status ≡ no_status → IsExplained es text
+  pub refuted : status ≡ ends.No → IsLinearizable (kind_at es) (events (denoted es)) → ⊥
+  pub explained : status ≡ ends.No → IsExplained es text
 
 -- Each object of the history, which has these counts, has an order that these claims give.
 pub record IsCertified (es : List Event) (claims : List Claim) (limit : ℕ) (s : Summary)
@@ -147,11 +142,16 @@ IsVerdictBy es claims limit (verdict.No r) = ⊥
 IsVerdictBy es claims limit (verdict.Malformed f) = ⊥
 IsVerdictBy es claims limit verdict.NoMemory = ⊤
 
+-- The output of the decisions: some object has no order, or the verdict.
+abbrev pub AreJudged : List Event → List Claim → ℕ → Status → List ℕ → Type 0
+AreJudged es claims limit status text =
+    IsOutput (AreOpen es claims limit) (IsVerdictBy es claims limit) status text
+
 -- ---- the same of the texts
 
--- What is put out of a history that is denoted: some object has no order, or the evidence denotes no
+-- The output for a history that is denoted: some object has no order, or the evidence denotes no
 -- claims.
-abbrev pub IsOpenText : List ℕ → List ℕ → ℕ → ℕ → List ℕ → Type 0
+abbrev pub IsOpenText : List ℕ → List ℕ → ℕ → Status → List ℕ → Type 0
 IsOpenText h e limit status text =
     IsShort h × (es : List Event) × DenotesHistory h es
     × (((claims : List Claim) × DenotesClaims e claims × AreOpen es claims limit status text)
@@ -166,7 +166,7 @@ IsVerdictText h e limit (verdict.No r) = ⊥
 IsVerdictText h e limit (verdict.Malformed f) = IsHistoryFault h (Faulty f)
 IsVerdictText h e limit verdict.NoMemory = ⊤
 
-abbrev pub IsVerificationOutput : List ℕ → List ℕ → ℕ → ℕ → List ℕ → Type 0
+abbrev pub IsVerificationOutput : List ℕ → List ℕ → ℕ → Status → List ℕ → Type 0
 IsVerificationOutput h e limit status text =
     IsOutput (IsOpenText h e limit) (IsVerdictText h e limit) status text
 
@@ -176,8 +176,8 @@ IsExplainedText h out = (es : List Event) × DenotesHistory h es × IsExplained 
 
 -- The result of a verification of one text by another, whatever that holds: if it is a yes the
 -- history is linearizable. If it is a no it is not, and the lines show it.
-pub record IsVerification (h e : List ℕ) (limit status : ℕ) (out : List ℕ) : Type 0 where
+pub record IsVerification (h e : List ℕ) (limit : ℕ) (status : Status) (out : List ℕ) : Type 0 where
   pub output : IsVerificationOutput h e limit status out
-  pub linearizable : status ≡ yes_status → IsLinearizableText h
-  pub refuted : status ≡ no_status → IsNotLinearizableText h
-  pub explained : status ≡ no_status → IsExplainedText h out
+  pub linearizable : status ≡ ends.Yes → IsLinearizableText h
+  pub refuted : status ≡ ends.No → IsNotLinearizableText h
+  pub explained : status ≡ ends.No → IsExplainedText h out

@@ -1,17 +1,22 @@
-//! The commands on a history that is given without certificates: they search for certificates,
-//! verify the history by claims, or check reasons why it is not linearizable. And the text of
-//! certificates, as comments.
+//! The commands on a history that start no thread: they search for certificates, verify the history by
+//! claims, or check reasons why it is not linearizable. A command makes an `Output`, of its status and
+//! its lines. And the text of certificates, as comments.
 #![tactic(auto)]
 
+mod answers;
 mod comments;
 mod lines;
+mod output;
 mod refuting;
 mod searching;
+mod status;
 mod texts;
 mod verification;
 
 pub use comments::comments_text;
 pub use lines::{line_with_place, text_with_number};
-pub use refuting::report_refutation;
-pub use searching::report_search;
-pub use verification::report_verification;
+pub use output::{Output, verdict_output, with_verdict};
+pub use refuting::refute;
+pub use searching::search;
+pub use status::{Status, status_of};
+pub use verification::{verify, verify_history};

@@ -1,17 +1,9 @@
-//! Lines with numbers in them.
+//! Lines with numbers in them, and lines on objects.
 
 ghost use Rattle.std.specs.Prelude.{◌≡◌, ◌++◌, codes, decimal, OnOk, IfOk};
 
-use itoa::Buffer;
+use edn::push_natural;
 use std::alloc::{AllocError, Global};
-
-/// Appends a number in decimal.
-pub(crate) fn push_decimal(text: &mut Vec<u8>, n: u64) -> Result<(), AllocError>
-    ensures { OnOk result (text.new.items ≡ text.old.items ++ decimal n) }
-{
-    let mut buffer = Buffer::new();
-    text.extend_from_slice(buffer.format(n).as_bytes())
-}
 
 /// A text with one number in it.
 pub fn text_with_number(
@@ -24,7 +16,7 @@ pub fn text_with_number(
 {
     let mut text = Vec::new(alloc);
     text.extend_from_slice(before)?;
-    push_decimal(&mut text, n)?;
+    push_natural(&mut text, n)?;
     text.extend_from_slice(after)?;
     Ok(text)
 }
@@ -41,7 +33,36 @@ pub fn line_with_place(
         v.items ≡ before.now ++ (decimal number ++ (at.now ++ (decimal place ++ codes "\n")))) }
 {
     let mut text = text_with_number(alloc, before, u64::from(number), at)?;
-    push_decimal(&mut text, place as u64)?;
+    push_natural(&mut text, place as u64)?;
     text.extend_from_slice(b"\n")?;
     Ok(text)
+}
+
+fn push_object(text: &mut Vec<u8>, object: u32) -> Result<(), AllocError>
+    ensures { OnOk result (text.new.items ≡ text.old.items
+        ++ (codes "; object " ++ decimal object)) }
+{
+    text.extend_from_slice(b"; object ")?;
+    push_natural(text, u64::from(object))
+}
+
+/// The line that says why an object has no certificate.
+pub(crate) fn push_note(text: &mut Vec<u8>, object: u32, note: &[u8]) -> Result<(), AllocError>
+    ensures { OnOk result (text.new.items ≡ text.old.items
+        ++ ((codes "; object " ++ decimal object) ++ note.now)) }
+{
+    push_object(text, object)?;
+    text.extend_from_slice(note)
+}
+
+/// The line that says after how many steps a search was given up.
+pub(crate) fn push_steps(text: &mut Vec<u8>, object: u32, steps: u64) -> Result<(), AllocError>
+    ensures { OnOk result (text.new.items ≡ text.old.items
+        ++ ((codes "; object " ++ decimal object)
+        ++ (codes ": out of steps after " ++ (decimal steps ++ codes "\n")))) }
+{
+    push_object(text, object)?;
+    text.extend_from_slice(b": out of steps after ")?;
+    push_natural(text, steps)?;
+    text.extend_from_slice(b"\n")
 }

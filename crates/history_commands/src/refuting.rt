@@ -1,31 +1,31 @@
-//! The check of reasons, from anybody, why a history is not linearizable.
+//! The check of reasons, from any source, why a history is not linearizable.
 
-ghost use Rattle.std.specs.Prelude.{◌≡◌, ◌⊎◌, ◌++◌, false, true, length, map, All, Any, Contains};
-ghost use Rattle.std.specs.Prelude.{ℕ, IfOk, IfErr, OnOk, is_some};
+ghost use Rattle.std.specs.Prelude.{◌≡◌, ◌⊎◌, ◌++◌, false, length, map, All, Any, Contains};
+ghost use Rattle.std.specs.Prelude.{ℕ, IfOk, OnOk};
 ghost use Rattle.std.specs.List.{AllZip, list_any};
 ghost use Rattle.model.specs.Orders.{calls_on};
 ghost use Rattle.events.specs.Events.{IsNamed, denoted};
-ghost use Rattle.events.specs.Operations.{call_of, calls_of};
+ghost use Rattle.events.specs.Operations.{calls_of};
 ghost use Rattle.refutation.specs.Refutations.{is_impossible, IsAnswer};
+ghost use Rattle.history_commands.specs.Outputs.{IsExactly};
 ghost use Rattle.history_commands.specs.Refuted as spec;
 ghost use Rattle.history_commands.specs.Refuted.{counts_text, doubt_text, refutation_lines};
 ghost use Rattle.history_commands.specs.Refuted.{call_count_on, refutations_text, shown_line};
-ghost use Rattle.history_commands.specs.Refuted.{refute_status, AreAnswered, AreAnsweredIn};
-ghost use Rattle.history_commands.specs.Refuted.{IsOfText, IsReasonsFault, IsRefute, IsRefuteText};
-ghost use Rattle.history_commands.specs.Searches.{IsUnsearched};
-ghost use Rattle.outputs.specs.Outputs.{Leaves};
-ghost use Rattle.outputs.specs.Statuses.{malformed_status};
+ghost use Rattle.history_commands.specs.Refuted.{AreAnswered, AreAnsweredIn};
+ghost use Rattle.history_commands.specs.Refuted.{IsOfText, IsReasonsFault, IsRefute};
 
-use crate::lines::{line_with_place, push_decimal};
+use crate::lines::line_with_place;
+use crate::output::{Output, verdict_output};
+use crate::status::{Status, status_by};
 use crate::texts::history_of;
-use edn::{FaultKind, Sink};
-use events::{End, Invocation, ObjectHistory, split};
+use edn::{FaultKind, push_natural};
+use events::{ObjectHistory, split};
 use history::History;
-use outputs::{MALFORMED, NO, NO_MEMORY, Output, put_out};
 use reason_report::push_operations;
-use reason_text::{ReasonFaultKind, ReasonTextFault, read_reasons_text};
-use refutation::{Doubt, Reason, Refutation, refute_all};
-use report::Verdict;
+use refutation::{
+    Doubt, Reason, ReasonFaultKind, ReasonTextFault, Refutation, read_reasons_text, refute_all,
+};
+use search::call_count;
 use std::alloc::{AllocError, Global};
 
 /// The line of a fault of the text of reasons.
@@ -60,42 +60,18 @@ fn lacks_memory(fault: ReasonTextFault) -> bool
     }
 }
 
-/// What is put out of a text that denotes no reasons.
-fn refuse(alloc: Global, fault: ReasonTextFault) -> Result<Output, Verdict>
-    ensures status { IfOk result (λ s. s.status ≡ malformed_status) }
-    ensures text { IfOk result (λ s. s.text.items ≡ spec.reasons_fault_line fault) }
-    ensures of_text { IfOk result (λ _. IsOfText fault) }
-    ensures memory { IfErr result (λ v. v ≡ Verdict.NoMemory) }
+/// The output for a text that denotes no reasons.
+fn refuse(alloc: Global, fault: ReasonTextFault) -> Result<Output, AllocError>
+    ensures { IfOk result (λ o. IsOfText fault
+        × IsExactly Status.Malformed (spec.reasons_fault_line fault) o.status o.text.items) }
 {
     if lacks_memory(fault) {
-        return Err(Verdict::NoMemory);
+        return Err(AllocError);
     }
-    match fault_line(alloc, fault) {
-        Ok(text) => Ok(Output {
-            status: MALFORMED,
-            text,
-        }),
-        Err(AllocError) => Err(Verdict::NoMemory),
-    }
-}
-
-/// Whether an operation may have happened.
-fn may_have_happened(operation: &Invocation) -> bool
-    ensures { result ≡ is_some (call_of operation.now) }
-{
-    !matches!(operation.end, End::Failed)
-}
-
-/// How many operations of an object did not fail.
-#[tactic(auto, using(crate::proofs::Refuted::call_counts))]
-fn call_count(history: &ObjectHistory) -> usize
-    ensures { result ≡ length (calls_of history.now.ops) }
-{
-    history
-        .ops()
-        .iter()
-        .filter(|o| may_have_happened(o))
-        .count()
+    Ok(Output {
+        status: Status::Malformed,
+        text: fault_line(alloc, fault)?,
+    })
 }
 
 /// How many operations of the object with this number did not fail.
@@ -105,7 +81,7 @@ fn call_count_of(objects: &[ObjectHistory], number: u32) -> usize
 {
     for object in objects {
         if object.object() == number {
-            return call_count(object);
+            return call_count(object.ops());
         }
     }
     0
@@ -116,16 +92,16 @@ fn push_object(text: &mut Vec<u8>, reason: &Reason) -> Result<(), AllocError>
     ensures { OnOk result (text.new.items ≡ text.old.items ++ spec.object_text reason.now) }
 {
     text.extend_from_slice(b"object ")?;
-    push_decimal(text, u64::from(reason.object))
+    push_natural(text, u64::from(reason.object))
 }
 
 /// How many operations the part has, of this many.
 fn push_counts(text: &mut Vec<u8>, whole: usize, part: &ObjectHistory) -> Result<(), AllocError>
     ensures { OnOk result (text.new.items ≡ text.old.items ++ counts_text whole part.now) }
 {
-    push_decimal(text, call_count(part) as u64)?;
+    push_natural(text, call_count(part.ops()) as u64)?;
     text.extend_from_slice(b" of ")?;
-    push_decimal(text, whole as u64)
+    push_natural(text, whole as u64)
 }
 
 /// The line of a part that has no valid order, of an object of this many operations.
@@ -154,7 +130,7 @@ fn push_doubt(text: &mut Vec<u8>, steps: u64, doubt: &Doubt) -> Result<(), Alloc
         Doubt::NotExceeded => text.extend_from_slice(b": not shown: the count is not exceeded\n"),
         Doubt::OutOfSteps => {
             text.extend_from_slice(b": not shown: out of steps after ")?;
-            push_decimal(text, steps)?;
+            push_natural(text, steps)?;
             text.extend_from_slice(b"\n")
         }
         Doubt::NoMemory => text.extend_from_slice(b": not shown: out of memory\n"),
@@ -258,73 +234,51 @@ fn is_one_impossible(answers: &[Refutation]) -> bool
     answers.iter().any(|answer| is_impossible(answer))
 }
 
-/// 1 if a reason shows that the history is not linearizable, otherwise 3.
-fn status_for(answers: &[Refutation]) -> u8
-    ensures { result ≡ refute_status answers.now }
-{
-    if is_one_impossible(answers) {
-        NO
-    } else {
-        NO_MEMORY
-    }
-}
-
-/// Checks the reasons on the history, each with a search of at most `steps` steps.
+/// Checks the reasons on the history, each with a limit of `steps` steps of its search.
 fn answer_reasons(
     alloc: Global,
     history: &History,
     reasons: &[Reason],
     steps: u32,
 ) -> Result<Output, AllocError>
-    ensures { IfOk result (λ s.
-        AreAnswered history.now reasons.now steps s.status s.text.items) }
+    ensures { IfOk result (λ o.
+        AreAnswered history.now reasons.now steps o.status o.text.items) }
 {
     let answers = refute_all(alloc, history, reasons, u64::from(steps))?;
     Ok(Output {
-        status: status_for(&answers),
+        status: status_by(is_one_impossible(&answers), false),
         text: text_of(alloc, history, steps, reasons, &answers)?,
     })
 }
 
-/// The same of the reasons that a text denotes, or what is put out where it denotes none.
-fn answer_text(alloc: Global, history: &History, text: &[u8], steps: u32) -> Result<Output, Verdict>
-    ensures answered { IfOk result (λ s.
-        AreAnsweredIn history.now text.now steps s.status s.text.items
-        ⊎ IsReasonsFault text.now s.status s.text.items) }
-    ensures memory { IfErr result (λ v. v ≡ Verdict.NoMemory) }
+/// The same of the reasons that a text denotes, or the output that says why it denotes none.
+fn answer_text(
+    alloc: Global,
+    history: &History,
+    text: &[u8],
+    steps: u32,
+) -> Result<Output, AllocError>
+    ensures { IfOk result (λ o. AreAnsweredIn history.now text.now steps o.status o.text.items
+        ⊎ IsReasonsFault text.now o.status o.text.items) }
 {
-    let reasons = match read_reasons_text(alloc, text) {
-        Ok(reasons) => reasons,
-        Err(fault) => return refuse(alloc, fault),
-    };
-    match answer_reasons(alloc, history, &reasons, steps) {
-        Ok(output) => Ok(output),
-        Err(AllocError) => Err(Verdict::NoMemory),
+    match read_reasons_text(alloc, text) {
+        Ok(reasons) => answer_reasons(alloc, history, &reasons, steps),
+        Err(fault) => refuse(alloc, fault),
     }
 }
 
-/// The same for the history that a text denotes, or why the reasons are not checked.
-fn refute_text(alloc: Global, history: &[u8], reasons: &[u8], steps: u32) -> Result<Output, Verdict>
-    ensures answered { IfOk result (λ s.
-        IsRefuteText history.now reasons.now steps s.status s.text.items) }
-    ensures unread { IfErr result (IsUnsearched history.now) }
-{
-    let history = history_of(alloc, history)?;
-    answer_text(alloc, &history, reasons, steps)
-}
-
-/// Checks the reasons in one text on the history in another, each with a search of at most `steps`
-/// steps, puts out what they show, and gives the exit status.
-pub fn report_refutation<S: Sink>(
+/// Checks the reasons in one text on the history in another, each with a limit of `steps` steps of
+/// its search.
+pub fn refute(
     alloc: Global,
     history: &[u8],
     reasons: &[u8],
     steps: u32,
-    sink: &mut S,
-) -> u8
-    requires working { S.broken sink.old ≡ false }
-    ensures leaves { Leaves (IsRefute history.now reasons.now steps)
-        (S.sent sink.old) result (S.sent sink.new) (S.broken sink.new) }
+) -> Result<Output, AllocError>
+    ensures { IfOk result (λ o. IsRefute history.now reasons.now steps o.status o.text.items) }
 {
-    put_out(refute_text(alloc, history, reasons, steps), sink)
+    match history_of(alloc, history) {
+        Ok(history) => answer_text(alloc, &history, reasons, steps),
+        Err(verdict) => verdict_output(alloc, &verdict),
+    }
 }

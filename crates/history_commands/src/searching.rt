@@ -1,122 +1,52 @@
 //! A search for certificates of a history.
 
-ghost use Rattle.std.specs.Prelude.{◌≡◌, ◌++◌, false, codes, decimal, OnOk, IfOk, IfErr};
-ghost use Rattle.std.specs.List.{list_all, list_any};
-ghost use Rattle.history_commands.specs.Searches.{answer_line, answers_text, search_status};
-ghost use Rattle.history_commands.specs.Searches.{is_impossible, is_found, AreSearched, IsSearch};
-ghost use Rattle.history_commands.specs.Searches.{IsSearched, IsUnsearched};
-ghost use Rattle.outputs.specs.Outputs.{Leaves};
+ghost use Rattle.std.specs.Prelude.{IfOk};
+ghost use Rattle.history_commands.specs.Searches.{AreSearched, IsSearch};
 
+use crate::answers::{Answer, output_of};
 use crate::comments::certificates_text;
-use crate::lines::push_decimal;
+use crate::lines::{push_note, push_steps};
+use crate::output::{Output, verdict_output};
 use crate::texts::history_of;
-use edn::Sink;
 use history::History;
-use outputs::{NO, NO_MEMORY, Output, YES, put_out};
-use report::Verdict;
+use judging::valid_certificates_suffice;
 use search::{Search, SearchOutcome, TryFirst, search_all_by};
 use std::alloc::{AllocError, Global};
 
-fn push_object(text: &mut Vec<u8>, object: u32) -> Result<(), AllocError>
-    ensures { OnOk result (text.new.items ≡ text.old.items
-        ++ (codes "; object " ++ decimal object)) }
-{
-    text.extend_from_slice(b"; object ")?;
-    push_decimal(text, u64::from(object))
-}
+impl Answer for Search {
+    ghost use Rattle.history_commands.specs.Searches.{answer_line, is_impossible, is_found};
 
-/// The line that says why an object has no certificate.
-pub(crate) fn push_note(text: &mut Vec<u8>, object: u32, note: &[u8]) -> Result<(), AllocError>
-    ensures { OnOk result (text.new.items ≡ text.old.items
-        ++ ((codes "; object " ++ decimal object) ++ note.now)) }
-{
-    push_object(text, object)?;
-    text.extend_from_slice(note)
-}
+    ghost impossible = { λ s. is_impossible s.found };
 
-/// The line that says after how many steps a search was given up.
-pub(crate) fn push_steps(text: &mut Vec<u8>, object: u32, steps: u64) -> Result<(), AllocError>
-    ensures { OnOk result (text.new.items ≡ text.old.items
-        ++ ((codes "; object " ++ decimal object)
-        ++ (codes ": out of steps after " ++ (decimal steps ++ codes "\n")))) }
-{
-    push_object(text, object)?;
-    text.extend_from_slice(b": out of steps after ")?;
-    push_decimal(text, steps)?;
-    text.extend_from_slice(b"\n")
-}
+    ghost found = { λ s. is_found s.found };
 
-/// The line of one answer.
-fn push_answer(
-    alloc: Global,
-    text: &mut Vec<u8>,
-    object: u32,
-    answer: &Search,
-) -> Result<(), AllocError>
-    ensures { OnOk result (text.new.items ≡ text.old.items
-        ++ answer_line object answer.now.steps answer.now.found) }
-{
-    match &answer.found {
-        SearchOutcome::Found(certificate) => {
-            let line = certificates_text(alloc, std::slice::from_ref(certificate))?;
-            text.extend_from_slice(&line)
+    ghost lines = { λ _ x s. answer_line x s };
+
+    fn is_impossible(&self) -> bool {
+        matches!(self.found, SearchOutcome::Impossible)
+    }
+
+    fn is_found(&self) -> bool {
+        matches!(self.found, SearchOutcome::Found(_))
+    }
+
+    fn push_lines(
+        &self,
+        alloc: Global,
+        text: &mut Vec<u8>,
+        _history: &History,
+        object: u32,
+    ) -> Result<(), AllocError> {
+        match &self.found {
+            SearchOutcome::Found(certificate) => {
+                let line = certificates_text(alloc, std::slice::from_ref(certificate))?;
+                text.extend_from_slice(&line)
+            }
+            SearchOutcome::Impossible => push_note(text, object, b": impossible\n"),
+            SearchOutcome::OutOfSteps => push_steps(text, object, self.steps),
+            SearchOutcome::TooLarge => push_note(text, object, b": too large\n"),
+            SearchOutcome::NoMemory => push_note(text, object, b": out of memory\n"),
         }
-        SearchOutcome::Impossible => push_note(text, object, b": impossible\n"),
-        SearchOutcome::OutOfSteps => push_steps(text, object, answer.steps),
-        SearchOutcome::TooLarge => push_note(text, object, b": too large\n"),
-        SearchOutcome::NoMemory => push_note(text, object, b": out of memory\n"),
-    }
-}
-
-/// The lines of all answers.
-fn text_of(alloc: Global, answers: &[(u32, Search)]) -> Result<Vec<u8>, AllocError>
-    ensures { IfOk result (λ text. text.items ≡ answers_text answers.now) }
-{
-    let mut text = Vec::new(alloc);
-    let mut rest = answers;
-    'answers: while let [(object, answer), later @ ..] = rest {
-        push_answer(alloc, &mut text, *object, answer)?;
-        rest = later;
-    }
-    Ok(text)
-}
-
-fn is_impossible(answer: &(u32, Search)) -> bool
-    ensures { result ≡ is_impossible answer.now.1.found }
-{
-    matches!(answer.1.found, SearchOutcome::Impossible)
-}
-
-fn is_found(answer: &(u32, Search)) -> bool
-    ensures { result ≡ is_found answer.now.1.found }
-{
-    matches!(answer.1.found, SearchOutcome::Found(_))
-}
-
-/// Whether some object is impossible.
-fn is_one_impossible(answers: &[(u32, Search)]) -> bool
-    ensures { result ≡ list_any (λ a. is_impossible a.1.found) answers.now }
-{
-    answers.iter().any(|answer| is_impossible(answer))
-}
-
-/// Whether each object has a certificate.
-fn are_all_found(answers: &[(u32, Search)]) -> bool
-    ensures { result ≡ list_all (λ a. is_found a.1.found) answers.now }
-{
-    answers.iter().all(|answer| is_found(answer))
-}
-
-/// 1 if some object is impossible, 0 if a certificate was found for each, otherwise 3.
-fn status_for(answers: &[(u32, Search)]) -> u8
-    ensures { result ≡ search_status answers.now }
-{
-    if is_one_impossible(answers) {
-        NO
-    } else if are_all_found(answers) {
-        YES
-    } else {
-        NO_MEMORY
     }
 }
 
@@ -127,39 +57,20 @@ fn search_history(
     steps: u32,
     first: TryFirst,
 ) -> Result<Output, AllocError>
-    ensures { IfOk result (λ s. AreSearched history.now steps s.status s.text.items) }
+    ensures { IfOk result (λ o. AreSearched history.now steps o.status o.text.items) }
 {
     let answers = search_all_by(alloc, history, first, u64::from(steps))?;
-    Ok(Output {
-        status: status_for(&answers),
-        text: text_of(alloc, &answers)?,
-    })
+    output_of(alloc, history, &answers)
 }
 
-/// The same for the history that a text denotes, or why there is no search.
-fn search_text(alloc: Global, text: &[u8], steps: u32, first: TryFirst) -> Result<Output, Verdict>
-    ensures searched { IfOk result (λ s. IsSearched text.now steps s.status s.text.items) }
-    ensures unsearched { IfErr result (IsUnsearched text.now) }
+/// Searches for certificates of the history in the text, with a limit of `steps` steps for each object.
+pub fn search(alloc: Global, text: &[u8], steps: u32, first: TryFirst) -> Result<Output, AllocError>
+    ensures { IfOk result (λ o. IsSearch text.now steps o.status o.text.items) }
 {
-    let history = history_of(alloc, text)?;
-    match search_history(alloc, &history, steps, first) {
-        Ok(output) => Ok(output),
-        Err(AllocError) => Err(Verdict::NoMemory),
+    // This does nothing: it is locality.
+    valid_certificates_suffice();
+    match history_of(alloc, text) {
+        Ok(history) => search_history(alloc, &history, steps, first),
+        Err(verdict) => verdict_output(alloc, &verdict),
     }
-}
-
-/// Searches for certificates of the history in the text, with at most `steps` steps for each
-/// object, puts them out, and gives the exit status.
-pub fn report_search<S: Sink>(
-    alloc: Global,
-    text: &[u8],
-    steps: u32,
-    first: TryFirst,
-    sink: &mut S,
-) -> u8
-    requires working { S.broken sink.old ≡ false }
-    ensures leaves { Leaves (IsSearch text.now steps)
-        (S.sent sink.old) result (S.sent sink.new) (S.broken sink.new) }
-{
-    put_out(search_text(alloc, text, steps, first), sink)
 }

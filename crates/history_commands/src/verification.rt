@@ -1,34 +1,34 @@
-//! The verification of a history by claims, from anybody: the claims are checked, and the history is
+//! The verification of a history by claims, from any source: the claims are checked, and the history is
 //! judged by what they show. Of an object that has no order it is said why.
 
-ghost use Rattle.std.specs.Prelude.{◌≡◌, ◌⊎◌, ◌++◌, ℕ, List, true, false, All, IfOk, IfErr, OnOk};
+ghost use Rattle.std.specs.Prelude.{◌≡◌, ◌⊎◌, ◌++◌, ℕ, List, true, false, All, IfOk, OnOk};
 ghost use Rattle.std.specs.Prelude.{IsSome, codes, decimal};
-ghost use Rattle.std.specs.List.{list_all, list_any};
+ghost use Rattle.std.specs.List.{list_all};
 ghost use Rattle.checker.specs.Refusals.{AreValid};
-ghost use Rattle.claims.specs.declared.claim.Claim.{Claim};
+ghost use Rattle.judging.specs.Texts.{IsHistoryRead};
+ghost use Rattle.verifying.specs.declared.claim.Claim.{Claim};
 ghost use Rattle.verifying.specs.Decisions.{AreDecisionsOn, certificate_in, certificates_in};
-ghost use Rattle.verifying.specs.Decisions.{is_impossible, is_order};
+ghost use Rattle.verifying.specs.Decisions.{is_order};
+ghost use Rattle.history_commands.specs.Outputs.{IsExactly};
 ghost use Rattle.history_commands.specs.Verified as spec;
-ghost use Rattle.history_commands.specs.Verified.{AreOpen, DenotesClaims, IsEvidenceFault};
-ghost use Rattle.history_commands.specs.Verified.{IsOfText, IsOpenText, IsVerdictBy, IsVerdictText};
-ghost use Rattle.history_commands.specs.Verified.{IsVerification, decision_lines, decisions_text};
-ghost use Rattle.history_commands.specs.Verified.{impossible_lines, note_line, verified_status};
-ghost use Rattle.outputs.specs.Outputs.{Leaves};
-ghost use Rattle.outputs.specs.Statuses.{no_memory_status};
+ghost use Rattle.history_commands.specs.Verified.{AreJudged, DenotesClaims, IsEvidenceFault};
+ghost use Rattle.history_commands.specs.Verified.{IsOfText, IsVerdictBy, IsVerification};
+ghost use Rattle.history_commands.specs.Verified.{impossible_lines, note_line};
 
-use crate::lines::{line_with_place, push_decimal};
-use crate::searching::{push_note, push_steps};
-use crate::texts::history_of;
-use certificate::Certificate;
-use claims::{Claim, ClaimFaultKind, ClaimTextFault, read_claims_text};
-use edn::{FaultKind, Sink};
+use crate::answers::{Answer, are_all_found, output_of};
+use crate::lines::{line_with_place, push_note, push_steps};
+use crate::output::{Output, verdict_output};
+use crate::status::Status;
+use edn::{FaultKind, push_natural};
 use history::History;
-use judging::verdict_on_valid;
-use outputs::{NO, NO_MEMORY, Output, YES, put_out};
+use judging::{TextFailure, history_in};
+use locality::named_objects;
 use reason_report::{push_operations, push_reason};
-use report::Verdict;
+use report::{Verdict, verdict_on_check};
 use std::alloc::{AllocError, Global};
-use verifying::{Decision, Refuted, decide_by_claims};
+use verifying::{
+    Claim, ClaimFaultKind, ClaimTextFault, Decision, Refuted, decide_by_claims, read_claims_text,
+};
 
 /// The code of what is wrong with an element.
 fn code_of(kind: ClaimFaultKind) -> &'static [u8]
@@ -50,7 +50,7 @@ fn form_fault_line(alloc: Global, kind: ClaimFaultKind, form: usize) -> Result<V
     text.extend_from_slice(b"malformed evidence: ")?;
     text.extend_from_slice(code_of(kind))?;
     text.extend_from_slice(b" at form ")?;
-    push_decimal(&mut text, form as u64)?;
+    push_natural(&mut text, form as u64)?;
     text.extend_from_slice(b"\n")?;
     Ok(text)
 }
@@ -81,23 +81,18 @@ fn lacks_memory(fault: ClaimTextFault) -> bool
     }
 }
 
-/// What is put out of evidence that denotes no claims.
-fn refuse_evidence(alloc: Global, fault: ClaimTextFault) -> Result<Output, Verdict>
-    ensures status { IfOk result (λ s. s.status ≡ no_memory_status) }
-    ensures text { IfOk result (λ s. s.text.items ≡ spec.evidence_fault_line fault) }
-    ensures of_text { IfOk result (λ _. IsOfText fault) }
-    ensures memory { IfErr result (λ v. v ≡ Verdict.NoMemory) }
+/// The output for evidence that denotes no claims.
+fn refuse_evidence(alloc: Global, fault: ClaimTextFault) -> Result<Output, AllocError>
+    ensures { IfOk result (λ o. IsOfText fault
+        × IsExactly Status.Undecided (spec.evidence_fault_line fault) o.status o.text.items) }
 {
     if lacks_memory(fault) {
-        return Err(Verdict::NoMemory);
+        return Err(AllocError);
     }
-    match fault_line(alloc, fault) {
-        Ok(text) => Ok(Output {
-            status: NO_MEMORY,
-            text,
-        }),
-        Err(AllocError) => Err(Verdict::NoMemory),
-    }
+    Ok(Output {
+        status: Status::Undecided,
+        text: fault_line(alloc, fault)?,
+    })
 }
 
 /// The line of the sentence that was claimed with a reason, if there is one.
@@ -130,168 +125,91 @@ fn push_impossible(
     push_reason(alloc, text, true, &refuted.reason)
 }
 
-/// The lines on an object, where it has no order.
-fn push_decision(
-    alloc: Global,
-    text: &mut Vec<u8>,
-    history: &History,
-    object: u32,
-    decision: &Decision,
-) -> Result<(), AllocError>
-    ensures { OnOk result (text.new.items ≡ text.old.items
-        ++ decision_lines history.now object decision.now) }
-{
-    match decision {
-        Decision::Order(_) => Ok(()),
-        Decision::Impossible(refuted) => push_impossible(alloc, text, history, object, refuted),
-        Decision::OutOfSteps(steps) => push_steps(text, object, *steps),
-        Decision::NoMemory => push_note(text, object, b": out of memory\n"),
-        Decision::Open => push_note(text, object, b": open\n"),
+impl Answer for Decision {
+    ghost use Rattle.verifying.specs.Decisions.{is_impossible, is_order};
+    ghost use Rattle.history_commands.specs.Verified.{decision_lines};
+
+    ghost impossible = { is_impossible };
+
+    ghost found = { is_order };
+
+    ghost lines = { decision_lines };
+
+    fn is_impossible(&self) -> bool {
+        matches!(self, Decision::Impossible(_))
     }
-}
 
-/// The lines on all objects that have no order.
-fn lines_of(
-    alloc: Global,
-    history: &History,
-    answers: &[(u32, Decision)],
-) -> Result<Vec<u8>, AllocError>
-    ensures { IfOk result (λ text. text.items ≡ decisions_text history.now answers.now) }
-{
-    let mut text = Vec::new(alloc);
-    let mut rest = answers;
-    'answers: while let [(object, decision), later @ ..] = rest {
-        push_decision(alloc, &mut text, history, *object, decision)?;
-        rest = later;
+    fn is_found(&self) -> bool {
+        matches!(self, Decision::Order(_))
     }
-    Ok(text)
-}
 
-fn is_impossible(answer: &(u32, Decision)) -> bool
-    ensures { result ≡ is_impossible answer.now.1 }
-{
-    matches!(answer.1, Decision::Impossible(_))
-}
-
-fn is_order(answer: &(u32, Decision)) -> bool
-    ensures { result ≡ is_order answer.now.1 }
-{
-    matches!(answer.1, Decision::Order(_))
-}
-
-/// Whether some object is impossible.
-fn is_one_impossible(answers: &[(u32, Decision)]) -> bool
-    ensures { result ≡ list_any (λ a. is_impossible a.1) answers.now }
-{
-    answers.iter().any(|answer| is_impossible(answer))
-}
-
-/// Whether each object has an order.
-fn are_all_orders(answers: &[(u32, Decision)]) -> bool
-    ensures { result ≡ list_all (λ a. is_order a.1) answers.now }
-{
-    answers.iter().all(|answer| is_order(answer))
-}
-
-/// 1 if some object is impossible, 0 if each has an order, otherwise 3.
-fn status_for(answers: &[(u32, Decision)]) -> u8
-    ensures { result ≡ verified_status answers.now }
-{
-    if is_one_impossible(answers) {
-        NO
-    } else if are_all_orders(answers) {
-        YES
-    } else {
-        NO_MEMORY
-    }
-}
-
-/// The lines on objects of which some have no order.
-fn output_of(
-    alloc: Global,
-    history: &History,
-    answers: &[(u32, Decision)],
-) -> Result<Output, AllocError>
-    ensures status { IfOk result (λ s. s.status ≡ verified_status answers.now) }
-    ensures text { IfOk result (λ s. s.text.items ≡ decisions_text history.now answers.now) }
-{
-    Ok(Output {
-        status: status_for(answers),
-        text: lines_of(alloc, history, answers)?,
-    })
-}
-
-/// The certificates that were shown.
-fn certificates_of(
-    alloc: Global,
-    answers: Vec<(u32, Decision)>,
-) -> Result<Vec<Certificate>, AllocError>
-    ensures { IfOk result (λ cs. cs.items ≡ certificates_in answers.items) }
-{
-    let mut certificates = Vec::new(alloc);
-    for (_, decision) in answers {
-        if let Decision::Order(certificate) = decision {
-            certificates.push(certificate)?;
+    /// Appends the lines on the object, where it has no order.
+    fn push_lines(
+        &self,
+        alloc: Global,
+        text: &mut Vec<u8>,
+        history: &History,
+        object: u32,
+    ) -> Result<(), AllocError> {
+        match self {
+            Decision::Order(_) => Ok(()),
+            Decision::Impossible(refuted) => {
+                push_impossible(alloc, text, history, object, refuted)
+            }
+            Decision::OutOfSteps(steps) => push_steps(text, object, *steps),
+            Decision::NoMemory => push_note(text, object, b": out of memory\n"),
+            Decision::Open => push_note(text, object, b": open\n"),
         }
     }
-    Ok(certificates)
 }
 
 /// The verdict where each object has an order.
-fn verdict_of(alloc: Global, history: &History, answers: Vec<(u32, Decision)>) -> Verdict
-    requires all { list_all (λ a. is_order a.1) answers.items ≡ true }
-    requires valid { AreValid history.now (certificates_in answers.items) }
+fn verdict_of(alloc: Global, history: &History, answers: &[(u32, Decision)]) -> Verdict
+    requires all { list_all (λ a. is_order a.1) answers.now ≡ true }
+    requires valid { AreValid history.now (certificates_in answers.now) }
     ensures { (claims : List Claim) (limit : ℕ) →
-        AreDecisionsOn history.now claims limit answers.items →
+        AreDecisionsOn history.now claims limit answers.now →
         IsVerdictBy history.now claims limit result }
 {
-    match certificates_of(alloc, answers) {
-        Ok(certificates) => verdict_on_valid(alloc, history, &certificates),
-        Err(AllocError) => Verdict::NoMemory,
-    }
+    // These two do nothing: they say that valid certificates suffice.
+    history.events();
+    named_objects();
+    // Each order was checked when it was decided on, so the check of all has passed.
+    verdict_on_check(alloc, history, Ok(()))
 }
 
-/// What is put out of the decisions on all objects of the history, or the verdict where each has an
+/// The output of the decisions on all objects of the history: a verdict, where each has an
 /// order.
 fn judge_decisions(
     alloc: Global,
     history: &History,
-    answers: Vec<(u32, Decision)>,
-) -> Result<Output, Verdict>
-    requires valid { All (λ a. IsSome (certificate_in a.1)) answers.items
-        → AreValid history.now (certificates_in answers.items) }
-    ensures undecided { (claims : List Claim) (limit : ℕ) →
-        AreDecisionsOn history.now claims limit answers.items →
-        IfOk result (λ s. AreOpen history.now claims limit s.status s.text.items) }
-    ensures verdict { (claims : List Claim) (limit : ℕ) →
-        AreDecisionsOn history.now claims limit answers.items →
-        IfErr result (IsVerdictBy history.now claims limit) }
+    answers: &[(u32, Decision)],
+) -> Result<Output, AllocError>
+    requires valid { All (λ a. IsSome (certificate_in a.1)) answers.now
+        → AreValid history.now (certificates_in answers.now) }
+    ensures { (claims : List Claim) (limit : ℕ) →
+        AreDecisionsOn history.now claims limit answers.now →
+        IfOk result (λ o. AreJudged history.now claims limit o.status o.text.items) }
 {
-    if are_all_orders(&answers) {
-        return Err(verdict_of(alloc, history, answers));
+    if are_all_found(answers) {
+        return verdict_output(alloc, &verdict_of(alloc, history, answers));
     }
-    match output_of(alloc, history, &answers) {
-        Ok(output) => Ok(output),
-        Err(AllocError) => Err(Verdict::NoMemory),
-    }
+    output_of(alloc, history, answers)
 }
 
-/// Checks the claims on a history. Where they name no number of steps a search takes at most
+/// Checks the claims on a history. Where they name no number of steps a search has the limit
 /// `steps`.
 fn verify_claims(
     alloc: Global,
     history: &History,
     claims: Vec<Claim>,
     steps: u32,
-) -> Result<Output, Verdict>
-    ensures undecided { IfOk result (λ s.
-        AreOpen history.now claims.items steps s.status s.text.items) }
-    ensures verdict { IfErr result (IsVerdictBy history.now claims.items steps) }
+) -> Result<Output, AllocError>
+    ensures { IfOk result (λ o.
+        AreJudged history.now claims.items steps o.status o.text.items) }
 {
-    match decide_by_claims(alloc, history, claims, u64::from(steps)) {
-        Ok(answers) => judge_decisions(alloc, history, answers),
-        Err(AllocError) => Err(Verdict::NoMemory),
-    }
+    let answers = decide_by_claims(alloc, history, claims, u64::from(steps))?;
+    judge_decisions(alloc, history, &answers)
 }
 
 /// Checks the claims that a text denotes, or says why it denotes none.
@@ -300,13 +218,10 @@ fn verify_by_text(
     history: &History,
     evidence: &[u8],
     steps: u32,
-) -> Result<Output, Verdict>
-    ensures undecided { IfOk result (λ s. ((claims : List Claim) × DenotesClaims evidence.now claims
-        × AreOpen history.now claims steps s.status s.text.items)
-        ⊎ IsEvidenceFault evidence.now s.status s.text.items) }
-    ensures verdict { IfErr result (λ v. (v ≡ Verdict.NoMemory)
-        ⊎ ((claims : List Claim) × DenotesClaims evidence.now claims
-        × IsVerdictBy history.now claims steps v)) }
+) -> Result<Output, AllocError>
+    ensures { IfOk result (λ o. ((claims : List Claim) × DenotesClaims evidence.now claims
+        × AreJudged history.now claims steps o.status o.text.items)
+        ⊎ IsEvidenceFault evidence.now o.status o.text.items) }
 {
     match read_claims_text(alloc, evidence) {
         Ok(claims) => verify_claims(alloc, history, claims, steps),
@@ -314,34 +229,35 @@ fn verify_by_text(
     }
 }
 
-/// The same of the history that a text denotes, or why there is none.
-fn verify_text(
+/// Checks the claims in a text, whatever that holds, on a history that was read from another text,
+/// and judges the history by them; or says what stopped its reading. A search for which a claim
+/// names no number of steps has the limit `steps`.
+pub fn verify_history(
     alloc: Global,
-    history: &[u8],
+    history: Result<History, TextFailure>,
     evidence: &[u8],
     steps: u32,
-) -> Result<Output, Verdict>
-    ensures undecided { IfOk result (λ s.
-        IsOpenText history.now evidence.now steps s.status s.text.items) }
-    ensures verdict { IfErr result (IsVerdictText history.now evidence.now steps) }
+) -> Result<Output, AllocError>
+    ensures { (h : List ℕ) → IsHistoryRead h history → IfOk result (λ o.
+        IsVerification h evidence.now steps o.status o.text.items) }
 {
-    let history = history_of(alloc, history)?;
-    verify_by_text(alloc, &history, evidence, steps)
+    match history {
+        Ok(history) => verify_by_text(alloc, &history, evidence, steps),
+        Err(stop) => verdict_output(alloc, &Verdict::from(stop)),
+    }
 }
 
-/// Checks the claims in one text, whatever that holds, on the history in another, puts out the
-/// verdict, or why some objects have no order, and gives the exit status. A search for which a claim
-/// names no number of steps takes at most `steps`. It starts no thread.
-pub fn report_verification<S: Sink>(
+/// Checks the claims in one text, whatever that holds, on the history in another, as
+/// `verify_history` does.
+pub fn verify(
     alloc: Global,
     history: &[u8],
     evidence: &[u8],
     steps: u32,
-    sink: &mut S,
-) -> u8
-    requires working { S.broken sink.old ≡ false }
-    ensures leaves { Leaves (IsVerification history.now evidence.now steps)
-        (S.sent sink.old) result (S.sent sink.new) (S.broken sink.new) }
+) -> Result<Output, AllocError>
+    ensures { IfOk result (λ o.
+        IsVerification history.now evidence.now steps o.status o.text.items) }
 {
-    put_out(verify_text(alloc, history, evidence, steps), sink)
+    let read = history_in(alloc, history);
+    verify_history(alloc, read, evidence, steps)
 }

@@ -1,9 +1,7 @@
 ghost use Rattle.std.specs.Prelude.{◌≡◌, ⊤, None, false};
 
 use edn::{Failed, MAX_LENGTH, Out};
-use outputs::report_check;
-use report::Verdict;
-use sources::{Bytes, In, Source, Text, ToolFault, check_over, read_text};
+use judging::{In, Source, Text, ToolFault, Verdict, check_over, read_text};
 use std::io;
 use std::io::{ErrorKind, Read};
 use std::test::Fail;
@@ -96,8 +94,8 @@ fn both_texts_are_read_from_their_sources(rt: HostRuntime) -> Result<(), Fail> {
 }
 
 #[test]
-fn readers_and_bytes_are_sources(rt: HostRuntime) -> Result<(), Fail> {
-    let (mut history, mut order) = (In::new(HISTORY), Bytes::new(ORDER));
+fn readers_are_sources(rt: HostRuntime) -> Result<(), Fail> {
+    let (mut history, mut order) = (In::new(HISTORY), In::new(ORDER));
     assert!(rt; is_yes(&rt, &mut history, &mut order, 1));
     assert!(rt; history.into_inner().is_empty());
     Ok(())
@@ -174,27 +172,27 @@ fn a_source_that_fails_is_named(rt: HostRuntime) -> Result<(), Fail> {
 fn a_sink_that_fails_is_told(rt: HostRuntime) -> Result<(), Fail> {
     let mut room = [0; 20];
     let mut sink = Out::new(room.as_mut_slice());
-    let (mut history, mut order) = (Bytes::new(HISTORY), Bytes::new(ORDER));
+    let (mut history, mut order) = (In::new(HISTORY), In::new(ORDER));
     let given = check_over(&rt, rt.alloc(), &mut history, &mut order, 1, &mut sink);
     assert!(rt; given.err() == Some(ToolFault::Write));
     assert!(rt; room.as_slice() == b"yes: 2 operations, 1".as_slice());
     Ok(())
 }
 
-/// Certificates of the history in memory, the lines and the exit status.
-const IN_MEMORY: [(&[u8], &[u8], u8); 3] = [
-    (ORDER, YES, 0),
-    (b"", b"no: C1 object 0 has no certificate\n", 1),
-    (b"[0 2]", b"malformed certificates: K1 at form 0\n", 2),
+/// Certificates of the history, and the lines of the verdict.
+const IN_MEMORY: [(&[u8], &[u8]); 3] = [
+    (ORDER, YES),
+    (b"", b"no: C1 object 0 has no certificate\n"),
+    (b"[0 2]", b"malformed certificates: K1 at form 0\n"),
 ];
 
-/// No command checks texts in memory.
 #[test]
-fn a_check_of_texts_in_memory_gives_a_status(rt: HostRuntime) -> Result<(), Fail> {
-    for (order, lines, expected) in IN_MEMORY {
+fn a_check_of_texts_in_memory_writes_the_verdict(rt: HostRuntime) -> Result<(), Fail> {
+    for (order, lines) in IN_MEMORY {
         let mut sink = Out::new(Vec::new(rt.alloc()));
-        let status = report_check(&rt, rt.alloc(), HISTORY, order, 1, &mut sink);
-        assert!(rt; status == expected && sink.into_inner().as_slice() == lines);
+        let (mut history, mut order) = (In::new(HISTORY), In::new(order));
+        let given = check_over(&rt, rt.alloc(), &mut history, &mut order, 1, &mut sink);
+        assert!(rt; given.is_ok() && sink.into_inner().as_slice() == lines);
     }
     Ok(())
 }

@@ -1,6 +1,6 @@
 use crate::reading::certificates_of;
-use checker::{OrderFault, Refusal};
-use judging::{Verdict, history_in, judge, judge_history, one_history, one_list_of_orders};
+use checker::{OrderFault, Refusal, check_all};
+use judging::{Verdict, history_in, judge, one_history, one_list_of_orders};
 use seq_objects::AnyReply;
 use std::alloc::Global;
 use std::test::Fail;
@@ -31,7 +31,7 @@ fn refusal<R: Threads + Sync>(
         return Err(Fail::new("no history"));
     };
     let orders = certificates_of(alloc, certificates)?;
-    let refusal = judge_history(rt, alloc, &history, &orders, workers).err();
+    let refusal = check_all(alloc, &history, &orders).err();
     let of_texts = match judge(rt, alloc, HISTORY, certificates.as_bytes(), workers) {
         Verdict::Yes(_) => None,
         Verdict::No(refusal) => Some(refusal),

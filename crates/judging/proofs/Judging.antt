@@ -1,16 +1,27 @@
--- What a verdict on certificates says of the texts that denote them and their history.
-use Rattle.std.proofs.Common.{List, ℕ, inr, subst}
-use Rattle.model.specs.Linearizable.{IsLinearizable}
-use Rattle.model.specs.Orders.{events}
+-- What a verdict on certificates says of the texts that denote them and their history; and what it
+-- says where a text could not be read.
+use Rattle.std.proofs.Common.{◌≡◌, List, ℕ, map, inl, inr, ap, sym, subst}
+use Rattle.edn_reader.specs.Sound.{IsShort}
+use Rattle.std.specs.Prelude.{Result, Ok, Err}
 use Rattle.events.specs.declared.event.Event.{Event}
-use Rattle.events.specs.Events.{kind_at, denoted}
 use Rattle.certificate.specs.declared.Certificate.{Certificate}
-use Rattle.checker.specs.Refusals.{AreValid}
-use Rattle.verdicts.specs.declared.verdict.Verdict.{Verdict}
-use Rattle.verdicts.specs.declared.verdict.Verdict.TheVariants.{Yes, No, Malformed, NoMemory}
-use Rattle.judging.specs.Texts.{AreValidTexts, DenoteOnly, IsLinearizableText}
-use Rattle.judging.specs.Verdicts.{Judges, JudgesBy, OnYes}
+use Rattle.certificate.specs.Denotes.{reading_of}
+use Rattle.checker.specs.Refusals.{AreValid, IsCheckAnswer}
+use Rattle.checker.specs.declared.refusal.Refusal.{Refusal}
+use Rattle.report.specs.Verdicts.{IsVerdictOnCheck}
+use Rattle.report.specs.declared.verdict.Fault.TheVariants.{HistoryText, HistoryMaps, CertificateText, CertificateForms}
+use Rattle.report.specs.declared.verdict.Verdict.{Verdict}
+use Rattle.report.specs.declared.verdict.Verdict.TheVariants.{Yes, No, Malformed, NoMemory}
+use Rattle.judging.specs.declared.texts.TextFailure.{TextFailure}
+use Rattle.judging.specs.declared.texts.TextFailure.TheVariants as stop
+use Rattle.judging.specs.declared.texts.TextFailure.TheVariants.{Faulty}
+use Rattle.judging.specs.Texts.{AreValidTexts, DenoteOnly, DenotesHistory, DenotesCertificates, HasHistory}
+use Rattle.judging.specs.Texts.{IsCertificatesFault, IsHistoryFault}
+use Rattle.judging.specs.Texts.{IsHistoryRead, IsLinearizableText, verdict_of}
+use Rattle.judging.specs.Verdicts.{AreBothRead, Holds, IsYesUnlessMemory, Judges, JudgesBy, OnYes}
 use Rattle.judging.proofs.Accepting.{same_valid}
+use Rattle.judging.proofs.Naming.{where_ok}
+use Rattle.judging.proofs.Verdicts.{judges_by, on_yes, yes_unless_memory}
 
 module _ (h c : List ℕ) (es : List Event) (cs : List Certificate) (t : DenoteOnly h c es cs) where
   pub judged : (v : Verdict) → JudgesBy es cs v → Judges h c v
@@ -38,15 +49,92 @@ module _ (h c : List ℕ) (es : List Event) (cs : List Certificate) (t : DenoteO
     not_memory = k.1;
   }
   judged (Malformed f) k = absurd k
-  judged NoMemory k = inr ((t.history_short, (es, t.history_text)), inr (t.certificates_short, (cs, t.certificate_text)))
-
-  pub linearizable_text : (v : Verdict) → OnYes v (IsLinearizable (kind_at es) (events (denoted es))) → OnYes v (IsLinearizableText h)
-  linearizable_text (Yes s) k = record { client_events = es; history_text = t.history_text; linearizable = k }
-  linearizable_text (No r) k = tt
-  linearizable_text (Malformed f) k = tt
-  linearizable_text NoMemory k = tt
+  judged NoMemory k = inr (
+    (t.history_short, (es, t.history_text)),
+    inr (t.certificates_short, (cs, t.certificate_text)),
+  )
 
   -- texts that denote valid certificates denote these
   pub valid_here : AreValidTexts h c → AreValid es cs
   valid_here v = same_valid es v.certificates cs (t.no_other_orders v.certificates v.certificate_text)
       (subst (λ fs. AreValid fs v.certificates) (t.no_other_events v.client_events v.history_text) v.valid)
+
+-- locality for a text, as the law says it
+abbrev pub ValidSuffice : Type 0
+ValidSuffice = (text : List ℕ) (es : List Event) (cs : List Certificate) → DenotesHistory text es → AreValid es cs
+    → IsLinearizableText text
+
+-- the certificates were checked
+pub holds_checked : (h c : List ℕ) (es : List Event) (cs : List Certificate) (checked : Result (Unit {0}) Refusal)
+    (v : Verdict) → ValidSuffice
+    → DenoteOnly h c es cs → IsCheckAnswer es cs checked → IsVerdictOnCheck es checked v → Holds h c v
+holds_checked h c es cs checked v suffice t answer is = record {
+  linearizable = on_yes es (IsLinearizableText h) checked v is
+      (where_ok checked answer.valid (suffice h es cs t.history_text));
+  judges = judged h c es cs t v (judges_by es cs checked v is answer.valid answer.refused);
+  accepts = λ both. yes_unless_memory es checked v is (answer.exact (valid_here h c es cs t both));
+}
+
+-- a text could not be read
+pub holds_stopped : (h c : List ℕ) (s : TextFailure) → Judges h c (verdict_of s)
+    → (AreValidTexts h c → s ≡ stop.NoMemory) → Holds h c (verdict_of s)
+holds_stopped h c s judges accepts = record {
+  linearizable = no_yes s;
+  judges = judges;
+  accepts = λ v. subst IsYesUnlessMemory (ap verdict_of (sym (accepts v))) tt;
+}
+  where
+    no_yes : (r : TextFailure) → OnYes (verdict_of r) (IsLinearizableText h)
+    no_yes (Faulty g) = tt
+    no_yes stop.NoMemory = tt
+
+-- ---- what was read of both texts
+
+pub stopped_history : {V : Type 0} (items : V → List Certificate) (h c : List ℕ) (s : TextFailure)
+    → IsHistoryRead h (Err s) → AreBothRead items h c (Err s)
+stopped_history items h c s r = record
+    { texts = tt; stop = judges s r.stop; accepts = λ v. r.accepts v.client_events v.history_text v.history_short }
+  where
+    judges : (t : TextFailure) → IsHistoryFault h t → Judges h c (verdict_of t)
+    judges (Faulty (HistoryText e)) f = f
+    judges (Faulty (HistoryMaps e)) f = f
+    judges (Faulty (CertificateText e)) f = absurd f
+    judges (Faulty (CertificateForms e)) f = absurd f
+    judges stop.NoMemory f = inl f
+
+pub stopped_certificates : {V : Type 0} (items : V → List Certificate) (h c : List ℕ) (es : List Event)
+    (s : TextFailure) → IsHistoryRead h (Ok es) → IsCertificatesFault c s
+    → ((cs : List Certificate) → DenotesCertificates c cs → IsShort c → s ≡ stop.NoMemory)
+    → AreBothRead items h c (Err s)
+stopped_certificates items h c es s r fault accepts = record {
+  texts = tt;
+  stop = judges s fault;
+  accepts = λ v. accepts v.certificates v.certificate_text v.certificates_short;
+}
+  where
+    has : HasHistory h
+    has = (r.short, (es, r.denotes))
+
+    judges : (t : TextFailure) → IsCertificatesFault c t → Judges h c (verdict_of t)
+    judges (Faulty (HistoryText e)) f = absurd f
+    judges (Faulty (HistoryMaps e)) f = absurd f
+    judges (Faulty (CertificateText e)) f = (has, f)
+    judges (Faulty (CertificateForms e)) f = (has, f)
+    judges stop.NoMemory f = inr (has, inl f)
+
+pub both_read : {V : Type 0} (items : V → List Certificate) (h c : List ℕ) (es : List Event) (v : V)
+    → IsHistoryRead h (Ok es) → IsShort c → DenotesCertificates c (items v)
+    → ((ds : List Certificate) → DenotesCertificates c ds → map reading_of ds ≡ map reading_of (items v))
+    → AreBothRead items h c (Ok (es, v))
+both_read items h c es v r short denotes only = record {
+  texts = record {
+    history_short = r.short;
+    certificates_short = short;
+    history_text = r.denotes;
+    certificate_text = denotes;
+    no_other_events = r.only;
+    no_other_orders = only;
+  };
+  stop = tt;
+  accepts = tt;
+}

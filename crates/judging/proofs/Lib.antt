@@ -1,7 +1,6 @@
-pub mod Reading
 pub mod Stopping
 pub mod Naming
 pub mod Accepting
-pub mod Judging
 pub mod Verdicts
-pub mod ByTable
+pub mod Judging
+pub mod Consuming

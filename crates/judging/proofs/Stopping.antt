@@ -1,24 +1,66 @@
--- Where both texts denote and are short, what stops the reading of either is an allocation failure.
-use Rattle.std.proofs.Common.{◌≡◌, ◌∙◌, List, ℕ, Result, Ok, Err, IfErr, sym}
-use Rattle.events.specs.declared.event.Event.{Event}
-use Rattle.certificate.specs.declared.Certificate.{Certificate}
+-- What stops the reading of a history, and of certificates.
+use Rattle.std.proofs.Common.{◌≡◌, ℕ, ◌<◌, List, length, Option, Some, None, IfSome, inr, refl, subst, sym, arith}
+use Rattle.edn_reader.specs.Datum.{Datum, max_length}
 use Rattle.edn_reader.specs.Sound.{IsShort}
-use Rattle.judging.specs.Texts.{DenotesHistory, DenotesCertificates, AreValidTexts}
+use Rattle.edn_reader.proofs.Progress.{one_reading_of}
+use Rattle.events.specs.declared.event.Event.{Event}
+use Rattle.history.specs.Denotes.{Denotes}
+use Rattle.history.specs.Texts.{IsTextFault}
+use Rattle.history.specs.declared.fault.HistoryFault.{HistoryFault}
+use Rattle.history.specs.declared.fault.TextFault.TheVariants.{Maps}
+use Rattle.history.proofs.Reading.{fault_refutes}
+use Rattle.report.specs.declared.verdict.Fault.{Fault}
+use Rattle.report.specs.declared.verdict.Fault.TheVariants.{HistoryText, HistoryMaps, CertificateText, CertificateForms}
 use Rattle.judging.specs.declared.texts.TextFailure.{TextFailure}
-use Rattle.judging.specs.declared.texts.TextFailure.TheVariants.{NoMemory}
+use Rattle.judging.specs.declared.texts.TextFailure.TheVariants as stop
+use Rattle.judging.specs.declared.texts.TextFailure.TheVariants.{Faulty}
+use Rattle.judging.specs.Texts.{DenotesHistory, DenotesCertificates, IsFailureOf, IsHistoryFault, IsCertificatesFault}
+use Rattle.certificate.specs.declared.Certificate.{Certificate}
+use Rattle.certificate.specs.declared.fault.CertFault.{CertFault}
+use Rattle.certificate.specs.declared.fault.CertTextFault.TheVariants.{Forms}
+use Rattle.certificate.specs.Denotes as certificate_meaning
+use Rattle.certificate.specs.Texts as certificate_texts
+use Rattle.certificate.proofs.Reading.{not_denoted}
 
-pub at_history : {A : Type 0} (h c : List ℕ) (r : Result A TextFailure) (s : TextFailure) → r ≡ Err s
-    → IfErr r (λ s. (es : List Event) → DenotesHistory h es → IsShort h → s ≡ NoMemory) → AreValidTexts h c → s ≡ NoMemory
-at_history h c (Ok a) s e accepts v = cc
-at_history h c (Err t) s e accepts v = sym same ∙ accepts v.client_events v.history_text v.history_short
-  where
-    same : t ≡ s
-    same = cc
+pub stopped_maps : (h : List ℕ) (f : HistoryFault) (s : TextFailure) → IsTextFault h (Maps f)
+    → IsFailureOf (HistoryMaps f) s → IsHistoryFault h s
+stopped_maps h f (Faulty g) (short, ds, spells, found) k = subst (λ (x : Fault). IsHistoryFault h (Faulty x))
+    (sym k.0) (short, ds, spells, found.0 k.1)
+stopped_maps h f stop.NoMemory (short, ds, spells, found) k = let a = found.1 k in
+    (short, inr (ds, spells, f.map, a.0, a.1))
 
-pub at_certificates : {A : Type 0} (h c : List ℕ) (r : Result A TextFailure) (s : TextFailure) → r ≡ Err s
-    → IfErr r (λ s. (cs : List Certificate) → DenotesCertificates c cs → IsShort c → s ≡ NoMemory) → AreValidTexts h c → s ≡ NoMemory
-at_certificates h c (Ok a) s e accepts v = cc
-at_certificates h c (Err t) s e accepts v = sym same ∙ accepts v.certificates v.certificate_text v.certificates_short
-  where
-    same : t ≡ s
-    same = cc
+-- a text that denotes a history stops it by an allocation failure alone
+pub stops_for_memory : (h : List ℕ) (s : TextFailure) (es : List Event) → IsHistoryFault h s → DenotesHistory h es
+    → IsShort h → s ≡ stop.NoMemory
+stops_for_memory h stop.NoMemory es f d short = refl
+stops_for_memory h (Faulty (HistoryText e)) es f d short =
+    absurd (f.nothing (λ t. (let long : max_length < length h = f.too_long.0 t in omega
+    (arith, long, short))) d.forms d.spelled)
+stops_for_memory h (Faulty (HistoryMaps g)) es (a, ds, spells, first) d short =
+    absurd (fault_refutes ds g es first (subst (λ (x : List Datum). Denotes x es)
+    (one_reading_of d.forms ds h d.spelled spells) d.denoted))
+stops_for_memory h (Faulty (CertificateText e)) es f d short = absurd f
+stops_for_memory h (Faulty (CertificateForms g)) es f d short = absurd f
+
+-- the same of a text of certificates
+pub stopped_forms : (c : List ℕ) (f : CertFault) (s : TextFailure) → certificate_texts.IsTextFault c (Forms f)
+    → IsFailureOf (CertificateForms f) s → IsCertificatesFault c s
+stopped_forms c f (Faulty g) (short, ds, spells, found) k = subst (λ (x : Fault). IsCertificatesFault c (Faulty x))
+    (sym k.0) (short, ds, spells, found.0 k.1)
+stopped_forms c f stop.NoMemory (short, ds, spells, found) k = (short, inr (ds, spells, f.form, found.1 k))
+
+pub certificates_for_memory : (c : List ℕ) (s : TextFailure) (cs : List Certificate) → IsCertificatesFault c s
+    → DenotesCertificates c cs → IsShort c → s ≡ stop.NoMemory
+certificates_for_memory c stop.NoMemory cs f d short = refl
+certificates_for_memory c (Faulty (HistoryText e)) cs f d short = absurd f
+certificates_for_memory c (Faulty (HistoryMaps g)) cs f d short = absurd f
+certificates_for_memory c (Faulty (CertificateText e)) cs f d short =
+    absurd (f.nothing (λ t. (let long : max_length < length c = f.too_long.0 t in omega
+    (arith, long, short))) d.forms d.spelled)
+certificates_for_memory c (Faulty (CertificateForms g)) cs (a, ds, spells, first) d short =
+    absurd (not_denoted ds g first cs (subst (λ (x : List Datum). certificate_meaning.Denotes x cs)
+    (one_reading_of d.forms ds c d.spelled spells) d.denoted))
+
+pub where_some : {T : Type 0} (o : Option T) (P Q : T → Type 0) → ((t : T) → P t → Q t) → IfSome o P → IfSome o Q
+where_some None P Q f h = tt
+where_some (Some t) P Q f h = f t h

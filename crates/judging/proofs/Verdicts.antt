@@ -6,13 +6,14 @@ use Rattle.certificate.specs.declared.Certificate.{Certificate}
 use Rattle.checker.specs.Refusals.{AreValid, IsFirstRefusal}
 use Rattle.checker.specs.declared.refusal.Refusal.{Refusal}
 use Rattle.checker.specs.declared.refusal.Refusal.TheVariants as refusal
-use Rattle.verdicts.specs.Verdicts.{IsVerdictOnCheck}
-use Rattle.verdicts.specs.declared.verdict.Verdict.{Verdict}
-use Rattle.verdicts.specs.declared.verdict.Verdict.TheVariants.{Yes, No, Malformed, NoMemory}
+use Rattle.report.specs.Verdicts.{IsVerdictOnCheck}
+use Rattle.report.specs.declared.verdict.Verdict.{Verdict}
+use Rattle.report.specs.declared.verdict.Verdict.TheVariants.{Yes, No, Malformed, NoMemory}
 use Rattle.judging.specs.Verdicts.{IsYesUnlessMemory, JudgesBy, OnYes}
 
 module _ (es : List Event) where
-  pub on_yes : (P : Type 0) (r : Result (Unit {0}) Refusal) (v : Verdict) → IsVerdictOnCheck es r v → OnOk r P → OnYes v P
+  pub on_yes : (P : Type 0) (r : Result (Unit {0}) Refusal) (v : Verdict) → IsVerdictOnCheck es r v → OnOk r P
+      → OnYes v P
   on_yes P (Ok u) (Yes s) k p = p
   on_yes P (Ok u) (No q) k p = tt
   on_yes P (Ok u) (Malformed f) k p = tt
@@ -22,7 +23,8 @@ module _ (es : List Event) where
   on_yes P (Err e) (Malformed f) k p = tt
   on_yes P (Err e) NoMemory k p = tt
 
-  pub judges_by : (cs : List Certificate) (r : Result (Unit {0}) Refusal) (v : Verdict) → IsVerdictOnCheck es r v → OnOk r (AreValid es cs) → IfErr r (IsFirstRefusal es cs) → JudgesBy es cs v
+  pub judges_by : (cs : List Certificate) (r : Result (Unit {0}) Refusal) (v : Verdict) → IsVerdictOnCheck es r v
+      → OnOk r (AreValid es cs) → IfErr r (IsFirstRefusal es cs) → JudgesBy es cs v
   judges_by cs (Ok u) (Yes s) k valid first = (valid, k)
   judges_by cs (Ok u) (No q) k valid first = absurd k
   judges_by cs (Ok u) (Malformed f) k valid first = absurd k
@@ -32,7 +34,8 @@ module _ (es : List Event) where
   judges_by cs (Err e) (Malformed f) k valid first = absurd k
   judges_by cs (Err e) NoMemory k valid first = tt
 
-  pub yes_unless_memory : (r : Result (Unit {0}) Refusal) (v : Verdict) → IsVerdictOnCheck es r v → IfErr r (λ e. e ≡ refusal.NoMemory) → IsYesUnlessMemory v
+  pub yes_unless_memory : (r : Result (Unit {0}) Refusal) (v : Verdict) → IsVerdictOnCheck es r v
+      → IfErr r (λ e. e ≡ refusal.NoMemory) → IsYesUnlessMemory v
   yes_unless_memory (Ok u) (Yes s) k e = tt
   yes_unless_memory (Ok u) (No q) k e = k
   yes_unless_memory (Ok u) (Malformed f) k e = k

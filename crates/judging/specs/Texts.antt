@@ -20,14 +20,14 @@ use Rattle.events.specs.Events.{kind_at, denoted}
 use Rattle.checker.specs.Refusals.{AreValid, IsFirstRefusal}
 use Rattle.checker.specs.declared.refusal.Refusal.{Refusal}
 use Rattle.checker.specs.declared.refusal.Refusal.TheVariants as refusal
-use Rattle.verdicts.specs.declared.verdict.Fault.{Fault}
-use Rattle.verdicts.specs.declared.verdict.Verdict.{Verdict}
-use Rattle.verdicts.specs.declared.verdict.Verdict.TheVariants as verdict
-use Rattle.verdicts.specs.declared.verdict.Verdict.TheVariants.{Malformed}
+use Rattle.report.specs.declared.verdict.Fault.{Fault}
+use Rattle.report.specs.declared.verdict.Verdict.{Verdict}
+use Rattle.report.specs.declared.verdict.Verdict.TheVariants as verdict
+use Rattle.report.specs.declared.verdict.Verdict.TheVariants.{Malformed}
 use Rattle.judging.specs.declared.texts.TextFailure.{TextFailure}
 use Rattle.judging.specs.declared.texts.TextFailure.TheVariants.{Faulty, NoMemory}
-use Rattle.verdicts.specs.declared.verdict.Fault.TheVariants.{HistoryText, HistoryMaps}
-use Rattle.verdicts.specs.declared.verdict.Fault.TheVariants.{CertificateText, CertificateForms}
+use Rattle.report.specs.declared.verdict.Fault.TheVariants.{HistoryText, HistoryMaps}
+use Rattle.report.specs.declared.verdict.Fault.TheVariants.{CertificateText, CertificateForms}
 
 -- The text spells forms that denote these client events. It denotes one list of them at most
 -- (`one_history`).
@@ -111,18 +111,6 @@ pub record IsHistoryRead (h : List ℕ) (r : Result (List Event) TextFailure) : 
   pub stop : IfErr r (IsHistoryFault h)
   pub accepts : IfErr r (λ s. (es : List Event) → DenotesHistory h es → IsShort h → s ≡ NoMemory)
 
--- the same of the text of certificates, of which no two are of one object
-pub record AreCertificatesRead {V : Type 0} (items : V → List Certificate) (c : List ℕ)
-    (r : Result V TextFailure) : Type 0 where
-  pub denotes : IfOk r (λ v. DenotesCertificates c (items v))
-  pub only : IfOk r (λ v. (ds : List Certificate) → DenotesCertificates c ds
-      → map certificate_meaning.reading_of ds ≡ map certificate_meaning.reading_of (items v))
-  pub distinct : IfOk r (λ v. certificate_meaning.AreDistinct (items v))
-  pub short : IfOk r (λ _. IsShort c)
-  pub stop : IfErr r (IsCertificatesFault c)
-  pub accepts : IfErr r (λ s. (cs : List Certificate) → DenotesCertificates c cs → IsShort c
-      → s ≡ NoMemory)
-
 -- The fault of the first text that has one, the history being looked at first: the text is too
 -- long, spells nothing, or spells forms of which this is the first fault.
 abbrev pub IsFirstFault : List ℕ → List ℕ → Fault → Type 0
@@ -155,6 +143,12 @@ pub record IsLinearizableText (h : List ℕ) : Type 0 where
   pub client_events : List Event
   pub history_text : DenotesHistory h client_events
   pub linearizable : IsLinearizable (kind_at client_events) (events (denoted client_events))
+
+-- The history that the text denotes is not linearizable.
+pub record IsNotLinearizableText (h : List ℕ) : Type 0 where
+  pub client_events : List Event
+  pub history_text : DenotesHistory h client_events
+  pub not_linearizable : IsLinearizable (kind_at client_events) (events (denoted client_events)) → ⊥
 
 -- The texts denote a history and certificates, of which this is the first refusal. Neither is too
 -- long to be read.

@@ -1,14 +1,16 @@
 -- What a verdict says.
-use Rattle.std.specs.Prelude.{◌≢◌, ⊤, ℕ, List}
+use Rattle.std.specs.Prelude.{◌≡◌, ◌≢◌, ⊤, ℕ, List, Result, IfOk, IfErr}
 use Rattle.events.specs.declared.event.Event.{Event}
 use Rattle.certificate.specs.declared.Certificate.{Certificate}
 use Rattle.checker.specs.Refusals.{AreValid, IsFirstRefusal}
 use Rattle.checker.specs.declared.refusal.Refusal.TheVariants as refusal
-use Rattle.verdicts.specs.Counts.{AreCountsOf}
-use Rattle.verdicts.specs.declared.verdict.Verdict.{Verdict}
+use Rattle.report.specs.Counts.{AreCountsOf}
+use Rattle.report.specs.declared.verdict.Verdict.{Verdict}
 use Rattle.judging.specs.Texts.{IsLinearizableText, AreValidTexts, IsFirstRefusalText, IsFirstFault}
-use Rattle.judging.specs.Texts.{AreSoundSoFar}
-use Rattle.verdicts.specs.declared.verdict.Verdict.TheVariants.{Yes, No, Malformed, NoMemory}
+use Rattle.judging.specs.Texts.{AreSoundSoFar, DenoteOnly, verdict_of}
+use Rattle.judging.specs.declared.texts.TextFailure.{TextFailure}
+use Rattle.judging.specs.declared.texts.TextFailure.TheVariants as stopped
+use Rattle.report.specs.declared.verdict.Verdict.TheVariants.{Yes, No, Malformed, NoMemory}
 
 -- What a verdict says of the certificates of a history. Yes: they are valid, and the counts are
 -- those of the history. No: this is their first refusal. `NoMemory` says nothing.
@@ -47,3 +49,11 @@ pub record Holds (h c : List ℕ) (v : Verdict) : Type 0 where
   pub linearizable : OnYes v (IsLinearizableText h)
   pub judges : Judges h c v
   pub accepts : AreValidTexts h c → IsYesUnlessMemory v
+
+-- What was read of both texts: the history and the certificates that they denote, or what
+-- stopped the first that was stopped.
+pub record AreBothRead {V : Type 0} (items : V → List Certificate) (h c : List ℕ)
+    (r : Result (List Event × V) TextFailure) : Type 0 where
+  pub texts : IfOk r (λ both. DenoteOnly h c both.0 (items both.1))
+  pub stop : IfErr r (λ s. Judges h c (verdict_of s))
+  pub accepts : IfErr r (λ s. AreValidTexts h c → s ≡ stopped.NoMemory)

@@ -1,15 +1,20 @@
-//! Judges histories of concurrent objects by certificates.
+//! Judges histories of concurrent objects by certificates: texts in memory, and texts that come from
+//! sources.
 #![tactic(auto)]
 
+mod check;
 mod decision;
+mod file;
 mod laws;
-mod tables;
+mod pieces;
+mod reading;
 mod texts;
 
-pub use decision::{
-    judge, judge_alone, judge_history, judge_history_alone, verdict_alone, verdict_on,
-    verdict_on_failure, verdict_on_valid,
-};
+pub use check::{Text, ToolFault, check_over};
+pub use decision::{judge, judge_alone};
+pub use edn::{In, Source};
+pub use file::NamedFile;
 pub use laws::{one_history, one_list_of_orders, valid_certificates_suffice};
-pub use texts::{TextFailure, history_in, texts_alone};
-pub use verdicts::{Fault, KindCount, Summary, Verdict};
+pub use reading::{READ_LIMIT, ReadFault, read_text};
+pub use report::{Fault, KindCount, Summary, Verdict};
+pub use texts::{TextFailure, history_in};

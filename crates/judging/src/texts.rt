@@ -1,29 +1,41 @@
 //! From texts to a history and to certificates.
 
-ghost use Rattle.std.specs.Prelude.{◌≡◌, List, map, IfOk, IfErr, MatchBool};
+ghost use Rattle.std.specs.Prelude.{◌≡◌, ℕ, List, map, IfOk, IfErr, MatchBool};
 ghost use Rattle.events.specs.declared.event.Event.{Event};
 ghost use Rattle.certificate.specs.declared.Certificate.{Certificate};
 ghost use Rattle.certificate.specs.Denotes.{AreDistinct, reading_of};
 ghost use Rattle.edn_reader.specs.Sound.{IsShort};
-ghost use Rattle.judging.specs.Texts.{DenotesHistory, DenotesCertificates, DenoteOnly};
-ghost use Rattle.judging.specs.Texts.{AreValidTexts, WantsMemory, IsFailureOf, IsHistoryFault};
-ghost use Rattle.judging.specs.Texts.{IsCertificatesFault, IsHistoryRead, AreCertificatesRead};
-ghost use Rattle.judging.specs.Texts.{verdict_of};
-ghost use Rattle.judging.specs.Verdicts.{Judges};
+ghost use Rattle.judging.specs.Texts.{DenotesHistory, DenotesCertificates, WantsMemory};
+ghost use Rattle.judging.specs.Texts.{IsFailureOf, IsHistoryFault, IsCertificatesFault};
+ghost use Rattle.judging.specs.Texts.{IsHistoryRead};
+ghost use Rattle.judging.specs.Verdicts.{AreBothRead};
 
 use crate::laws::one_history;
 use certificate::{CertFaultKind, CertTextFault, Certificate, read_certificates_text};
 use edn::FaultKind;
 use history::{History, HistoryFaultKind, TextFault, read_history_text};
+use report::{Fault, Verdict};
 use std::alloc::Global;
-use std::thread::{Threads, join};
-use verdicts::Fault;
 
 /// What stops the reading of a text: a fault of it, or that memory was refused.
 #[derive(Clone, Copy, Debug, PartialEq, Eq)]
 pub enum TextFailure {
     Faulty(Fault),
     NoMemory,
+}
+
+// The verdict where a text could not be read.
+impl From<TextFailure> for Verdict {
+    ghost use Rattle.judging.specs.Texts.{verdict_of};
+
+    ghost from_gives = { λ stop v. v ≡ verdict_of stop };
+
+    fn from(stop: TextFailure) -> Verdict {
+        match stop {
+            TextFailure::Faulty(fault) => Verdict::Malformed(fault),
+            TextFailure::NoMemory => Verdict::NoMemory,
+        }
+    }
 }
 
 /// Whether the fault is that memory was refused.
@@ -69,7 +81,7 @@ pub fn history_in(alloc: Global, text: &[u8]) -> Result<History, TextFailure>
 }
 
 /// The certificates that the text denotes.
-pub(crate) fn certificates_in(alloc: Global, text: &[u8]) -> Result<Vec<Certificate>, TextFailure>
+fn certificates_in(alloc: Global, text: &[u8]) -> Result<Vec<Certificate>, TextFailure>
     ensures denotes { IfOk result (λ cs. DenotesCertificates text.now cs.items) }
     ensures only { IfOk result (λ cs. (ds : List Certificate) → DenotesCertificates text.now ds →
         map reading_of ds ≡ map reading_of cs.items) }
@@ -86,45 +98,18 @@ pub(crate) fn certificates_in(alloc: Global, text: &[u8]) -> Result<Vec<Certific
     }
 }
 
-/// What both texts denote, or what stops the reading of the first that is stopped. The certificates
-/// are read after the history, and only where that denotes.
-pub fn texts_alone(
+/// What both texts denote, or what stopped the reading of the first that was stopped, where the
+/// history's was read. The certificates are read only where that denotes a history.
+pub(crate) fn with_certificates(
     alloc: Global,
-    history: &[u8],
+    history: Result<History, TextFailure>,
     certificates: &[u8],
 ) -> Result<(History, Vec<Certificate>), TextFailure>
-    ensures texts { IfOk result (λ r. DenoteOnly history.now certificates.now r.0 r.1.items) }
+    ensures read { (h : List ℕ) → IsHistoryRead h history
+        → AreBothRead (λ v. v.items) h certificates.now result }
     ensures distinct { IfOk result (λ r. AreDistinct r.1.items) }
-    ensures stop { IfErr result (λ s. Judges history.now certificates.now (verdict_of s)) }
-    ensures accepts { IfErr result (λ s. AreValidTexts history.now certificates.now →
-        s ≡ TextFailure.NoMemory) }
 {
-    let client_events = history_in(alloc, history)?;
+    let history = history?;
     let orders = certificates_in(alloc, certificates)?;
-    Ok((client_events, orders))
-}
-
-/// The same, where two threads read the texts side by side.
-pub(crate) fn texts_in<R: Threads + Sync>(
-    rt: &R,
-    alloc: Global,
-    history: &[u8],
-    certificates: &[u8],
-) -> Result<(History, Vec<Certificate>), TextFailure>
-    ensures texts { IfOk result (λ r. DenoteOnly history.now certificates.now r.0 r.1.items) }
-    ensures distinct { IfOk result (λ r. AreDistinct r.1.items) }
-    ensures stop { IfErr result (λ s. Judges history.now certificates.now (verdict_of s)) }
-    ensures accepts { IfErr result (λ s. AreValidTexts history.now certificates.now →
-        s ≡ TextFailure.NoMemory) }
-{
-    let (client_events, orders) = join(
-        rt,
-        || -> Result<History, TextFailure>
-            ensures { IsHistoryRead history.entry.now result }
-        { history_in(alloc, history) },
-        || -> Result<Vec<Certificate>, TextFailure>
-            ensures { AreCertificatesRead (λ v. v.items) certificates.entry.now result }
-        { certificates_in(alloc, certificates) },
-    );
-    Ok((client_events?, orders?))
+    Ok((history, orders))
 }

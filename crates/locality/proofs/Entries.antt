@@ -4,12 +4,11 @@ use Rattle.std.proofs.Common.{◌≡◌, ◌≢◌, ℕ, ℤ, pos, ◌<◌, ◌�
 use Rattle.std.proofs.Common.{Some, None, IfSome, IsSome, Contains, refl, ap, sym, ◌∙◌, subst, arith}
 use Rattle.std.specs.List.{flat_map}
 use Rattle.std.proofs.lemmas.Bool.{eqb-true, ne_eqb, eq-eqb, and_from}
-use Rattle.model.specs.declared.Kind.{Kind}
+use Rattle.model.specs.Specification.{Specification}
 use Rattle.model.specs.declared.AnyReply.{AnyReply}
-use Rattle.model.specs.Objects.{Content, empty}
 use Rattle.model.specs.Histories.{Event, Inv, Res, IsSequential}
 use Rattle.model.specs.Linearizable.{RepliesFrom}
-use Rattle.model.specs.Orders.{Return, Call, ProcessCall, ReturnsBefore, RepliesAlong, IsValidOrder}
+use Rattle.model.specs.Orders.{Return, Call, ProcessCall, ReturnsBefore, RepliesBy, IsValidOrderOf}
 use Rattle.model.proofs.Lists.{In, Pairs, in_map, in_map_from, pairs_weaker, in_from_contains, all_at, pairs_from_all, pairs_from_map}
 use Rattle.locality.proofs.Merge.{one_number}
 use Rattle.model.proofs.Orders.{max_either}
@@ -29,9 +28,9 @@ abbrev pub calls : List ProcessCall → List Call
 calls es = map (λ e. e.call) es
 
 -- the reply that `next` gives at the entry numbered n, along entries that are all possible
-abbrev pub give_in : (c : Content) (es : List ProcessCall) → RepliesAlong c (calls es) → ℕ → Option AnyReply
-give_in c [] h n = None
-give_in c (e ∷ es) h n = cond (number_of e == n) (Some h.1) (give_in h.0 es h.4 n)
+abbrev pub give_in : (object : Specification) (c : object.Content) (es : List ProcessCall) → RepliesBy object.next c (calls es) → ℕ → Option AnyReply
+give_in object c [] h n = None
+give_in object c (e ∷ es) h n = cond (number_of e == n) (Some h.1) (give_in object h.0 es h.4 n)
 
 abbrev Once : List ProcessCall → Type 0
 Once es = Pairs (λ a b. number_of a ≢ number_of b) es
@@ -40,15 +39,15 @@ Once es = Pairs (λ a b. number_of a ≢ number_of b) es
 point_here : (m : ℕ) (e : ProcessCall) (es : List ProcessCall) → point_in m (e ∷ es) (number_of e) ≡ max m (number_of e)
 point_here m e es = ap (λ b. cond b (max m (number_of e)) (point_in (max m (number_of e)) es (number_of e))) (eq-eqb (number_of e) (number_of e) refl)
 
-give_here : (c : Content) (e : ProcessCall) (es : List ProcessCall) (h : RepliesAlong c (calls (e ∷ es))) → give_in c (e ∷ es) h (number_of e) ≡ Some h.1
-give_here c e es h = ap (λ b. cond b (Some h.1) (give_in h.0 es h.4 (number_of e))) (eq-eqb (number_of e) (number_of e) refl)
+give_here : (object : Specification) (c : object.Content) (e : ProcessCall) (es : List ProcessCall) (h : RepliesBy object.next c (calls (e ∷ es))) → give_in object c (e ∷ es) h (number_of e) ≡ Some h.1
+give_here object c e es h = ap (λ b. cond b (Some h.1) (give_in object h.0 es h.4 (number_of e))) (eq-eqb (number_of e) (number_of e) refl)
 
 -- an entry after it
 point_there : (m : ℕ) (e : ProcessCall) (es : List ProcessCall) (n : ℕ) → number_of e ≢ n → point_in m (e ∷ es) n ≡ point_in (max m (number_of e)) es n
 point_there m e es n ne = ap (λ b. cond b (max m (number_of e)) (point_in (max m (number_of e)) es n)) (ne_eqb (number_of e) n ne)
 
-give_there : (c : Content) (e : ProcessCall) (es : List ProcessCall) (h : RepliesAlong c (calls (e ∷ es))) (n : ℕ) → number_of e ≢ n → give_in c (e ∷ es) h n ≡ give_in h.0 es h.4 n
-give_there c e es h n ne = ap (λ b. cond b (Some h.1) (give_in h.0 es h.4 n)) (ne_eqb (number_of e) n ne)
+give_there : (object : Specification) (c : object.Content) (e : ProcessCall) (es : List ProcessCall) (h : RepliesBy object.next c (calls (e ∷ es))) (n : ℕ) → number_of e ≢ n → give_in object c (e ∷ es) h n ≡ give_in object h.0 es h.4 n
+give_there object c e es h n ne = ap (λ b. cond b (Some h.1) (give_in object h.0 es h.4 n)) (ne_eqb (number_of e) n ne)
 
 -- the point is not below the greatest before
 point_above : (m : ℕ) (es : List ProcessCall) (n : ℕ) → m ≤ point_in m es n
@@ -104,32 +103,32 @@ point_before m (f ∷ es) e r o p i q l k = elim i [
 ]
 
 -- each entry is given a reply
-pub give_some : (c : Content) (es : List ProcessCall) (h : RepliesAlong c (calls es)) (e : ProcessCall) → Once es → In e es → (r : AnyReply) × (give_in c es h (number_of e) ≡ Some r)
-give_some c [] h e o i = absurd i
-give_some c (f ∷ es) h e o i = elim i [
-  | inl q ↦ (h.1, ap (λ (g : ProcessCall). give_in c (f ∷ es) h (number_of g)) q ∙ give_here c f es h)
-  | inr j ↦ let rest = give_some h.0 es h.4 e o.1 j in (rest.0, give_there c f es h (number_of e) (o.0 e j) ∙ rest.1)
+pub give_some : (object : Specification) (c : object.Content) (es : List ProcessCall) (h : RepliesBy object.next c (calls es)) (e : ProcessCall) → Once es → In e es → (r : AnyReply) × (give_in object c es h (number_of e) ≡ Some r)
+give_some object c [] h e o i = absurd i
+give_some object c (f ∷ es) h e o i = elim i [
+  | inl q ↦ (h.1, ap (λ (g : ProcessCall). give_in object c (f ∷ es) h (number_of g)) q ∙ give_here object c f es h)
+  | inr j ↦ let rest = give_some object h.0 es h.4 e o.1 j in (rest.0, give_there object c f es h (number_of e) (o.0 e j) ∙ rest.1)
 ]
 
 -- what is given a reply is an entry
-pub given_entry : (c : Content) (es : List ProcessCall) (h : RepliesAlong c (calls es)) (n : ℕ) (r : AnyReply) → give_in c es h n ≡ Some r → (e : ProcessCall) × In e es × (number_of e ≡ n)
-given_entry c [] h n r g = absurd cc
-given_entry c (e ∷ es) h n r g =
-    let rest = given_entry h.0 es h.4 n r in
-    let here : (b : Bool) → (number_of e == n) ≡ b → cond b (Some h.1) (give_in h.0 es h.4 n) ≡ Some r → (f : ProcessCall) × In f (e ∷ es) × (number_of f ≡ n) =
+pub given_entry : (object : Specification) (c : object.Content) (es : List ProcessCall) (h : RepliesBy object.next c (calls es)) (n : ℕ) (r : AnyReply) → give_in object c es h n ≡ Some r → (e : ProcessCall) × In e es × (number_of e ≡ n)
+given_entry object c [] h n r g = absurd cc
+given_entry object c (e ∷ es) h n r g =
+    let rest = given_entry object h.0 es h.4 n r in
+    let here : (b : Bool) → (number_of e == n) ≡ b → cond b (Some h.1) (give_in object h.0 es h.4 n) ≡ Some r → (f : ProcessCall) × In f (e ∷ es) × (number_of f ≡ n) =
     elim [ true ↦ λ q k. (e, inl refl, eqb-true (number_of e) n q) | false ↦ λ q k. let f = rest k in (f.0, inr f.1, f.2) ] in
     here (number_of e == n) refl g
 
 -- it is the reply that is recorded
-pub give_recorded : (c : Content) (es : List ProcessCall) (h : RepliesAlong c (calls es)) (e : ProcessCall) (r : Return) → Once es → In e es
-    → e.call.returned ≡ Some r → give_in c es h (number_of e) ≡ Some r.reply
-give_recorded c [] h e r o i q = absurd i
-give_recorded c (f ∷ es) h e r o i q = elim i [
+pub give_recorded : (object : Specification) (c : object.Content) (es : List ProcessCall) (h : RepliesBy object.next c (calls es)) (e : ProcessCall) (r : Return) → Once es → In e es
+    → e.call.returned ≡ Some r → give_in object c es h (number_of e) ≡ Some r.reply
+give_recorded object c [] h e r o i q = absurd i
+give_recorded object c (f ∷ es) h e r o i q = elim i [
   | inl s ↦
       let same : f.call.returned ≡ Some r = ap (λ (g : ProcessCall). g.call.returned) (sym s) ∙ q in
       let said : r.reply ≡ h.1 = subst (λ (x : Option Return). IfSome x (λ r. r.reply ≡ h.1)) same h.3 in
-      ap (λ (g : ProcessCall). give_in c (f ∷ es) h (number_of g)) s ∙ (give_here c f es h ∙ ap Some (sym said))
-  | inr j ↦ give_there c f es h (number_of e) (o.0 e j) ∙ give_recorded h.0 es h.4 e r o.1 j q
+      ap (λ (g : ProcessCall). give_in object c (f ∷ es) h (number_of g)) s ∙ (give_here object c f es h ∙ ap Some (sym said))
+  | inr j ↦ give_there object c f es h (number_of e) (o.0 e j) ∙ give_recorded object h.0 es h.4 e r o.1 j q
 ]
 
 -- an operation with its reply as two events
@@ -138,13 +137,13 @@ done e None = []
 done e (Some r) = Inv e.process e.object e.call.op ∷ Res e.process e.object r ∷ []
 
 -- the entries with the replies that they are given follow `next`
-pub replies_from : (c : Content) (es : List ProcessCall) (h : RepliesAlong c (calls es)) (give : ProcessCall → Option AnyReply) → Once es
-    → ((e : ProcessCall) → In e es → give e ≡ give_in c es h (number_of e)) → RepliesFrom c (flat_map (λ e. done e (give e)) es)
-replies_from c [] h give o g = tt
-replies_from c (e ∷ es) h give o g =
-    let same : give e ≡ Some h.1 = g e (inl refl) ∙ give_here c e es h in
-    let rest = replies_from h.0 es h.4 give o.1 (λ y i. g y (inr i) ∙ give_there c e es h (number_of y) (o.0 y i)) in
-    subst (λ (x : Option AnyReply). RepliesFrom c (done e x ++ flat_map (λ y. done y (give y)) es)) (sym same) (h.0, h.2, rest)
+pub replies_from : (object : Specification) (c : object.Content) (es : List ProcessCall) (h : RepliesBy object.next c (calls es)) (give : ProcessCall → Option AnyReply) → Once es
+    → ((e : ProcessCall) → In e es → give e ≡ give_in object c es h (number_of e)) → RepliesFrom object c (flat_map (λ e. done e (give e)) es)
+replies_from object c [] h give o g = tt
+replies_from object c (e ∷ es) h give o g =
+    let same : give e ≡ Some h.1 = g e (inl refl) ∙ give_here object c e es h in
+    let rest = replies_from object h.0 es h.4 give o.1 (λ y i. g y (inr i) ∙ give_there object c e es h (number_of y) (o.0 y i)) in
+    subst (λ (x : Option AnyReply). RepliesFrom object c (done e x ++ flat_map (λ y. done y (give y)) es)) (sym same) (h.0, h.2, rest)
 
 -- any such list is sequential
 pub done_sequential : (es : List ProcessCall) (give : ProcessCall → Option AnyReply) → IsSequential (flat_map (λ e. done e (give e)) es)
@@ -156,11 +155,11 @@ done_sequential (e ∷ es) give =
     here (give e)
 
 -- a valid order, as operations of the history
-pub record ValidEntries (kind : Kind) (ops es : List ProcessCall) : Type 0 where
+pub record ValidEntries (object : Specification) (ops es : List ProcessCall) : Type 0 where
   pub among : (e : ProcessCall) → In e es → In e ops
   pub once : Once es
   pub in_order : Pairs (λ a b. ReturnsBefore b.call a.call → ⊥) es
-  pub replies : RepliesAlong (empty kind) (calls es)
+  pub replies : RepliesBy object.next object.empty (calls es)
   pub whole : (e : ProcessCall) (r : Return) → In e ops → e.call.returned ≡ Some r → In e es
 
 -- entries that are calls of operations, as those operations
@@ -171,9 +170,9 @@ lifted ops (c ∷ cs) h =
     let rest = lifted ops cs (λ d i. h d (inr i)) in
     (e.0 ∷ rest.0, cc (rest.1, e.2), λ f i. elim i [ inl q ↦ subst (λ (g : ProcessCall). In g ops) (sym q) e.1 | inr j ↦ rest.2 f j ])
 
-pub valid_entries : (kind : Kind) (ops : List ProcessCall) (order : List ℤ) → Pairs (λ a b. number_of a < number_of b) ops
-    → IsValidOrder kind (calls ops) order → (es : List ProcessCall) × ValidEntries kind ops es
-valid_entries kind ops order up v =
+pub valid_entries : (object : Specification) (ops : List ProcessCall) (order : List ℤ) → Pairs (λ a b. number_of a < number_of b) ops
+    → IsValidOrderOf object (calls ops) order → (es : List ProcessCall) × ValidEntries object ops es
+valid_entries object ops order up v =
     let l = lifted ops v.entries (all_at (Contains (calls ops)) v.entries v.known) in
     let es : List ProcessCall = l.0 in
     let same : calls es ≡ v.entries = l.1 in
@@ -187,7 +186,7 @@ valid_entries kind ops order up v =
         once = pairs_weaker (λ (a b : ProcessCall). pos (number_of a) ≢ pos (number_of b)) (λ a b. number_of a ≢ number_of b) es (λ a b i j ne q. ne (ap pos q))
             (pairs_from_map (λ (a b : Call). pos a.number ≢ pos b.number) (λ (e : ProcessCall). e.call) es (pairs_from_map (λ (a b : ℤ). a ≢ b) (λ (c : Call). pos c.number) (calls es) once_order));
         in_order = pairs_from_map (λ (a b : Call). ReturnsBefore b a → ⊥) (λ (e : ProcessCall). e.call) es in_order_calls;
-        replies = subst (RepliesAlong (empty kind)) (sym same) v.replies;
+        replies = subst (RepliesBy object.next object.empty) (sym same) v.replies;
         whole = λ e r i q.
             let stands : Contains v.entries e.call =
             all_at (λ (c : Call). IsSome c.returned → Contains v.entries c) (calls ops) v.whole e.call

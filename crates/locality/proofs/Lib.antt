@@ -8,6 +8,8 @@ pub mod CompletedCalls
 pub mod ValidOrders
 pub mod NamedObjects
 pub mod PendingAnswers
+pub mod AsWritten
+pub mod OneKind
 pub mod WrittenOut
 pub mod WorkedOrders
 pub mod RefutedOrders

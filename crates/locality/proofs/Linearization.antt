@@ -5,15 +5,14 @@ use Rattle.std.proofs.lemmas.List.{append-nil}
 use Rattle.std.proofs.lemmas.List.Concat.{flat_map-append}
 use Rattle.std.proofs.lemmas.List.Elements.{filter-append}
 use Rattle.std.proofs.lemmas.Bool.{eqb-true, eq-eqb, and_from, and_parts, ltb-true, lt-ltb}
-use Rattle.model.specs.declared.Kind.{Kind}
+use Rattle.model.specs.Specification.{Specification}
 use Rattle.model.specs.declared.AnyReply.{AnyReply}
-use Rattle.model.specs.Objects.{empty}
 use Rattle.model.specs.Histories.{Event, process_of, is_invocation, by_process, by_object, complete, invokes, responds, IsSequential, IsWellFormed, IsEquivalent, Operation, IsOperation, Precedes}
-use Rattle.model.specs.Linearizable.{RepliesFrom, IsLegal, IsLinearizable}
+use Rattle.model.specs.Linearizable.{RepliesFrom, IsLegal, IsLinearizableFor}
 use Rattle.model.specs.Orders.{Numbered, events, Return, ProcessCall, calls_in, IsHistory}
 use Rattle.model.proofs.Lists.{In, Pairs, in_filter, in_filter_passes, in_filter_from, pairs_filter, pairs_weaker, filter-filter, filter_same}
 use Rattle.model.proofs.Lists.{flat_map_filter, below_split, length_filter_le, in_flat_map, all_from_in}
-use Rattle.locality.specs.Locality.{HasValidOrder}
+use Rattle.locality.specs.Locality.{HasValidOrderOf}
 use Rattle.locality.proofs.Merge.{ObjectOrders, line, line_in, line_of_object, line_of_process, line_points, one_number}
 use Rattle.locality.proofs.Entries.{number_of, point_in, give_in, point_own, points_rise, point_from, point_before, give_some, given_entry}
 use Rattle.locality.proofs.Entries.{give_recorded, done, replies_from, done_sequential, ValidEntries, valid_entries}
@@ -62,12 +61,12 @@ added_responds give os v i = let e = in_flat_map (λ e. late e e.call.returned (
 abbrev pub on : ℕ → List Numbered → List ProcessCall
 on x h = filter (λ e. e.object == x) (calls_in h)
 
-module _ (kinds : ℕ → Kind) (h : List Numbered) (hist : IsHistory h) (entries : ℕ → List ProcessCall) (good : (x : ℕ) → ValidEntries (kinds x) (on x h) (entries x)) where
+module _ (objects : ℕ → Specification) (h : List Numbered) (hist : IsHistory h) (entries : ℕ → List ProcessCall) (good : (x : ℕ) → ValidEntries (objects x) (on x h) (entries x)) where
   abbrev pub point : ProcessCall → ℕ
   point e = point_in 0 (entries e.object) (number_of e)
 
   abbrev pub give : ProcessCall → Option AnyReply
-  give e = give_in (empty (kinds e.object)) (entries e.object) (good e.object).replies (number_of e)
+  give e = give_in (objects e.object) (objects e.object).empty (entries e.object) (good e.object).replies (number_of e)
 
   abbrev pub stands : ProcessCall → Bool
   stands e = is_some (give e)
@@ -85,12 +84,12 @@ module _ (kinds : ℕ → Kind) (h : List Numbered) (hist : IsHistory h) (entrie
   own_entry x e i = subst (λ k. In e (entries k)) (sym (at_object x e i)) i
 
   stands_from : (e : ProcessCall) → In e (entries e.object) → stands e ≡ true
-  stands_from e i = ap is_some (give_some (empty (kinds e.object)) (entries e.object) (good e.object).replies e (good e.object).once i).1
+  stands_from e i = ap is_some (give_some (objects e.object) (objects e.object).empty (entries e.object) (good e.object).replies e (good e.object).once i).1
 
   entry_from : (e : ProcessCall) → In e (calls_in h) → stands e ≡ true → In e (entries e.object)
   entry_from e i s =
       let r = some_from (give e) s in
-      let f = given_entry (empty (kinds e.object)) (entries e.object) (good e.object).replies (number_of e) r.0 r.1 in
+      let f = given_entry (objects e.object) (objects e.object).empty (entries e.object) (good e.object).replies (number_of e) r.0 r.1 in
       let same : f.0 ≡ e = one_number number_of (calls_in h) f.0 e (rise h hist) (in_ops e.object f.0 f.1) i f.2 in
       subst (λ (g : ProcessCall). In g (entries e.object)) same f.1
 
@@ -155,7 +154,7 @@ module _ (kinds : ℕ → Kind) (h : List Numbered) (hist : IsHistory h) (entrie
 
   -- what is recorded is given
   agrees : Agrees give (calls_in h)
-  agrees e r i q = give_recorded (empty (kinds e.object)) (entries e.object) (good e.object).replies e r (good e.object).once ((good e.object).whole e r (in_on e i) q) q
+  agrees e r i q = give_recorded (objects e.object) (objects e.object).empty (entries e.object) (good e.object).replies e r (good e.object).once ((good e.object).whole e r (in_on e i) q) q
 
   abbrev extra : List Event
   extra = added give (calls_in h)
@@ -192,13 +191,13 @@ module _ (kinds : ℕ → Kind) (h : List Numbered) (hist : IsHistory h) (entrie
       nothing e None s = refl
       nothing e (Some r) s = absurd (cc s)
 
-  pub legal : IsLegal kinds sequence
+  pub legal : IsLegal objects sequence
   legal x =
       let cut : by_object x sequence ≡ dones give (entries x) = dones_of_object x give merged ∙ ap (dones give) (merged_of_object x) in
-      subst (λ es. IsSequential es × RepliesFrom (empty (kinds x)) es) (sym cut) (
+      subst (λ es. IsSequential es × RepliesFrom (objects x) (objects x).empty es) (sym cut) (
         done_sequential (entries x) give,
-        replies_from (empty (kinds x)) (entries x) (good x).replies give (good x).once
-            (λ e i. ap (λ k. give_in (empty (kinds k)) (entries k) (good k).replies (number_of e)) (at_object x e i)),
+        replies_from (objects x) (objects x).empty (entries x) (good x).replies give (good x).once
+            (λ e i. ap (λ k. give_in (objects k) (objects k).empty (entries k) (good k).replies (number_of e)) (at_object x e i)),
       )
 
   -- before a point t, the line has what is below t
@@ -299,7 +298,7 @@ module _ (kinds : ℕ → Kind) (h : List Numbered) (hist : IsHistory h) (entrie
             begun = begun_in_both f j;
           })
 
-  pub linearizable : IsLinearizable kinds (events h)
+  pub linearizable : IsLinearizableFor objects (events h)
   linearizable = record {
     completion = completion_made;
     completes = record { added = extra; responses = all_from_in (λ e. is_invocation e ≡ false) extra (added_responds give (calls_in h)); well_formed = well_formed; completed = refl };
@@ -310,8 +309,8 @@ module _ (kinds : ℕ → Kind) (h : List Numbered) (hist : IsHistory h) (entrie
     order = order_kept;
   }
 
-pub locality_lem : (kinds : ℕ → Kind) (h : List Numbered) → IsHistory h → ((x : ℕ) → HasValidOrder kinds h x) → IsLinearizable kinds (events h)
-locality_lem kinds h hist valid =
-    let each : (x : ℕ) → (es : List ProcessCall) × ValidEntries (kinds x) (on x h) es =
-    λ x. valid_entries (kinds x) (on x h) (valid x).0 (pairs_filter (λ a b. number_of a < number_of b) (λ e. e.object == x) (calls_in h) (rise h hist)) (valid x).1 in
-    linearizable kinds h hist (λ x. (each x).0) (λ x. (each x).1)
+pub locality_lem : (objects : ℕ → Specification) (h : List Numbered) → IsHistory h → ((x : ℕ) → HasValidOrderOf objects h x) → IsLinearizableFor objects (events h)
+locality_lem objects h hist valid =
+    let each : (x : ℕ) → (es : List ProcessCall) × ValidEntries (objects x) (on x h) es =
+    λ x. valid_entries (objects x) (on x h) (valid x).0 (pairs_filter (λ a b. number_of a < number_of b) (λ e. e.object == x) (calls_in h) (rise h hist)) (valid x).1 in
+    linearizable objects h hist (λ x. (each x).0) (λ x. (each x).1)

@@ -19,7 +19,7 @@ use Rattle.model.proofs.Lists.{In, Pairs, in_from_contains, all_at, pairs_from_a
 use Rattle.locality.specs.WorkedHistories.{invoke, invoked_while_pending, returned_unasked, returned_elsewhere, numbered_backwards}
 use Rattle.locality.specs.WorkedHistories.{enqueued_then_dequeued, overlapping_enqueues, dequeued_out_of_turn, pending_overtakes_returned}
 use Rattle.locality.specs.WorkedHistories.{mutex_passed_on}
-use Rattle.locality.proofs.ValidOrders.{linearizable_has_orders_lem}
+use Rattle.locality.proofs.OneKind.{orders_of_kinds}
 use Rattle.locality.proofs.WrittenOut.{history, linearizable, in_order, ordered}
 use Rattle.locality.proofs.WorkedOrders.{returned, pending}
 
@@ -90,7 +90,7 @@ first = returned 0 (Enqueue (pos 1)) 1 (Some (pos 1))
 overtaken : (h : List Numbered) (b d : Call) (v : ℤ) (r : Return) → IsHistory h → calls_on 0 h ≡ first ∷ b ∷ d ∷ [] → b.op ≡ Enqueue v → 1 < b.number
     → d.op ≡ Dequeue → 1 < d.number → d.returned ≡ Some r → r.reply ≡ Value (Some (pos 2)) → ¬ IsLinearizable (λ x. Queue) (events h)
 overtaken h b d v r hist is b_op b_later d_op d_later d_back two lin =
-    let order = linearizable_has_orders_lem (λ x. Queue) h hist lin 0 in
+    let order = orders_of_kinds (λ x. Queue) h hist lin 0 in
     let returns : Return = record { at = 1; reply = Value (Some (pos 1)) } in
     let one = first_in_first_out (first ∷ b ∷ d ∷ []) first d (pos 1) r returns order.0 refl refl d_op d_back (inl refl) (inr (inr (inl refl)))
     (λ e i. elim i [

@@ -5,14 +5,13 @@ use Rattle.std.proofs.lemmas.List.{append-nil, append_assoc, length-append, map-
 use Rattle.std.proofs.lemmas.List.Concat.{flat_map-append}
 use Rattle.std.proofs.lemmas.List.Elements.{filter-append, recursion_from_All}
 use Rattle.std.proofs.lemmas.Bool.{eqb-true, eq-eqb, lt-ltb, le-ltb}
-use Rattle.model.specs.declared.Kind.{Kind}
-use Rattle.model.specs.Objects.{Content, empty}
+use Rattle.model.specs.Specification.{Specification}
 use Rattle.model.specs.Histories.{Event, Inv, Res, process_of, object_of, is_invocation, by_process, by_object, complete, invokes, responds, IsSequential, Operation, IsOperation}
-use Rattle.model.specs.Linearizable.{RepliesFrom, IsLinearizable}
-use Rattle.model.specs.Orders.{Numbered, events, Return, Call, ProcessCall, response_of, begins, calls_in, calls_on, IsHistory, ReturnsBefore, RepliesAlong}
+use Rattle.model.specs.Linearizable.{RepliesFrom, IsLinearizableFor}
+use Rattle.model.specs.Orders.{Numbered, events, Return, Call, ProcessCall, response_of, begins, calls_in, calls_on, IsHistory, ReturnsBefore, RepliesBy}
 use Rattle.model.proofs.Lists.{In, Pairs, in_filter, in_filter_passes, in_filter_from, pairs_filter, pairs_map, filter-filter, filter_all}
 use Rattle.model.proofs.Lists.{filter_none, in_map, in_map_from, contains_from_in, all_from_in, all_from_pairs, in_left, in_middle, in_split}
-use Rattle.locality.specs.Locality.{HasValidOrder}
+use Rattle.locality.specs.Locality.{HasValidOrderOf}
 use Rattle.locality.proofs.Merge.{one_number}
 use Rattle.locality.proofs.Entries.{number_of}
 use Rattle.locality.proofs.ProcessHistories.{part, events-part, calls_in-part, call_event, Before, one_after_another, is_back, returns_after}
@@ -99,10 +98,10 @@ back_upto t (x ∷ u) v o r h q l k =
     subst (λ d. suc (suc (length u)) ≤ length (cond d (x ∷ filter (λ e. is_back t e.call.returned) (u ++ o ∷ v)) (filter (λ e. is_back t e.call.returned) (u ++ o ∷ v)))) (sym e) (omega arith)
 
 -- the replies of a legal history are those that are recorded
-replies_back : (c : Content) (es : List Ended) → RepliesFrom c (ended_events es)
-    → ((e : Ended) (r : Return) → In e es → e.made.call.returned ≡ Some r → e.reply ≡ r.reply) → RepliesAlong c (map (λ (e : Ended). e.made.call) es)
-replies_back c [] h rec = tt
-replies_back c (e ∷ es) h rec = (h.0, e.reply, h.1, said e.made.call.returned refl, replies_back h.0 es h.2 (λ d r i q. rec d r (inr i) q))
+replies_back : (object : Specification) (c : object.Content) (es : List Ended) → RepliesFrom object c (ended_events es)
+    → ((e : Ended) (r : Return) → In e es → e.made.call.returned ≡ Some r → e.reply ≡ r.reply) → RepliesBy object.next c (map (λ (e : Ended). e.made.call) es)
+replies_back object c [] h rec = tt
+replies_back object c (e ∷ es) h rec = (h.0, e.reply, h.1, said e.made.call.returned refl, replies_back object h.0 es h.2 (λ d r i q. rec d r (inr i) q))
   where
     said : (o : Option Return) → e.made.call.returned ≡ o → IfSome o (λ r. r.reply ≡ e.reply)
     said None q = tt
@@ -143,7 +142,7 @@ refuted l m n a b front rest e ret wait = elim (prefix_either front rest (ended_
       omega arith
 ]
 
-module _ (kinds : ℕ → Kind) (h : List Numbered) (hist : IsHistory h) (lin : IsLinearizable kinds (events h)) where
+module _ (objects : ℕ → Specification) (h : List Numbered) (hist : IsHistory h) (lin : IsLinearizableFor objects (events h)) where
   abbrev late_events : ℕ → List Event
   late_events p = by_process p lin.completes.added
 
@@ -282,7 +281,7 @@ module _ (kinds : ℕ → Kind) (h : List Numbered) (hist : IsHistory h) (lin : 
       (subst (Pairs (λ a b. number_of a < number_of b)) tb.1 (part_rise h hist b.made.process)) (in_map_from (λ (e : Ended). e.made) a (filter (λ e. e.made.process == b.made.process) l') i) in
       omega arith
 
-  pub linearizable_has_orders_lem : (x : ℕ) → HasValidOrder kinds h x
+  pub linearizable_has_orders_lem : (x : ℕ) → HasValidOrderOf objects h x
   linearizable_has_orders_lem x =
       let own : Ended → Bool = λ e. e.made.object == x in
       let es : List Ended = filter own all.line in
@@ -313,7 +312,7 @@ module _ (kinds : ℕ → Kind) (h : List Numbered) (hist : IsHistory h) (lin : 
               (in_map_from (λ (e : Ended). e.made.call) e.0 es (in_filter_from own e.0 all.line on_line at_x))));
           in_order = all_from_pairs (λ (a b : Call). ReturnsBefore b a → ⊥) cs (pairs_map (λ (a b : Call). ReturnsBefore b a → ⊥) (λ (e : Ended). e.made.call) es
               (pairs_filter (λ a b. ReturnsBefore b.made.call a.made.call → ⊥) own all.line (pairs_by_parts (λ a b. ReturnsBefore b.made.call a.made.call → ⊥) [] all.line not_before)));
-          replies = replies_back (empty (kinds x)) es (subst (RepliesFrom (empty (kinds x))) (ap (by_object x) all.events_are ∙ ended_of_object x all.line) (lin.legal x).1)
+          replies = replies_back (objects x) (objects x).empty es (subst (RepliesFrom (objects x) (objects x).empty) (ap (by_object x) all.events_are ∙ ended_of_object x all.line) (lin.legal x).1)
               (λ e r i q. let j = line_queue e (in_filter own e all.line i) in (completed e.made.process).recorded e r j q);
         },
       )

@@ -10,7 +10,7 @@ use Rattle.model.specs.Linearizable.{IsLinearizable}
 use Rattle.model.specs.Orders.{events, Call, calls_on, IsHistory, IsValidOrder, ProcessCall, calls_in}
 use Rattle.locality.specs.Locality.{HasValidOrder}
 use Rattle.locality.specs.WorkedHistories.{enqueued_then_dequeued, overlapping_enqueues, dequeued_while_pending, mutex_passed_on, found_empty_while_pending, two_queues}
-use Rattle.locality.proofs.NamedObjects.{named_objects_lem}
+use Rattle.locality.proofs.OneKind.{named_kinds}
 use Rattle.locality.proofs.WrittenOut.{history, valid_order, linearizable}
 
 abbrev pub returned : ℕ → AnyOp → ℕ → Option ℤ → Call
@@ -87,7 +87,7 @@ pub two_queues-linearizable : IsLinearizable (λ x. Queue) (events two_queues)
 two_queues-linearizable =
     let first : HasValidOrder (λ x. Queue) two_queues 0 = (pos 2 ∷ pos 0 ∷ [], two_queues-first) in
     let second : HasValidOrder (λ x. Queue) two_queues 1 = (pos 3 ∷ pos 1 ∷ [], two_queues-second) in
-    named_objects_lem (λ x. Queue) two_queues two_queues-history
+    named_kinds (λ x. Queue) two_queues two_queues-history
     (All-from_recursion (λ (e : ProcessCall). HasValidOrder (λ x. Queue) two_queues e.object) (calls_in two_queues) (first, (second, (first, (second, tt)))))
 
 pub mutex_passed_on-history : IsHistory mutex_passed_on

@@ -1,6 +1,6 @@
 -- Histories and orders that are written out: tests that compute, and what they decide.
 use Rattle.std.proofs.Common.{◌≡◌, ◌≢◌, ℕ, ℤ, pos, zero, suc, ◌<◌, ◌≤◌, ◌==◌, ◌&&◌, nat_lt, nat_le, Bool, true, false, not, inl, inr, List, [], ◌∷◌}
-use Rattle.std.proofs.Common.{map, Option, Some, IsSome, Contains, refl, ap, sym, ◌∙◌, subst, arith}
+use Rattle.std.proofs.Common.{filter, map, Option, Some, IsSome, Contains, refl, ap, sym, ◌∙◌, subst, arith}
 use Rattle.std.specs.List.{list_all, AllByRecursion}
 use Rattle.std.proofs.lemmas.List.Elements.{All-from_recursion}
 use Rattle.std.proofs.lemmas.Bool.{eqb-true, eq-eqb, ne_eqb, and_parts, ltb-true, leb-true, lt-ltb, not-true, cases_order}
@@ -12,7 +12,7 @@ use Rattle.model.specs.Orders.{Numbered, events, Return, Call, ProcessCall, call
 use Rattle.model.proofs.Lists.{In, Pairs, filter_none, pairs_map, pairs_weaker, all_from_in, all_from_pairs}
 use Rattle.locality.specs.Locality.{HasValidOrder}
 use Rattle.locality.proofs.ProcessHistories.{is_back}
-use Rattle.locality.proofs.NamedObjects.{named_objects_lem}
+use Rattle.locality.proofs.OneKind.{named_kinds}
 use Rattle.model.proofs.Orders.{same_pos}
 
 passes : {X : Type 0} (q : X → Bool) (xs : List X) → list_all q xs ≡ true → (x : X) → In x xs → q x ≡ true
@@ -58,17 +58,19 @@ one_of (suc n) h e p l =
       | inr r ↦ elim r [ inl less ↦ one_of n h both.1 p less | inr more ↦ absurd (omega arith) ]
     ]
 
-well_formed : (n : ℕ) (h : List Event) → list_all (λ e. nat_lt (process_of e) n) h ≡ true → are_sequential n h ≡ true → IsWellFormed h
+-- where each event has less, by its process or its object, none has this much
+pub none_from : (what : Event → ℕ) (n : ℕ) (h : List Event) → list_all (λ e. nat_lt (what e) n) h ≡ true → (p : ℕ) → n ≤ p → filter (λ e. what e == p) h ≡ []
+none_from what n h all p l =
+    filter_none (λ e. what e == p) h (λ e i. ne_eqb (what e) p (λ q. let low = ltb-true (what e) n (passes (λ e. nat_lt (what e) n) h all e i) in omega (arith, q)))
+
+pub well_formed : (n : ℕ) (h : List Event) → list_all (λ e. nat_lt (process_of e) n) h ≡ true → are_sequential n h ≡ true → IsWellFormed h
 well_formed n h all each p = elim (cases_order p n) [
   | inl q ↦ absent (omega arith)
   | inr r ↦ elim r [ inl less ↦ one_of n h each p less | inr more ↦ absent (omega arith) ]
 ]
   where
     absent : n ≤ p → IsSequential (by_process p h)
-    absent l =
-        let none : by_process p h ≡ [] =
-        filter_none (λ e. process_of e == p) h (λ e i. ne_eqb (process_of e) p (λ q. let low = ltb-true (process_of e) n (passes (λ e. nat_lt (process_of e) n) h all e i) in omega (arith, q))) in
-        subst IsSequential (sym none) tt
+    absent l = subst IsSequential (sym (none_from process_of n h all p l)) tt
 
 -- a history of processes below n
 abbrev is_history_of : ℕ → List Numbered → Bool
@@ -123,5 +125,5 @@ valid_order kind calls entries e known whole replies =
 
 -- where all operations are on object 0
 pub linearizable : (kinds : ℕ → Kind) (h : List Numbered) → IsHistory h → list_all (λ e. e.object == 0) (calls_in h) ≡ true → HasValidOrder kinds h 0 → IsLinearizable kinds (events h)
-linearizable kinds h hist all valid = named_objects_lem kinds h hist (all_from_in (λ (e : ProcessCall). HasValidOrder kinds h e.object) (calls_in h)
+linearizable kinds h hist all valid = named_kinds kinds h hist (all_from_in (λ (e : ProcessCall). HasValidOrder kinds h e.object) (calls_in h)
     (λ e i. subst (HasValidOrder kinds h) (sym (eqb-true e.object 0 (passes (λ e. e.object == 0) (calls_in h) all e i))) valid))

@@ -1,3 +1,4 @@
 pub mod Locality
 pub mod Completions
+pub mod AsWritten
 pub mod WorkedHistories

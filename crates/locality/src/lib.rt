@@ -6,13 +6,16 @@
 
 mod worked_histories;
 
-ghost use Rattle.std.specs.Prelude.{◌≡◌, ◌↔◌, ◌++◌, ℕ, false, List, All};
+ghost use Rattle.std.specs.Prelude.{◌≡◌, ◌↔◌, ◌++◌, ℕ, ℤ, false, List, All};
 ghost use Rattle.model.specs.declared.Kind.{Kind};
+ghost use Rattle.model.specs.Objects.{specification};
+ghost use Rattle.model.specs.Specification.{Specification};
 ghost use Rattle.model.specs.Histories.{Event, is_invocation, IsWellFormed};
-ghost use Rattle.model.specs.Linearizable.{IsLinearizable};
-ghost use Rattle.model.specs.Orders.{Numbered, events, IsHistory, calls_in};
+ghost use Rattle.model.specs.Linearizable.{IsLinearizable, IsLinearizableFor};
+ghost use Rattle.model.specs.Orders.{Numbered, events, Call, IsHistory, calls_in, IsValidOrder, IsValidOrderOf};
+ghost use Rattle.locality.specs.AsWritten.{IsLinearizableAsWritten};
 ghost use Rattle.locality.specs.Completions.{AnswersPending};
-ghost use Rattle.locality.specs.Locality.{HasValidOrder};
+ghost use Rattle.locality.specs.Locality.{HasValidOrder, HasValidOrderOf};
 
 pub use worked_histories::{
     each_object_has_its_order, mutex_is_held_by_one, operations_in_turn_keep_their_order,
@@ -21,8 +24,36 @@ pub use worked_histories::{
     use_in_turn_is_linearizable,
 };
 
+/// What each object may do: any `Specification`, a step on the operations of `model`.
+pub trait Objects {
+    ghost objects: { ℕ → Specification };
+}
+
 /// Locality: a history is linearizable where the operations of each object alone have a valid
-/// order. The objects may be of any kinds.
+/// order. The objects may have any `Specification`.
+pub fn locality_of<O: Objects>()
+    ensures { (h : List Numbered)
+        → IsHistory h
+        → ((x : ℕ) → HasValidOrderOf O.objects h x)
+        → IsLinearizableFor O.objects (events h) }
+{}
+
+/// The converse: where a history is linearizable, the operations of each object have a valid order.
+pub fn linearizable_has_orders_of<O: Objects>()
+    ensures { (h : List Numbered)
+        → IsHistory h
+        → IsLinearizableFor O.objects (events h)
+        → (x : ℕ) → HasValidOrderOf O.objects h x }
+{}
+
+/// An order of the operations of an object of one kind is valid for the kind's own specification
+/// exactly where it is valid in the contents of all kinds, by which programs keep objects.
+pub fn one_kind_among_all()
+    ensures { (kind : Kind) (calls : List Call) (order : List ℤ)
+        → (IsValidOrderOf (specification kind) calls order ↔ IsValidOrder kind calls order) }
+{}
+
+/// Locality, where each object is of one of the kinds here.
 pub fn locality()
     ensures { (kinds : ℕ → Kind) (h : List Numbered)
         → IsHistory h
@@ -38,13 +69,20 @@ pub fn named_objects()
         → IsLinearizable kinds (events h) }
 {}
 
-/// The converse of locality: where a history is linearizable, the operations of each object have a
-/// valid order.
+/// The converse of locality, where each object is of one of the kinds here.
 pub fn linearizable_has_orders()
     ensures { (kinds : ℕ → Kind) (h : List Numbered)
         → IsHistory h
         → IsLinearizable kinds (events h)
         → (x : ℕ) → HasValidOrder kinds h x }
+{}
+
+/// What is linearizable here is linearizable as the text of Herlihy and Wing reads. The converse does
+/// not hold: an operation that is pending may there take effect before one that returned before it.
+pub fn linearizable_as_written()
+    ensures { (kinds : ℕ → Kind) (h : List Event)
+        → IsLinearizable kinds h
+        → IsLinearizableAsWritten (λ x. specification (kinds x)) h }
 {}
 
 /// What a completion adds: a well-formed history goes on with responses into a well-formed history

@@ -2,8 +2,10 @@
 
 ghost use Rattle.std.specs.Prelude.{List, ℤ, pos, [], ◌∷◌};
 ghost use Rattle.model.specs.declared.Kind.{Kind};
+ghost use Rattle.model.specs.Objects.{specification};
 ghost use Rattle.model.specs.Linearizable.{IsLinearizable};
 ghost use Rattle.model.specs.Orders.{events, IsHistory, calls_on, IsValidOrder};
+ghost use Rattle.locality.specs.AsWritten.{IsLinearizableAsWritten};
 ghost use Rattle.locality.specs.WorkedHistories.{enqueued_then_dequeued, overlapping_enqueues};
 ghost use Rattle.locality.specs.WorkedHistories.{dequeued_out_of_turn, dequeued_while_pending};
 ghost use Rattle.locality.specs.WorkedHistories.{pending_overtakes_returned, mutex_passed_on};
@@ -66,6 +68,8 @@ pub fn pending_operation_may_be_left_out()
 pub fn pending_operation_does_not_overtake()
     ensures history { IsHistory pending_overtakes_returned }
     ensures not_linearizable { ¬ IsLinearizable (λ x. Kind.Queue)
+        (events pending_overtakes_returned) }
+    ensures as_written { IsLinearizableAsWritten (λ x. specification Kind.Queue)
         (events pending_overtakes_returned) }
 {}
 

@@ -38,12 +38,3 @@ put_back_not s c x r q h can after m =
     let none : next t.content t.request.op ≡ None = t.impossible in
     let no : IsSome {T = Content × AnyReply} None = subst IsSome none there in
     absurd (cc)
-
-pub answer_not : (s : State) (c x r : ℕ) (q : AnyRequest) → IsInHand s c x r q → (CanDo s x q.op → ⊥) → IsImpossible s.kinds s.quota (world_of s) (c, answer)
-answer_not s c x r q h never after m =
-    let t = m.3 in
-    let i = t.in_hand in
-    let same = same_hand s c x r q h t.object t.row t.request i.0 i.1 i.2 in
-    let replays : Replays (empty (kind_at s.kinds x)) (get_or s.logs x []) t.content
-    = subst (λ (y : ℕ). Replays (empty (kind_at s.kinds y)) (get_or s.logs y []) t.content) same.object i.3 in
-    never (t.content, replays, subst (λ (z : AnyRequest). IsSome (next t.content z.op)) same.request t.possible)

@@ -16,7 +16,7 @@ not_now reply_in s s' c w v (Ok o) is h = tt
 not_now reply_in s s' c w v (Err NotNow) is h = λ e. subst (λ (z : Step). IsImpossible s.kinds s.quota (world_of s) (c, z)) (sym is) h.1
 not_now reply_in s s' c w v (Err NoMemory) is h = λ e. absurd (cc)
 
--- Memory was refused at a draw that is possible, and nothing has changed.
+-- An allocation failed at a draw that is possible, and nothing has changed.
 pub no_memory : {R : Type 0} (reply_in : R → AnyReply) (s s' : State) (c : ℕ) (w : Step) (r : Result (Outcome R) StepFault) (e : StepFault)
     → IsErrAnd r (λ f. f ≡ e) → e ≡ NoMemory → s' ≡ s → IsDraw w → IsPossible s c w → Tries reply_in s c w r s'
 no_memory reply_in s s' c w (Ok o) e h is same draw possible = absurd h

@@ -112,7 +112,7 @@ module _ {R : Type 0} (reply_in : R → AnyReply) where
   IsOutcome s c w s' outcome.Done = ⊤
   IsOutcome s c w s' o = ⊥
 
-  -- The step was taken; or it is possible in no way; or memory was refused at a draw that is
+  -- The step was taken; or it is possible in no way; or an allocation failed at a draw that is
   -- possible. If it was not taken nothing has changed.
   abbrev pub Tries : State → ℕ → world.Step → Result (Outcome R) StepFault → State → Type 0
   Tries s c w (Ok o) s' = IsTaken s c w s' × IsOutcome s c w s' o

@@ -23,7 +23,7 @@ pub struct Ran {
     pub refused: usize,
 }
 
-/// Memory was refused at the step of this number. The machine is as it was before that step.
+/// An allocation failed at the step of this number. The machine is as it was before that step.
 #[derive(Clone, Copy, Debug, PartialEq, Eq)]
 pub struct NoMemoryAt {
     pub step: usize,

@@ -1,3 +1,4 @@
+pub mod Specification
 pub mod Objects
 pub mod Histories
 pub mod Linearizable

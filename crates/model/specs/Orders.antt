@@ -8,7 +8,8 @@ use Rattle.std.specs.Option.{option_or}
 use Rattle.model.specs.declared.Kind.{Kind}
 use Rattle.model.specs.declared.AnyOp.{AnyOp}
 use Rattle.model.specs.declared.AnyReply.{AnyReply}
-use Rattle.model.specs.Objects.{Content, empty, next}
+use Rattle.model.specs.Specification.{Specification}
+use Rattle.model.specs.Objects.{Content, next, any}
 use Rattle.model.specs.Histories.{Event, Inv, Res, IsWellFormed}
 
 -- an event with its number
@@ -80,16 +81,16 @@ abbrev pub ReturnsBefore : Call → Call → Type 0
 ReturnsBefore a b = (r : Return) × (a.returned ≡ Some r) × (r.at < b.number)
 
 -- along the calls, from this content on, each is possible, and each recorded reply is the one that
--- `next` gives
-abbrev pub RepliesAlong : Content → List Call → Type 0
-RepliesAlong c [] = ⊤
-RepliesAlong c (e ∷ es) =
-    (after : Content) × (reply : AnyReply) × (next c e.op ≡ Some (after, reply))
-    × IfSome e.returned (λ r. r.reply ≡ reply) × RepliesAlong after es
+-- the step gives
+abbrev pub RepliesBy : {C : Type 0} → (C → AnyOp → Option (C × AnyReply)) → C → List Call → Type 0
+RepliesBy step c [] = ⊤
+RepliesBy {C} step c (e ∷ es) =
+    (after : C) × (reply : AnyReply) × (step c e.op ≡ Some (after, reply))
+    × IfSome e.returned (λ r. r.reply ≡ reply) × RepliesBy step after es
 
 -- A valid order of the operations of an object, of which no two have one number: a list of their
 -- numbers.
-pub record IsValidOrder (kind : Kind) (calls : List Call) (order : List ℤ) : Type 0 where
+pub record IsValidOrderOf (object : Specification) (calls : List Call) (order : List ℤ) : Type 0 where
   -- each number is that of an operation of the object
   pub entries : List Call
   pub numbers : order ≡ map (λ e. pos e.number) entries
@@ -101,4 +102,14 @@ pub record IsValidOrder (kind : Kind) (calls : List Call) (order : List ℤ) : T
   -- none stands after one that it precedes
   pub in_order : AllPairs (λ a b. ReturnsBefore b a → ⊥) entries
   -- along the order from the empty content each is possible, and what it returned is the reply
-  pub replies : RepliesAlong (empty kind) entries
+  pub replies : RepliesBy object.next object.empty entries
+
+-- as `RepliesBy`, in the contents of all kinds
+abbrev pub RepliesAlong : Content → List Call → Type 0
+RepliesAlong c es = RepliesBy next c es
+
+-- A valid order of the operations of an object of this kind. It is valid for the kind's own
+-- specification exactly where it is valid here, in the contents of all kinds: `one_kind_among_all`
+-- of the crate `locality`.
+abbrev pub IsValidOrder : Kind → List Call → List ℤ → Type 0
+IsValidOrder kind calls order = IsValidOrderOf (any kind) calls order

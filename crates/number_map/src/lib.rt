@@ -100,8 +100,7 @@ impl<V: Drop> NumberMap<V> {
 
 impl<V: Drop> NumberMap<Vec<V>> {
     /// Puts one more value at the end of the key's list, which is empty where the key has no value.
-    /// Says whether the key had no value before. The list of a key below 65,536 is not moved. After
-    /// an error the list of the key may be lost.
+    /// Says whether the key had no value before. After an error the list of the key may be lost.
     #[inline]
     pub fn push(&mut self, alloc: Global, key: u64, value: V) -> Result<bool, AllocError>
         ensures own { OnOk result (option_map (λ v. v.items) (value_of self.new key)

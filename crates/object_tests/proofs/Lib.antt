@@ -1,2 +1,1 @@
 pub mod ThreeOperations
-pub mod Parts

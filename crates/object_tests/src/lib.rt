@@ -8,5 +8,3 @@ mod number_maps;
 mod objects;
 #[cfg(test)]
 mod splitting;
-#[cfg(test)]
-mod tables;

@@ -1,4 +1,4 @@
-use events::{Action, End, Event, History, Invocation, ObjectHistory, split, split_part};
+use events::{Action, End, Event, History, Invocation, ObjectHistory, split, split_share};
 use seq_objects::{AnyOp, AnyReply, Kind};
 use std::alloc::Global;
 use std::test::Fail;
@@ -115,7 +115,7 @@ fn a_part_of_a_history_has_the_objects_of_one_remainder(rt: HostRuntime) -> Resu
         if part >= parts {
             return Err(Fail::new("a part past the last"));
         }
-        let objects = split_part(rt.alloc(), &history, part, parts)?;
+        let objects = split_share(rt.alloc(), &history, part, parts)?;
         let want = match place {
             Some(k) => all.get(k),
             None => None,

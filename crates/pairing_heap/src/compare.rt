@@ -39,7 +39,7 @@ fn are_used_alike(nodes: &[Node], others: &[Node]) -> bool
 
 /// Whether the same values are in use, each as often. Takes time in the square of the nodes'
 /// number.
-pub fn same_values(left: &[Node], right: &[Node]) -> bool
+pub(crate) fn same_values(left: &[Node], right: &[Node]) -> bool
     ensures { IsTrue result ↔ (bag_of (values_in_use left.now) ≡ bag_of (values_in_use right.now)) }
 {
     are_used_alike(left, right) && are_used_alike(right, left)

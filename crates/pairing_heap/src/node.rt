@@ -26,7 +26,7 @@ pub struct Tree {
     pub sibling: Link,
 }
 
-pub fn tree_at(nodes: &[Node], place: usize) -> Tree
+pub(crate) fn tree_at(nodes: &[Node], place: usize) -> Tree
     requires { IsUsed nodes.now place }
     ensures { HasTree nodes.now place result }
 {
@@ -48,7 +48,11 @@ fn next_free(nodes: &[Node], place: usize) -> Link
 
 /// Puts a value into a free node, if there is one, and else into a new one. Returns its place, and
 /// what is left of the chain of free nodes.
-pub fn put_node(nodes: &mut Vec<Node>, free: Link, value: i64) -> Result<(usize, Link), AllocError>
+pub(crate) fn put_node(
+    nodes: &mut Vec<Node>,
+    free: Link,
+    value: i64,
+) -> Result<(usize, Link), AllocError>
     requires { IfSome free (IsFree nodes.old.items) }
     ensures apart { IfOk result (λ put. (root : Option ℕ) (len : ℕ)
         → IsSound nodes.old.items root free len

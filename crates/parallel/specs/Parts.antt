@@ -15,7 +15,7 @@ pub record IsPart (es : List Event) (part parts : ℕ) (os : List ObjectCalls) :
   pub operations : All (λ o. o.ops ≡ operations_on o.object es) os
   pub calls : All (λ o. calls_of o.ops ≡ calls_on o.object (denoted es)) os
 
--- the results of all parts, those where memory was refused too
+-- the results of all parts, those where an allocation failed too
 abbrev pub ArePartsOf : {V E : Type 0} → (V → List ObjectCalls) → List Event → List (Result V E)
     → Type 0
 ArePartsOf {V} {E} items es rs =

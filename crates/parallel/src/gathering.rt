@@ -1,13 +1,12 @@
 //! The operations of each object of a history, gathered by several workers.
 
-ghost use Rattle.std.specs.Prelude.{◌<◌, ℕ, List, length, OnOk, IfOk, AllPairs, ◌^◌};
+ghost use Rattle.std.specs.Prelude.{◌<◌, ℕ, List, length, OnOk, IfOk, ◌^◌};
 ghost use Rattle.std.specs.Ordering.{nat_cmp};
 ghost use Rattle.std.specs.BTreeMap.{get};
 ghost use Rattle.events.specs.declared.event.Event.{Event};
-ghost use Rattle.events.specs.Rows.{IsTableOf};
 ghost use Rattle.parallel.specs.Parts.{IsPart, ArePartsOf, IsPutIn, IsWhole, AreAll};
 
-use events::{History, ObjectHistory, Table, split, split_part, split_table};
+use events::{History, ObjectHistory, split, split_share};
 use std::alloc::{AllocError, Global};
 use std::collections::BTreeMap;
 use std::thread::{Threads, map_indices};
@@ -26,7 +25,7 @@ fn put_in(
     Ok(())
 }
 
-/// The objects of all parts, in rising number, unless memory was refused.
+/// The objects of all parts, in rising number, unless an allocation failed.
 fn join_parts(
     alloc: Global,
     found: Vec<Result<Vec<ObjectHistory>, AllocError>>,
@@ -85,37 +84,7 @@ pub(crate) fn split_by_workers<R: Threads + Sync>(
         &|worker: usize| -> Result<Vec<ObjectHistory>, AllocError>
             requires { (worker < workers) × (workers < 2 ^ 32) }
             ensures { IfOk result (λ v. IsPart history.entry.now worker workers v.items) }
-        { split_part(alloc, history, worker as u32, workers) },
-    )?;
-    objects_of_parts(alloc, found)
-}
-
-/// As `events::split`, from the table of a history, by this many workers: the history of each object
-/// that some invocation names, a failed one too, in rising object number. Worker `w` gathers the
-/// objects whose numbers leave the remainder `w` by the number of workers, and looks once at each
-/// row of the table. An error: memory was refused.
-pub fn split_table_by_workers<R: Threads + Sync>(
-    rt: &R,
-    alloc: Global,
-    table: &Table,
-    workers: u32,
-) -> Result<Vec<ObjectHistory>, AllocError>
-    requires { 0 < workers }
-    ensures rising { IfOk result (λ v. AllPairs (λ a b. a.object < b.object) v.items) }
-    ensures all { (es : List Event) → IsTableOf table.now es
-        → IfOk result (λ v. AreAll es v.items) }
-{
-    // As the call says, the table is of some events, so the numbers of its objects rise.
-    let _ = table.parts();
-    let found = map_indices(
-        rt,
-        alloc,
-        workers as usize,
-        &|worker: usize| -> Result<Vec<ObjectHistory>, AllocError>
-            requires { (worker < workers) × (workers < 2 ^ 32) }
-            ensures { (es : List Event) → IsTableOf table.entry.now es
-                → IfOk result (λ v. IsPart es worker workers v.items) }
-        { split_table(alloc, table, worker as u32, workers) },
+        { split_share(alloc, history, worker as u32, workers) },
     )?;
     objects_of_parts(alloc, found)
 }

@@ -6,5 +6,4 @@ mod gathering;
 mod share;
 mod workers;
 
-pub use gathering::split_table_by_workers;
-pub use workers::{check_objects, check_parallel};
+pub use workers::check_parallel;

@@ -10,7 +10,7 @@ ghost use Rattle.parallel.specs.Shares.{IsEarlier};
 ghost use Rattle.parallel.specs.Shares.{max_workers};
 
 use certificate::Certificate;
-use checker::{Refusal, check_piece};
+use checker::{Refusal, check_object_at};
 use events::ObjectHistory;
 use number_map::NumberMap;
 use seq_objects::Gate;
@@ -55,7 +55,7 @@ pub(crate) fn check_share<G: Gate>(
     while piece < objects.len() {
         let number = piece_number(objects, piece);
         gate.before(worker as u32, number);
-        let checked = check_piece(alloc, &objects[piece], places, certificates);
+        let checked = check_object_at(alloc, &objects[piece], places, certificates);
         gate.after(worker as u32, number);
         if let Err(refusal) = checked {
             return Err(RefusedPiece { piece, refusal });

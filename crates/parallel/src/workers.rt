@@ -20,7 +20,7 @@ use std::thread::{Threads, map_indices};
 
 /// Checks the certificates of these objects, which are all that a history names, as
 /// `check_parallel` does.
-pub fn check_objects<R: Threads + Sync, G: Gate>(
+fn check_objects<R: Threads + Sync, G: Gate>(
     rt: &R,
     alloc: Global,
     objects: &[ObjectHistory],

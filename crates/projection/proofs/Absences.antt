@@ -1,4 +1,4 @@
--- Where a value surely is not in an object before some number, an order is valid without what was done with it before.
+-- Where a value definitely is not in an object before some number, an order is valid without what was done with it before.
 use Rattle.std.proofs.Common.{◌≡◌, ◌≢◌, ◌⊎◌, inl, inr, ℕ, ℤ, pos, ◌<◌, ◌≤◌, ◌+◌, nat_lt, Bool, true, false, not, ◌&&◌, ◌||◌, cond, List, [], ◌∷◌, ◌++◌}
 use Rattle.std.proofs.Common.{Option, Some, None, AllPairs, Contains, IfSome, IsSome, length, map, filter, refl, ap, sym, ◌∙◌, subst, arith}
 use Rattle.std.proofs.lemmas.Bool.Decides.{nat_tests}
@@ -203,13 +203,13 @@ and_false_right false b p e = absurd (unlike p)
 early_put : (v : ℤ) (number : ℕ) (e : Call) → is_put_before v number e ≡ true → (puts_in (int_eq v) e.op ≡ true) × (nat_lt e.number number ≡ true)
 early_put v number e h = and_true (puts_in (int_eq v) e.op) (nat_lt e.number number) h
 
-early_taking : (v : ℤ) (number : ℕ) (e : Call) → is_taken_before v number e ≡ true
+early_removal : (v : ℤ) (number : ℕ) (e : Call) → is_taken_before v number e ≡ true
     → (takes_out (int_eq v) e.op (reply_of e.returned) ≡ true) × (ended_before number e.returned ≡ true)
-early_taking v number e h = and_true (takes_out (int_eq v) e.op (reply_of e.returned)) (ended_before number e.returned) h
+early_removal v number e h = and_true (takes_out (int_eq v) e.op (reply_of e.returned)) (ended_before number e.returned) h
 
 -- a call that had returned before the number returned before a call that was invoked at it or later
 returned_first : (v : ℤ) (number : ℕ) (y e : Call) → is_taken_before v number y ≡ true → nat_lt e.number number ≡ false → ReturnsBefore y e
-returned_first v number y e t n = go y.returned refl (early_taking v number y t).1
+returned_first v number y e t n = go y.returned refl (early_removal v number y t).1
   where
     less : (at later : ℕ) → nat_lt at number ≡ true → nat_lt later number ≡ false → at < later
     less at later a b = grind (arith, nat_tests)
@@ -241,7 +241,7 @@ none_after : (v : ℤ) (number : ℕ) (e : Call) (es : List Call) → nat_lt e.n
     → tally (is_taken_before v number) es ≡ 0
 none_after v number e es n f = tally_none (is_taken_before v number) es (λ y i. elim (test_cases (is_taken_before v number y)) [
   | inl t ↦ absurd (f y i (returned_first v number y e t n))
-  | inr no_taking ↦ no_taking
+  | inr no_removal ↦ no_removal
 ])
 
 put_cases : (v : ℤ) (number : ℕ) (e : Call)
@@ -323,10 +323,10 @@ early_spent v number e es c after reply t early spent = elim (or_true (is_put_be
       let none_told = ap one (no_put_takes (int_eq v) e.op (reply_of e.returned) (early_put v number e put).0) in
       put_sums _ _ _ _ _ _ _ _ _ t.balance puts here no_take none_here none_told spent
   | inr taken ↦
-      let told = ap one (early_taking v number e taken).0 in
+      let told = ap one (early_removal v number e taken).0 in
       let here = ap one taken in
       take_sums (one (takes_out (int_eq v) e.op (Some reply))) _ _ _ _ _ _ _ t.balance t.fewer told here (and_le (puts_in (int_eq v) e.op) (nat_lt e.number number))
-      (no_put e.op (reply_of e.returned) (early_taking v number e taken).0) spent
+      (no_put e.op (reply_of e.returned) (early_removal v number e taken).0) spent
 ]
   where
     put_sums : (after took size put early told here more gone : ℕ) → after + took ≡ size + put → put ≡ 1 → early ≡ 1 → took ≡ 0 → here ≤ told → told ≡ 0
@@ -376,7 +376,7 @@ without_early v number (e ∷ es) c d s h p spent =
         → one (takes_out (int_eq v) e.op (reply_of e.returned)) ≤ one (takes_out (int_eq v) e.op (Some reply)) → Touches v e.op reply
     touched reply early fewer = elim (or_true (is_put_before v number e) (is_taken_before v number e) early) [
       | inl put ↦ inl (early_put v number e put).0
-      | inr taken ↦ inr (more (takes_out (int_eq v) e.op (reply_of e.returned)) (takes_out (int_eq v) e.op (Some reply)) (early_taking v number e taken).0 fewer)
+      | inr taken ↦ inr (more (takes_out (int_eq v) e.op (reply_of e.returned)) (takes_out (int_eq v) e.op (Some reply)) (early_removal v number e taken).0 fewer)
     ]
       where
         more : (a b : Bool) → a ≡ true → one a ≤ one b → b ≡ true
@@ -408,7 +408,7 @@ without_valid kind calls v number order rising absent valid =
     let in_time = pairs_from_all (λ x y. ReturnsBefore y x → ⊥) entries valid.in_order in
     let puts = count_among (is_put_before v number) entries calls apart (λ e i q. known e i) in
     let takes = count_among (is_taken_before v number) calls entries distinct
-    (λ e i q. in_from_contains entries e (all_at (λ e. IsSome e.returned → Contains entries e) calls valid.whole e i (returned e.returned (early_taking v number e q).1))) in
+    (λ e i q. in_from_contains entries e (all_at (λ e. IsSome e.returned → Contains entries e) calls valid.whole e i (returned e.returned (early_removal v number e q).1))) in
     let spent = sums _ _ _ _ _ _ _ (size_empty (int_eq v) kind) puts takes
     (count_tally (is_put_before v number) calls) (count_tally (is_taken_before v number) calls) absent.taken in (
       map named (filter p entries),

@@ -1,4 +1,4 @@
--- What surely was ahead of what a taking found was taken out before it.
+-- What definitely was ahead of what a removal found was taken out before it.
 use Rattle.std.proofs.Common.{◌≡◌, ◌≢◌, ◌⊎◌, inl, inr, ℕ, ℤ, pos, ◌<◌, ◌≤◌, ◌+◌, ◌==◌, nat_lt, min}
 use Rattle.std.proofs.Common.{Bool, true, false, not, ◌&&◌, ◌||◌, cond, List, [], ◌∷◌, ◌++◌, Option}
 use Rattle.std.proofs.Common.{Some, None, All, AllPairs, Contains, IfSome, IsSome, count_by, refl}
@@ -19,7 +19,7 @@ use Rattle.model.specs.Objects.{queue, stack, kind_of, empty}
 use Rattle.model.specs.Orders.{Call, Return, ReturnsBefore, RepliesAlong, IsValidOrder}
 use Rattle.model.proofs.Lists.{In, Pairs, in_append, in_left, in_split, in_from_contains, all_at}
 use Rattle.model.proofs.Lists.{pairs_from_all, pairs_weaker, pairs_from_map}
-use Rattle.projection.specs.Parts.{puts_in, is_taking, ended_before}
+use Rattle.projection.specs.Parts.{puts_in, is_removal, ended_before}
 use Rattle.projection.specs.Ahead.{found_in, found_by, is_value_ahead, first_put, ahead_before}
 use Rattle.projection.specs.Ahead.{is_settled, is_put_ahead, may_precede}
 use Rattle.projection.proofs.Conserved.{tally, count_tally, count_among}
@@ -50,9 +50,9 @@ put_parts keeps from before e p =
     begun : (number from : ℕ) → not (nat_lt number from) ≡ true → from ≤ number
     begun number from e = grind (arith, nat_tests)
 
--- what a taking shows
+-- what a removal shows
 record Shown (op : AnyOp) (o : Option Return) (at : ℕ) (found : Option ℤ) : Type 0 where
-  pub taking : is_taking op ≡ true
+  pub removal : is_removal op ≡ true
   pub reply : AnyReply
   pub returned : o ≡ Some (record { at = at; reply = reply })
   pub value : reply ≡ Value found
@@ -65,14 +65,14 @@ pair_first a b x y e = let p : ℕ × Option ℤ = (a, x) in let q : ℕ × Opti
 shown_by : (op : AnyOp) (o : Option Return) (at : ℕ) (found : Option ℤ) → found_by op o ≡ Some (at, found)
     → Shown op o at found
 shown_by op None at found e = absurd (cc e)
-shown_by op (Some r) at found e = go (is_taking op) refl e
+shown_by op (Some r) at found e = go (is_removal op) refl e
   where
-    in_reply : (reply : AnyReply) → r.reply ≡ reply → is_taking op ≡ true
+    in_reply : (reply : AnyReply) → r.reply ≡ reply → is_removal op ≡ true
         → found_in r.at reply ≡ Some (at, found) → Shown op (Some r) at found
     in_reply (Value x) s t q =
         let w = pair_first r.at at x found q in
         record {
-          taking = t;
+          removal = t;
           reply = r.reply;
           returned = ap
               (λ (n : ℕ). Some (record { at = n; reply = r.reply })) w.0;
@@ -81,7 +81,7 @@ shown_by op (Some r) at found e = go (is_taking op) refl e
     in_reply (Swapped a c) s t q = absurd (cc q)
     in_reply NotSwapped s t q = absurd (cc q)
 
-    go : (t : Bool) → is_taking op ≡ t → cond t (found_in r.at r.reply) None ≡ Some (at, found)
+    go : (t : Bool) → is_removal op ≡ t → cond t (found_in r.at r.reply) None ≡ Some (at, found)
         → Shown op (Some r) at found
     go true t q = in_reply r.reply refl t q
     go false t q = absurd (cc q)
@@ -89,13 +89,13 @@ shown_by op (Some r) at found e = go (is_taking op) refl e
 least_of : (a b : ℕ) → (min a b ≤ a) × (min a b ≤ b)
 least_of a b = (omega arith, omega arith)
 
-before_taking : (found : Option ℤ) (op : AnyOp) (number : ℕ) (calls : List Call)
+before_removal : (found : Option ℤ) (op : AnyOp) (number : ℕ) (calls : List Call)
     → ahead_before found op number calls ≤ number
-before_taking None op number calls = omega arith
-before_taking (Some b) Dequeue number calls = (least_of number (first_put b calls)).0
-before_taking (Some b) op number calls = omega arith
+before_removal None op number calls = omega arith
+before_removal (Some b) Dequeue number calls = (least_of number (first_put b calls)).0
+before_removal (Some b) op number calls = omega arith
 
-not_put : (keeps : ℤ → Bool) (op : AnyOp) → is_taking op ≡ true → puts_in keeps op ≡ true → ⊥
+not_put : (keeps : ℤ → Bool) (op : AnyOp) → is_removal op ≡ true → puts_in keeps op ≡ true → ⊥
 not_put keeps Dequeue t p = unlike p
 not_put keeps Pop t p = unlike p
 not_put keeps ExtractMin t p = unlike p
@@ -104,7 +104,7 @@ not_put keeps (Push v) t p = unlike t
 not_put keeps (Insert v) t p = unlike t
 not_put keeps op t p = unlike p
 
--- the taking in an order, and what stands before and after it
+-- the removal in an order, and what stands before and after it
 record Split (kind : Kind) (calls : List Call) (n : Call) : Type 0 where
   pub earlier : List Call
   pub later : List Call
@@ -148,17 +148,17 @@ split_at kind calls order n rising stands ended v =
     risen : (a b : ℕ) → a < b → a ≡ b → ⊥
     risen a b l e = absurd (omega arith)
 
--- a put that returned before the taking was invoked stands before it
+-- a put that returned before the removal was invoked stands before it
 early : (kind : Kind) (calls : List Call) (n : Call) (s : Split kind calls n) (keeps : ℤ → Bool)
-    (from before : ℕ) → is_taking n.op ≡ true → before ≤ n.number
+    (from before : ℕ) → is_removal n.op ≡ true → before ≤ n.number
     → (e : Call) → In e calls → is_put_ahead keeps from before e ≡ true → In e s.earlier
-early kind calls n s keeps from before taking l e i p =
+early kind calls n s keeps from before removal l e i p =
     let q = put_parts keeps from before e p in
     let t = ended before e.returned q.1 in
     elim (in_append e s.earlier (n ∷ s.later) (s.whole e i (subst IsSome (sym t.1) refl))) [
       | inl j ↦ j
       | inr j ↦ elim j [
-        | inl w ↦ absurd (not_put keeps n.op taking (ap (λ (z : Call). puts_in keeps z.op) (sym w) ∙ q.0))
+        | inl w ↦ absurd (not_put keeps n.op removal (ap (λ (z : Call). puts_in keeps z.op) (sym w) ∙ q.0))
         | inr k ↦ absurd
             (pairs_beyond (λ x y. ReturnsBefore y x → ⊥) s.earlier n s.later s.in_time e k
             (t.0, t.1, reach t.0.at before n.number t.2 l))
@@ -168,7 +168,7 @@ early kind calls n s keeps from before taking l e i p =
     reach : (a before number : ℕ) → a < before → before ≤ number → a < number
     reach a before number l m = omega arith
 
--- What may take one out before the taking is another call, and was not invoked after its response.
+-- What may take one out before the removal is another call, and was not invoked after its response.
 taken_early : (kind : Kind) (calls : List Call) (n : Call) (s : Split kind calls n) (keeps : ℤ → Bool)
     (r : Return) → n.returned ≡ Some r
     → tally (may_by keeps) s.earlier ≤ count_by (may_precede keeps n.number r.at) calls
@@ -195,17 +195,17 @@ chained : (a b c d e : ℕ) → a ≡ e → a ≤ b → b ≤ c → c ≤ d → 
 chained a b c d e q l m n = omega arith
 
 plain_case : (kind : Kind) (calls : List Call) (n : Call) (s : Split kind calls n) (r : Return)
-    (o : Option ℤ) (from before : ℕ) → is_taking n.op ≡ true → n.returned ≡ Some r → r.reply ≡ Value o
+    (o : Option ℤ) (from before : ℕ) → is_removal n.op ≡ true → n.returned ≡ Some r → r.reply ≡ Value o
     → (n.op ≡ Dequeue → o ≡ None) → (n.op ≡ Pop → o ≡ None) → before ≤ n.number
     → count_by (is_put_ahead (is_value_ahead o n.op) from before) calls ≤ tally
     (may_by (is_value_ahead o n.op)) s.earlier
-plain_case kind calls n s r o from before taking returned value d u l =
+plain_case kind calls n s r o from before removal returned value d u l =
     let keeps = is_value_ahead o n.op in
     let more = count_among (is_put_ahead keeps from before) calls s.earlier s.distinct
-    (early kind calls n s keeps from before taking l) in
+    (early kind calls n s keeps from before removal l) in
     let puts = tally_le (is_put_ahead keeps from before) (put_by keeps) s.earlier
     (λ e i p. (put_parts keeps from before e p).0) in
-    let here = spent n r o s.earlier s.later kind taking returned value d u s.replies in
+    let here = spent n r o s.earlier s.later kind removal returned value d u s.replies in
     chained _ _ _ _ _ (count_tally (is_put_ahead keeps from before) calls) more puts here
 
 queue_case : (kind : Kind) (calls : List Call) (n : Call) (s : Split kind calls n) (r : Return) (b : ℤ)
@@ -214,7 +214,7 @@ queue_case : (kind : Kind) (calls : List Call) (n : Call) (s : Split kind calls 
     → All (λ e. (r : Return) → e.returned ≡ Some r → e.number < r.at) calls
     → count_by (is_put_ahead every from before) calls ≤ tally (may_by every) s.earlier
 queue_case kind calls n s r b from before is_queue dequeue returned value l first ends =
-    let taking : is_taking n.op ≡ true = ap is_taking dequeue in
+    let removal : is_removal n.op ≡ true = ap is_removal dequeue in
     let gives : (reply : AnyReply) → IfSome n.returned (λ r. r.reply ≡ reply) → reply ≡ Value (Some b) =
     λ reply h. sym (subst (λ z. IfSome z (λ r. r.reply ≡ reply)) returned h) ∙ value in
     let replies : RepliesAlong (queue []) (s.earlier ++ n ∷ s.later) = subst
@@ -225,7 +225,7 @@ queue_case kind calls n s r b from before is_queue dequeue returned value l firs
     λ e i p.
     let q = put_parts every from before e p in
     let t = ended before e.returned q.1 in
-    in_until b s.earlier e (early kind calls n s every from before taking l e i p) in_time
+    in_until b s.earlier e (early kind calls n s every from before removal l e i p) in_time
     (λ z j w. (t.0, t.1, reach t.0.at before z.number t.2 (first z (s.known z j) w)))
     (λ w. turned e.number w.0.at
     (all_at (λ e. (r : Return) → e.returned ≡ Some r → e.number < r.at) calls ends e i w.0 w.1) w.2) in
@@ -252,7 +252,7 @@ stack_case : (kind : Kind) (calls : List Call) (n : Call) (s : Split kind calls 
     calls ≡ true → All (λ e. (r : Return) → e.returned ≡ Some r → e.number < r.at) calls
     → count_by (is_put_ahead every from before) calls ≤ tally (may_by every) s.earlier
 stack_case kind calls n s r b from before is_stack pop returned value l settled ends =
-    let taking : is_taking n.op ≡ true = ap is_taking pop in
+    let removal : is_removal n.op ≡ true = ap is_removal pop in
     let gives : (reply : AnyReply) → IfSome n.returned (λ r. r.reply ≡ reply) → reply ≡ Value (Some b) =
     λ reply h. sym (subst (λ z. IfSome z (λ r. r.reply ≡ reply)) returned h) ∙ value in
     let replies : RepliesAlong (stack []) (s.earlier ++ n ∷ s.later) = subst
@@ -263,7 +263,7 @@ stack_case kind calls n s r b from before is_stack pop returned value l settled 
     let above : (e : Call) → In e calls → is_put_ahead every from before e ≡ true → In e (since_put b s.earlier) =
     λ e i p.
     let q = put_parts every from before e p in
-    in_since b s.earlier e (early kind calls n s every from before taking l e i p) in_time
+    in_since b s.earlier e (early kind calls n s every from before removal l e i p) in_time
     (λ z j w.
     let t = ended from z.returned
     (either (puts_in (int_eq b) z.op) (ended_before from z.returned) w
@@ -291,24 +291,24 @@ stack_case kind calls n s r b from before is_stack pop returned value l settled 
     sums : (a b c d f e : ℕ) (g : ℕ) → a ≡ e → a ≤ b → b ≤ c → d + c ≤ f → f ≤ g → e ≤ g
     sums a b c d f e g q l m n o = omega arith
 
--- Either the general case, or a queue's or a stack's taking of a value.
-taking_cases : (o : Option ℤ) (op : AnyOp) → ((op ≡ Dequeue → o ≡ None) × (op ≡ Pop → o ≡ None)) ⊎
+-- Either the general case, or a queue's or a stack's removal of a value.
+removal_cases : (o : Option ℤ) (op : AnyOp) → ((op ≡ Dequeue → o ≡ None) × (op ≡ Pop → o ≡ None)) ⊎
     (((b : ℤ) × (o ≡ Some b) × (op ≡ Dequeue)) ⊎ ((b : ℤ) × (o ≡ Some b) × (op ≡ Pop)))
-taking_cases None op = inl (λ e. refl, λ e. refl)
-taking_cases (Some b) Dequeue = inr (inl (b, refl, refl))
-taking_cases (Some b) Pop = inr (inr (b, refl, refl))
-taking_cases (Some b) ExtractMin = inl (λ e. absurd (cc e), λ e. absurd (cc e))
-taking_cases (Some b) (Enqueue v) = inl (λ e. absurd (cc e), λ e. absurd (cc e))
-taking_cases (Some b) (Push v) = inl (λ e. absurd (cc e), λ e. absurd (cc e))
-taking_cases (Some b) (Insert v) = inl (λ e. absurd (cc e), λ e. absurd (cc e))
-taking_cases (Some b) (Write v) = inl (λ e. absurd (cc e), λ e. absurd (cc e))
-taking_cases (Some b) Read = inl (λ e. absurd (cc e), λ e. absurd (cc e))
-taking_cases (Some b) (Cas x y) = inl (λ e. absurd (cc e), λ e. absurd (cc e))
-taking_cases (Some b) (Put k v) = inl (λ e. absurd (cc e), λ e. absurd (cc e))
-taking_cases (Some b) (Get k) = inl (λ e. absurd (cc e), λ e. absurd (cc e))
-taking_cases (Some b) (Del k) = inl (λ e. absurd (cc e), λ e. absurd (cc e))
-taking_cases (Some b) Acquire = inl (λ e. absurd (cc e), λ e. absurd (cc e))
-taking_cases (Some b) Release = inl (λ e. absurd (cc e), λ e. absurd (cc e))
+removal_cases None op = inl (λ e. refl, λ e. refl)
+removal_cases (Some b) Dequeue = inr (inl (b, refl, refl))
+removal_cases (Some b) Pop = inr (inr (b, refl, refl))
+removal_cases (Some b) ExtractMin = inl (λ e. absurd (cc e), λ e. absurd (cc e))
+removal_cases (Some b) (Enqueue v) = inl (λ e. absurd (cc e), λ e. absurd (cc e))
+removal_cases (Some b) (Push v) = inl (λ e. absurd (cc e), λ e. absurd (cc e))
+removal_cases (Some b) (Insert v) = inl (λ e. absurd (cc e), λ e. absurd (cc e))
+removal_cases (Some b) (Write v) = inl (λ e. absurd (cc e), λ e. absurd (cc e))
+removal_cases (Some b) Read = inl (λ e. absurd (cc e), λ e. absurd (cc e))
+removal_cases (Some b) (Cas x y) = inl (λ e. absurd (cc e), λ e. absurd (cc e))
+removal_cases (Some b) (Put k v) = inl (λ e. absurd (cc e), λ e. absurd (cc e))
+removal_cases (Some b) (Get k) = inl (λ e. absurd (cc e), λ e. absurd (cc e))
+removal_cases (Some b) (Del k) = inl (λ e. absurd (cc e), λ e. absurd (cc e))
+removal_cases (Some b) Acquire = inl (λ e. absurd (cc e), λ e. absurd (cc e))
+removal_cases (Some b) Release = inl (λ e. absurd (cc e), λ e. absurd (cc e))
 
 abbrev Bounded : (kind : Kind) (calls : List Call) (n : Call) (s : Split kind calls n) (from : ℕ)
     (op : AnyOp) (o : Option ℤ) → Type 0
@@ -323,7 +323,7 @@ moved kind calls n s from op own o b e f h =
     subst (λ (o : Option ℤ). Bounded kind calls n s from op o) (sym f)
     (subst (λ (op : AnyOp). Bounded kind calls n s from op (Some b)) (sym e) h)
 
--- What surely was ahead of what a taking found was taken out before it.
+-- What definitely was ahead of what a removal found was taken out before it.
 pub ahead_bounded : (kind : Kind) (calls : List Call) (n : Call) (at from : ℕ) (found : Option ℤ)
     (order : List ℤ) → All (λ e. kind_of e.op ≡ kind) calls → AllPairs (λ a b. a.number < b.number) calls
     → All (λ e. (r : Return) → e.returned ≡ Some r → e.number < r.at) calls → Contains calls n
@@ -338,9 +338,9 @@ ahead_bounded kind calls n at from found order of_kind rising ends stands told s
     let of_op : (op : AnyOp) → n.op ≡ op → kind ≡ kind_of op = λ op e. sym
     (all_at (λ e. kind_of e.op ≡ kind) calls of_kind n (in_from_contains calls n stands)) ∙ ap kind_of e in
     let here : Bounded kind calls n s from n.op found =
-    elim (taking_cases found n.op) [
-      | inl d ↦ plain_case kind calls n s r found from (ahead_before found n.op n.number calls) w.taking
-          w.returned w.value d.0 d.1 (before_taking found n.op n.number calls)
+    elim (removal_cases found n.op) [
+      | inl d ↦ plain_case kind calls n s r found from (ahead_before found n.op n.number calls) w.removal
+          w.returned w.value d.0 d.1 (before_removal found n.op n.number calls)
       | inr c ↦ elim c [
         | inl c ↦
             let q = queue_case kind calls n s r c.0 from (min n.number (first_put c.0 calls))

@@ -1,4 +1,4 @@
--- What surely was ahead of what a taking found, counted over the operations of an object.
+-- What definitely was ahead of what a removal found, counted over the operations of an object.
 use Rattle.std.proofs.Common.{MatchBool, ◌≡◌, ℕ, ℤ, ◌<◌, ◌≤◌, ◌==◌, nat_lt, min, Bool, true, false}
 use Rattle.std.proofs.Common.{not, ◌&&◌, ◌||◌, cond, List, [], ◌∷◌, Option, Some, None, All}
 use Rattle.std.proofs.Common.{AllPairs, count_by, refl, ap, sym, ◌∙◌, subst, arith}
@@ -18,10 +18,10 @@ use Rattle.events.specs.declared.operations.End.{End}
 use Rattle.events.specs.declared.operations.End.TheVariants.{Returned, Pending, Failed}
 use Rattle.events.specs.declared.operations.Invocation.{Invocation}
 use Rattle.events.specs.Operations.{call_with, call_of, calls_of, return_of, ObjectCalls, IsObjectHistory}
-use Rattle.order_search.specs.Outcomes.{IsNoneValid}
+use Rattle.search.specs.Outcomes.{IsNoneValid}
 use Rattle.projection.specs.Pieces.{is_put, is_over, found_end, first_put_end, ahead_before_end}
 use Rattle.projection.specs.Pieces.{is_settled_end, are_settled, is_put_ahead_end, may_take_end}
-use Rattle.projection.specs.Pieces.{may_precede_end, IsTaking}
+use Rattle.projection.specs.Pieces.{may_precede_end, IsRemoval}
 use Rattle.projection.proofs.Pieces.{rising_calls, calls_end, call_cases}
 use Rattle.projection.proofs.Sequences.{in_filter_map, in_filter_map_from, one_number}
 use Rattle.projection.proofs.Bounds.{passes, count_calls}
@@ -102,11 +102,11 @@ found_return op (Returned at r) = refl
 found_return op Pending = refl
 found_return op Failed = refl
 
-call_taking : (op : AnyOp) (number : ℕ) (e : End) (x : ℕ × Option ℤ) → found_end op e ≡ Some x
+call_removal : (op : AnyOp) (number : ℕ) (e : End) (x : ℕ × Option ℤ) → found_end op e ≡ Some x
     → call_with number op e ≡ Some (record { number = number; op = op; returned = return_of e })
-call_taking op number (Returned at r) x q = refl
-call_taking op number Pending x q = absurd (cc q)
-call_taking op number Failed x q = absurd (cc q)
+call_removal op number (Returned at r) x q = refl
+call_removal op number Pending x q = absurd (cc q)
+call_removal op number Failed x q = absurd (cc q)
 
 settled_calls : (found : Option ℤ) (op : AnyOp) (from : ℕ) (ops : List Invocation)
     → are_settled found op from ops ≡ is_settled found op from (calls_of ops)
@@ -140,9 +140,9 @@ settled_calls (Some b) (Del k) from ops = refl
 settled_calls (Some b) Acquire from ops = refl
 settled_calls (Some b) Release from ops = refl
 
--- the taking of a number, as a call
+-- the removal of a number, as a call
 blocked_from : (ops : List Invocation) (number from : ℕ) (op : AnyOp) (at : ℕ) (found : Option ℤ)
-    (t : IsTaking ops number op at found) → are_settled found op from ops ≡ true
+    (t : IsRemoval ops number op at found) → are_settled found op from ops ≡ true
     → count_by (may_precede_end (is_value_ahead found op) number at) ops < count_by
     (λ o. is_put_ahead_end (is_value_ahead found op) from (ahead_before_end found op number ops) o.number
     o.op o.«end») ops → IsBlocked number from (calls_of ops)
@@ -157,10 +157,10 @@ blocked_from ops number from op at found t settled l =
     less _ _ _ _ (may_count keeps number at ops) (put_count keeps from (ahead_before_end found op number ops) ops
     ∙ ap (λ (z : ℕ). count_by (is_put_ahead keeps from z) (calls_of ops)) (before_calls found op number ops)) l in
     record {
-      taking = c;
+      removal = c;
       known = contains_from_in (calls_of ops) c
           (in_filter_map_from call_of o c ops (in_from_contains ops o t.known)
-          (call_taking o.op o.number o.«end» (at, found) told));
+          (call_removal o.op o.number o.«end» (at, found) told));
       named = t.named;
       at = at;
       found = found;
@@ -176,25 +176,25 @@ blocked_from ops number from op at found t settled l =
     less : (a b c d : ℕ) → a ≡ b → c ≡ d → a < c → b < d
     less a b c d e f l = omega arith
 
--- the taking of a blocked number, as an operation
+-- the removal of a blocked number, as an operation
 pub blocked_piece : (ops : List Invocation) (number from : ℕ) (b : IsBlocked number from (calls_of ops))
-    → IsTaking ops number b.taking.op b.at b.found
+    → IsRemoval ops number b.removal.op b.at b.found
 blocked_piece ops number from b =
-    let o = in_filter_map call_of b.taking ops (in_from_contains (calls_of ops) b.taking b.known) in
-    let k = call_cases o.0 b.taking o.2 in
+    let o = in_filter_map call_of b.removal ops (in_from_contains (calls_of ops) b.removal b.known) in
+    let k = call_cases o.0 b.removal o.2 in
     record {
       operation = o.0;
       known = contains_from_in ops o.0 o.1;
       named = sym k.0 ∙ b.named;
       same = sym k.1;
-      told = found_return b.taking.op o.0.«end» ∙ ap (found_by b.taking.op) (sym k.2) ∙ b.told;
+      told = found_return b.removal.op o.0.«end» ∙ ap (found_by b.removal.op) (sym k.2) ∙ b.told;
     }
 
-same_taking : (ops : List Invocation) (number : ℕ) (op op' : AnyOp) (at at' : ℕ) (found found' : Option ℤ)
-    → AllPairs (λ a b. a.number < b.number) ops → IsTaking ops number op at found
-    → IsTaking ops number op' at' found'
+same_removal : (ops : List Invocation) (number : ℕ) (op op' : AnyOp) (at at' : ℕ) (found found' : Option ℤ)
+    → AllPairs (λ a b. a.number < b.number) ops → IsRemoval ops number op at found
+    → IsRemoval ops number op' at' found'
     → (op ≡ op') × (at ≡ at') × (found ≡ found')
-same_taking ops number op op' at at' found found' rising t u =
+same_removal ops number op op' at at' found found' rising t u =
     let own : t.operation ≡ u.operation = one_number (λ (z : Invocation). z.number) t.operation u.operation
     ops (pairs_from_all (λ a b. a.number < b.number) ops rising)
     (in_from_contains ops t.operation t.known) (in_from_contains ops u.operation u.known) (t.named ∙ sym u.named) in
@@ -207,7 +207,7 @@ same_taking ops number op op' at at' found found' rising t u =
 
 -- a test that compares the two counts decides
 pub ahead_decided : (h : ObjectCalls) (number from : ℕ) (op : AnyOp) (at : ℕ) (found : Option ℤ)
-    (ahead takes : ℕ) → IsObjectHistory h → IsTaking h.ops number op at found
+    (ahead takes : ℕ) → IsObjectHistory h → IsRemoval h.ops number op at found
     → ahead ≡ count_by
     (λ o. is_put_ahead_end (is_value_ahead found op) from (ahead_before_end found op number h.ops) o.number
     o.op o.«end») h.ops → takes ≡ count_by (may_precede_end (is_value_ahead found op) number at) h.ops
@@ -227,33 +227,33 @@ ahead_decided h number from op at found ahead takes is t e f = go (are_settled f
     go true true p q = blocked_from h.ops number from op at found t p (less _ _ _ _ f e q)
     go true false p q = λ b.
         let u = blocked_piece h.ops number from b in
-        let s = same_taking h.ops number op b.taking.op at b.at found b.found is.rising t u in
+        let s = same_removal h.ops number op b.removal.op at b.at found b.found is.rising t u in
         let calls = calls_of h.ops in
-        let counted_takes : takes ≡ count_by (may_precede (is_value_ahead b.found b.taking.op) number b.at) calls =
+        let counted_takes : takes ≡ count_by (may_precede (is_value_ahead b.found b.removal.op) number b.at) calls =
         f ∙ may_count (is_value_ahead found op) number at h.ops
         ∙ ap (λ (z : AnyOp). count_by (may_precede (is_value_ahead found z) number at) calls) s.0
-        ∙ ap (λ (z : ℕ). count_by (may_precede (is_value_ahead found b.taking.op) number z) calls) s.1
-        ∙ ap (λ (z : Option ℤ). count_by (may_precede (is_value_ahead z b.taking.op) number b.at) calls) s.2 in
+        ∙ ap (λ (z : ℕ). count_by (may_precede (is_value_ahead found b.removal.op) number z) calls) s.1
+        ∙ ap (λ (z : Option ℤ). count_by (may_precede (is_value_ahead z b.removal.op) number b.at) calls) s.2 in
         let counted_puts : ahead ≡ count_by
-        (is_put_ahead (is_value_ahead b.found b.taking.op) from
-        (ahead_before b.found b.taking.op number calls)) calls =
+        (is_put_ahead (is_value_ahead b.found b.removal.op) from
+        (ahead_before b.found b.removal.op number calls)) calls =
         e ∙ put_count (is_value_ahead found op) from (ahead_before_end found op number h.ops) h.ops
         ∙ ap (λ (z : ℕ). count_by (is_put_ahead (is_value_ahead found op) from z) calls)
         (before_calls found op number h.ops)
         ∙ ap (λ (z : AnyOp). count_by
         (is_put_ahead (is_value_ahead found z) from (ahead_before found z number calls)) calls) s.0
         ∙ ap (λ (z : Option ℤ). count_by
-        (is_put_ahead (is_value_ahead z b.taking.op) from (ahead_before z b.taking.op number calls))
+        (is_put_ahead (is_value_ahead z b.removal.op) from (ahead_before z b.removal.op number calls))
         calls) s.2 in
         not_less _ _ _ _ counted_takes counted_puts q b.more
     go false z p q = λ b.
         let u = blocked_piece h.ops number from b in
-        let s = same_taking h.ops number op b.taking.op at b.at found b.found is.rising t u in
+        let s = same_removal h.ops number op b.removal.op at b.at found b.found is.rising t u in
         unlike (sym p ∙ settled_calls found op from h.ops
         ∙ ap (λ (z : AnyOp). is_settled found z from (calls_of h.ops)) s.0
-        ∙ ap (λ (z : Option ℤ). is_settled z b.taking.op from (calls_of h.ops)) s.2 ∙ b.settled)
+        ∙ ap (λ (z : Option ℤ). is_settled z b.removal.op from (calls_of h.ops)) s.2 ∙ b.settled)
 
--- an object's history in which a taking is blocked has no valid order
+-- an object's history in which a removal is blocked has no valid order
 pub blocked_shows : (h : ObjectCalls) (number from : ℕ) → IsObjectHistory h
     → IsBlocked number from (calls_of h.ops) → IsNoneValid h.kind (calls_of h.ops)
 blocked_shows h number from is b order v =
@@ -261,13 +261,13 @@ blocked_shows h number from is b order v =
     (λ e. kind_of e.op ≡ h.kind) (calls_of h.ops) (λ e i.
     let o = in_filter_map call_of e h.ops i in
     ap kind_of (call_cases o.0 e o.2).1 ∙ all_at (λ o. kind_of o.op ≡ h.kind) h.ops is.of_kind o.0 o.1) in
-    let l = ahead_bounded h.kind (calls_of h.ops) b.taking b.at from b.found order of_kind
+    let l = ahead_bounded h.kind (calls_of h.ops) b.removal b.at from b.found order of_kind
     (rising_calls h.ops is.rising) (calls_end h.object h.kind h.ops is) b.known b.told b.settled v in
     over _ _ (subst
     (λ (n : ℕ). count_by
-    (is_put_ahead (is_value_ahead b.found b.taking.op) from
-    (ahead_before b.found b.taking.op n (calls_of h.ops))) (calls_of h.ops)
-    ≤ count_by (may_precede (is_value_ahead b.found b.taking.op) n b.at) (calls_of h.ops)) b.named l) b.more
+    (is_put_ahead (is_value_ahead b.found b.removal.op) from
+    (ahead_before b.found b.removal.op n (calls_of h.ops))) (calls_of h.ops)
+    ≤ count_by (may_precede (is_value_ahead b.found b.removal.op) n b.at) (calls_of h.ops)) b.named l) b.more
   where
     over : (a c : ℕ) → a ≤ c → c < a → ⊥
     over a c l m = omega arith
@@ -275,7 +275,7 @@ blocked_shows h number from is b order v =
 -- the same, of operations that are those of the history
 pub decided_of : (h : ObjectCalls) (ops : List Invocation) (number own from : ℕ) (op : AnyOp) (at : ℕ)
     (found : Option ℤ) (ahead takes : ℕ) → IsObjectHistory h → ops ≡ h.ops → own ≡ number
-    → IsTaking ops number op at found
+    → IsRemoval ops number op at found
     → ahead ≡ count_by
     (λ o. is_put_ahead_end (is_value_ahead found op) from (ahead_before_end found op own ops) o.number o.op
     o.«end») ops
@@ -296,4 +296,4 @@ decided_of h ops number own from op at found ahead takes is same named t e f =
     subst (λ (os : List Invocation). MatchBool (are_settled found op from os && nat_lt takes ahead)
     (IsBlocked number from (calls_of h.ops)) (IsBlocked number from (calls_of h.ops) → ⊥)) (sym same)
     (ahead_decided h number from op at found ahead takes is
-    (subst (λ (os : List Invocation). IsTaking os number op at found) same t) e' f')
+    (subst (λ (os : List Invocation). IsRemoval os number op at found) same t) e' f')

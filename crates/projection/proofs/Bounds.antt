@@ -30,7 +30,7 @@ use Rattle.events.specs.declared.operations.End.{End}
 use Rattle.events.specs.declared.operations.End.TheVariants.{Returned, Pending, Failed}
 use Rattle.events.specs.declared.operations.Invocation.{Invocation}
 use Rattle.events.specs.Operations.{call_with, call_of, calls_of, ObjectCalls, IsObjectHistory}
-use Rattle.order_search.specs.Outcomes.{IsNoneValid}
+use Rattle.search.specs.Outcomes.{IsNoneValid}
 use Rattle.projection.proofs.Pieces.{rising_calls, calls_end}
 use Rattle.projection.proofs.Conserved.{one, tally, count_tally, balanced, count_among, and_false}
 
@@ -407,7 +407,7 @@ once Held (mutex b) e = one_at_most b
 once Free (mutex b) e = one_at_most (not b)
 once what c e = omega arith
 
--- No call that returned before the first taking that counts is done after it.
+-- No call that returned before the first removal that counts is done after it.
 from_later : (what : Counted) (from : ℕ) (es : List Call) (c : Content) → single c ≡ true
     → ((e : Call) → In e es → (r : Return) → e.returned ≡ Some r → e.number < r.at) → Pairs (λ x y. ReturnsBefore y x → ⊥) es → RepliesAlong c es
     → tally (taken_from what from) es ≤ 1 + tally (set_from what from) es
@@ -497,8 +497,8 @@ count_bounded kind calls what from most order rising ends before v =
     returned op None e = absurd (unlike (sym (none_taken what op) ∙ e))
     returned op (Some r) e = refl
 
-    sums : (took put all_took all_put takings settings : ℕ) → took ≤ most + put → put ≤ all_put → all_took ≤ took → all_put ≡ settings → all_took ≡ takings → takings ≤ most + settings
-    sums took put all_took all_put takings settings a b d e f = omega arith
+    sums : (took put all_took all_put removals settings : ℕ) → took ≤ most + put → put ≤ all_put → all_took ≤ took → all_put ≡ settings → all_took ≡ removals → removals ≤ most + settings
+    sums took put all_took all_put removals settings a b d e f = omega arith
 
 -- ---- operations and calls
 

@@ -10,7 +10,7 @@ use Rattle.events.specs.declared.operations.Invocation.{Invocation}
 use Rattle.events.specs.Operations.{call_with, call_of, calls_of, ObjectCalls, IsObjectHistory}
 use Rattle.projection.specs.Absent.{is_put_before, is_taken_before, IsAbsent, calls_without}
 use Rattle.projection.specs.Cuts.{IsPart}
-use Rattle.projection.specs.Parts.{puts_in, is_taking}
+use Rattle.projection.specs.Parts.{puts_in, is_removal}
 use Rattle.projection.specs.Pieces.{has_failed, is_put_before_end, is_taken_before_end, is_early, is_late}
 use Rattle.projection.proofs.Absences.{without_valid}
 use Rattle.projection.proofs.Bounds.{passes, count_calls}
@@ -42,7 +42,7 @@ piece_call v before o = piece (is_late v before o) ∙ sym (part o.«end»)
     part : (e : End) → bind (call_with o.number o.op e) (own (late_call v before))
         ≡ cond (not (has_failed e) && not (is_put_before_end v before o.number o.op e || is_taken_before_end v before o.op e)) (call_with o.number o.op e) None
     part (Returned at r) = refl
-    part Pending = ap (λ (b : Bool). cond (not ((puts_in (int_eq v) o.op && nat_lt o.number before) || b)) (call_with o.number o.op Pending) None) (pending_took (is_taking o.op))
+    part Pending = ap (λ (b : Bool). cond (not ((puts_in (int_eq v) o.op && nat_lt o.number before) || b)) (call_with o.number o.op Pending) None) (pending_took (is_removal o.op))
     part Failed = refl
 
 pub late_history : (v : ℤ) (before : ℕ) (h : ObjectCalls) → IsObjectHistory h
@@ -69,7 +69,7 @@ taken_counts v before ops = count_calls (λ o. is_taken_before_end v before o.op
   where
     go : (o : Invocation) (e : End) → is_taken_before_end v before o.op e ≡ passes (is_taken_before v before) (call_with o.number o.op e)
     go o (Returned at r) = refl
-    go o Pending = sym (pending_took (is_taking o.op))
+    go o Pending = sym (pending_took (is_removal o.op))
     go o Failed = refl
 
 pub absent_from : (v : ℤ) (before : ℕ) (ops : List Invocation) (put taken : ℕ) → put ≡ count_by (λ o. is_put_before_end v before o.number o.op o.«end») ops

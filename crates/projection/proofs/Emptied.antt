@@ -1,4 +1,4 @@
--- What is put in before a taking that finds nothing, or the least value of a heap, is taken out before it.
+-- What is put in before a removal that finds nothing, or the least value of a heap, is taken out before it.
 use Rattle.std.proofs.Common.{◌≡◌, inl, inr, ℕ, ℤ, ◌≤◌, ◌≤ℤ◌, ◌+◌, int_lt, Bool, true, false, ◌&&◌}
 use Rattle.std.proofs.Common.{cond, List, [], ◌∷◌, ◌++◌, length, Option, Some, None, IfSome, filter}
 use Rattle.std.proofs.Common.{refl, ap, sym, ◌∙◌, subst, arith}
@@ -15,7 +15,7 @@ use Rattle.model.specs.declared.AnyReply.TheVariants.{Value, Swapped, NotSwapped
 use Rattle.model.specs.Objects.{Content, queue, stack, heap, register, table, mutex, empty, contains_value, next}
 use Rattle.model.specs.Orders.{Call, Return, RepliesAlong}
 use Rattle.model.proofs.Lists.{In, Pairs, in_left, in_middle}
-use Rattle.projection.specs.Parts.{reply_of, puts_in, is_kept_value, is_taking, takes_out}
+use Rattle.projection.specs.Parts.{reply_of, puts_in, is_kept_value, is_removal, takes_out}
 use Rattle.projection.specs.Ahead.{is_value_ahead, may_take}
 use Rattle.projection.proofs.Contents.{IsRising, rising_with_value}
 use Rattle.projection.proofs.Conserved.{one, tally, kept_size, size_empty, turn}
@@ -69,8 +69,8 @@ may_by keeps e = may_take keeps e.op (reply_of e.returned)
 -- a call that takes one out is one that may
 pub may_le : (keeps : ℤ → Bool) (op : AnyOp) (o : Option Return) (reply : AnyReply)
     → IfSome o (λ r. r.reply ≡ reply) → one (takes_out keeps op (Some reply)) ≤ one (may_take keeps op (reply_of o))
-may_le keeps op None reply h = one_le (takes_out keeps op (Some reply)) (is_taking op)
-    (λ e. (both (is_taking op) (is_kept_value keeps (Some reply)) e).0)
+may_le keeps op None reply h = one_le (takes_out keeps op (Some reply)) (is_removal op)
+    (λ e. (both (is_removal op) (is_kept_value keeps (Some reply)) e).0)
 may_le keeps op (Some r) reply h = let n = ap (λ (z : AnyReply). one (takes_out keeps op (Some z))) h in omega arith
 
 -- a heap's values rise
@@ -111,7 +111,7 @@ sound_next (mutex false) Acquire s = tt
 sound_next (mutex true) Release s = tt
 sound_next c op s = tt
 
--- ---- the content that the taking finds
+-- ---- the content that the removal finds
 
 record Reached (keeps : ℤ → Bool) (xs : List Call) (n : Call) (ys : List Call) (c : Content) : Type 0 where
   pub content : Content
@@ -172,9 +172,9 @@ same_value x y e = ap back e
 some_none : (v : ℤ) → Some v ≡ None → ⊥
 some_none v e = absurd (cc e)
 
--- where a taking finds nothing, the object is empty, and where a heap's finds a value, it contains no lesser one
+-- where a removal finds nothing, the object is empty, and where a heap's finds a value, it contains no lesser one
 emptied : (c : Content) (op : AnyOp) (o : Option ℤ) → IsSound c → (op ≡ Dequeue → o ≡ None)
-    → (op ≡ Pop → o ≡ None) → is_taking op ≡ true
+    → (op ≡ Pop → o ≡ None) → is_removal op ≡ true
     → IfSome (next c op) (λ p. p.1 ≡ Value o → kept_size (is_value_ahead o op) c ≡ 0)
 emptied (queue []) Dequeue o s d u t = λ e. refl
 emptied (queue (v ∷ vs)) Dequeue o s d u t = λ e. absurd (some_none v (same_value (Some v) o e ∙ d refl))
@@ -198,8 +198,8 @@ emptied (mutex false) Acquire o s d u t = absurd (unlike t)
 emptied (mutex true) Release o s d u t = absurd (unlike t)
 emptied c op o s d u t = tt
 
--- what is put in before the taking is taken out before it
-pub spent : (n : Call) (r : Return) (o : Option ℤ) (xs ys : List Call) (k : Kind) → is_taking n.op ≡ true
+-- what is put in before the removal is taken out before it
+pub spent : (n : Call) (r : Return) (o : Option ℤ) (xs ys : List Call) (k : Kind) → is_removal n.op ≡ true
     → n.returned ≡ Some r → r.reply ≡ Value o → (n.op ≡ Dequeue → o ≡ None) → (n.op ≡ Pop → o ≡ None)
     → RepliesAlong (empty k) (xs ++ n ∷ ys) → tally (put_by (is_value_ahead o n.op)) xs ≤ tally
     (may_by (is_value_ahead o n.op)) xs

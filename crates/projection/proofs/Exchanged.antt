@@ -1,4 +1,4 @@
--- A part of a valid order in which the pending takings of kept values are those that were invoked first.
+-- A part of a valid order in which the pending removals of kept values are those that were invoked first.
 use Rattle.std.proofs.Common.{◌≡◌, ◌≢◌, ◌⊎◌, inl, inr, zero, suc, ℕ, ℤ, ◌<◌, ◌≤◌, ◌+◌, nat_lt, Bool, true, false, not, ◌&&◌, List, [], ◌∷◌, length}
 use Rattle.std.proofs.Common.{Option, Some, None, IfSome, IsSome, is_some, refl, ap, sym, ◌∙◌, subst, arith}
 use Rattle.std.proofs.lemmas.Bool.Decides.{nat_tests}
@@ -9,7 +9,7 @@ use Rattle.model.specs.declared.AnyReply.{AnyReply}
 use Rattle.model.specs.Objects.{Content, next, kind_of}
 use Rattle.model.specs.Orders.{Call, Return, ReturnsBefore, RepliesAlong}
 use Rattle.model.proofs.Lists.{In, Pairs, pairs_weaker}
-use Rattle.projection.specs.Parts.{reply_of, is_taking, is_kept_value, takes_out, fits, is_pending_taking, put_count, taken_count}
+use Rattle.projection.specs.Parts.{reply_of, is_removal, is_kept_value, takes_out, fits, is_pending_removal, put_count, taken_count}
 use Rattle.projection.proofs.Simulation.{Stepped}
 use Rattle.projection.proofs.Contents.{IsShadow, TookNone, shown, step_at}
 use Rattle.projection.proofs.Conserved.{one, tally, puts, taken, kept_size, and_false, turn, conserved, count_among}
@@ -39,16 +39,16 @@ is_before a b e = grind (arith, nat_tests)
 at_least : (a b : ℕ) → nat_lt a b ≡ false → b ≤ a
 at_least a b e = grind (arith, nat_tests)
 
--- ---- pending takings by their invocations
+-- ---- pending removals by their invocations
 
 abbrev pub is_open : Call → Bool
-is_open e = is_pending_taking e.op e.returned
+is_open e = is_pending_removal e.op e.returned
 
--- how many pending takings were invoked before this number
+-- how many pending removals were invoked before this number
 abbrev pub rank : List Call → ℕ → ℕ
 rank calls n = tally (λ e. is_open e && nat_lt e.number n) calls
 
--- the pending taking before which this many were invoked
+-- the pending removal before which this many were invoked
 record Nth (calls : List Call) (i : ℕ) : Type 0 where
   call : Call
   known : In call calls
@@ -110,7 +110,7 @@ all_pass p (x ∷ xs) f =
 apart_calls : (xs : List Call) → Pairs (λ x y. x.number ≢ y.number) xs → Pairs (λ x y. x ≢ y) xs
 apart_calls xs h = pairs_weaker (λ x y. x.number ≢ y.number) (λ x y. x ≢ y) xs (λ x y i j ne e. ne (ap (λ (z : Call). z.number) e)) h
 
--- the last of i + 1 pending takings was invoked no earlier than the one before which i were
+-- the last of i + 1 pending removals was invoked no earlier than the one before which i were
 one_late : (calls xs : List Call) (i : ℕ) (p : Nth calls i) → length xs ≡ i + 1 → Pairs (λ x y. x.number ≢ y.number) xs
     → ((x : Call) → In x xs → is_open x ≡ true) → ((x : Call) → In x xs → In x calls) → (x : Call) × In x xs × (p.call.number ≤ x.number)
 one_late calls xs i p many apart pending known = elim (late p.call.number xs) [
@@ -125,7 +125,7 @@ one_late calls xs i p many apart pending known = elim (late p.call.number xs) [
     sums : (a b l : ℕ) → a ≡ l → a ≤ b → b ≡ i → l ≡ i + 1 → ⊥
     sums a b l e f g h = absurd (omega arith)
 
--- some pending taking stands at each place that i + 1 of them show
+-- some pending removal stands at each place that i + 1 of them show
 place : (calls xs : List Call) (i : ℕ) → Pairs (λ a b. a.number < b.number) calls → length xs ≡ i + 1 → Pairs (λ x y. x.number ≢ y.number) xs
     → ((x : Call) → In x xs → is_open x ≡ true) → ((x : Call) → In x xs → In x calls) → Nth calls i
 place calls xs i rising many apart pending known =
@@ -136,17 +136,17 @@ place calls xs i rising many apart pending known =
     sums : (a b l : ℕ) → a ≡ l → a ≤ b → l ≡ i + 1 → i < b
     sums a b l e f g = omega arith
 
--- ---- facts of takings
+-- ---- facts of removals
 
-open_taking : (e : Call) → is_open e ≡ true → is_taking e.op ≡ true
-open_taking e h = go (is_taking e.op) h
+open_removal : (e : Call) → is_open e ≡ true → is_removal e.op ≡ true
+open_removal e h = go (is_removal e.op) h
   where
     go : (b : Bool) → (b && not (is_some e.returned)) ≡ true → b ≡ true
     go true h = refl
     go false h = h
 
 open_returned : (e : Call) → is_open e ≡ true → is_some e.returned ≡ false
-open_returned e h = go (is_taking e.op) (is_some e.returned) h
+open_returned e h = go (is_removal e.op) (is_some e.returned) h
   where
     go : (b c : Bool) → (b && not c) ≡ true → c ≡ false
     go true true h = absurd (unlike h)
@@ -156,30 +156,30 @@ open_returned e h = go (is_taking e.op) (is_some e.returned) h
 not_returned : (e : Call) (r : Return) → is_open e ≡ true → e.returned ≡ Some r → ⊥
 not_returned e r h q = unlike (sym (open_returned e h) ∙ ap is_some q)
 
-closed_taking : (e : Call) → is_open e ≡ false → is_some e.returned ≡ false → is_taking e.op ≡ false
-closed_taking e h p = go (is_taking e.op) (is_some e.returned) h p
+closed_removal : (e : Call) → is_open e ≡ false → is_some e.returned ≡ false → is_removal e.op ≡ false
+closed_removal e h p = go (is_removal e.op) (is_some e.returned) h p
   where
     go : (b c : Bool) → (b && not c) ≡ false → c ≡ false → b ≡ false
     go true true h p = absurd (unlike (sym p))
     go true false h p = absurd (unlike (sym h))
     go false c h p = refl
 
-same_taking : (a b : AnyOp) → is_taking a ≡ true → is_taking b ≡ true → kind_of a ≡ kind_of b → a ≡ b
-same_taking Dequeue Dequeue h k e = refl
-same_taking Pop Pop h k e = refl
-same_taking ExtractMin ExtractMin h k e = refl
-same_taking Dequeue Pop h k e = absurd (cc e)
-same_taking Dequeue ExtractMin h k e = absurd (cc e)
-same_taking Pop Dequeue h k e = absurd (cc e)
-same_taking Pop ExtractMin h k e = absurd (cc e)
-same_taking ExtractMin Dequeue h k e = absurd (cc e)
-same_taking ExtractMin Pop h k e = absurd (cc e)
-same_taking Dequeue b h k e = absurd (unlike k)
-same_taking Pop b h k e = absurd (unlike k)
-same_taking ExtractMin b h k e = absurd (unlike k)
-same_taking a b h k e = absurd (unlike h)
+same_removal : (a b : AnyOp) → is_removal a ≡ true → is_removal b ≡ true → kind_of a ≡ kind_of b → a ≡ b
+same_removal Dequeue Dequeue h k e = refl
+same_removal Pop Pop h k e = refl
+same_removal ExtractMin ExtractMin h k e = refl
+same_removal Dequeue Pop h k e = absurd (cc e)
+same_removal Dequeue ExtractMin h k e = absurd (cc e)
+same_removal Pop Dequeue h k e = absurd (cc e)
+same_removal Pop ExtractMin h k e = absurd (cc e)
+same_removal ExtractMin Dequeue h k e = absurd (cc e)
+same_removal ExtractMin Pop h k e = absurd (cc e)
+same_removal Dequeue b h k e = absurd (unlike k)
+same_removal Pop b h k e = absurd (unlike k)
+same_removal ExtractMin b h k e = absurd (unlike k)
+same_removal a b h k e = absurd (unlike h)
 
-fits_open : (all : Bool) (keeps : ℤ → Bool) (kept : Bool) (op : AnyOp) → is_taking op ≡ true → fits all keeps kept op None ≡ true
+fits_open : (all : Bool) (keeps : ℤ → Bool) (kept : Bool) (op : AnyOp) → is_removal op ≡ true → fits all keeps kept op None ≡ true
 fits_open all keeps kept Dequeue h = refl
 fits_open all keeps kept Pop h = refl
 fits_open all keeps kept ExtractMin h = refl
@@ -194,7 +194,7 @@ pub record IsSetting (calls : List Call) (kind : Kind) (all : Bool) (keeps : ℤ
   pub each : (e : Call) → In e calls → fits all keeps (kept e.number) e.op (reply_of e.returned) ≡ true
   pub pending : (e : Call) → In e calls → is_open e ≡ true → kept e.number ≡ false → put_count keeps calls ≤ taken_count keeps calls + rank calls e.number
 
--- i pending takings, xs, took a kept value before the calls es, which contain this at first
+-- i pending removals, xs, took a kept value before the calls es, which contain this at first
 pub record IsTurn (calls : List Call) (keeps : ℤ → Bool) (i : ℕ) (xs es : List Call) (c : Content) : Type 0 where
   pub many : length xs ≡ i
   pub pending : (x : Call) → In x xs → is_open x ≡ true
@@ -236,7 +236,7 @@ leave calls kept i d e es out m = record {
   ];
 }
 
--- a call that is no pending taking is done
+-- a call that is no pending removal is done
 keep_own : (calls : List Call) (kept : ℕ → Bool) (i : ℕ) (d behind : Content) (e : Call) (es : List Call) (reply : AnyReply)
     → Pairs (λ a b. a.number < b.number) calls → is_open e ≡ false → kept e.number ≡ true → In e calls → ((y : Call) → In y es → e.number ≢ y.number)
     → ((y : Call) → In y es → ReturnsBefore y e → ⊥) → next d e.op ≡ Some (behind, reply) → IfSome e.returned (λ r. r.reply ≡ reply)
@@ -260,7 +260,7 @@ keep_own calls kept i d behind e es reply rising closed k here apart time does a
   whole = λ x j kx so. elim j [ inl q ↦ inl q | inr l ↦ inr (m.whole x l kx so) ];
 }
 
--- in place of a pending taking one is done that was invoked no later than some such one so far
+-- in place of a pending removal one is done that was invoked no later than some such one so far
 keep_other : (calls : List Call) (kept : ℕ → Bool) (i : ℕ) (d behind : Content) (e x : Call) (es : List Call) (reply : AnyReply) (p : Nth calls i)
     → Pairs (λ a b. a.number < b.number) calls → is_open e ≡ true → kept p.call.number ≡ true → p.call.number ≤ x.number
     → ((y : Call) → In y es → ReturnsBefore y x → ⊥) → next d p.call.op ≡ Some (behind, reply) → Exchanged calls kept (i + 1) behind es → Exchanged calls kept i d (e ∷ es)
@@ -322,7 +322,7 @@ walk calls kind all keeps kept s (e ∷ es) i xs c d r h t = go (λ j ys b q u. 
     steps k b = subst (λ z. IfSome z (λ p. fits all keeps k e.op (shown b p.1) ≡ true → TookNone keeps e.op b k p.1
         → Stepped (IsShadow keeps) e.op k b p.1 d p.0)) h.2 (step_at all keeps s.every c d e.op r k b)
 
-    -- no pending taking took a kept value here
+    -- no pending removal took a kept value here
     same : (one (takes_out keeps e.op (reply_of e.returned)) ≡ one (takes_out keeps e.op (Some h.1))) → IsTurn calls keeps i xs es h.0
     same q = record {
       many = t.many;
@@ -340,7 +340,7 @@ walk calls kind all keeps kept s (e ∷ es) i xs c d r h t = go (λ j ys b q u. 
         sums : (after took size put told gone more a b : ℕ) → after + took ≡ size + put → told ≡ took → size + (put + more) + i + a ≤ b + (told + gone) → after + more + i + a ≤ b + gone
         sums after took size put told gone more a b f g l = omega arith
 
-    -- a pending taking took a kept value, and one more may be done
+    -- a pending removal took a kept value, and one more may be done
     fewer : is_some e.returned ≡ false → (j : ℕ) (ys : List Call) → length ys ≡ j → ((x : Call) → In x ys → is_open x ≡ true)
         → ((x : Call) → In x ys → In x calls) → Pairs (λ x y. x.number ≢ y.number) ys → ((x y : Call) → In x ys → In y es → x.number ≢ y.number)
         → ((x y : Call) → In x ys → In y es → ReturnsBefore y x → ⊥) → j ≤ i + one (takes_out keeps e.op (Some h.1)) → IsTurn calls keeps j ys es h.0
@@ -365,12 +365,12 @@ walk calls kind all keeps kept s (e ∷ es) i xs c d r h t = go (λ j ys b q u. 
       where
         told : (w : Option Return) → e.returned ≡ w → IfSome w (λ r. r.reply ≡ h.1) → one (takes_out keeps e.op (reply_of w)) ≡ one (takes_out keeps e.op (Some h.1))
         told None q a =
-            let none = closed_taking e o (ap is_some q) in
+            let none = closed_removal e o (ap is_some q) in
             ap (λ z. one (z && false)) none ∙ ap (λ z. one (z && is_kept_value keeps (Some h.1))) (sym none)
         told (Some w) q a = ap (λ (z : AnyReply). one (takes_out keeps e.op (Some z))) a
 
     own_none : is_open e ≡ false → TookNone keeps e.op (is_some e.returned) (kept e.number) h.1
-    own_none o p k = ap (λ z. z && is_kept_value keeps (Some h.1)) (closed_taking e o p)
+    own_none o p k = ap (λ z. z && is_kept_value keeps (Some h.1)) (closed_removal e o p)
 
     fitting : fits all keeps (kept e.number) e.op (shown (is_some e.returned) h.1) ≡ true
     fitting = sym (ap (fits all keeps (kept e.number) e.op) (reply_shown e.returned h.1 h.3)) ∙ s.each e (t.later_known e (inl refl))
@@ -409,7 +409,7 @@ walk calls kind all keeps kept s (e ∷ es) i xs c d r h t = go (λ j ys b q u. 
         turned = fewer (open_returned e o) (i + 1) (e ∷ xs) long pending known apart cross (λ x y. time y x) (let one_more = ap one took in omega arith)
 
         same_op : p.call.op ≡ e.op
-        same_op = same_taking p.call.op e.op (open_taking p.call p.pending) (open_taking e o) (s.of_kind p.call p.known ∙ sym (s.of_kind e (t.later_known e (inl refl))))
+        same_op = same_removal p.call.op e.op (open_removal p.call p.pending) (open_removal e o) (s.of_kind p.call p.known ∙ sym (s.of_kind e (t.later_known e (inl refl))))
 
         kept_one : kept p.call.number ≡ true
         kept_one = elim (test_cases (kept p.call.number)) [
@@ -426,12 +426,12 @@ walk calls kind all keeps kept s (e ∷ es) i xs c d r h t = go (λ j ys b q u. 
       | inl skip ↦ leave calls kept i d e es skip.0 (again i xs d skip.1 (same (own_told o)))
       | inr take ↦ keep_own calls kept i d take.1 e es h.1 s.rising o take.0 (t.later_known e (inl refl)) t.later_apart.0 t.in_time.0 take.2 h.3 (again i xs take.1 take.3 (same (own_told o)))
     ]
-    go again true true o w = elim (steps true false (fits_open all keeps true e.op (open_taking e o)) (λ b k. absurd (unlike (sym k)))) [
+    go again true true o w = elim (steps true false (fits_open all keeps true e.op (open_removal e o)) (λ b k. absurd (unlike (sym k)))) [
       | inl skip ↦ leave calls kept i d e es (inr (open_returned e o))
           (again i xs d skip.1 (fewer (open_returned e o) i xs t.many t.pending t.known t.apart (λ x y a b. t.cross_apart x y a (inr b)) (λ x y a b. t.cross_time x y a (inr b)) (omega arith)))
       | inr take ↦ exchange again o w take.1 take.2 take.3
     ]
-    go again true false o w = elim (steps false false (fits_open all keeps false e.op (open_taking e o)) (λ b k. w)) [
+    go again true false o w = elim (steps false false (fits_open all keeps false e.op (open_removal e o)) (λ b k. w)) [
       | inl skip ↦ leave calls kept i d e es (inr (open_returned e o))
           (again i xs d skip.1 (fewer (open_returned e o) i xs t.many t.pending t.known t.apart (λ x y a b. t.cross_apart x y a (inr b)) (λ x y a b. t.cross_time x y a (inr b)) (omega arith)))
       | inr take ↦ absurd (unlike take.0)

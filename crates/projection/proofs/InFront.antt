@@ -19,7 +19,7 @@ use Rattle.projection.specs.Ahead.{first_put}
 use Rattle.projection.proofs.Conserved.{one, tally}
 use Rattle.projection.proofs.Emptied.{unlike, put_by, may_by, may_le, same_value}
 
--- ---- a queue, where the taking finds a value
+-- ---- a queue, where the removal finds a value
 
 abbrev pub every : ℤ → Bool
 every v = true
@@ -149,7 +149,7 @@ first_least b (e ∷ es) h p i q = go (puts_in (int_eq b) e.op) refl (λ j. firs
           rest j
     ]
 
--- ---- a stack, where the taking finds a value
+-- ---- a stack, where the removal finds a value
 
 abbrev Sinks : ℤ → List ℤ → AnyOp → Content → AnyReply → Type 0
 Sinks b vs op after reply = (ws : List ℤ) × (after ≡ stack ws) ×
@@ -239,14 +239,6 @@ since_none b (e ∷ es) p i = go (any_put b (e ∷ es)) refl i (λ j. since_none
         → (In p (since_put b es) → puts_in (int_eq b) p.op ≡ false) → puts_in (int_eq b) p.op ≡ false
     go true k j f = f j
     go false k j f = no_put b (e ∷ es) k p j
-
-since_in : (b : ℤ) (es : List Call) (p : Call) → In p (since_put b es) → In p es
-since_in b [] p i = i
-since_in b (e ∷ es) p i = go (any_put b (e ∷ es)) i (λ j. since_in b es p j)
-  where
-    go : (t : Bool) → In p (cond t (since_put b es) (e ∷ es)) → (In p (since_put b es) → In p es) → In p (e ∷ es)
-    go true j f = inr (f j)
-    go false j f = j
 
 -- the content after the last that puts in b
 pub since_along : (b : ℤ) (xs : List Call) (n : Call) (ys : List Call) (vs : List ℤ)

@@ -13,11 +13,11 @@ use Rattle.events.specs.declared.operations.End.{End}
 use Rattle.events.specs.declared.operations.End.TheVariants.{Returned, Pending, Failed}
 use Rattle.events.specs.declared.operations.Invocation.{Invocation}
 use Rattle.events.specs.Operations.{call_with, call_of, calls_of, return_of, ObjectCalls, IsObjectHistory}
-use Rattle.projection.specs.Parts.{fits, reply_of, puts_in, is_taking, takes_out, is_pending_taking, put_count, taken_count, pending_before, kept_calls, IsClosed}
+use Rattle.projection.specs.Parts.{fits, reply_of, puts_in, is_removal, takes_out, is_pending_removal, put_count, taken_count, pending_before, kept_calls, IsClosed}
 use Rattle.projection.specs.declared.keeping.Values.{Values}
 use Rattle.projection.specs.declared.keeping.Values.TheVariants as values
 use Rattle.projection.specs.Cuts.{keeps_all, keeps_value, IsPart, NoneFailed}
-use Rattle.projection.specs.Pieces.{has_failed, fits_end, is_kept_call, is_put, is_taken, is_open_taking, keeps_first}
+use Rattle.projection.specs.Pieces.{has_failed, fits_end, is_kept_call, is_put, is_taken, is_open_removal, keeps_first}
 use Rattle.projection.proofs.Conserved.{one, tally, count_tally}
 use Rattle.projection.proofs.Closed.{projection_valid}
 use Rattle.projection.proofs.Sequences.{in_filter_map_from}
@@ -96,7 +96,7 @@ taken_of keeps (o ∷ ops) = go o.«end» (taken_of keeps ops)
         → cond (is_taken keeps o.op e) 1 0 + tally (λ o. is_taken keeps o.op o.«end») ops ≡ tally (λ e. takes_out keeps e.op (reply_of e.returned))
         (cons_option (call_with o.number o.op e) (calls_of ops))
     go (Returned at r) h = ap (λ (n : ℕ). cond (takes_out keeps o.op (Some r)) 1 0 + n) h
-    go Pending h = let n = nothing (is_taking o.op) in omega arith
+    go Pending h = let n = nothing (is_removal o.op) in omega arith
     go Failed h = omega arith
 
 put_counts : (keeps : ℤ → Bool) (ops : List Invocation) → count_by (λ o. is_put keeps o.op o.«end») ops ≡ put_count keeps (calls_of ops)
@@ -105,15 +105,15 @@ put_counts keeps ops = sym (count_tally (λ o. is_put keeps o.op o.«end») ops)
 taken_counts : (keeps : ℤ → Bool) (ops : List Invocation) → count_by (λ o. is_taken keeps o.op o.«end») ops ≡ taken_count keeps (calls_of ops)
 taken_counts keeps ops = sym (count_tally (λ o. is_taken keeps o.op o.«end») ops) ∙ taken_of keeps ops ∙ count_tally (λ e. takes_out keeps e.op (reply_of e.returned)) (calls_of ops)
 
--- ---- pending takings
+-- ---- pending removals
 
 abbrev is_open : Invocation → Bool
-is_open o = is_open_taking o.op o.«end»
+is_open o = is_open_removal o.op o.«end»
 
 abbrev open_before : ℕ → List Invocation → ℕ
 open_before n ops = tally (λ o. is_open o && nat_lt o.number n) ops
 
-open_of : (n : ℕ) (ops : List Invocation) → open_before n ops ≡ tally (λ e. is_pending_taking e.op e.returned && nat_lt e.number n) (calls_of ops)
+open_of : (n : ℕ) (ops : List Invocation) → open_before n ops ≡ tally (λ e. is_pending_removal e.op e.returned && nat_lt e.number n) (calls_of ops)
 open_of n [] = refl
 open_of n (o ∷ ops) = go o.«end» (open_of n ops)
   where
@@ -128,15 +128,15 @@ open_of n (o ∷ ops) = go o.«end» (open_of n ops)
     sums : (a b x y : ℕ) → a ≡ b → x ≡ y → a + x ≡ b + y
     sums a b x y e f = omega arith
 
-    go : (e : End) → open_before n ops ≡ tally (λ e. is_pending_taking e.op e.returned && nat_lt e.number n) (calls_of ops)
-        → cond (is_open_taking o.op e && nat_lt o.number n) 1 0 + open_before n ops
-        ≡ tally (λ e. is_pending_taking e.op e.returned && nat_lt e.number n) (cons_option (call_with o.number o.op e) (calls_of ops))
-    go (Returned at r) h = sums _ _ _ _ (ap one (over (is_taking o.op) (nat_lt o.number n))) h
-    go Pending h = sums _ _ _ _ (ap one (pending (is_taking o.op) (nat_lt o.number n))) h
+    go : (e : End) → open_before n ops ≡ tally (λ e. is_pending_removal e.op e.returned && nat_lt e.number n) (calls_of ops)
+        → cond (is_open_removal o.op e && nat_lt o.number n) 1 0 + open_before n ops
+        ≡ tally (λ e. is_pending_removal e.op e.returned && nat_lt e.number n) (cons_option (call_with o.number o.op e) (calls_of ops))
+    go (Returned at r) h = sums _ _ _ _ (ap one (over (is_removal o.op) (nat_lt o.number n))) h
+    go Pending h = sums _ _ _ _ (ap one (pending (is_removal o.op) (nat_lt o.number n))) h
     go Failed h = omega arith
 
 pending_counts : (n : ℕ) (ops : List Invocation) → open_before n ops ≡ pending_before n (calls_of ops)
-pending_counts n ops = open_of n ops ∙ count_tally (λ e. is_pending_taking e.op e.returned && nat_lt e.number n) (calls_of ops)
+pending_counts n ops = open_of n ops ∙ count_tally (λ e. is_pending_removal e.op e.returned && nat_lt e.number n) (calls_of ops)
 
 unlike : false ≡ true → ⊥
 unlike e = absurd (cc e)
@@ -184,7 +184,7 @@ missing kept m o ops l q n = go (is_open o) (m == 0) (kept o.number) q (not_zero
     go true false true e f g = absurd (unlike (sym g))
     go true false false e f g = refl
 
--- a pending taking among the first ones is left out
+-- a pending removal among the first ones is left out
 pub one_missing : (kept : ℕ → Bool) (most left i : ℕ) (ops : List Invocation) (d : Invocation) → i < length ops
     → keeps_first kept most ops ≡ keeps_first kept left (drop i ops) → is_open (get_or ops i d) ≡ true → zero < left → kept (get_or ops i d).number ≡ false → false ≡ keeps_first kept most ops
 one_missing kept most left i ops d lt e o less n = sym (e ∙ ap (keeps_first kept left) (drop-cons ops i d lt) ∙ missing kept left (get_or ops i d) (drop (suc i) ops) less o n)
@@ -276,7 +276,7 @@ closed_calls vs kept ops rising first h = record {
   every = all_keeps vs;
   each = all_calls (λ number op returned. fits (keeps_all vs) (keeps_value vs) (kept number) op (reply_of returned) ≡ true) ops
       (λ o i c e. go o.number o.op o.«end» c e (each_from_all (λ o. fits_end (keeps_all vs) (keeps_value vs) (kept o.number) o.op o.«end») ops h o i));
-  pending = all_calls (λ number op returned. is_pending_taking op returned ≡ true → kept number ≡ false
+  pending = all_calls (λ number op returned. is_pending_removal op returned ≡ true → kept number ≡ false
       → put_count (keeps_value vs) (calls_of ops) ≤ taken_count (keeps_value vs) (calls_of ops) + pending_before number (calls_of ops)) ops
       (λ o i c e t n. sums _ _ _ _ _ _ (put_counts (keeps_value vs) ops) (taken_counts (keeps_value vs) ops) (pending_counts o.number ops)
       (first_kept kept _ ops (pairs_from_all (λ a b. a.number < b.number) ops rising) first o i (was o.number o.op o.«end» c e t) n));
@@ -296,9 +296,9 @@ closed_calls vs kept ops rising first h = record {
     alone true e = refl
     alone false e = e
 
-    was : (number : ℕ) (op : AnyOp) (e : End) (c : Call) → call_with number op e ≡ Some c → is_pending_taking op (return_of e) ≡ true → is_open_taking op e ≡ true
-    was number op (Returned at r) c e f = absurd (not_both (is_taking op) f)
-    was number op Pending c e f = alone (is_taking op) f
+    was : (number : ℕ) (op : AnyOp) (e : End) (c : Call) → call_with number op e ≡ Some c → is_pending_removal op (return_of e) ≡ true → is_open_removal op e ≡ true
+    was number op (Returned at r) c e f = absurd (not_both (is_removal op) f)
+    was number op Pending c e f = alone (is_removal op) f
     was number op Failed c e f = absurd (cc e)
 
     sums : (p q r s m n : ℕ) → p ≡ q → r ≡ s → m ≡ n → p - r ≤ m → q ≤ s + n
@@ -331,12 +331,12 @@ closed_first vs kept ops rising h = kept_first kept _ ops (pairs_from_all (λ a 
     most : ℕ
     most = count_by (λ o. is_put (keeps_value vs) o.op o.«end») ops - count_by (λ o. is_taken (keeps_value vs) o.op o.«end») ops
 
-    go : (o : Invocation) → In o ops → (e : End) → o.«end» ≡ e → is_open_taking o.op e ≡ true → kept o.number ≡ false → most ≤ open_before o.number ops
+    go : (o : Invocation) → In o ops → (e : End) → o.«end» ≡ e → is_open_removal o.op e ≡ true → kept o.number ≡ false → most ≤ open_before o.number ops
     go o i (Returned when r) q t n = absurd (unlike t)
     go o i Failed q t n = absurd (unlike t)
     go o i Pending q t n =
         let c : Call = record { number = o.number; op = o.op; returned = None } in
-        let l = all_at (λ e. is_pending_taking e.op e.returned ≡ true → kept e.number ≡ false
+        let l = all_at (λ e. is_pending_removal e.op e.returned ≡ true → kept e.number ≡ false
         → put_count (keeps_value vs) (calls_of ops) ≤ taken_count (keeps_value vs) (calls_of ops) + pending_before e.number (calls_of ops))
         (calls_of ops) h.pending c (in_filter_map_from call_of o c ops i (ap (call_with o.number o.op) q)) in
         sums _ _ _ _ _ _ (put_counts (keeps_value vs) ops) (taken_counts (keeps_value vs) ops) (pending_counts o.number ops) (l (ap (λ z. z && true) t) n)

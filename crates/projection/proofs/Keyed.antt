@@ -20,7 +20,7 @@ use Rattle.projection.specs.Pieces.{entry_piece}
 use Rattle.projection.specs.Cells.{write_of, swap_done}
 use Rattle.projection.specs.Entries.{put_done, get_done, del_done, entry_done, entry_open, entry_call, entry_calls}
 use Rattle.projection.proofs.Pieces.{pieces_into, pieces_calls, pieces_lives}
-use Rattle.projection.proofs.Recasts.{DoneOf, OpenOf, Steps, recast_maps, recast_piece, recast_call, recast_lives}
+use Rattle.projection.proofs.Recasts.{IsInto, DoneOf, OpenOf, Steps, recast_maps, recast_piece, recast_call, recast_lives}
 use Rattle.projection.proofs.Mapped.{mapped_valid}
 use Rattle.projection.proofs.Shadows.{swap_like}
 
@@ -227,6 +227,9 @@ open_like key keeps (Put k v) = go (int_eq key k && keeps v)
     go false = tt
 open_like key keeps op = tt
 
+pub entry_into : (key : ℤ) (keeps : ℤ → Bool) (other : ℤ) → IsInto (entry_done key keeps other) (entry_open key keeps) (λ op. kind.Register)
+entry_into key keeps other = record { returned = done_like key keeps other; unfinished = open_like key keeps }
+
 pub entry_valid : (own : Kind) (calls : List Call) (key : ℤ) (keeps : ℤ → Bool) (other : ℤ) (kept : ℕ → Bool) (order : List ℤ)
     → IsValidOrder own calls order → (part : List ℤ) × IsValidOrder kind.Register (entry_calls key keeps other kept calls) part
 entry_valid own calls key keeps other kept order v =
@@ -237,8 +240,7 @@ pub entry_history : (key : ℤ) (keeps : ℤ → Bool) (other : ℤ) (kept : ℕ
     → IsObjectHistory (record { object = h.object; kind = kind.Register; ops = filter_map (entry_piece key keeps other kept) h.ops })
 entry_history key keeps other kept h is =
     pieces_into h.object h.kind kind.Register h.ops (entry_piece key keeps other kept)
-    (λ o p i e. recast_piece (entry_done key keeps other) (entry_open key keeps) (λ op. kind.Register)
-    (record { returned = done_like key keeps other; unfinished = open_like key keeps }) (kept o.number) o p e) is
+    (λ o p i e. recast_piece (entry_done key keeps other) (entry_open key keeps) (λ op. kind.Register) (entry_into key keeps other) (kept o.number) o p e) is
 
 pub entry_calls_of : (key : ℤ) (keeps : ℤ → Bool) (other : ℤ) (kept : ℕ → Bool) (ops : List Invocation)
     → calls_of (filter_map (entry_piece key keeps other kept) ops) ≡ entry_calls key keeps other kept (calls_of ops)

@@ -26,7 +26,7 @@ use Rattle.projection.proofs.Pieces.{bind, IsPiece, pieces_history, pieces_calls
 
 -- ---- pieces
 
-leaves_kind : (op : AnyOp) (reply : AnyReply) → IfSome (leaves op reply) (λ f. IfSome f (λ p. kind_of p.0 ≡ kind_of op))
+pub leaves_kind : (op : AnyOp) (reply : AnyReply) → IfSome (leaves op reply) (λ f. IfSome f (λ p. kind_of p.0 ≡ kind_of op))
 leaves_kind Dequeue (Value None) = tt
 leaves_kind Pop (Value None) = tt
 leaves_kind ExtractMin (Value None) = tt

@@ -14,6 +14,8 @@ pub mod Before
 pub mod Kept
 pub mod Later
 pub mod Naming
+pub mod Named
+pub mod Listed
 pub mod Bounds
 pub mod Mapped
 pub mod Recasts

@@ -56,9 +56,6 @@ pub none_left : (cuts : List Cut) (i : ℕ) (d : Cut) (whole now : List Call) �
     → ((part : List Call) → Names (get_or cuts i d) now part → ⊥) → (part : List Call) → NamesPart cuts whole part → ⊥
 none_left cuts i d whole now lt h none part k = let r = subst (λ (cs : List Cut). NamesPart cs now part) (left cuts i d lt) (h.only part k) in none r.0 r.1
 
-pub all_cut : (cuts : List Cut) (whole now : List Call) → IsCutSoFar cuts (length cuts) whole now → NamesPart cuts whole now
-all_cut cuts whole now h = h.names now (subst (λ (cs : List Cut). NamesPart cs now now) (sym (drop-length cuts)) refl)
-
 -- the cuts leave the same kind as those of them that are left leave of what the others cut
 abbrev pub IsKindSoFar : List Cut → ℕ → Kind → Kind → Type 0
 IsKindSoFar cuts i whole now = part_kind cuts whole ≡ part_kind (drop i cuts) now
@@ -66,6 +63,3 @@ IsKindSoFar cuts i whole now = part_kind cuts whole ≡ part_kind (drop i cuts) 
 pub kind_further : (cuts : List Cut) (i : ℕ) (d : Cut) (whole now next : Kind) → i < length cuts → IsKindSoFar cuts i whole now
     → next ≡ kind_cut (get_or cuts i d) now → IsKindSoFar cuts (i + 1) whole next
 kind_further cuts i d whole now next lt h e = h ∙ ap (λ (cs : List Cut). part_kind cs now) (left cuts i d lt) ∙ ap (part_kind (drop (i + 1) cuts)) (sym e)
-
-pub kind_cut_all : (cuts : List Cut) (whole now : Kind) → IsKindSoFar cuts (length cuts) whole now → now ≡ part_kind cuts whole
-kind_cut_all cuts whole now h = sym (h ∙ ap (λ (cs : List Cut). part_kind cs now) (drop-length cuts))

@@ -45,7 +45,7 @@ pub record Steps (R : Content → Content → Type 0) (done : Done) (pending : O
 pub record IsRecast (R : Content → Content → Type 0) (done : Done) (pending : Open) : Type 0 where
   pub step : (c d : Content) (op : AnyOp) → R c d → IfSome (next c op) (λ p. Steps R done pending op d p.0 p.1)
 
-recast_timed : (done : AnyOp → AnyReply → Option (AnyOp × AnyReply)) (pending : Open) (y x : Call) → recast done pending y.number y.op y.returned ≡ Some x → IsTimed x y
+pub recast_timed : (done : AnyOp → AnyReply → Option (AnyOp × AnyReply)) (pending : Open) (y x : Call) → recast done pending y.number y.op y.returned ≡ Some x → IsTimed x y
 recast_timed done pending y x e = go y.returned refl e
   where
     finished : (r : Return) → y.returned ≡ Some r → (o : Option (AnyOp × AnyReply)) → option_map (returned_call y.number r.at) o ≡ Some x → IsTimed x y

@@ -17,7 +17,7 @@ use Rattle.projection.specs.Pieces.{cell_piece}
 use Rattle.projection.specs.Cells.{write_of, swap_done, cell_done, cell_open, cell_call, cell_calls}
 use Rattle.projection.proofs.Pieces.{IsPieceOf, pieces_into, pieces_calls, pieces_lives}
 use Rattle.projection.proofs.Contents.{IsCellShadow, same_expected}
-use Rattle.projection.proofs.Recasts.{DoneOf, OpenOf, Steps, recast_maps, recast_piece, recast_call, recast_lives}
+use Rattle.projection.proofs.Recasts.{IsInto, DoneOf, OpenOf, Steps, recast_maps, recast_piece, recast_call, recast_lives}
 use Rattle.projection.proofs.Mapped.{mapped_valid}
 
 unlike : false ≡ true → ⊥
@@ -173,6 +173,9 @@ open_like keeps (Cas a b) = go (keeps b) (keeps a)
     go false q = tt
 open_like keeps op = tt
 
+pub cell_into : (keeps : ℤ → Bool) (other : ℤ) → IsInto (cell_done keeps other) (cell_open keeps) kind_of
+cell_into keeps other = record { returned = done_like keeps other; unfinished = open_like keeps }
+
 pub cell_valid : (kind : Kind) (calls : List Call) (keeps : ℤ → Bool) (other : ℤ) (kept : ℕ → Bool) (order : List ℤ) → IsValidOrder kind calls order
     → (part : List ℤ) × IsValidOrder kind (cell_calls keeps other kept calls) part
 cell_valid kind calls keeps other kept order v =
@@ -184,7 +187,7 @@ pub cell_history : (keeps : ℤ → Bool) (other : ℤ) (kept : ℕ → Bool) (h
 cell_history keeps other kept h is =
     pieces_into h.object h.kind h.kind h.ops (cell_piece keeps other kept)
     (λ o p i e. subst (λ (k : Kind). IsPieceOf k o p) (all_at (λ (o : Invocation). kind_of o.op ≡ h.kind) h.ops is.of_kind o i)
-    (recast_piece (cell_done keeps other) (cell_open keeps) kind_of (record { returned = done_like keeps other; unfinished = open_like keeps }) (kept o.number) o p e)) is
+    (recast_piece (cell_done keeps other) (cell_open keeps) kind_of (cell_into keeps other) (kept o.number) o p e)) is
 
 pub cell_calls_of : (keeps : ℤ → Bool) (other : ℤ) (kept : ℕ → Bool) (ops : List Invocation) → calls_of (filter_map (cell_piece keeps other kept) ops) ≡ cell_calls keeps other kept (calls_of ops)
 cell_calls_of keeps other kept ops = pieces_calls (cell_piece keeps other kept) (cell_call keeps other kept) ops (recast_call (cell_done keeps other) (cell_open keeps) kept)

@@ -104,7 +104,7 @@ call_from_own from at first y p e f =
     ap (λ b. cond b (option_map (returned_call from at) first) (cond (ended_before from y.returned) None (Some (call_later first at y)))) (eq-eqb y.number from e)
     ∙ ap (option_map (returned_call from at)) f
 
-call_from_cases : (from at : ℕ) (first : Option (AnyOp × AnyReply)) (y x : Call) → call_from from at first y ≡ Some x
+pub call_from_cases : (from at : ℕ) (first : Option (AnyOp × AnyReply)) (y x : Call) → call_from from at first y ≡ Some x
     → ((p : AnyOp × AnyReply) × (first ≡ Some p) × (x ≡ returned_call from at p)) ⊎ ((y.number ≢ from) × (x ≡ call_later first at y) × (ended_before from y.returned ≡ false))
 call_from_cases from at first y x e = go (y.number == from) refl e
   where

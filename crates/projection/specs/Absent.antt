@@ -1,4 +1,4 @@
--- A value that surely is not in a queue, stack or heap before some number of a map: at least as
+-- A value that definitely is not in a queue, stack or heap before some number of a map: at least as
 -- many removals of it had returned by then as puts of it were invoked. What was done with it before
 -- has no part in what is done with it later.
 use Rattle.std.specs.Prelude.{◌≡◌, ◌≤◌, ℕ, ℤ, nat_lt, Bool, not, ◌&&◌, ◌||◌, List, count_by, filter}

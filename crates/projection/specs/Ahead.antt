@@ -1,4 +1,5 @@
--- What surely was ahead of what a taking found: these values must have been taken out before it.
+-- What definitely was ahead of what a removal found: these values must have been taken out before
+-- it.
 use Rattle.std.specs.Prelude.{◌≡◌, ◌==◌, ◌<◌, ℕ, ℤ, nat_lt, int_lt, min, Bool, true, false, not}
 use Rattle.std.specs.Prelude.{◌&&◌, ◌||◌, List, Contains, count_by, if◌then◌else◌}
 use Rattle.std.specs.Prelude.{Option, Some, None}
@@ -10,19 +11,19 @@ use Rattle.model.specs.declared.AnyOp.TheVariants.{Dequeue, Pop, ExtractMin}
 use Rattle.model.specs.declared.AnyReply.{AnyReply}
 use Rattle.model.specs.declared.AnyReply.TheVariants.{Value}
 use Rattle.model.specs.Orders.{Call, Return}
-use Rattle.projection.specs.Parts.{reply_of, puts_in, is_taking, takes_out, ended_before}
+use Rattle.projection.specs.Parts.{reply_of, puts_in, is_removal, takes_out, ended_before}
 
 -- what a reply shows, with the number of its response
 abbrev pub found_in : ℕ → AnyReply → Option (ℕ × Option ℤ)
 found_in at (Value found) = Some (at, found)
 found_in at reply = None
 
--- the number of the response of a taking that returned, and what it found: a value, or nothing
+-- the number of the response of a removal that returned, and what it found: a value, or nothing
 abbrev pub found_by : AnyOp → Option Return → Option (ℕ × Option ℤ)
 found_by op None = None
-found_by op (Some r) = if is_taking op then found_in r.at r.reply else None
+found_by op (Some r) = if is_removal op then found_in r.at r.reply else None
 
--- Which values can be ahead of what a taking found. Of nothing: each value. Of a value in a heap:
+-- Which values can be ahead of what a removal found. Of nothing: each value. Of a value in a heap:
 -- each lesser one. In a queue or a stack: each value, but only by certain puts (`ahead_before`,
 -- `is_settled`).
 abbrev pub is_value_ahead : Option ℤ → AnyOp → ℤ → Bool
@@ -37,14 +38,14 @@ abbrev pub first_put : ℤ → List Call → ℕ
 first_put v calls =
     option_map_or (λ (e : Call). e.number) (find (λ e. puts_in (int_eq v) e.op) calls) 0
 
--- A put counts only if it returned before this number. It is the number of the taking; of a taking
--- that found a value in a queue, at most that of the first put of this value.
+-- A put counts only if it returned before this number. It is the number of the removal; of a
+-- removal that found a value in a queue, at most that of the first put of this value.
 abbrev pub ahead_before : Option ℤ → AnyOp → ℕ → List Call → ℕ
 ahead_before None op number calls = number
 ahead_before (Some b) Dequeue number calls = min number (first_put b calls)
 ahead_before (Some b) op number calls = number
 
--- Where a taking found a value in a stack, each put of this value returned before the number from
+-- Where a removal found a value in a stack, each put of this value returned before the number from
 -- which on puts count.
 abbrev pub is_settled : Option ℤ → AnyOp → ℕ → List Call → Bool
 is_settled None op from calls = true
@@ -60,26 +61,26 @@ is_put_ahead keeps from before e =
 
 -- whether a call took out one of these values, or may have, since it is pending
 abbrev pub may_take : (ℤ → Bool) → AnyOp → Option AnyReply → Bool
-may_take keeps op None = is_taking op
+may_take keeps op None = is_removal op
 may_take keeps op (Some reply) = takes_out keeps op (Some reply)
 
--- The same, and the call may come before the taking of this number, which returned at `at`: it is
+-- The same, and the call may come before the removal of this number, which returned at `at`: it is
 -- another call, and was not invoked after that response.
 abbrev pub may_precede : (ℤ → Bool) → ℕ → ℕ → Call → Bool
 may_precede keeps number at e =
     may_take keeps e.op (reply_of e.returned) && not (e.number == number || nat_lt at e.number)
 
--- The taking of this number is blocked: more values surely were ahead of what it found than other
--- calls can have taken out before it. Only puts count that were invoked at the number `from` or
--- later.
+-- The removal of this number is blocked: more values definitely were ahead of what it found than
+-- other calls can have taken out before it. Only puts count that were invoked at the number `from`
+-- or later.
 pub record IsBlocked (number from : ℕ) (calls : List Call) : Type 0 where
-  pub taking : Call
-  pub known : Contains calls taking
-  pub named : taking.number ≡ number
+  pub removal : Call
+  pub known : Contains calls removal
+  pub named : removal.number ≡ number
   pub at : ℕ
   pub found : Option ℤ
-  pub told : found_by taking.op taking.returned ≡ Some (at, found)
-  pub settled : is_settled found taking.op from calls ≡ true
-  pub more : count_by (may_precede (is_value_ahead found taking.op) number at) calls
-      < count_by (is_put_ahead (is_value_ahead found taking.op) from
-      (ahead_before found taking.op number calls)) calls
+  pub told : found_by removal.op removal.returned ≡ Some (at, found)
+  pub settled : is_settled found removal.op from calls ≡ true
+  pub more : count_by (may_precede (is_value_ahead found removal.op) number at) calls
+      < count_by (is_put_ahead (is_value_ahead found removal.op) from
+      (ahead_before found removal.op number calls)) calls

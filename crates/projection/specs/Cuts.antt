@@ -10,7 +10,7 @@ use Rattle.model.specs.Orders.{Call}
 use Rattle.events.specs.declared.operations.End.TheVariants.{Failed}
 use Rattle.events.specs.declared.operations.Invocation.{Invocation}
 use Rattle.events.specs.Operations.{ObjectCalls, calls_of}
-use Rattle.order_search.specs.Outcomes.{IsNoneValid}
+use Rattle.search.specs.Outcomes.{IsNoneValid}
 use Rattle.projection.specs.Absent.{IsRest}
 use Rattle.projection.specs.Cells.{cell_calls}
 use Rattle.projection.specs.Entries.{entry_calls}

@@ -4,10 +4,11 @@ pub mod Cells
 pub mod Entries
 pub mod Absent
 pub mod Cuts
+pub mod Listed
 pub mod Counts
 pub mod Ahead
 pub mod Pieces
 pub use Rattle.model.specs.Objects
 pub use Rattle.model.specs.Orders
 pub use Rattle.events.specs.Operations
-pub use Rattle.order_search.specs.Outcomes
+pub use Rattle.search.specs.Outcomes

@@ -25,14 +25,14 @@ abbrev pub reply_of : Option Return → Option AnyReply
 reply_of None = None
 reply_of (Some r) = Some r.reply
 
--- A taking is kept exactly where the value that it took is kept. One that found nothing is kept or
+-- A removal is kept exactly where the value that it took is kept. One that found nothing is kept or
 -- left out. When a pending one may be left out is said of all of them (`IsClosed`).
-abbrev pub fits_taking : (ℤ → Bool) → Bool → Option AnyReply → Bool
-fits_taking keeps kept None = true
-fits_taking keeps kept (Some (Value (Some v))) = is_same kept (keeps v)
-fits_taking keeps kept (Some (Value None)) = true
-fits_taking keeps kept (Some (Swapped a b)) = true
-fits_taking keeps kept (Some NotSwapped) = true
+abbrev pub fits_removal : (ℤ → Bool) → Bool → Option AnyReply → Bool
+fits_removal keeps kept None = true
+fits_removal keeps kept (Some (Value (Some v))) = is_same kept (keeps v)
+fits_removal keeps kept (Some (Value None)) = true
+fits_removal keeps kept (Some (Swapped a b)) = true
+fits_removal keeps kept (Some NotSwapped) = true
 
 -- A read is kept only where its value is kept. A pending one, or one that found nothing, is kept or
 -- left out.
@@ -64,11 +64,11 @@ fits_del keeps kept k (Some NotSwapped) = true
 -- or leave it out. `all` says that all values are kept.
 abbrev pub fits : Bool → (ℤ → Bool) → Bool → AnyOp → Option AnyReply → Bool
 fits all keeps kept (Enqueue v) reply = is_same kept (keeps v)
-fits all keeps kept Dequeue reply = fits_taking keeps kept reply
+fits all keeps kept Dequeue reply = fits_removal keeps kept reply
 fits all keeps kept (Push v) reply = is_same kept (keeps v)
-fits all keeps kept Pop reply = fits_taking keeps kept reply
+fits all keeps kept Pop reply = fits_removal keeps kept reply
 fits all keeps kept (Insert v) reply = is_same kept (keeps v)
-fits all keeps kept ExtractMin reply = fits_taking keeps kept reply
+fits all keeps kept ExtractMin reply = fits_removal keeps kept reply
 fits all keeps kept (Write v) reply = kept || not (keeps v)
 fits all keeps kept Read reply = fits_read keeps kept reply
 fits all keeps kept (Cas a b) reply = fits_cas all keeps kept a b reply
@@ -85,11 +85,11 @@ puts_in keeps (Push v) = keeps v
 puts_in keeps (Insert v) = keeps v
 puts_in keeps op = false
 
-abbrev pub is_taking : AnyOp → Bool
-is_taking Dequeue = true
-is_taking Pop = true
-is_taking ExtractMin = true
-is_taking op = false
+abbrev pub is_removal : AnyOp → Bool
+is_removal Dequeue = true
+is_removal Pop = true
+is_removal ExtractMin = true
+is_removal op = false
 
 abbrev pub is_kept_value : (ℤ → Bool) → Option AnyReply → Bool
 is_kept_value keeps (Some (Value (Some v))) = keeps v
@@ -97,7 +97,7 @@ is_kept_value keeps reply = false
 
 -- whether an operation took out a kept value
 abbrev pub takes_out : (ℤ → Bool) → AnyOp → Option AnyReply → Bool
-takes_out keeps op reply = is_taking op && is_kept_value keeps reply
+takes_out keeps op reply = is_removal op && is_kept_value keeps reply
 
 -- how many calls put in a kept value, pending calls too
 abbrev pub put_count : (ℤ → Bool) → List Call → ℕ
@@ -107,23 +107,23 @@ put_count keeps calls = count_by (λ e. puts_in keeps e.op) calls
 abbrev pub taken_count : (ℤ → Bool) → List Call → ℕ
 taken_count keeps calls = count_by (λ e. takes_out keeps e.op (reply_of e.returned)) calls
 
-abbrev pub is_pending_taking : AnyOp → Option Return → Bool
-is_pending_taking op returned = is_taking op && not (is_some returned)
+abbrev pub is_pending_removal : AnyOp → Option Return → Bool
+is_pending_removal op returned = is_removal op && not (is_some returned)
 
--- how many pending takings were invoked before this number
+-- how many pending removals were invoked before this number
 abbrev pub pending_before : ℕ → List Call → ℕ
 pending_before number calls =
-    count_by (λ e. is_pending_taking e.op e.returned && nat_lt e.number number) calls
+    count_by (λ e. is_pending_removal e.op e.returned && nat_lt e.number number) calls
 
 -- The part that keeps these values, and the calls with these numbers, is closed.
 pub record IsClosed (all : Bool) (keeps : ℤ → Bool) (kept : ℕ → Bool)
     (calls : List Call) : Type 0 where
   pub every : all ≡ true → (v : ℤ) → keeps v ≡ true
   pub each : All (λ e. fits all keeps (kept e.number) e.op (reply_of e.returned) ≡ true) calls
-  -- A pending taking may have taken any value. It is left out only where as many kept values were
-  -- taken out, or can be by the pending takings that were invoked before it, as can have been put
+  -- A pending removal may have taken any value. It is left out only where as many kept values were
+  -- taken out, or can be by the pending removals that were invoked before it, as can have been put
   -- in.
-  pub pending : All (λ e. is_pending_taking e.op e.returned ≡ true → kept e.number ≡ false
+  pub pending : All (λ e. is_pending_removal e.op e.returned ≡ true → kept e.number ≡ false
       → put_count keeps calls ≤ taken_count keeps calls + pending_before e.number calls) calls
 
 abbrev pub kept_calls : (ℕ → Bool) → List Call → List Call

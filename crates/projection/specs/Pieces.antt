@@ -17,7 +17,7 @@ use Rattle.projection.specs.Ahead.{found_in}
 use Rattle.projection.specs.Counts.{sets, takes}
 use Rattle.projection.specs.Cells.{cell_done, cell_open}
 use Rattle.projection.specs.Entries.{entry_done, entry_open}
-use Rattle.projection.specs.Parts.{fits, puts_in, is_taking, takes_out, key_of, written_before}
+use Rattle.projection.specs.Parts.{fits, puts_in, is_removal, takes_out, key_of, written_before}
 
 abbrev pub has_failed : End → Bool
 has_failed (Returned at reply) = false
@@ -32,20 +32,20 @@ fits_end all keeps kept op (Returned at reply) = fits all keeps kept op (Some re
 fits_end all keeps kept op Pending = fits all keeps kept op None
 fits_end all keeps kept op Failed = true
 
-abbrev pub is_open_taking : AnyOp → End → Bool
-is_open_taking op (Returned at reply) = false
-is_open_taking op Pending = is_taking op
-is_open_taking op Failed = false
+abbrev pub is_open_removal : AnyOp → End → Bool
+is_open_removal op (Returned at reply) = false
+is_open_removal op Pending = is_removal op
+is_open_removal op Failed = false
 
 -- the operation did not fail, and its number is kept
 abbrev pub is_kept_call : (ℕ → Bool) → Invocation → Bool
 is_kept_call kept o = not (has_failed o.«end») && kept o.number
 
--- whether the first pending takings, this many, are kept
+-- whether the first pending removals, this many, are kept
 abbrev pub keeps_first : (ℕ → Bool) → ℕ → List Invocation → Bool
 keeps_first kept most [] = true
 keeps_first kept most (o ∷ ops) =
-    if is_open_taking o.op o.«end»
+    if is_open_removal o.op o.«end»
     then (most == 0 || kept o.number) && keeps_first kept (most - 1) ops
     else keeps_first kept most ops
 
@@ -155,10 +155,10 @@ is_gone what from number op (Returned at reply) =
 is_gone what from number op Pending = false
 is_gone what from number op Failed = false
 
--- ---- what was ahead of what a taking found
+-- ---- what was ahead of what a removal found
 
 abbrev pub found_end : AnyOp → End → Option (ℕ × Option ℤ)
-found_end op (Returned at reply) = if is_taking op then found_in at reply else None
+found_end op (Returned at reply) = if is_removal op then found_in at reply else None
 found_end op Pending = None
 found_end op Failed = None
 
@@ -189,15 +189,15 @@ are_settled (Some b) op from ops = true
 
 abbrev pub may_take_end : (ℤ → Bool) → AnyOp → End → Bool
 may_take_end keeps op (Returned at reply) = takes_out keeps op (Some reply)
-may_take_end keeps op Pending = is_taking op
+may_take_end keeps op Pending = is_removal op
 may_take_end keeps op Failed = false
 
 abbrev pub may_precede_end : (ℤ → Bool) → ℕ → ℕ → Invocation → Bool
 may_precede_end keeps number at o =
     may_take_end keeps o.op o.«end» && not (o.number == number || nat_lt at o.number)
 
--- the operation of this number is a taking that returned at `at`, and this is what it found
-pub record IsTaking (ops : List Invocation) (number : ℕ) (op : AnyOp) (at : ℕ)
+-- the operation of this number is a removal that returned at `at`, and this is what it found
+pub record IsRemoval (ops : List Invocation) (number : ℕ) (op : AnyOp) (at : ℕ)
     (found : Option ℤ) : Type 0 where
   pub operation : Invocation
   pub known : Contains ops operation

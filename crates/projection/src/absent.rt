@@ -1,5 +1,5 @@
-//! Absent values: the operations without those that were done with a value before it surely was not
-//! in the object.
+//! Absent values: the operations without those that were done with a value before it definitely was
+//! not in the object.
 
 ghost use Rattle.std.specs.Prelude.{◌≡◌, true, IfOk, IfSome, None, count_by, filter, not};
 ghost use Rattle.events.specs.Operations.{calls_of};
@@ -95,9 +95,9 @@ fn pieces(
 
 /// The part without the puts of a value that were invoked before this number, and without the
 /// removals of it that had returned by then. There are at least as many of these as of those, so
-/// that the value surely was not in the queue, stack or heap; `None`: there are fewer.
+/// that the value definitely was not in the queue, stack or heap; `None`: there are fewer.
 ///
-/// An error: the allocator refused memory.
+/// An error: an allocation failed.
 pub fn without(
     alloc: Global,
     history: &ObjectHistory,

@@ -1,4 +1,4 @@
-//! Counts of what surely was ahead of what a taking found, so that it must have been taken out
+//! Counts of what definitely was ahead of what a removal found, so that it must have been taken out
 //! before. They need no search.
 
 ghost use Rattle.std.specs.Prelude.{◌≡◌, ◌≢◌, ◌<◌, true, MatchBool, IfSome, All, AllPairs};
@@ -7,29 +7,29 @@ ghost use Rattle.std.specs.List.{find, list_all};
 ghost use Rattle.std.specs.Ordering.{int_eq};
 ghost use Rattle.model.specs.declared.AnyOp.{AnyOp};
 ghost use Rattle.events.specs.Operations.{calls_of};
-ghost use Rattle.order_search.specs.Outcomes.{IsNoneValid};
+ghost use Rattle.search.specs.Outcomes.{IsNoneValid};
 ghost use Rattle.projection.specs.Ahead as ahead;
 ghost use Rattle.projection.specs.Ahead.{IsBlocked};
 ghost use Rattle.projection.specs.Parts as parts;
 ghost use Rattle.projection.specs.Pieces as pieces;
 ghost use Rattle.projection.specs.Pieces.{ahead_before_end, first_put_end, found_end, is_put};
-ghost use Rattle.projection.specs.Pieces.{is_put_ahead_end, is_settled_end, IsTaking};
+ghost use Rattle.projection.specs.Pieces.{is_put_ahead_end, is_settled_end, IsRemoval};
 ghost use Rattle.projection.specs.Pieces.{may_precede_end, may_take_end};
 
 use crate::suffix::{is_before, operation_at};
 use events::{End, Invocation, ObjectHistory};
 use seq_objects::{AnyOp, AnyReply};
 
-/// A taking that returned: its number, that of its response, and what it found.
+/// A removal that returned: its number, that of its response, and what it found.
 #[derive(Clone, Copy)]
-struct Taking {
+struct Removal {
     number: u32,
     op: AnyOp,
     at: u32,
     found: Option<i64>,
 }
 
-/// The number of the response of a taking, and what it found.
+/// The number of the response of a removal, and what it found.
 fn found_by(op: AnyOp, end: End) -> Option<(u32, Option<i64>)>
     ensures { result ≡ found_end op «end» }
 {
@@ -45,19 +45,19 @@ fn found_by(op: AnyOp, end: End) -> Option<(u32, Option<i64>)>
     }
 }
 
-/// The taking of this number, if it is one that returned.
-fn taking_at(operations: &[Invocation], number: u32) -> Option<Taking>
+/// The removal of this number, if it is one that returned.
+fn removal_at(operations: &[Invocation], number: u32) -> Option<Removal>
     requires { AllPairs (λ a b. a.number < b.number) operations.now }
-    ensures some { IfSome result (λ t. IsTaking operations.now number t.op t.at t.found) }
+    ensures some { IfSome result (λ t. IsRemoval operations.now number t.op t.at t.found) }
     ensures named { IfSome result (λ t. t.number ≡ number) }
     ensures none { result ≡ None → (op : AnyOp) (at : ℕ) (found : Option ℤ)
-        → IsTaking operations.now number op at found → ⊥ }
+        → IsRemoval operations.now number op at found → ⊥ }
 {
     let operation = operation_at(operations, number)?;
     let Some((at, found)) = found_by(operation.op, operation.end) else {
         return None;
     };
-    Some(Taking {
+    Some(Removal {
         number,
         op: operation.op,
         at,
@@ -65,13 +65,13 @@ fn taking_at(operations: &[Invocation], number: u32) -> Option<Taking>
     })
 }
 
-/// Whether a value can be ahead of what the taking found.
-fn is_value_ahead(taking: Taking, value: i64) -> bool
-    ensures { result ≡ ahead.is_value_ahead taking.found taking.op value }
+/// Whether a value can be ahead of what the removal found.
+fn is_value_ahead(removal: Removal, value: i64) -> bool
+    ensures { result ≡ ahead.is_value_ahead removal.found removal.op value }
 {
-    match taking.found {
+    match removal.found {
         None => true,
-        Some(found) => match taking.op {
+        Some(found) => match removal.op {
             AnyOp::Dequeue | AnyOp::Pop => true,
             AnyOp::ExtractMin => value < found,
             _ => false,
@@ -80,13 +80,13 @@ fn is_value_ahead(taking: Taking, value: i64) -> bool
 }
 
 /// Whether an operation puts in such a value.
-fn puts_in(taking: Taking, op: AnyOp) -> bool
-    ensures { result ≡ parts.puts_in (ahead.is_value_ahead taking.found taking.op) op }
+fn puts_in(removal: Removal, op: AnyOp) -> bool
+    ensures { result ≡ parts.puts_in (ahead.is_value_ahead removal.found removal.op) op }
 {
     match op {
-        AnyOp::Enqueue(value) => is_value_ahead(taking, value),
-        AnyOp::Push(value) => is_value_ahead(taking, value),
-        AnyOp::Insert(value) => is_value_ahead(taking, value),
+        AnyOp::Enqueue(value) => is_value_ahead(removal, value),
+        AnyOp::Push(value) => is_value_ahead(removal, value),
+        AnyOp::Insert(value) => is_value_ahead(removal, value),
         _ => false,
     }
 }
@@ -128,15 +128,15 @@ fn first_put(operations: &[Invocation], value: i64) -> u32
     }
 }
 
-/// The number before which a put must have returned, so that it surely was ahead.
-fn ahead_before(operations: &[Invocation], taking: Taking) -> u32
-    ensures { result ≡ ahead_before_end taking.found taking.op taking.number operations.now }
+/// The number before which a put must have returned, so that it definitely was ahead.
+fn ahead_before(operations: &[Invocation], removal: Removal) -> u32
+    ensures { result ≡ ahead_before_end removal.found removal.op removal.number operations.now }
 {
-    match taking.found {
-        None => taking.number,
-        Some(found) => match taking.op {
-            AnyOp::Dequeue => taking.number.min(first_put(operations, found)),
-            _ => taking.number,
+    match removal.found {
+        None => removal.number,
+        Some(found) => match removal.op {
+            AnyOp::Dequeue => removal.number.min(first_put(operations, found)),
+            _ => removal.number,
         },
     }
 }
@@ -155,80 +155,83 @@ fn all_settled(operations: &[Invocation], value: i64, from: u32) -> bool
     operations.iter().all(|o| is_settled(value, from, o))
 }
 
-/// Whether, if the taking found a value in a stack, each put of it returned before this number.
-fn are_settled(operations: &[Invocation], taking: Taking, from: u32) -> bool
-    ensures { result ≡ pieces.are_settled taking.found taking.op from operations.now }
+/// Whether, if the removal found a value in a stack, each put of it returned before this number.
+fn are_settled(operations: &[Invocation], removal: Removal, from: u32) -> bool
+    ensures { result ≡ pieces.are_settled removal.found removal.op from operations.now }
 {
-    match taking.found {
+    match removal.found {
         None => true,
-        Some(found) => match taking.op {
+        Some(found) => match removal.op {
             AnyOp::Pop => all_settled(operations, found, from),
             _ => true,
         },
     }
 }
 
-/// Whether an operation put in what surely was ahead.
-fn is_ahead(taking: Taking, from: u32, before: u32, operation: &Invocation) -> bool
-    ensures { result ≡ is_put_ahead_end (ahead.is_value_ahead taking.found taking.op) from before
+/// Whether an operation put in what definitely was ahead.
+fn is_ahead(removal: Removal, from: u32, before: u32, operation: &Invocation) -> bool
+    ensures { result ≡ is_put_ahead_end (ahead.is_value_ahead removal.found removal.op) from before
         operation.now.number operation.now.op operation.now.«end» }
 {
     match operation.end {
         End::Returned { at, .. } => {
-            puts_in(taking, operation.op) && (at < before && !(operation.number < from))
+            puts_in(removal, operation.op) && (at < before && !(operation.number < from))
         }
         _ => false,
     }
 }
 
 /// Whether an operation took out a value that can be ahead, or may have.
-fn may_take(taking: Taking, op: AnyOp, end: End) -> bool
-    ensures { result ≡ may_take_end (ahead.is_value_ahead taking.found taking.op) op «end» }
+fn may_take(removal: Removal, op: AnyOp, end: End) -> bool
+    ensures { result ≡ may_take_end (ahead.is_value_ahead removal.found removal.op) op «end» }
 {
-    let is_taking = matches!(op, AnyOp::Dequeue | AnyOp::Pop | AnyOp::ExtractMin);
+    let is_removal = matches!(op, AnyOp::Dequeue | AnyOp::Pop | AnyOp::ExtractMin);
     match end {
         End::Returned { reply, .. } => match reply {
-            AnyReply::Value(Some(value)) => is_taking && is_value_ahead(taking, value),
+            AnyReply::Value(Some(value)) => is_removal && is_value_ahead(removal, value),
             _ => false,
         },
-        End::Pending => is_taking,
+        End::Pending => is_removal,
         End::Failed => false,
     }
 }
 
-/// Whether an operation may have taken out such a value before the taking.
-fn may_precede(taking: Taking, operation: &Invocation) -> bool
-    ensures { result ≡ may_precede_end (ahead.is_value_ahead taking.found taking.op) taking.number
-        taking.at operation.now }
+/// Whether an operation may have taken out such a value before the removal.
+fn may_precede(removal: Removal, operation: &Invocation) -> bool
+    ensures { result ≡ may_precede_end (ahead.is_value_ahead removal.found removal.op) removal.number
+        removal.at operation.now }
 {
-    may_take(taking, operation.op, operation.end)
-        && !(operation.number == taking.number || taking.at < operation.number)
+    may_take(removal, operation.op, operation.end)
+        && !(operation.number == removal.number || removal.at < operation.number)
 }
 
-/// How many operations put in what surely was ahead, and how many may have taken such a value out
-/// before the taking.
-fn times(operations: &[Invocation], taking: Taking, from: u32) -> (usize, usize)
+/// How many operations put in what definitely was ahead, and how many may have taken such a value
+/// out before the removal.
+fn times(operations: &[Invocation], removal: Removal, from: u32) -> (usize, usize)
     ensures ahead { result.0 ≡ count_by (λ o. is_put_ahead_end
-        (ahead.is_value_ahead taking.found taking.op) from
-        (ahead_before_end taking.found taking.op taking.number operations.now) o.number o.op o.«end»)
+        (ahead.is_value_ahead removal.found removal.op) from
+        (ahead_before_end removal.found removal.op removal.number operations.now) o.number o.op o.«end»)
         operations.now }
     ensures takes { result.1 ≡ count_by (may_precede_end
-        (ahead.is_value_ahead taking.found taking.op) taking.number taking.at) operations.now }
+        (ahead.is_value_ahead removal.found removal.op) removal.number removal.at) operations.now }
 {
-    let before = ahead_before(operations, taking);
+    let before = ahead_before(operations, removal);
     let ahead = operations
         .iter()
-        .filter(|o| is_ahead(taking, from, before, o))
+        .filter(|o| is_ahead(removal, from, before, o))
         .count();
-    let takes = operations.iter().filter(|o| may_precede(taking, o)).count();
+    let takes = operations
+        .iter()
+        .filter(|o| may_precede(removal, o))
+        .count();
     (ahead, takes)
 }
 
-/// Whether more values surely were ahead of what the taking of this number found than other
+/// Whether more values definitely were ahead of what the removal of this number found than other
 /// operations can have taken out before it. Then no order is valid.
 ///
-/// Values that surely were ahead are those that were put in before the taking was invoked: if it
-/// found nothing, all of them; of a heap, the lesser ones; of a queue, those whose put returned
+/// Values that definitely were ahead are those that were put in before the removal was invoked: if
+/// it found nothing, all of them; of a heap, the lesser ones; of a queue, those whose put returned
 /// before the first put of the found value was invoked; of a stack, those whose put was invoked
 /// after each put of the found value had returned. Only puts count that were invoked at the number
 /// `from` or later; of a stack each put of the found value must have returned before it.
@@ -238,10 +241,10 @@ pub fn is_blocked(history: &ObjectHistory, number: u32, from: u32) -> bool
     ensures shows { result ≡ true → IsNoneValid history.now.kind (calls_of history.now.ops) }
 {
     let operations = history.ops();
-    let Some(taking) = taking_at(operations, number) else {
+    let Some(removal) = removal_at(operations, number) else {
         return false;
     };
-    let settled = are_settled(operations, taking, from);
-    let (ahead, takes) = times(operations, taking, from);
+    let settled = are_settled(operations, removal, from);
+    let (ahead, takes) = times(operations, removal, from);
     settled && takes < ahead
 }

@@ -139,7 +139,7 @@ fn pieces(
 /// not kept becomes a write of the other value, and so does a swap from such a value become a
 /// write. Of another kind of object nothing stays.
 ///
-/// An error: the allocator refused memory.
+/// An error: an allocation failed.
 pub fn cell(
     alloc: Global,
     history: &ObjectHistory,

@@ -3,7 +3,7 @@
 
 ghost use Rattle.std.specs.Prelude.{◌≡◌, true, MatchBool, Option, count_by};
 ghost use Rattle.events.specs.Operations.{calls_of};
-ghost use Rattle.order_search.specs.Outcomes.{IsNoneValid};
+ghost use Rattle.search.specs.Outcomes.{IsNoneValid};
 ghost use Rattle.projection.specs.Counts as counts;
 ghost use Rattle.projection.specs.Counts.{is_reply, IsOverdrawn};
 ghost use Rattle.projection.specs.Pieces.{is_set, is_gone};

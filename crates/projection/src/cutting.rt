@@ -24,8 +24,8 @@ pub enum Cut {
     /// What was invoked before this number, pending where it had not returned by then: see
     /// [`until`].
     Until(u32),
-    /// All except what was done with this value before this number, where it surely was not in: see
-    /// [`without`].
+    /// All except what was done with this value before this number, where it definitely was not in:
+    /// see [`without`].
     Without {
         value: i64,
         before: u32,
@@ -74,7 +74,7 @@ fn calls_alone(alloc: Global, history: &ObjectHistory) -> Result<ObjectHistory, 
     Ok(ObjectHistory::new(history.object(), history.kind(), ops))
 }
 
-/// The part that one cut names; `None`: it names no closed part.
+/// The part that one cut names. `None`: it names none, as a `Keep` that is not closed.
 fn cut_by(
     alloc: Global,
     history: &ObjectHistory,
@@ -112,10 +112,11 @@ fn cut_by(
 }
 
 /// The part that the cuts name, one after another: each cuts the part that those before it named.
-/// `None`: one of them names no closed part. With no cuts the part is the whole, without the
-/// operations that failed: no part has one of these.
+/// `None`: one of them names no part: a `Keep` is not closed, a `From` begins at no operation whose
+/// reply tells what it left, or the value of a `Without` may have been there. With no cuts the part
+/// is the whole, without the operations that failed: no part has one of these.
 ///
-/// An error: the allocator refused memory.
+/// An error: an allocation failed.
 pub fn part_by(
     alloc: Global,
     history: &ObjectHistory,

@@ -164,7 +164,7 @@ fn pieces(
 /// not kept, are one other value in the part: what shows or leaves one becomes a write of it, or a
 /// swap to it from a kept value. Of another kind of object nothing stays.
 ///
-/// An error: the allocator refused memory.
+/// An error: an allocation failed.
 pub fn entry(
     alloc: Global,
     history: &ObjectHistory,

@@ -4,9 +4,9 @@ ghost use Rattle.std.specs.Prelude.{◌≡◌, ◌<◌, ◌-◌, true, IfOk, IfS
 ghost use Rattle.std.specs.Prelude.{filter, count_by};
 ghost use Rattle.std.specs.List.{list_all};
 ghost use Rattle.events.specs.Operations.{calls_of};
-ghost use Rattle.projection.specs.Parts.{fits, fits_taking, kept_calls};
+ghost use Rattle.projection.specs.Parts.{fits, fits_removal, kept_calls};
 ghost use Rattle.projection.specs.Cuts.{keeps_all, keeps_value, keeps_number, IsClosedPart, IsPart};
-ghost use Rattle.projection.specs.Pieces.{fits_end, is_put, is_taken, is_open_taking, is_kept_call};
+ghost use Rattle.projection.specs.Pieces.{fits_end, is_put, is_taken, is_open_removal, is_kept_call};
 ghost use Rattle.projection.specs.Pieces.{keeps_first};
 
 use events::{End, Invocation, ObjectHistory};
@@ -38,9 +38,9 @@ impl Values {
     }
 }
 
-/// Whether a taking with this reply may be kept, or left out. No reply: it is pending.
-fn taking_fits(values: &Values, kept: bool, reply: Option<AnyReply>) -> bool
-    ensures { result ≡ fits_taking (keeps_value values.now) kept reply }
+/// Whether a removal with this reply may be kept, or left out. No reply: it is pending.
+fn removal_fits(values: &Values, kept: bool, reply: Option<AnyReply>) -> bool
+    ensures { result ≡ fits_removal (keeps_value values.now) kept reply }
 {
     match reply {
         Some(AnyReply::Value(Some(value))) => kept == values.has(value),
@@ -56,7 +56,7 @@ fn reply_fits(values: &Values, kept: bool, op: AnyOp, reply: Option<AnyReply>) -
         AnyOp::Enqueue(value) => kept == values.has(value),
         AnyOp::Push(value) => kept == values.has(value),
         AnyOp::Insert(value) => kept == values.has(value),
-        AnyOp::Dequeue | AnyOp::Pop | AnyOp::ExtractMin => taking_fits(values, kept, reply),
+        AnyOp::Dequeue | AnyOp::Pop | AnyOp::ExtractMin => removal_fits(values, kept, reply),
         AnyOp::Write(value) => kept || !values.has(value),
         AnyOp::Read => match reply {
             Some(AnyReply::Value(Some(value))) => !kept || values.has(value),
@@ -123,7 +123,7 @@ fn takes(values: &Values, operation: &Invocation) -> bool
     }
 }
 
-/// How many kept values can be left for pending takings.
+/// How many kept values can be left for pending removals.
 fn left_over(values: &Values, operations: &[Invocation]) -> usize
     ensures { result ≡ count_by (λ o. is_put (keeps_value values.now) o.op o.«end») operations.now
         - count_by (λ o. is_taken (keeps_value values.now) o.op o.«end») operations.now }
@@ -133,9 +133,9 @@ fn left_over(values: &Values, operations: &[Invocation]) -> usize
     put.saturating_sub(taken)
 }
 
-/// Whether the operation is a taking that is pending.
-fn is_pending_taking(operation: &Invocation) -> bool
-    ensures { result ≡ is_open_taking operation.now.op operation.now.«end» }
+/// Whether the operation is a removal that is pending.
+fn is_pending_removal(operation: &Invocation) -> bool
+    ensures { result ≡ is_open_removal operation.now.op operation.now.«end» }
 {
     match (operation.op, operation.end) {
         (AnyOp::Dequeue | AnyOp::Pop | AnyOp::ExtractMin, End::Pending) => true,
@@ -143,13 +143,13 @@ fn is_pending_taking(operation: &Invocation) -> bool
     }
 }
 
-/// Whether the first pending takings, this many, have these numbers.
+/// Whether the first pending removals, this many, have these numbers.
 fn has_first(numbers: &BTreeSet<u32>, most: usize, operations: &[Invocation]) -> bool
     ensures { result ≡ keeps_first (keeps_number numbers.now) most operations.now }
 {
     let mut left = most;
     for operation in operations {
-        if is_pending_taking(operation) {
+        if is_pending_removal(operation) {
             if left > 0 && !numbers.contains(&operation.number) {
                 return false;
             }
@@ -200,11 +200,11 @@ fn pieces(
 
 /// The part of the operations with these numbers that did not fail, which keeps these values, or at
 /// a map these keys.
-/// Of the pending takings it has at least the first ones: as many as kept values were put in, and
+/// Of the pending removals it has at least the first ones: as many as kept values were put in, and
 /// not taken out by calls that returned. `None`: the part is not closed, so a whole with a valid
 /// order can have a part that has none.
 ///
-/// An error: the allocator refused memory.
+/// An error: an allocation failed.
 pub fn keep(
     alloc: Global,
     history: &ObjectHistory,

@@ -1,6 +1,7 @@
 //! Closure under projection, prefixes, suffixes, cells and entries, and without what was done with
-//! a value that is absent; and the bounds of the two counts: functions that do nothing, whose
-//! contracts are theorems.
+//! a value that is absent; the bounds of the two counts; and that cuts name one part at most, which
+//! has a valid order where its operations have one as the history says them: functions that do
+//! nothing, whose contracts are theorems.
 
 ghost use Rattle.std.specs.Prelude.{◌≡◌, ◌<◌, ◌≤◌, ◌+◌, ℕ, ℤ, Bool, List, Option, Some};
 ghost use Rattle.std.specs.Prelude.{All, AllPairs, Contains, count_by, true};
@@ -10,12 +11,15 @@ ghost use Rattle.model.specs.declared.AnyReply.{AnyReply};
 ghost use Rattle.model.specs.Objects.{kind_of};
 ghost use Rattle.model.specs.Orders.{Call, Return, IsValidOrder};
 ghost use Rattle.projection.specs.declared.counting.Counted.{Counted};
+ghost use Rattle.projection.specs.declared.cutting.Cut.{Cut};
 ghost use Rattle.projection.specs.Absent.{IsAbsent, calls_without};
 ghost use Rattle.projection.specs.Ahead.{ahead_before, found_by, is_put_ahead, is_settled};
 ghost use Rattle.projection.specs.Ahead.{is_value_ahead, may_precede};
 ghost use Rattle.projection.specs.Cells.{cell_calls};
 ghost use Rattle.projection.specs.Entries.{entry_calls};
 ghost use Rattle.projection.specs.Counts.{most_before, set_since, taken_since};
+ghost use Rattle.projection.specs.Cuts.{NamesPart, part_kind};
+ghost use Rattle.projection.specs.Listed.{listed};
 ghost use Rattle.projection.specs.Parts.{IsClosed, kept_calls, calls_before, IsStart, calls_from};
 
 /// Closure under projection: where the calls of an object have a valid order, a closed part has
@@ -71,21 +75,21 @@ pub fn count_is_bounded()
         → taken_since what from calls ≤ most + set_since what from calls }
 {}
 
-/// Where the calls of an object have a valid order, no more values surely were ahead of what a
-/// taking found than other calls can have taken out before it.
+/// Where the calls of an object have a valid order, no more values definitely were ahead of what a
+/// removal found than other calls can have taken out before it.
 pub fn ahead_is_bounded()
-    ensures { (kind : Kind) (calls : List Call) (taking : Call) (at from : ℕ)
+    ensures { (kind : Kind) (calls : List Call) (removal : Call) (at from : ℕ)
         (found : Option ℤ) (order : List ℤ)
         → All (λ e. kind_of e.op ≡ kind) calls
         → AllPairs (λ a b. a.number < b.number) calls
         → All (λ e. (r : Return) → e.returned ≡ Some r → e.number < r.at) calls
-        → Contains calls taking
-        → found_by taking.op taking.returned ≡ Some (at, found)
-        → is_settled found taking.op from calls ≡ true
+        → Contains calls removal
+        → found_by removal.op removal.returned ≡ Some (at, found)
+        → is_settled found removal.op from calls ≡ true
         → IsValidOrder kind calls order
-        → count_by (is_put_ahead (is_value_ahead found taking.op) from
-        (ahead_before found taking.op taking.number calls)) calls
-        ≤ count_by (may_precede (is_value_ahead found taking.op) taking.number at) calls }
+        → count_by (is_put_ahead (is_value_ahead found removal.op) from
+        (ahead_before found removal.op removal.number calls)) calls
+        ≤ count_by (may_precede (is_value_ahead found removal.op) removal.number at) calls }
 {}
 
 /// Where the calls of an object have a valid order, those of a cell have one, whatever it keeps and
@@ -105,4 +109,26 @@ pub fn entry_is_valid()
         → IsValidOrder kind calls order
         → (part : List ℤ)
         × IsValidOrder Kind.Register (entry_calls key keeps other kept calls) part }
+{}
+
+/// The cuts of a reason name one part at most: those of a suffix too, which begins with the call of
+/// a number.
+pub fn one_part()
+    ensures { (cuts : List Cut) (calls p q : List Call)
+        → AllPairs (λ a b. a.number < b.number) calls
+        → NamesPart cuts calls p
+        → NamesPart cuts calls q
+        → p ≡ q }
+{}
+
+/// Where the calls of the whole with the numbers of a part, as the history says them, have a valid
+/// order alone, the part has one, as it is counted. So where the part has none, they have none.
+pub fn listed_is_valid()
+    ensures { (cuts : List Cut) (kind : Kind) (calls part : List Call) (order : List ℤ)
+        → All (λ e. kind_of e.op ≡ kind) calls
+        → AllPairs (λ a b. a.number < b.number) calls
+        → All (λ e. (r : Return) → e.returned ≡ Some r → e.number < r.at) calls
+        → NamesPart cuts calls part
+        → IsValidOrder kind (listed part calls) order
+        → (of_part : List ℤ) × IsValidOrder (part_kind cuts kind) part of_part }
 {}

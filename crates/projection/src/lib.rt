@@ -21,8 +21,8 @@ pub use cutting::{Cut, part_by};
 pub use entries::entry;
 pub use keeping::{Values, keep};
 pub use laws::{
-    ahead_is_bounded, cell_is_valid, count_is_bounded, entry_is_valid, prefix_is_valid,
-    projection_is_valid, suffix_is_valid, without_is_valid,
+    ahead_is_bounded, cell_is_valid, count_is_bounded, entry_is_valid, listed_is_valid, one_part,
+    prefix_is_valid, projection_is_valid, suffix_is_valid, without_is_valid,
 };
 pub use prefix::until;
 pub use suffix::from;

@@ -54,7 +54,7 @@ fn pieces(
 /// The part of the operations that were invoked before this number, and did not fail. One that
 /// returned at it or later is pending.
 ///
-/// An error: the allocator refused memory.
+/// An error: an allocation failed.
 pub fn until(
     alloc: Global,
     history: &ObjectHistory,

@@ -246,7 +246,7 @@ fn start_at(operations: &[Invocation], number: u32) -> Option<Start>
 /// is left out. Of those that overlap it, if it left a value, a write becomes a write, and so does
 /// a swap that was not refused. Any other is pending; if it left nothing, all of them are.
 ///
-/// An error: the allocator refused memory.
+/// An error: an allocation failed.
 pub fn from(
     alloc: Global,
     history: &ObjectHistory,

@@ -75,11 +75,6 @@ fresh_rosters c (l ∷ ls) = ap (λ z. l ∷ z) (fresh_rosters c ls)
 pub fresh_own : (c : ℕ) (lists : List TableId) (ps : List PlaceSeen) → length lists ≡ 16 → ps ≡ fresh_places c lists → ArePlacesOf c lists ps
 fresh_own c lists ps long is = subst (ArePlacesOf c lists) (sym is) record { rows = fresh_rows c lists ∙ ap (λ n. replicate n c) long; lists_are = fresh_rosters c lists }
 
-or_front : {A : Type 0} (l : List A) (a : A) (i : ℕ) (d : A) → i < length l → get_or (l ++ a ∷ []) i d ≡ get_or l i d
-or_front [] a i d h = absurd (omega arith)
-or_front (x ∷ xs) a zero d h = refl
-or_front (x ∷ xs) a (suc i) d h = or_front xs a i d (omega arith)
-
 or_last : {A : Type 0} (l : List A) (a : A) (i : ℕ) (d : A) → i ≡ length l → get_or (l ++ a ∷ []) i d ≡ a
 or_last [] a zero d h = refl
 or_last [] a (suc i) d h = absurd (omega arith)
@@ -99,16 +94,6 @@ walkers_left all [] ws' n n' some_left gone more left j = absurd (omega arith)
 walkers_left all (x ∷ xs) ws' n n' some_left gone more left j = ap (λ z. get_elem? (rosters_of z) j) gone ∙ (left (suc j) ∙ ap (get_elem? (rosters_of all)) (omega arith))
 
 module _ {Z : Type 0} where
-  -- one owner more
-  pub one_owner : (n : ℕ) (lists : List TableId) (old new : List (Vec PlaceSeen Z)) (v : Vec PlaceSeen Z) → new ≡ old ++ v ∷ [] → HasPlaces n lists v
-      → AreDealt 0 n lists old → AreDealt 0 (n + 1) lists new
-  one_owner n lists old new v more has all = let count = all.0 in let long : length (old ++ v ∷ []) ≡ length old + 1 = length-append old (v ∷ []) in subst (AreDealt 0 (n + 1) lists) (sym more) (
-    omega arith,
-    λ i d l. dite (ℕ_discrete i n)
-        (λ (e : i ≡ n). subst (λ (z : ℕ × Vec PlaceSeen Z). HasPlaces z.0 lists z.1) (λ j. ((let f : n ≡ 0 + i = omega arith in f) j, sym (or_last old v i d (e ∙ sym count)) j)) has)
-        (λ other. subst (HasPlaces (0 + i) lists) (sym (or_front old v i d (omega arith))) (all.1 i d (omega arith))),
-  )
-
   pub room_left : (n : ℕ) (lists : List TableId) (owners : List (Vec PlaceSeen Z)) → length lists < 16 → AreDealt 0 n lists owners → HaveRoom owners
   room_left n lists owners low all c d l = let count = all.0 in let b = all.1 c d (omega arith) in let len = b.1 in let cap = b.2 in omega arith
 

@@ -2,7 +2,6 @@ pub mod Slots
 pub mod Holds
 pub mod Said
 pub mod Turns
-pub mod Performing
 pub mod Encounters
 pub mod Growing
 pub mod NewClients

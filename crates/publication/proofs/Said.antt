@@ -69,15 +69,6 @@ can_says h v content b is replays can = subst (λ u. IsTrue b ↔ CanDo (kind_he
 pub may_serve : (h v : Handling) (content : Content) → h ≡ v → Replays (empty (kind_held v)) v.log content → CanDo (kind_held h) h.log h.request.op → IsSome (next content v.request.op)
 may_serve h v content is replays can = does (kind_held v) v.log v.request.op content replays (subst (λ u. CanDo (kind_held u) u.log u.request.op) is can)
 
--- the same of a pass whose object contains this
-pub pass_says : (p v : Holding) (op : AnyOp) (content : Content) (b : Bool) → p ≡ v → Replays (empty (kind_in v)) v.log content
-    → (IsTrue b ↔ IsSome (next content op)) → IsTrue b ↔ CanDo (kind_in p) p.log op
-pass_says p v op content b is replays can = subst (λ u. IsTrue b ↔ CanDo (kind_in u) u.log op) (sym is)
-    ((λ t. can_do (kind_in v) v.log op content replays (can.0 t)), λ t. can.1 (does (kind_in v) v.log op content replays t))
-
-pub may_perform : (p v : Holding) (op : AnyOp) (content : Content) → p ≡ v → Replays (empty (kind_in v)) v.log content → CanDo (kind_in p) p.log op → IsSome (next content op)
-may_perform p v op content is replays can = does (kind_in v) v.log op content replays (subst (λ u. CanDo (kind_in u) u.log op) is can)
-
 -- m before, b with the request in its slot, d after the step
 pub is_put_back : {S O R : Type 0} (h : Handling) (z : DeskId) (n : PassState) (b d : Me (Slot S O R) DeskView) (v : Handling) (i : ℕ)
     (s : Slot S O R) (tl : List (ℕ × Slot S O R)) → h ≡ v → b ≡ (v.knows, (i, s) ∷ tl)

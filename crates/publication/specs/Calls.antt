@@ -13,7 +13,7 @@ use Rattle.desk_invariant.specs.declared.board.DeskView.{DeskView}
 use Rattle.desk_invariant.specs.Views.{row_place, seen_of, own_request, journal, is_waiting}
 use Rattle.desk_invariant.specs.Views.{after_miss, after_row_miss, after_win, after_pick}
 use Rattle.desk_invariant.specs.Views.{after_put_back, after_answer, with_own, after_take}
-use Rattle.desk_invariant.specs.Views.{after_return, after_perform, after_meet, after_end_unset}
+use Rattle.desk_invariant.specs.Views.{after_return, after_meet, after_end_unset}
 use Rattle.desk_invariant.specs.Views.{IsAccount}
 use Rattle.desk_model.specs.Images.{entry_in, event_in}
 use Rattle.desk_model.specs.Records.{IsSoundRecord}
@@ -118,7 +118,7 @@ abbrev pub kind_held : Handling → Kind
 kind_held h = kind_at h.knows.kinds h.object
 
 -- The request in hand is answered: the log has one entry more, with the request's client, ticket
--- and operation, and the reply, and is legal; or memory was refused, and it has none.
+-- and operation, and the reply, and is legal; or an allocation failed, and it has none.
 pub record Answered (h : Handling) (a : AnyAnswer) (p : Holding) : Type 0 where
   pub object : p.object ≡ h.object
   pub log : p.log ≡ h.log ++ logged h.row h.request a
@@ -128,29 +128,6 @@ pub record Answered (h : Handling) (a : AnyAnswer) (p : Holding) : Type 0 where
 -- the kind of the object of a pass
 abbrev pub kind_in : Holding → Kind
 kind_in p = kind_at p.desk.kinds p.object
-
--- The client made a call of its own on the object that it holds, and it is over, with this answer:
--- its invocation and its return are the last events of the journal. The log has one entry more,
--- with the client, the ticket of the invocation, the operation and the reply, or none where memory
--- was refused. It is legal, was seen, begins with all that was seen before, and holds of the
--- client's own calls those before and this one; the ticket of the return is greater than each in
--- it.
-pub record Performed (p : Holding) (op : AnyOp) (a : AnyAnswer) (r : Holding) : Type 0 where
-  pub request : AnyRequest
-  pub returned : ℕ
-  pub was_idle : p.knows.own ≡ own.Idle
-  pub asked : (request.object ≡ p.object) × (request.op ≡ op)
-  pub object : r.object ≡ p.object
-  pub log : r.log ≡ p.log ++ logged p.knows.number request a
-  pub knows : r.knows ≡ after_perform request a r.log returned p.knows
-  pub seen : seen_of r.knows p.object ≡ r.log
-  pub legal : IsLegal (kind_in p) r.log
-  pub begins : StartsWith r.log (seen_of p.knows p.object)
-  pub counted : entries_of p.knows.number r.log
-      ≡ served p.object p.knows.number p.knows.done ++ logged p.knows.number request a
-  pub later : All (λ e. e.ticket < returned) r.log
-  pub journal : journal r.knows
-      ≡ journal p.knows ++ Invoked request.ticket p.object op ∷ Returned returned a ∷ []
 
 -- the request in hand is back in its row, and nothing else changed
 pub record IsPutBack (h : Handling) (p : Holding) : Type 0 where

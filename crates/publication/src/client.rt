@@ -94,33 +94,6 @@ impl<O: Copy, R: Copy> Member<O, R> {
         self.journal.events.push_reserved(returned);
         self.outstanding = false;
     }
-
-    // Writes a whole call into the journal, which has room for it.
-    pub fn note_call(&mut self, asked: Request<O>, ticket: u64, answer: Answer<R>)
-        requires calls { self.old.calls < self.old.quota }
-        requires room { vec_len self.old.journal.events + 2 ≤ vec_capacity self.old.journal.events }
-        ensures calls { self.new.calls ≡ self.old.calls + 1 }
-        ensures events { self.new.journal.events.items ≡ self.old.journal.events.items
-            ++ Invoked asked.ticket asked.object asked.op ∷ Returned ticket answer ∷ [] }
-        ensures capacity { vec_capacity self.new.journal.events
-            ≡ vec_capacity self.old.journal.events }
-        ensures same { self.new
-            ≡ record self.old { calls = self.new.calls; journal = self.new.journal } }
-    {
-        let Request {
-            object,
-            ticket: first,
-            op,
-        } = asked;
-        let events = &mut self.journal.events;
-        events.push_reserved(JournalEvent::Invoked {
-            ticket: first,
-            object,
-            op,
-        });
-        events.push_reserved(JournalEvent::Returned { ticket, answer });
-        self.calls += 1;
-    }
 }
 
 /// A member in a box, so that it moves as one word. Contracts see the member.
@@ -184,21 +157,6 @@ impl<O: Copy, R: Copy> BoxedMember<O, R> {
             ≡ record self.old { outstanding = false; journal = self.new.journal } }
     {
         self.inside.note_returned(ticket, answer);
-    }
-
-    // Writes a whole call into the journal, which has room for it.
-    pub fn note_call(&mut self, asked: Request<O>, ticket: u64, answer: Answer<R>)
-        requires calls { self.old.calls < self.old.quota }
-        requires room { vec_len self.old.journal.events + 2 ≤ vec_capacity self.old.journal.events }
-        ensures calls { self.new.calls ≡ self.old.calls + 1 }
-        ensures events { self.new.journal.events.items ≡ self.old.journal.events.items
-            ++ Invoked asked.ticket asked.object asked.op ∷ Returned ticket answer ∷ [] }
-        ensures capacity { vec_capacity self.new.journal.events
-            ≡ vec_capacity self.old.journal.events }
-        ensures same { self.new
-            ≡ record self.old { calls = self.new.calls; journal = self.new.journal } }
-    {
-        self.inside.note_call(asked, ticket, answer);
     }
 
     // The journal, at the client's end.

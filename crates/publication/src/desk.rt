@@ -149,7 +149,7 @@ impl<S: SeqObject> Desk<S> {
     }
 
     /// Whether the client may make this call: if not, the first of P1 to P4 that stands.
-    pub fn may_post(&self, client: &Client<S>, object: u32, op: &S::Op) -> Result<(), Post>
+    fn may_post(&self, client: &Client<S>, object: u32, op: &S::Op) -> Result<(), Post>
         requires { client.now.desk ≡ self.now.id }
         ensures may { OnOk result (MayPost client.now) }
         ensures there { OnOk result ((object < length self.now.id.kinds)

@@ -7,14 +7,14 @@ ghost use Rattle.model.specs.Objects.{kind_of, kind_with, next};
 ghost use Rattle.desk_model.specs.World.{logged, Serves};
 ghost use Rattle.desk_model.specs.Images.{request_in, answer_in, entry_in};
 ghost use Rattle.desk_invariant.specs.Views.{after_release, seen_of};
-ghost use Rattle.publication.specs.Calls.{Got, NotGot, HasCallLeft, CanDo, kind_held, kind_in};
-ghost use Rattle.publication.specs.Calls.{Performed, Answered, IsPutBack, desk_after_pick};
+ghost use Rattle.publication.specs.Calls.{Got, NotGot, CanDo, kind_held};
+ghost use Rattle.publication.specs.Calls.{Answered, IsPutBack, desk_after_pick};
 ghost use Rattle.publication.specs.Calls.{state_after_pick, IfGot, IfNot};
 
 use crate::client::{Client, Hand, Pass};
 use crate::desk::{ANSWERED, CLOCK, Desk, PICKED, POSTED, Picked, ROWS};
 use crate::looking::look_and_exchange;
-use crate::plays::{Answers, Draws, LooksAtRow, Performs, Picks, PutsBack, Releases};
+use crate::plays::{Answers, LooksAtRow, Picks, PutsBack, Releases};
 use desk_invariant::{BoxedCore, Core, Slot};
 use desk_model::Request;
 use recorder::Answer;
@@ -91,53 +91,6 @@ impl<S: SeqObject> Pass<S> {
         passes
     }
 
-    /// Whether the object can do the operation now.
-    pub fn possible(&self, op: &S::Op) -> bool
-        requires { kind_of (S.op_in op.now) ≡ kind_in self.now }
-        ensures { IsTrue result ↔ CanDo (kind_in self.now) self.now.log (S.op_in op.now) }
-    {
-        can_do(&self.core, op)
-    }
-
-    /// Makes a call of the client's own, and answers it: no request goes through the client's row.
-    /// It draws the ticket of the invocation, does the operation, logs it, and draws the ticket of
-    /// the return. Where memory is refused the answer is Refused, and nothing is done or logged.
-    pub fn perform(&mut self, desk: &Desk<S>, op: S::Op) -> Answer<S::Reply>
-        requires desk { self.old.desk ≡ desk.now.id }
-        requires may { HasCallLeft self.old.desk self.old.knows }
-        requires possible { (kind_of (S.op_in op) ≡ kind_in self.old)
-            × CanDo (kind_in self.old) self.old.log (S.op_in op) }
-        ensures desk { self.new.desk ≡ self.old.desk }
-        ensures state { self.new.state ≡ record self.old.state { room = self.new.state.room } }
-        // An entry takes room for one, where there was room.
-        ensures room { 0 < self.old.state.room →
-            self.new.state.room + length self.new.log ≡ self.old.state.room + length self.old.log }
-        ensures performed { Performed self.old (S.op_in op) (answer_in S.reply_in result) self.new }
-    {
-        let (object, number) = (self.object, self.number);
-        let slot = ROWS + number as usize;
-        let shared = &desk.table.shared;
-        let seat = &mut self.seat;
-        // The slot of its own row is in hand, after that of the object.
-        seat.turn();
-        let asked = Request {
-            object,
-            ticket: 0,
-            op,
-        };
-        let _ = shared.exchange(seat, slot, Slot::Request(asked));
-        let ticket = shared.fetch_add::<Draws>(seat, CLOCK, 1);
-        let asked = Request { object, ticket, op };
-        let answer = serve(&mut self.core, number, &asked);
-        let _ = shared.exchange(seat, slot, Slot::Answer(answer));
-        let returned = shared.fetch_add::<Performs>(seat, CLOCK, 1);
-        let _ = shared.exchange(seat, slot, Slot::Nothing);
-        seat.turn();
-        seat.turn();
-        self.member.note_call(asked, returned, answer);
-        answer
-    }
-
     /// Puts the object back, so that another may win it. The client has seen the log as it then
     /// stood.
     pub fn release(self, desk: &Desk<S>) -> Client<S>
@@ -182,7 +135,7 @@ impl<S: SeqObject> Hand<S> {
         can_do(&self.core, &self.request.op)
     }
 
-    /// Does the operation, logs it, and answers the request. Where memory is refused it answers
+    /// Does the operation, logs it, and answers the request. Where an allocation fails it answers
     /// Refused, and nothing is done or logged.
     pub fn answer(self, desk: &Desk<S>) -> (Pass<S>, Answer<S::Reply>)
         requires desk { self.desk ≡ desk.now.id }

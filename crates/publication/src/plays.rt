@@ -100,14 +100,6 @@ impl<S: SeqObject> Play<Slot<S, S::Op, S::Reply>, DeskView> for Returns {
     ghost then = { returns S.content S.op_in S.reply_in };
 }
 
-pub(crate) struct Performs;
-
-impl<S: SeqObject> Play<Slot<S, S::Op, S::Reply>, DeskView> for Performs {
-    ghost use Rattle.desk_invariant.specs.Plays.{performs};
-
-    ghost then = { performs S.content S.op_in S.reply_in };
-}
-
 pub(crate) struct Begins;
 
 impl<S: SeqObject> Play<Slot<S, S::Op, S::Reply>, DeskView> for Begins {

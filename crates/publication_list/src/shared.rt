@@ -104,8 +104,8 @@ impl SharedWalker {
 }
 
 impl Roster {
-    /// A roster more, in which each of these owners has the place of its row, which lies after the
-    /// places that it has.
+    /// One more roster, in which each of these owners has the place of its row, after the places
+    /// that it has. After an error some owners may have one place more.
     pub fn deal(
         alloc: Global,
         owners: &mut Vec<Vec<SharedPlace>>,

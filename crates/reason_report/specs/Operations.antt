@@ -64,12 +64,12 @@ operation_in es o = record {
 
 -- ---- the text
 
--- as maps 4 and 9, or map 12 where it did not return in the part
+-- as events 4 and 9, or event 12 where it did not return in the part
 abbrev pub place_text : ℕ → End → List ℕ
 place_text number (Returned at reply) =
-    codes "maps " ++ (decimal number ++ (codes " and " ++ decimal at))
-place_text number Pending = codes "map " ++ decimal number
-place_text number Failed = codes "map " ++ decimal number
+    codes "events " ++ (decimal number ++ (codes " and " ++ decimal at))
+place_text number Pending = codes "event " ++ decimal number
+place_text number Failed = codes "event " ++ decimal number
 
 -- as :enqueue 7
 abbrev pub op_text : AnyOp → List ℕ
@@ -100,7 +100,7 @@ open_text (Returned at reply) = []
 open_text Pending = codes ", pending"
 open_text Failed = codes ", failed"
 
--- as maps 4 and 9: process 2,
+-- as events 4 and 9: process 2,
 abbrev pub heading_text : List Event → Invocation → List ℕ
 heading_text es o =
     place_text o.number o.«end»
@@ -111,7 +111,7 @@ abbrev pub said_text : Invocation → Invocation → List ℕ
 said_text told counted =
     call_text told ++ (counted_text told counted ++ (open_text counted.«end» ++ codes "\n"))
 
--- as maps 4 and 9: process 2, :dequeue nil, :ok 7
+-- as events 4 and 9: process 2, :dequeue nil, :ok 7
 abbrev pub operation_line : List Event → Invocation → List ℕ
 operation_line es o = heading_text es o ++ said_text (operation_in es o) o
 

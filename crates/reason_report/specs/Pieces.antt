@@ -1,6 +1,5 @@
 -- The text of a line's pieces, and what a line begins with.
-use Rattle.std.specs.Prelude.{ℕ, Bool, true, false, List, [], ◌∷◌, ◌++◌, ◌==◌, codes, decimal}
-use Rattle.std.specs.Prelude.{if◌then◌else◌}
+use Rattle.std.specs.Prelude.{ℕ, Bool, true, false, List, [], ◌∷◌, ◌++◌, codes, decimal}
 use Rattle.std.specs.Fmt.{signed_decimal}
 use Rattle.seq_objects.specs.declared.value.Value.{Value}
 use Rattle.seq_objects.specs.declared.value.Value.TheVariants as value
@@ -20,15 +19,9 @@ value_text (value.Int z) = signed_decimal z
 value_text (value.Pair a b) =
     codes "[" ++ (signed_decimal a ++ (codes " " ++ (signed_decimal b ++ codes "]")))
 
--- how often: once, or 2 times
-abbrev pub times_text : ℕ → List ℕ
-times_text n = if n == 1 then codes "once" else decimal n ++ codes " times"
-
 abbrev pub piece_text : Piece → List ℕ
 piece_text (piece.Text bytes) = bytes.now
 piece_text (piece.Natural n) = decimal n
-piece_text (piece.Integer z) = signed_decimal z
-piece_text (piece.Times n) = times_text n
 piece_text (piece.Value v) = value_text v
 
 -- the pieces one after the other

@@ -93,10 +93,10 @@ fn push_place(text: &mut Vec<u8>, operation: &Invocation) -> Result<(), AllocErr
             let at = Piece::Natural(u64::from(at));
             push_pieces(
                 text,
-                &[Piece::Text(b"maps "), number, Piece::Text(b" and "), at],
+                &[Piece::Text(b"events "), number, Piece::Text(b" and "), at],
             )
         }
-        End::Pending | End::Failed => push_pieces(text, &[Piece::Text(b"map "), number]),
+        End::Pending | End::Failed => push_pieces(text, &[Piece::Text(b"event "), number]),
     }
 }
 

@@ -1,11 +1,11 @@
 //! Lines made of pieces.
 
-ghost use Rattle.std.specs.Prelude.{◌≡◌, ◌++◌, codes, decimal, OnOk};
+ghost use Rattle.std.specs.Prelude.{◌≡◌, ◌++◌, codes, OnOk};
 ghost use Rattle.std.specs.Fmt.{signed_decimal};
-ghost use Rattle.reason_report.specs.Pieces.{comment_text, value_text, times_text};
+ghost use Rattle.reason_report.specs.Pieces.{comment_text, value_text};
 ghost use Rattle.reason_report.specs.Pieces.{piece_text, pieces_text};
 
-use itoa::Buffer;
+use edn::{push_integer, push_natural};
 use seq_objects::Value;
 use std::alloc::AllocError;
 
@@ -14,35 +14,8 @@ use std::alloc::AllocError;
 pub(crate) enum Piece {
     Text(&'static [u8]),
     Natural(u64),
-    Integer(i64),
-    /// How often: `once`, or `2 times`.
-    Times(usize),
     /// An argument or a reply, as a history writes it.
     Value(Value),
-}
-
-fn push_natural(text: &mut Vec<u8>, n: u64) -> Result<(), AllocError>
-    ensures { OnOk result (text.new.items ≡ text.old.items ++ decimal n) }
-{
-    let mut buffer = Buffer::new();
-    text.extend_from_slice(buffer.format(n).as_bytes())
-}
-
-fn push_integer(text: &mut Vec<u8>, n: i64) -> Result<(), AllocError>
-    ensures { OnOk result (text.new.items ≡ text.old.items ++ signed_decimal n) }
-{
-    let mut buffer = Buffer::new();
-    text.extend_from_slice(buffer.format(n).as_bytes())
-}
-
-fn push_times(text: &mut Vec<u8>, n: usize) -> Result<(), AllocError>
-    ensures { OnOk result (text.new.items ≡ text.old.items ++ times_text n) }
-{
-    if n == 1 {
-        return text.extend_from_slice(b"once");
-    }
-    push_natural(text, n as u64)?;
-    text.extend_from_slice(b" times")
 }
 
 fn push_pair(text: &mut Vec<u8>, a: i64, b: i64) -> Result<(), AllocError>
@@ -73,8 +46,6 @@ fn push_piece(text: &mut Vec<u8>, piece: Piece) -> Result<(), AllocError>
     match piece {
         Piece::Text(bytes) => text.extend_from_slice(bytes),
         Piece::Natural(n) => push_natural(text, n),
-        Piece::Integer(n) => push_integer(text, n),
-        Piece::Times(n) => push_times(text, n),
         Piece::Value(value) => push_value(text, value),
     }
 }

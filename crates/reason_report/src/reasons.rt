@@ -1,13 +1,12 @@
 //! The line of a reason.
 
 ghost use Rattle.std.specs.Prelude.{◌≡◌, ◌++◌, OnOk, IfOk};
-ghost use Rattle.reason_text.specs.Lines as spec;
+ghost use Rattle.refutation.specs.Lines as spec;
 ghost use Rattle.reason_report.specs.Pieces.{comment_text};
 
 use crate::pieces::push_comment;
 use edn::Out;
-use reason_text::write_reasons;
-use refutation::Reason;
+use refutation::{Reason, write_reasons};
 use std::alloc::{AllocError, Global};
 
 /// The line of the reason.

@@ -1,8 +1,7 @@
-//! Which takings surely found something too early, by the count of what was ahead.
+//! Which removals definitely found something too early, by the count of what was ahead.
 
 use history::read_history_text;
-use reason_text::read_reasons_text;
-use refutation::{Doubt, Refutation, refute_all};
+use refutation::{Doubt, Refutation, read_reasons_text, refute_all};
 use std::alloc::Global;
 use std::test::Fail;
 
@@ -29,7 +28,7 @@ fn exceeded(alloc: Global, history: &[u8], reasons: &str) -> Result<Vec<bool>, F
 }
 
 /// Two values were in the queue, and one pending dequeue can have taken one of them. From map 1 on
-/// only one was put in. The taking at 4 is pending, at 0 is an enqueue, and no map 9 is there.
+/// only one was put in. The removal at 4 is pending, at 0 is an enqueue, and no map 9 is there.
 #[test]
 fn a_queue_was_not_empty(rt: HostRuntime) -> Result<(), Fail> {
     let history = b"

@@ -1,9 +1,9 @@
 //! What a reason that does not show anything hands out.
 
 use history::read_history_text;
-use order_search::TryFirst;
 use projection::{Count, Counted, Cut};
 use refutation::{Doubt, Evidence, Reason, Refutation, Trial, refute_all};
+use search::TryFirst;
 use std::alloc::{AllocError, Global};
 use std::test::Fail;
 

@@ -6,8 +6,7 @@ use events::split;
 use history::read_history_text;
 use projection::{Cut, part_by};
 use reason_report::{push_operations, push_reason};
-use reason_text::{ReasonFault, ReasonFaultKind, read_reasons, write_reasons};
-use refutation::Reason;
+use refutation::{Reason, ReasonFault, ReasonFaultKind, read_reasons, write_reasons};
 use std::alloc::Global;
 use std::test::Fail;
 

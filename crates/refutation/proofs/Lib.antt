@@ -1,1 +1,8 @@
+pub mod Elements
+pub mod Reading
+pub mod Rising
+pub mod Sending
+pub mod Writing
 pub mod Objects
+pub mod OnePart
+pub mod Alone

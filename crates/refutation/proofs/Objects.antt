@@ -12,7 +12,7 @@ use Rattle.locality.specs.Locality.{HasValidOrder}
 use Rattle.events.specs.declared.event.Event.{Event}
 use Rattle.events.specs.Events.{kind_at, denoted, IsNamed}
 use Rattle.events.specs.Operations.{ObjectCalls, calls_of}
-use Rattle.order_search.specs.Outcomes.{IsNoneValid}
+use Rattle.search.specs.Outcomes.{IsNoneValid}
 use Rattle.projection.specs.Cuts.{NamesPart}
 use Rattle.refutation.specs.declared.reason.Reason.{Reason}
 use Rattle.refutation.specs.declared.refuting.Refutation.{Refutation}

@@ -1,10 +1,16 @@
+pub mod Denotes
+pub mod Faults
+pub mod Lines
+pub mod Texts
+pub mod Written
 pub mod Refutations
+pub mod Alone
 pub use Rattle.model.specs.Objects
 pub use Rattle.model.specs.Linearizable
 pub use Rattle.model.specs.Orders
 pub use Rattle.events.specs.Events
 pub use Rattle.events.specs.Operations
-pub use Rattle.order_search.specs.Outcomes
+pub use Rattle.search.specs.Outcomes
 pub use Rattle.projection.specs.Parts
 pub use Rattle.projection.specs.Cuts
 pub use Rattle.projection.specs.Counts

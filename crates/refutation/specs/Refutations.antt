@@ -5,7 +5,7 @@ use Rattle.model.specs.Orders.{Call, IsValidOrder, calls_on}
 use Rattle.events.specs.declared.event.Event.{Event}
 use Rattle.events.specs.Events.{kind_at, denoted, IsNamed}
 use Rattle.events.specs.Operations.{ObjectCalls, calls_of}
-use Rattle.order_search.specs.Outcomes.{IsNoneValid}
+use Rattle.search.specs.Outcomes.{IsNoneValid}
 use Rattle.projection.specs.declared.cutting.Cut.{Cut}
 use Rattle.projection.specs.Ahead.{IsBlocked}
 use Rattle.projection.specs.Counts.{IsOverdrawn}
@@ -83,8 +83,8 @@ abbrev pub HasNoValidOrder : ObjectCalls → Type 0
 HasNoValidOrder part = IsNoneValid part.kind (calls_of part.ops)
 
 -- What the evidence shows of a part: a search, that no order of it is valid; a count, that a
--- content was taken away more often than it can have been there, or that more values surely were
--- ahead of what a taking found than other calls can have taken out before it.
+-- content was taken away more often than it can have been there, or that more values definitely
+-- were ahead of what a removal found than other calls can have taken out before it.
 abbrev pub IsShownBy : Evidence → ObjectCalls → Type 0
 IsShownBy (Search trial) part = HasNoValidOrder part
 IsShownBy (Counting count) part = IsOverdrawn part.kind count (calls_of part.ops)

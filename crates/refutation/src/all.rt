@@ -39,7 +39,7 @@ fn refute_among(
 /// number, within this limit of steps of a search. A reason of an object that the history does not
 /// name is answered by `OtherObject`.
 ///
-/// An error: the allocator refused memory.
+/// An error: an allocation failed.
 pub fn refute_all(
     alloc: Global,
     history: &History,

@@ -1,11 +1,31 @@
-//! Refutations: small reasons why no order of an object's operations is valid, from anywhere, and
-//! their check.
+//! Refutations: small reasons why no order of an object's operations is valid, from any source, as
+//! text and in memory, and their check.
+//!
+//! The text of a reason is one map, as `{:object 0, :cuts [{:until 120} {:keep [1 2], :numbers [4 7]}]}`.
 #![tactic(auto)]
 
 mod all;
+mod cut;
+mod cut_writer;
+mod evidence;
+mod fault;
+mod laws;
+mod reader;
 mod reason;
 mod refuting;
+mod set_writer;
+mod sets;
+mod text_reader;
+mod writer;
 
 pub use all::refute_all;
+pub use fault::{ReasonFault, ReasonFaultKind, ReasonTextFault};
+pub use laws::{
+    listed_is_not_linearizable, one_named_part, part_alone_is_not_linearizable,
+    part_is_not_linearizable,
+};
+pub use reader::{read_reasons, reason_in};
 pub use reason::{Evidence, Reason, Trial};
 pub use refuting::{Doubt, Refutation, refute};
+pub use text_reader::read_reasons_text;
+pub use writer::write_reasons;

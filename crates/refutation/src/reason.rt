@@ -3,8 +3,8 @@
 
 ghost use Rattle.std.specs.Prelude.{◌≡◌};
 
-use order_search::TryFirst;
 use projection::{Count, Cut};
+use search::TryFirst;
 
 /// How the orders of a part are searched: which operation is tried first, and how many steps the
 /// search may take at most. Without a number the caller of the check says how many.
@@ -22,7 +22,7 @@ pub enum Evidence {
     /// A count over the part of how often a content was set and taken away: see
     /// [`projection::is_overdrawn`].
     Counting(Count),
-    /// A count over the part of the values that surely were ahead of what the taking with this
+    /// A count over the part of the values that definitely were ahead of what the removal with this
     /// number found, by puts that were invoked at the number `from` or later: see
     /// [`projection::is_blocked`].
     Ahead { number: u32, from: u32 },

@@ -3,15 +3,15 @@
 ghost use Rattle.std.specs.Prelude.{◌≡◌, ◌≢◌, true, List, None, IfOk, IfSome};
 ghost use Rattle.model.specs.Orders.{Call};
 ghost use Rattle.events.specs.Operations.{calls_of};
-ghost use Rattle.order_search.specs.Outcomes.{IsNoneValid};
+ghost use Rattle.search.specs.Outcomes.{IsNoneValid};
 ghost use Rattle.projection.specs.Cuts.{NamesPart};
 ghost use Rattle.refutation.specs.Refutations.{is_impossible, IfImpossible, IfNotShown};
 ghost use Rattle.refutation.specs.Refutations.{IfPart, IsDoubt, IsNamedPart, HasNoValidOrder, IsShownBy};
 
 use crate::reason::{Evidence, Reason, Trial};
 use events::ObjectHistory;
-use order_search::{Attempt, Outcome, find_order_of_any_size};
 use projection::{Count, is_blocked, is_overdrawn, part_by};
+use search::{Attempt, Outcome, find_order_of_any_size};
 use std::alloc::{AllocError, Global};
 
 /// Why a part does not show that no order of the whole is valid.
@@ -20,7 +20,8 @@ pub enum Doubt {
     /// The part has this valid order.
     Possible(Vec<i64>),
     /// The count is not exceeded: in the part the content was not taken away more often than it can
-    /// have been there, or no more values surely were ahead than can have been taken out before.
+    /// have been there, or no more values definitely were ahead than can have been taken out
+    /// before.
     NotExceeded,
     /// The search reached its limit of steps.
     OutOfSteps,
@@ -68,7 +69,7 @@ fn doubt_of_count(part: &ObjectHistory, count: Count) -> Option<Doubt>
     Some(Doubt::NotExceeded)
 }
 
-/// What the count of what was ahead of a taking answers of a part; `None`: it is exceeded, so that
+/// What the count of what was ahead of a removal answers of a part; `None`: it is exceeded, so that
 /// no order of the part is valid.
 fn doubt_of_ahead(part: &ObjectHistory, number: u32, from: u32) -> Option<Doubt>
     ensures exceeded { result ≡ None → IsShownBy (Evidence.Ahead number from) part.now }
@@ -94,10 +95,11 @@ fn doubt_of(alloc: Global, part: &ObjectHistory, evidence: Evidence, limit: u64)
     }
 }
 
-/// Whether the reason shows that no order of the object's operations is valid. A search takes at most
-/// the steps that the reason gives, or else `limit`. The part that the reason names is handed out.
+/// Whether the reason shows that no order of the object's operations is valid. A search takes at
+/// most the steps that the reason gives, or else `limit`. The part that the reason names is handed
+/// out.
 ///
-/// An error: the allocator refused memory for the part.
+/// An error: an allocation failed for the part.
 pub fn refute(
     alloc: Global,
     history: &ObjectHistory,

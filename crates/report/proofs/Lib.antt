@@ -1,1 +1,4 @@
+pub mod Named
+pub mod Uses
+pub mod KindsCounted
 pub mod LinesLeft

@@ -4,11 +4,13 @@ use Rattle.std.proofs.lemmas.List.{drop_more}
 use Rattle.report.specs.Lines.{comment_text, kind_line, kind_lines}
 use Rattle.report.specs.Pieces.{piece_text, pieces_text}
 use Rattle.report.specs.declared.pieces.Piece.{Piece}
-use Rattle.verdicts.specs.declared.verdict.KindCount.{KindCount}
+use Rattle.report.specs.declared.verdict.KindCount.{KindCount}
 
-pub pieces_left : (ps : List Piece) (i : ℕ) (d : Piece) → i < length ps → pieces_text (drop i ps) ≡ piece_text (get_or ps i d) ++ pieces_text (drop (i + 1) ps)
+pub pieces_left : (ps : List Piece) (i : ℕ) (d : Piece) → i < length ps → pieces_text (drop i ps)
+    ≡ piece_text (get_or ps i d) ++ pieces_text (drop (i + 1) ps)
 pieces_left ps i d lt = ap pieces_text (drop_more ps i d lt)
 
 pub kinds_left : (commented : Bool) (ks : List KindCount) (i : ℕ) (d : KindCount) → i < length ks
-    → kind_lines commented (drop i ks) ≡ (comment_text commented ++ kind_line (get_or ks i d)) ++ kind_lines commented (drop (i + 1) ks)
+    → kind_lines commented (drop i ks) ≡ (comment_text commented ++ kind_line
+    (get_or ks i d)) ++ kind_lines commented (drop (i + 1) ks)
 kinds_left commented ks i d lt = ap (kind_lines commented) (drop_more ks i d lt)

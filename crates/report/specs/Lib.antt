@@ -1,2 +1,5 @@
+pub mod Counts
+pub mod Invoked
+pub mod Verdicts
 pub mod Lines
 pub mod Pieces

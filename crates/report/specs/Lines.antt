@@ -14,13 +14,13 @@ use Rattle.seq_objects.specs.Functions.{word_of}
 use Rattle.seq_objects.specs.Values.{reply_value}
 use Rattle.seq_objects.specs.declared.value.Value.{Value}
 use Rattle.seq_objects.specs.declared.value.Value.TheVariants.{Nil, False, Int, Pair}
-use Rattle.verdicts.specs.declared.verdict.KindCount.{KindCount}
-use Rattle.verdicts.specs.declared.verdict.Summary.{Summary}
-use Rattle.verdicts.specs.declared.verdict.Fault.{Fault}
-use Rattle.verdicts.specs.declared.verdict.Fault.TheVariants.{HistoryText, HistoryMaps}
-use Rattle.verdicts.specs.declared.verdict.Fault.TheVariants.{CertificateText, CertificateForms}
-use Rattle.verdicts.specs.declared.verdict.Verdict.{Verdict}
-use Rattle.verdicts.specs.declared.verdict.Verdict.TheVariants.{Yes, No, Malformed, NoMemory}
+use Rattle.report.specs.declared.verdict.KindCount.{KindCount}
+use Rattle.report.specs.declared.verdict.Summary.{Summary}
+use Rattle.report.specs.declared.verdict.Fault.{Fault}
+use Rattle.report.specs.declared.verdict.Fault.TheVariants.{HistoryText, HistoryMaps}
+use Rattle.report.specs.declared.verdict.Fault.TheVariants.{CertificateText, CertificateForms}
+use Rattle.report.specs.declared.verdict.Verdict.{Verdict}
+use Rattle.report.specs.declared.verdict.Verdict.TheVariants.{Yes, No, Malformed, NoMemory}
 
 -- what each line begins with
 abbrev pub comment_text : Bool → List ℕ

@@ -1,9 +1,14 @@
-//! The lines of a verdict.
+//! What a judge of histories says: verdicts, the counts of a history, and their lines.
 #![tactic(auto)]
 
+mod checked;
+mod counting;
 mod lines;
 mod pieces;
+mod verdict;
 mod writing;
 
-pub use verdicts::{Fault, KindCount, Summary, Verdict, summary, verdict_on_check};
+pub use checked::verdict_on_check;
+pub use counting::summary;
+pub use verdict::{Fault, KindCount, Summary, Verdict};
 pub use writing::write_verdict;

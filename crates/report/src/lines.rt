@@ -6,9 +6,9 @@ ghost use Rattle.report.specs.Lines as text;
 ghost use Rattle.report.specs.Pieces.{pieces_text};
 
 use crate::pieces::Piece;
+use crate::verdict::{Fault, KindCount, Summary};
 use checker::{OrderFault, Refusal};
 use seq_objects::{AnyReply, Value, kind_name, value_of_reply};
-use verdicts::{Fault, KindCount, Summary};
 
 /// The pieces of a line. After the one that has the line feed stand empty ones.
 pub(crate) type Line = [Piece; 9];

@@ -1,12 +1,11 @@
 //! Lines made of pieces.
 
-ghost use Rattle.std.specs.Prelude.{◌≡◌, ◌++◌, false, true, decimal};
-ghost use Rattle.byte_streams.specs.Sent.{Writes};
+ghost use Rattle.std.specs.Prelude.{◌≡◌, ◌++◌, false, true};
+ghost use Rattle.edn.specs.Sent.{Writes};
 ghost use Rattle.report.specs.Lines.{comment_text};
 ghost use Rattle.report.specs.Pieces.{piece_text, pieces_text};
 
-use edn::{Failed, Sink, write_bytes, write_integer};
-use itoa::Buffer;
+use edn::{Failed, Sink, write_bytes, write_integer, write_natural};
 
 /// A part of a line.
 #[derive(Clone, Copy)]
@@ -16,16 +15,6 @@ pub(crate) enum Piece {
     Integer(i64),
 }
 
-fn write_natural<S: Sink>(n: usize, sink: &mut S) -> Result<(), Failed>
-    requires { S.broken sink.old ≡ false }
-    ensures sent { Writes result (S.sent sink.old) (S.sent sink.new) (S.broken sink.new)
-        (decimal n) }
-{
-    let mut buffer = Buffer::new();
-    let digits = buffer.format(n);
-    write_bytes(digits.as_bytes(), sink)
-}
-
 fn write_piece<S: Sink>(piece: Piece, sink: &mut S) -> Result<(), Failed>
     requires { S.broken sink.old ≡ false }
     ensures sent { Writes result (S.sent sink.old) (S.sent sink.new) (S.broken sink.new)
@@ -33,7 +22,7 @@ fn write_piece<S: Sink>(piece: Piece, sink: &mut S) -> Result<(), Failed>
 {
     match piece {
         Piece::Text(text) => write_bytes(text, sink),
-        Piece::Natural(n) => write_natural(n, sink),
+        Piece::Natural(n) => write_natural(n as u64, sink),
         Piece::Integer(n) => write_integer(n, sink),
     }
 }

@@ -1,14 +1,14 @@
 //! The lines of a verdict, written.
 
 ghost use Rattle.std.specs.Prelude.{◌≡◌, ◌++◌, false, true, IfErr};
-ghost use Rattle.byte_streams.specs.Sent.{Writes};
+ghost use Rattle.edn.specs.Sent.{Writes};
 ghost use Rattle.report.specs.Lines as text;
 ghost use Rattle.report.specs.Lines.{comment_text};
 
 use crate::lines::{fault_line, kind_line, no_memory_line, refusal_line, total_line};
 use crate::pieces::write_line;
+use crate::verdict::{KindCount, Summary, Verdict};
 use edn::{Failed, Sink, WriteFault};
-use verdicts::{KindCount, Summary, Verdict};
 
 fn write_kinds<S: Sink>(kinds: &[KindCount], commented: bool, sink: &mut S) -> Result<(), Failed>
     requires { S.broken sink.old ≡ false }

@@ -3,14 +3,14 @@ use Rattle.std.proofs.Common.{◌≡◌, ◌≢◌, ℕ, ◌<◌, ◌≤◌, Lis
 use Rattle.std.specs.Prelude.{◌↔◌}
 use Rattle.model.specs.declared.Kind.{Kind}
 use Rattle.model.specs.Orders.{Call, IsValidOrder}
-use Rattle.order_search.specs.declared.finding.Attempt.{Attempt}
-use Rattle.order_search.specs.declared.finding.Outcome.{Outcome}
-use Rattle.order_search.specs.declared.finding.Outcome.TheVariants as outcome
-use Rattle.order_search.specs.Outcomes.{max_operations}
-use Rattle.order_search.specs.Outcomes as order
-use Rattle.order_search.specs.Outcomes.{IsNoneValid}
+use Rattle.search.specs.declared.finding.Attempt.{Attempt}
+use Rattle.search.specs.declared.finding.Outcome.{Outcome}
+use Rattle.search.specs.declared.finding.Outcome.TheVariants as outcome
+use Rattle.search.specs.Outcomes.{max_operations}
+use Rattle.search.specs.Outcomes as order
+use Rattle.search.specs.Outcomes.{IsNoneValid}
 use Rattle.search.specs.declared.found.SearchOutcome.TheVariants.{TooLarge}
-use Rattle.search.specs.Answers.{IsAnswer, IsAnswerOfAnySize, IsSound, answer_in, found_in}
+use Rattle.search.specs.Answers.{IsAnswer, IsSound, answer_in, found_in}
 
 sound_from : (object : ℕ) (kind : Kind) (calls : List Call) (limit : ℕ) (o : Outcome) (steps : ℕ) → order.IfFound o (IsValidOrder kind calls)
     → (o ≡ outcome.Impossible → IsNoneValid kind calls) → steps ≤ limit → (o ≡ outcome.OutOfSteps → steps ≡ limit)
@@ -42,10 +42,3 @@ answer_from object kind calls limit a f i s out large memory = record {
   sound = sound_from object kind calls limit a.outcome a.steps f i s out memory;
   too_large = (λ l. large.0 ((large_in object a.outcome).0 l), λ l. (large_in object a.outcome).1 (large.1 l));
 }
-
-pub answer_of_any_size : (object : ℕ) (kind : Kind) (calls : List Call) (limit : ℕ) (a : Attempt) → order.IfFound a.outcome (IsValidOrder kind calls)
-    → (a.outcome ≡ outcome.Impossible → IsNoneValid kind calls) → a.steps ≤ limit → (a.outcome ≡ outcome.OutOfSteps → a.steps ≡ limit)
-    → a.outcome ≢ outcome.TooLarge → (a.outcome ≡ outcome.NoMemory → Any (λ call. IsSome call.returned) calls)
-    → IsAnswerOfAnySize object kind calls limit (answer_in object a)
-answer_of_any_size object kind calls limit a f i s out small memory =
-    record { sound = sound_from object kind calls limit a.outcome a.steps f i s out memory; any_size = λ l. small ((large_in object a.outcome).0 l) }

@@ -1,2 +1,15 @@
+pub mod Positions
+pub mod Deadness
+pub mod Links
+pub mod Owed
+pub mod Calls
+pub mod Stack
+pub mod Steps
+pub mod Levels
+pub mod Generations
+pub mod Measure
+pub mod Orders
+pub mod Keys
+pub mod Rows
 pub mod Answering
 pub mod Certificates

@@ -7,11 +7,11 @@ use Rattle.model.specs.Orders.{Call, IsValidOrder, calls_on}
 use Rattle.events.specs.declared.event.Event.{Event}
 use Rattle.events.specs.Events.{kind_at, denoted}
 use Rattle.certificate.specs.declared.Certificate.{Certificate}
-use Rattle.order_search.specs.Outcomes.{max_operations}
-use Rattle.order_search.specs.Outcomes.{IsNoneValid}
-use Rattle.order_search.specs.declared.finding.Attempt.{Attempt}
-use Rattle.order_search.specs.declared.finding.Outcome.{Outcome}
-use Rattle.order_search.specs.declared.finding.Outcome.TheVariants as outcome
+use Rattle.search.specs.Outcomes.{max_operations}
+use Rattle.search.specs.Outcomes.{IsNoneValid}
+use Rattle.search.specs.declared.finding.Attempt.{Attempt}
+use Rattle.search.specs.declared.finding.Outcome.{Outcome}
+use Rattle.search.specs.declared.finding.Outcome.TheVariants as outcome
 use Rattle.search.specs.declared.found.Search.{Search}
 use Rattle.search.specs.declared.found.SearchOutcome.{SearchOutcome}
 use Rattle.search.specs.declared.found.SearchOutcome.TheVariants.{Impossible, OutOfSteps, TooLarge}
@@ -72,12 +72,6 @@ pub record IsAnswer (object : ℕ) (kind : Kind) (calls : List Call) (limit : �
   where
     pub sound : IsSound object kind calls limit s
     pub too_large : (s.found ≡ TooLarge) ↔ (max_operations < length calls)
-
--- what a search that takes on any calls may answer
-pub record IsAnswerOfAnySize (object : ℕ) (kind : Kind) (calls : List Call) (limit : ℕ) (s : Search)
-    : Type 0 where
-  pub sound : IsSound object kind calls limit s
-  pub any_size : s.found ≢ TooLarge
 
 -- an answer on the object with this number, in the history that the events denote
 abbrev pub IsAnswerOn : List Event → ℕ → ℕ → Search → Type 0

@@ -1,7 +1,13 @@
+pub mod Continuations
+pub mod Links
+pub mod Remembered
+pub mod Arranged
+pub mod Searching
+pub mod Outcomes
+pub mod Undoing
 pub mod Answers
 pub use Rattle.model.specs.Objects
-pub use Rattle.model.specs.Linearizable
 pub use Rattle.model.specs.Orders
-pub use Rattle.events.specs.Events
 pub use Rattle.events.specs.Operations
-pub use Rattle.order_search.specs.Outcomes
+pub use Rattle.model.specs.Linearizable
+pub use Rattle.events.specs.Events

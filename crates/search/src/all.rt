@@ -8,18 +8,18 @@ ghost use Rattle.certificate.specs.Denotes.{AreDistinct};
 ghost use Rattle.checker.specs.Refusals.{AreValid};
 ghost use Rattle.search.specs.Answers.{IsAnswerOn, IsFound, certificates_in};
 
+use crate::TryFirst;
 use crate::found::{Search, SearchOutcome};
 use crate::object::search_by;
 use events::{History, split};
 use locality::linearizable_has_orders;
-use order_search::TryFirst;
 use std::alloc::{AllocError, Global};
 
 /// Searches for a certificate of each object of a history, each within the limit, and answers in
 /// rising number of the objects. Of the operations that can come next, that with the least number
 /// is tried first.
 ///
-/// An error stands only where the split, or the list of answers, was refused memory.
+/// It fails only on an allocation failure, of the split or of the list of answers.
 pub fn search_all(
     alloc: Global,
     history: &History,

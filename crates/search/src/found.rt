@@ -13,7 +13,7 @@ pub enum SearchOutcome {
     OutOfSteps,
     /// There are more than 4,096 operations that did not fail.
     TooLarge,
-    /// Memory was refused.
+    /// An allocation failed.
     NoMemory,
 }
 

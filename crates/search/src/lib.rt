@@ -1,12 +1,31 @@
-//! The bounded search for certificates: an order for each object of a history, or the answer that
-//! none is valid.
+//! The bounded search: for an order of the operations of one object, and for certificates, an order
+//! for each object of a history, or the answer that none is valid.
+//!
+//! It is the search of Wing and Gong, "Testing and Verifying Concurrent Objects", Journal of Parallel
+//! and Distributed Computing 17, 1993: depth first, over objects whose operations can be undone.
 #![tactic(auto)]
 
 mod all;
+mod dead;
+mod digest;
+mod finding;
 mod found;
+mod kept;
+mod level;
 mod object;
+mod pairs;
+mod reversible;
+mod step;
+mod trials;
+mod undone;
+mod values;
+mod walk;
 
 pub use all::{search_all, search_all_by};
+pub use finding::{Attempt, Outcome, find_order, find_order_of_any_size};
 pub use found::{Search, SearchOutcome};
-pub use object::{search, search_by, search_of_any_size};
-pub use order_search::TryFirst;
+pub use kept::Kept;
+pub use object::{search, search_by};
+pub use reversible::Reversible;
+pub use step::{Step, Undo};
+pub use trials::{TryFirst, call_count};

@@ -2,14 +2,14 @@
 
 ghost use Rattle.std.specs.Prelude.{◌≡◌, ◌<◌, ◌≤◌, ◌↔◌, length, Any, IsSome};
 ghost use Rattle.events.specs.Operations.{calls_of};
-ghost use Rattle.order_search.specs.Outcomes.{IsNoneValid, max_operations};
-ghost use Rattle.search.specs.Answers.{IfFound, IsFor, IsAnswer, IsAnswerOfAnySize};
+ghost use Rattle.search.specs.Outcomes.{IsNoneValid, max_operations};
+ghost use Rattle.search.specs.Answers.{IfFound, IsFor, IsAnswer};
 ghost use Rattle.search.specs.Answers.{answer_in, found_in};
 
 use crate::found::{Search, SearchOutcome};
+use crate::{Attempt, Outcome, TryFirst, find_order};
 use certificate::Certificate;
 use events::ObjectHistory;
-use order_search::{Attempt, Outcome, TryFirst, find_order, find_order_of_any_size};
 use std::alloc::Global;
 
 /// What was found, for the object with this number.
@@ -61,18 +61,4 @@ pub fn search_by(alloc: Global, history: &ObjectHistory, first: TryFirst, limit:
     ensures { IsAnswer history.now.object history.now.kind (calls_of history.now.ops) limit result }
 {
     answer_of(history.object(), find_order(alloc, history, first, limit))
-}
-
-/// The same, however many operations there are: none is too large.
-pub fn search_of_any_size(
-    alloc: Global,
-    history: &ObjectHistory,
-    first: TryFirst,
-    limit: u64,
-) -> Search
-    ensures { IsAnswerOfAnySize history.now.object history.now.kind
-        (calls_of history.now.ops) limit result }
-{
-    let attempt = find_order_of_any_size(alloc, history, first, limit);
-    answer_of(history.object(), attempt)
 }

@@ -1,9 +1,12 @@
 //! The library by its one crate: a history is searched, and what was found is judged.
 
-use fcbench_api::{
-    Bytes, Out, SearchOutcome, Verdict, check_over, judge, read_history_text, search, search_all,
-    split, write_certificates,
-};
+use certificate::write_certificates;
+use edn::Out;
+use events::split;
+use history::read_history_text;
+use judging::{In, check_over, judge};
+use report::Verdict;
+use search::{SearchOutcome, search, search_all};
 use std::test::Fail;
 
 /// Two values are enqueued at the same time, and the second goes out.
@@ -34,7 +37,7 @@ fn certificates_that_are_found_are_judged(rt: HostRuntime) -> Result<(), Fail> {
     );
     assert!(rt; matches!(judge(&rt, alloc, AT_ONCE, &text, 1), Verdict::Yes(_)));
     let mut lines = Out::new(Vec::new(alloc));
-    let (mut first, mut second) = (Bytes::new(AT_ONCE), Bytes::new(&text));
+    let (mut first, mut second) = (In::new(AT_ONCE), In::new(text.as_slice()));
     let given = check_over(&rt, alloc, &mut first, &mut second, 1, &mut lines);
     assert!(rt; matches!(given, Ok(Verdict::Yes(_))));
     assert_eq!(rt;

@@ -1,8 +1,9 @@
 //! The decisions on the objects of a history by the claims of a text.
 
-use fcbench_api::{Claim, Decision, decide_by_claims, read_claims_text, read_history_text};
+use history::read_history_text;
 use std::alloc::Global;
 use std::test::Fail;
+use verifying::{Claim, Decision, decide_by_claims, read_claims_text};
 
 /// A queue that takes out what was put in, one that takes out what never was, a register that is
 /// read before and after a write, and one of whose two writes the second must come first, since a

@@ -36,7 +36,7 @@ pub trait SeqObject: Drop + Send {
         requires { model.kind_of (op_in op.now) ≡ kind_with (content self.now) }
         ensures { IsTrue result ↔ IsSome (next (content self.now) (op_in op.now)) };
 
-    /// Does the operation, and answers its reply. Where memory is refused nothing is done.
+    /// Does the operation, and answers its reply. Where an allocation fails nothing is done.
     fn apply(&mut self, op: &Self::Op) -> Result<Self::Reply, AllocError>
         requires { IsSome (next (content self.old) (op_in op.now)) }
         ensures ok { IfOk result (λ r.

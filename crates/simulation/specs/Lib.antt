@@ -1,2 +1,4 @@
+pub mod Schedules
+pub mod Faults
 pub mod Plays
 pub mod Simulations

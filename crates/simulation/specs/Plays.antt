@@ -10,8 +10,8 @@ use Rattle.recorder.specs.Records.{Recorded}
 use Rattle.recorder.specs.Histories.{journals_in, logs_in}
 use Rattle.machine.specs.Runs.{start_of, TakesPossible, IsWorldOfRun}
 use Rattle.machine.specs.Steps.{steps_in}
-use Rattle.schedule.specs.Schedules.{AnyStep}
-use Rattle.schedule.specs.declared.header.Header.{Header}
+use Rattle.simulation.specs.Schedules.{AnyStep}
+use Rattle.simulation.specs.declared.header.Header.{Header}
 
 -- the kinds of the objects that a header asks for
 abbrev pub kinds_of : Header → List Kind

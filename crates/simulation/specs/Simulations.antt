@@ -1,4 +1,4 @@
--- What the text of a schedule comes to.
+-- What the text of a schedule gives.
 use Rattle.std.specs.Prelude.{◌≡◌, ◌≢◌, ◌⊎◌, ⊤, ℕ, ◌<◌, true, false, List}
 use Rattle.model.specs.declared.AnyOp.{AnyOp}
 use Rattle.model.specs.declared.AnyReply.{AnyReply}
@@ -10,11 +10,11 @@ use Rattle.edn_reader.specs.declared.fault.FaultKind.TheVariants as edn_kind
 use Rattle.desk_model.specs.World.{World}
 use Rattle.recorder.specs.Records.{Recorded}
 use Rattle.machine.specs.Runs.{IsWorldOfRun}
-use Rattle.schedule.specs.Schedules.{AnyStep, Denotes}
-use Rattle.schedule.specs.Faults.{IsFirstFault, IsSoundTo}
-use Rattle.schedule.specs.declared.header.Header.{Header}
-use Rattle.schedule.specs.declared.fault.ScheduleFault.{ScheduleFault}
-use Rattle.schedule.specs.declared.fault.ScheduleFaultKind.TheVariants as form_kind
+use Rattle.simulation.specs.Schedules.{AnyStep, Denotes}
+use Rattle.simulation.specs.Faults.{IsFirstFault, IsSoundTo}
+use Rattle.simulation.specs.declared.header.Header.{Header}
+use Rattle.simulation.specs.declared.fault.ScheduleFault.{ScheduleFault}
+use Rattle.simulation.specs.declared.fault.ScheduleFaultKind.TheVariants as form_kind
 use Rattle.simulation.specs.Plays.{IsPlayed, Takes, kinds_of}
 use Rattle.simulation.specs.declared.playing.PlayFault.{PlayFault}
 use Rattle.simulation.specs.declared.playing.PlayFault.TheVariants as play

@@ -7,11 +7,11 @@ ghost use Rattle.machine.specs.Machines.{clients_of, world_of};
 ghost use Rattle.machine.specs.Runs.{start_of};
 ghost use Rattle.simulation.specs.Plays.{IsPlayed, kinds_of};
 ghost use Rattle.simulation.specs.Simulations.{IsPlayFault};
-ghost use Rattle.schedule.specs.Schedules.{IsWithin};
+ghost use Rattle.simulation.specs.Schedules.{IsWithin};
 
+use crate::{Header, Schedule};
 use machine::{Machine, Ran};
 use recorder::Record;
-use schedule::{Header, Schedule};
 use seq_objects::AnyObject;
 use std::alloc::{AllocError, Global};
 
@@ -45,7 +45,7 @@ fn objects_of(alloc: Global, header: &Header) -> Result<Vec<AnyObject>, AllocErr
 }
 
 /// The machine that the header asks for, of which no step was taken: this many clients, and empty
-/// objects. An error stands only where memory was refused.
+/// objects. It fails only on an allocation failure.
 pub fn machine_of(alloc: Global, header: &Header) -> Result<Machine<AnyObject>, AllocError>
     requires { IsWithin header.now }
     ensures kinds { IfOk result (λ m. m.kinds ≡ kinds_of header.now) }

@@ -1,15 +1,15 @@
 //! From the text of a schedule to a record.
 
 ghost use Rattle.std.specs.Prelude.{◌≡◌, ◌≢◌, ℕ, List, IfErr, IfOk};
-ghost use Rattle.schedule.specs.Schedules.{AnyStep, IsWithin};
-ghost use Rattle.schedule.specs.declared.header.Header.{Header};
+ghost use Rattle.simulation.specs.Schedules.{AnyStep, IsWithin};
+ghost use Rattle.simulation.specs.declared.header.Header.{Header};
 ghost use Rattle.edn_reader.specs.Sound.{IsShort};
 ghost use Rattle.simulation.specs.Simulations.{DenotesSchedule, IsOfSteps, IsSimulated};
 ghost use Rattle.simulation.specs.Simulations.{IsSimulationFault, IsTextFault, IsFormFault};
 
 use crate::playing::{PlayFault, Played, play};
+use crate::{Schedule, ScheduleFault, ScheduleFaultKind, read_schedule};
 use edn::{EdnFault, FaultKind, read_forms};
-use schedule::{Schedule, ScheduleFault, ScheduleFaultKind, read_schedule};
 use std::alloc::Global;
 
 /// Why there is no record of a schedule's text.

@@ -6,19 +6,6 @@ use Rattle.transcript.specs.declared.line.Call.{Call}
 use Rattle.transcript.specs.declared.line.Line.{Line}
 use Rattle.transcript.specs.Lines.{call_after, line_with, lines_from, lines_of, lines_in}
 
--- the next event of a journal, and its line
-pub next_line : {J : Type 0} (f : J → AnyEvent) (c : ℕ) (last : Option Call) (js : List J) (i : ℕ) (e : J) → i < length js → e ≡ get_or js i e
-    → lines_from c last (map f (drop i js)) ≡ line_with c (f e) (call_after last (f e)) ++ lines_from c (call_after last (f e)) (map f (drop (i + 1) js))
-next_line f c last js i e low is = ap (λ xs. lines_from c last (map f xs)) (drop_more js i e low ∙ ap (λ x. x ∷ drop (i + 1) js) (sym is))
-
--- the lines so far grow by it
-pub line_more : {J : Type 0} (f : J → AnyEvent) (c : ℕ) (last : Option Call) (js : List J) (i : ℕ) (e : J) (old new all : List Line) → i < length js → e ≡ get_or js i e
-    → old ++ lines_from c last (map f (drop i js)) ≡ all → new ≡ old ++ line_with c (f e) (call_after last (f e)) → new ++ lines_from c (call_after last (f e)) (map f (drop (i + 1) js)) ≡ all
-line_more f c last js i e old new all low is h more =
-    ap (λ xs. xs ++ lines_from c (call_after last (f e)) (map f (drop (i + 1) js))) more
-    ∙ (append_assoc old (line_with c (f e) (call_after last (f e))) (lines_from c (call_after last (f e)) (map f (drop (i + 1) js)))
-    ∙ (ap (λ xs. old ++ xs) (sym (next_line f c last js i e low is)) ∙ h))
-
 -- the next journal
 pub journal_more : {J : Type 0} (f : J → List AnyEvent) (js : List J) (i : ℕ) (j : J) (old new all : List Line) → i < length js → j ≡ get_or js i j
     → old ++ lines_in i (map f (drop i js)) ≡ all → new ≡ old ++ lines_of i (f j) → new ++ lines_in (i + 1) (map f (drop (i + 1) js)) ≡ all

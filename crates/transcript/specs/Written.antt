@@ -1,7 +1,7 @@
 -- What is written of a record.
 use Rattle.std.specs.Prelude.{◌≡◌, ℕ, List, Option, All}
 use Rattle.std.specs.Io.KnownBytes.{Appends}
-use Rattle.byte_streams.specs.Sent.{WritesPrefix}
+use Rattle.edn.specs.Sent.{WritesPrefix}
 use Rattle.edn_reader.specs.Text.{InProfile}
 use Rattle.desk_model.specs.World.{AnyEvent}
 use Rattle.transcript.specs.declared.line.Line.{Line}

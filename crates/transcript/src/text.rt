@@ -1,10 +1,10 @@
 //! The text of a record's history.
 
-ghost use Rattle.std.specs.Prelude.{◌≡◌, ◌<◌, ◌^◌, ◌++◌, false, true, codes, decimal, All, IfErr};
+ghost use Rattle.std.specs.Prelude.{◌≡◌, ◌<◌, ◌^◌, ◌++◌, false, true, codes, All, IfErr};
 ghost use Rattle.std.specs.Prelude.{IfOk, OnOk};
 ghost use Rattle.std.specs.Fmt.{signed_decimal};
 ghost use Rattle.std.specs.Io.KnownBytes.{Appends, Keeps};
-ghost use Rattle.byte_streams.specs.Sent.{WritesPrefix};
+ghost use Rattle.edn.specs.Sent.{WritesPrefix};
 ghost use Rattle.edn_reader.specs.Text.{InProfile, IsInt64};
 ghost use Rattle.recorder.specs.Histories.{journals_in};
 ghost use Rattle.transcript.specs.Lines as spec;
@@ -12,9 +12,8 @@ ghost use Rattle.transcript.specs.Pieces as text;
 ghost use Rattle.transcript.specs.Written.{AppendsHistory, SendsFrontOfHistory};
 
 use crate::line::{Line, lines_of};
-use edn::{Failed, Out, Sink, WriteFault, write_bytes, write_integer};
+use edn::{Failed, Out, Sink, WriteFault, write_bytes, write_integer, write_natural};
 use events::Action;
-use itoa::Buffer;
 use recorder::Record;
 use seq_objects::{SeqObject, Value, function_of, value_of_op, value_of_reply};
 use std::alloc::{AllocError, Global};
@@ -38,16 +37,6 @@ fn value_in(line: &Line) -> Value
         Action::Ok(reply) => value_of_reply(reply),
         Action::Invoke(_) | Action::Fail | Action::Info => value_of_op(&line.op),
     }
-}
-
-fn write_natural<S: Sink>(n: u64, sink: &mut S) -> Result<(), Failed>
-    requires { S.broken sink.old ≡ false }
-    ensures ok { OnOk result (Appends (S.sent sink.old) (S.sent sink.new) (decimal n)) }
-    ensures usable { OnOk result (S.broken sink.new ≡ false) }
-{
-    let mut buffer = Buffer::new();
-    let digits = buffer.format(n);
-    write_bytes(digits.as_bytes(), sink)
 }
 
 fn write_pair<S: Sink>(a: i64, b: i64, sink: &mut S) -> Result<(), Failed>
@@ -158,7 +147,7 @@ pub(crate) fn history_text(alloc: Global, lines: &[Line]) -> Result<Vec<u8>, All
     }
 }
 
-/// Writes the lines of a record's history, in order of tickets. Where memory is refused nothing
+/// Writes the lines of a record's history, in order of tickets. Where an allocation fails nothing
 /// goes out.
 pub fn write_history<S: SeqObject, K: Sink>(
     alloc: Global,

@@ -1,21 +1,26 @@
 -- The decisions on all objects of a history.
-use Rattle.std.proofs.Common.{◌≡◌, ℕ, List, true, Any, subst}
+use Rattle.std.proofs.Common.{◌≡◌, ◌∙◌, ◌&&◌, ◌⊎◌, ℕ, Bool, List, [], ◌∷◌, true, false, All, Any, get_or, inl, inr}
+use Rattle.std.proofs.Common.{refl, ap, sym, subst, map}
+use Rattle.std.specs.List.{list_all}
 use Rattle.std.proofs.lemmas.Option.{same_Some}
 use Rattle.model.specs.Linearizable.{IsLinearizable}
 use Rattle.model.specs.declared.Kind.{Kind}
 use Rattle.model.specs.Orders.{Numbered, Call, IsHistory, events, calls_on}
-use Rattle.model.proofs.Lists.{in_from_contains, all_at}
+use Rattle.model.proofs.Lists.{In, contains_from_in, in_from_contains, in_map_from, all_at}
 use Rattle.locality.specs.Locality.{HasValidOrder}
 use Rattle.events.specs.declared.event.Event.{Event}
 use Rattle.events.specs.Events.{kind_at, denoted}
 use Rattle.checker.proofs.Collected.{Certifies, AreOnAll}
-use Rattle.order_search.specs.Outcomes.{IsNoneValid}
+use Rattle.search.specs.Outcomes.{IsNoneValid}
 use Rattle.search.specs.Answers.{IsFor}
-use Rattle.claims.specs.declared.claim.Claim.{Claim}
+use Rattle.verifying.specs.declared.claim.Claim.{Claim}
+use Rattle.verifying.specs.declared.claim.Claim.TheVariants as claim
+use Rattle.verifying.specs.Denotes.{object_of}
 use Rattle.verifying.specs.declared.decision.Decision.{Decision}
 use Rattle.verifying.specs.declared.decision.Decision.TheVariants.{Order, Impossible, OutOfSteps}
 use Rattle.verifying.specs.declared.decision.Decision.TheVariants.{NoMemory, Open}
-use Rattle.verifying.specs.Decisions.{certificate_in, IfImpossible, IsDecision, IsRefutation, is_impossible}
+use Rattle.verifying.specs.Decisions.{certificate_in, IfImpossible, IsDecision, IsOrderOf, IsRefutation, IsRefused}
+use Rattle.verifying.specs.Decisions.{LacksOrder, Searches, is_impossible, is_order}
 
 -- a decision, with its arguments in the order of `Certifies`
 abbrev pub IsDecided : List Claim → ℕ → ℕ → Kind → List Call → Decision → Type 0
@@ -61,3 +66,60 @@ not_linearizable es claims limit answers orders h all some lin =
     let order = orders (kind_at es) (denoted es) h lin a.0 in
     none_valid a.0 (kind_at es a.0) (calls_on a.0 (denoted es)) a.1 (refutes a.1 decided) some.4
     order.0 order.1
+
+-- ---- where a decision is no order
+
+-- a claim on an object of which no order is valid is none
+by_none : (kind : Kind) (calls : List Call) (e : Claim) → IsNoneValid kind calls → IsOrderOf kind calls e → ⊥
+by_none kind calls (claim.Order c) none valid = none c.order.items valid
+by_none kind calls (claim.Reason r said) none valid = valid
+
+-- a claim that is not true, or asks for a search, is none
+by_refusal : (kind : Kind) (calls : List Call) (x : ℕ) (e : Claim)
+    → (object_of e ≡ x → IsRefused kind calls e ⊎ Searches e) → object_of e ≡ x → IsOrderOf kind calls e → ⊥
+by_refusal kind calls x (claim.Order c) unshown on valid =
+    elim (unshown on) [ inl refused ↦ refused valid | inr asks ↦ asks ]
+by_refusal kind calls x (claim.Reason r said) unshown on valid = valid
+
+-- no claim on the object is a valid order of it
+lacks : (claims : List Claim) (limit x : ℕ) (kind : Kind) (calls : List Call) (d : Decision) → is_order d ≡ false
+    → IsDecision claims limit x kind calls d → All (λ e. object_of e ≡ x → IsOrderOf kind calls e → ⊥) claims
+lacks claims limit x kind calls (Order c) e h = absurd (cc e)
+lacks claims limit x kind calls (Impossible f) e h =
+    λ i d less on. by_none kind calls (get_or claims i d) h.impossible.0.impossible
+lacks claims limit x kind calls (OutOfSteps n) e h =
+    λ i d less. by_refusal kind calls x (get_or claims i d) (h.unshown refl i d less)
+lacks claims limit x kind calls NoMemory e h =
+    λ i d less. by_refusal kind calls x (get_or claims i d) (h.unshown refl i d less)
+lacks claims limit x kind calls Open e h =
+    λ i d less. by_refusal kind calls x (get_or claims i d) (h.unshown refl i d less)
+
+-- an element that does not pass, where not all do
+fails : {X : Type 0} (p : X → Bool) (xs : List X) → list_all p xs ≡ false → (x : X) × In x xs × (p x ≡ false)
+fails p [] e = absurd (cc e)
+fails {X} p (x ∷ xs) e = go (p x) refl (λ rest. fails p xs rest)
+  where
+    go : (b : Bool) → p x ≡ b → (list_all p xs ≡ false → (y : X) × In y xs × (p y ≡ false))
+        → (y : X) × In y (x ∷ xs) × (p y ≡ false)
+    go false s later = (x, inl refl, s)
+    go true s later =
+        let y = later (sym (ap (λ b. b && list_all p xs) s) ∙ e) in
+        (y.0, inr y.1, y.2)
+
+-- where one has no order the claims have no valid order of some object
+pub lacks_order : (es : List Event) (claims : List Claim) (limit : ℕ) (answers : List (ℕ × Decision))
+    → AreOnAll es (IsDecided claims limit) answers → list_all (λ a. is_order a.1) answers ≡ false
+    → LacksOrder es claims
+lacks_order es claims limit answers h some =
+    let found = fails (λ (a : ℕ × Decision). is_order a.1) answers some in
+    let a = found.0 in
+    let decided =
+    all_at (λ (a : ℕ × Decision). IsDecided claims limit a.0 (kind_at es a.0) (calls_on a.0 (denoted es)) a.1)
+    answers h.each a found.1 in
+    record {
+      object = a.0;
+      named = (h.named a.0).0
+          (contains_from_in (map (λ (a : ℕ × Decision). a.0) answers) a.0
+          (in_map_from (λ (a : ℕ × Decision). a.0) a answers found.1));
+      none = lacks claims limit a.0 (kind_at es a.0) (calls_on a.0 (denoted es)) a.1 found.2 decided;
+    }

@@ -1,16 +1,18 @@
 -- What one more claim makes of the decision on an object.
-use Rattle.std.proofs.Common.{◌≡◌, ◌≢◌, ◌∙◌, ◌⊎◌, ℕ, true, false, List, [], ◌∷◌, ◌++◌, Any, Contains, refl, ap, sym, subst, arith}
+use Rattle.std.proofs.Common.{◌≡◌, ◌≢◌, ◌∙◌, ◌⊎◌, ℕ, true, false, List, [], ◌∷◌, ◌++◌, Any, Contains, refl, ap, sym}
+use Rattle.std.proofs.Common.{subst, arith}
 use Rattle.std.proofs.lemmas.List.Elements.{All-push, Contains-append_left, Contains-append_right}
 use Rattle.model.specs.declared.Kind.{Kind}
 use Rattle.model.specs.Orders.{Call}
 use Rattle.certificate.specs.declared.Certificate.{Certificate}
-use Rattle.claims.specs.declared.claim.Claim.{Claim}
-use Rattle.claims.specs.declared.claim.Claim.TheVariants as claim
-use Rattle.claims.specs.Denotes.{object_of}
+use Rattle.verifying.specs.declared.claim.Claim.{Claim}
+use Rattle.verifying.specs.declared.claim.Claim.TheVariants as claim
+use Rattle.verifying.specs.Denotes.{object_of}
 use Rattle.verifying.specs.declared.decision.Refuted.{Refuted}
 use Rattle.verifying.specs.declared.decision.Decision.{Decision}
 use Rattle.verifying.specs.declared.decision.Decision.TheVariants.{Order, Impossible, OutOfSteps, NoMemory, Open}
-use Rattle.verifying.specs.Decisions.{IfOrder, IfImpossible, IfOutOfSteps, IsAnswer, IsDecision, IsRefused, Searches, is_open, is_shown}
+use Rattle.verifying.specs.Decisions.{IfOrder, IfImpossible, IfOutOfSteps, IsAnswer, IsDecision, IsRefused, Searches}
+use Rattle.verifying.specs.Decisions.{is_open, is_shown}
 
 -- ---- lists that are longer by one
 
@@ -32,7 +34,8 @@ if_order (OutOfSteps n) P Q f h = tt
 if_order NoMemory P Q f h = tt
 if_order Open P Q f h = tt
 
-if_impossible : (d : Decision) (P Q : Refuted → Type 0) → ((r : Refuted) → P r → Q r) → IfImpossible d P → IfImpossible d Q
+if_impossible : (d : Decision) (P Q : Refuted → Type 0) → ((r : Refuted) → P r → Q r) → IfImpossible d P
+    → IfImpossible d Q
 if_impossible (Order c) P Q f h = tt
 if_impossible (Impossible r) P Q f h = f r h
 if_impossible (OutOfSteps n) P Q f h = tt
@@ -48,21 +51,27 @@ if_out_of_steps Open P Q f h = tt
 
 module _ (cs : List Claim) (e : Claim) (limit x : ℕ) (kind : Kind) (calls : List Call) where
   -- what was decided stays where one more claim on the object does not contradict it
-  keeps : (d : Decision) → (is_shown d ≡ false → object_of e ≡ x → IsRefused kind calls e ⊎ Searches e) → (d ≡ Open → object_of e ≡ x → IsRefused kind calls e)
+  keeps : (d : Decision) → (is_shown d ≡ false → object_of e ≡ x → IsRefused kind calls e ⊎ Searches e)
+      → (d ≡ Open → object_of e ≡ x → IsRefused kind calls e)
       → IsDecision cs limit x kind calls d → IsDecision (cs ++ e ∷ []) limit x kind calls d
   keeps d unshown refused h = record {
     order = if_order d _ _ (λ c p. (p.0, any_more _ cs e p.1)) h.order;
-    impossible = if_impossible d _ _ (λ r p. (p.0, Contains-append_left cs (e ∷ []) (claim.Reason r.reason r.note) p.1)) h.impossible;
+    impossible = if_impossible d _ _ (λ r p. (p.0, Contains-append_left cs (e ∷ []) (claim.Reason r.reason r.note) p.1))
+        h.impossible;
     out_of_steps = if_out_of_steps d _ _ (λ n p. any_more _ cs e p) h.out_of_steps;
     memory = λ is. any_more _ cs e (h.memory is);
-    unshown = λ none. All-push (λ e. object_of e ≡ x → IsRefused kind calls e ⊎ Searches e) cs e (h.unshown none) (unshown none);
+    unshown = λ none. All-push (λ e. object_of e ≡ x → IsRefused kind calls e ⊎ Searches e) cs e (h.unshown none)
+        (unshown none);
     refused = λ is. All-push (λ e. object_of e ≡ x → IsRefused kind calls e) cs e (h.refused is) (refused is);
   }
 
-  pub shown_stays : (d : Decision) → is_shown d ≡ true → IsDecision cs limit x kind calls d → IsDecision (cs ++ e ∷ []) limit x kind calls d
-  shown_stays d shown h = keeps d (λ none own. absurd (cc (sym shown ∙ none))) (λ is own. absurd (cc (sym shown ∙ ap is_shown is))) h
+  pub shown_stays : (d : Decision) → is_shown d ≡ true → IsDecision cs limit x kind calls d
+      → IsDecision (cs ++ e ∷ []) limit x kind calls d
+  shown_stays d shown h =
+      keeps d (λ none own. absurd (cc (sym shown ∙ none))) (λ is own. absurd (cc (sym shown ∙ ap is_shown is))) h
 
-  pub other_stays : (d : Decision) → object_of e ≢ x → IsDecision cs limit x kind calls d → IsDecision (cs ++ e ∷ []) limit x kind calls d
+  pub other_stays : (d : Decision) → object_of e ≢ x → IsDecision cs limit x kind calls d
+      → IsDecision (cs ++ e ∷ []) limit x kind calls d
   other_stays d other h = keeps d (λ none own. absurd (other own)) (λ is own. absurd (other own)) h
 
   pub open_stays : (d next : Decision) → is_open next ≡ true → IsAnswer x kind calls limit e next
@@ -74,16 +83,19 @@ module _ (cs : List Claim) (e : Claim) (limit x : ℕ) (kind : Kind) (calls : Li
   open_stays d Open is a h = keeps d (λ none own. a.unshown refl) (λ same own. a.refused refl) h
 
   -- where nothing was shown, and the claim is not refused, its answer is the decision
-  pub next_decides : (d next : Decision) → is_shown d ≡ false → is_open next ≡ false → object_of e ≡ x → IsAnswer x kind calls limit e next
+  pub next_decides : (d next : Decision) → is_shown d ≡ false → is_open next ≡ false → object_of e ≡ x
+      → IsAnswer x kind calls limit e next
       → IsDecision cs limit x kind calls d → IsDecision (cs ++ e ∷ []) limit x kind calls next
   next_decides d next none is own a h = record {
     order = if_order next _ _ (λ c p. (p.0, any_last _ cs e (own, p.1))) a.order;
     impossible = if_impossible next _ _ (λ r p. (p.0, subst_claim r p.1)) a.impossible;
     out_of_steps = if_out_of_steps next _ _ (λ n p. any_last _ cs e (own, p)) a.out_of_steps;
     memory = λ same. any_last _ cs e (own, a.memory same);
-    unshown = λ not. All-push (λ e. object_of e ≡ x → IsRefused kind calls e ⊎ Searches e) cs e (h.unshown none) (λ o. a.unshown not);
+    unshown = λ not. All-push (λ e. object_of e ≡ x → IsRefused kind calls e ⊎ Searches e) cs e (h.unshown none)
+        (λ o. a.unshown not);
     refused = λ same. absurd (cc (sym is ∙ ap is_open same));
   }
     where
-      subst_claim : (r : Refuted) → e ≡ claim.Reason r.reason r.note → Contains (cs ++ e ∷ []) (claim.Reason r.reason r.note)
+      subst_claim : (r : Refuted) → e ≡ claim.Reason r.reason r.note
+          → Contains (cs ++ e ∷ []) (claim.Reason r.reason r.note)
       subst_claim r same = subst (λ (k : Claim). Contains (cs ++ e ∷ []) k) same (last cs e)

@@ -1,3 +1,4 @@
+pub mod Reading
 pub mod Answered
 pub mod Decided
 pub mod Further

@@ -1,10 +1,11 @@
 -- One claim after another: what each makes of the decisions on all objects.
-use Rattle.std.proofs.Common.{◌≡◌, ◌≢◌, ◌∙◌, ◌<◌, ◌≤◌, ◌+◌, ◌⊎◌, ℕ, List, [], ◌∷◌, ◌++◌, All, AllPairs, length, map, take, get_or, inl, inr, refl, ap, sym, subst, arith}
+use Rattle.std.proofs.Common.{◌≡◌, ◌≢◌, ◌∙◌, ◌<◌, ◌≤◌, ◌⊎◌, ℕ, List, [], ◌∷◌, ◌++◌, All, AllPairs, length, map}
+use Rattle.std.proofs.Common.{get_or, inl, inr, refl, ap, sym, subst, arith}
 use Rattle.std.proofs.Math.ListN.{set}
 use Rattle.std.proofs.Math.Seq.{map-set_same}
 use Rattle.std.proofs.lemmas.Bool.{cases_order}
-use Rattle.std.proofs.lemmas.List.{get_or_default, get_or-map, get_or-set_same, get_or-set_other, map-append, length-map, take_all, take_more}
-use Rattle.std.proofs.lemmas.List.Elements.{All-push}
+use Rattle.std.proofs.lemmas.List.{get_or_default, get_or-map, get_or-set_same, get_or-set_other}
+use Rattle.std.proofs.lemmas.List.{length-map, take_all}
 use Rattle.std.specs.List.Sorted.{IsNonDecreasingBy, IsPartitionPoint}
 use Rattle.std.specs.Ordering.{nat_cmp, ordering_index, MatchOrdering}
 use Rattle.std.specs.Cmp.{ranked}
@@ -17,10 +18,9 @@ use Rattle.events.specs.Events.{kind_at, denoted}
 use Rattle.events.specs.Operations.{ObjectCalls, calls_of}
 use Rattle.checker.proofs.Certificates.{AreObjects, next_is}
 use Rattle.checker.proofs.Collected.{AreOnAll, on_all}
-use Rattle.claims.specs.declared.claim.Claim.{Claim}
-use Rattle.claims.specs.Denotes.{object_of}
+use Rattle.verifying.specs.declared.claim.Claim.{Claim}
+use Rattle.verifying.specs.Denotes.{object_of}
 use Rattle.verifying.specs.declared.decision.Decision.{Decision}
-use Rattle.verifying.specs.declared.decision.Decision.TheVariants.{Open}
 use Rattle.verifying.specs.Decisions.{IsDecision}
 use Rattle.verifying.specs.Taking.{AreAllOpen, AreDecided, AreTaken, IsDecidedAt, IsNext, no_answer}
 use Rattle.verifying.proofs.Decided.{IsDecided}
@@ -31,7 +31,8 @@ use Rattle.verifying.proofs.Further.{other_stays}
 index_rises : (a b n : ℕ) → a ≤ b → ordering_index (nat_cmp a n) ≤ ordering_index (nat_cmp b n)
 index_rises a b n l = go (nat_cmp a n) (nat_cmp b n) (ranked a n _ refl) (ranked b n _ refl)
   where
-    go : (r s : Ordering) → MatchOrdering r (a < n) (a ≡ n) (n < a) → MatchOrdering s (b < n) (b ≡ n) (n < b) → ordering_index r ≤ ordering_index s
+    go : (r s : Ordering) → MatchOrdering r (a < n) (a ≡ n) (n < a) → MatchOrdering s (b < n) (b ≡ n) (n < b)
+        → ordering_index r ≤ ordering_index s
     go Less Less p q = omega arith
     go Less Equal p q = omega arith
     go Less Greater p q = omega arith
@@ -42,9 +43,12 @@ index_rises a b n l = go (nat_cmp a n) (nat_cmp b n) (ranked a n _ refl) (ranked
     go Greater Equal p q = absurd (omega (arith, l, p, q))
     go Greater Greater p q = omega arith
 
-pub search_rises : (os : List ObjectCalls) (n : ℕ) → AllPairs (λ a b. a.object < b.object) os → IsNonDecreasingBy (λ o. ordering_index (nat_cmp o.object n)) os
+pub search_rises : (os : List ObjectCalls) (n : ℕ) → AllPairs (λ a b. a.object < b.object) os
+    → IsNonDecreasingBy (λ o. ordering_index (nat_cmp o.object n)) os
 search_rises os n up i j d l m = elim (cases_order i j) [
-  | inl s ↦ subst (λ k. ordering_index (nat_cmp (get_or os i d).object n) ≤ ordering_index (nat_cmp (get_or os k d).object n)) s (omega arith)
+  | inl s ↦ subst
+      (λ k. ordering_index (nat_cmp (get_or os i d).object n) ≤ ordering_index (nat_cmp (get_or os k d).object n)) s
+      (omega arith)
   | inr r ↦ elim r [
     | inl t ↦ let g = up i j d t m in index_rises (get_or os i d).object (get_or os j d).object n (omega (arith, g))
     | inr t ↦ absurd (omega arith)
@@ -52,11 +56,13 @@ search_rises os n up i j d l m = elim (cases_order i j) [
 ]
 
 -- a search that found nothing says that no object has the number
-apart : (os : List ObjectCalls) (n i : ℕ) → IsPartitionPoint (λ o. nat_cmp o.object n ≡ Less) (λ o. nat_cmp o.object n ≡ Greater) os i
+apart : (os : List ObjectCalls) (n i : ℕ)
+    → IsPartitionPoint (λ o. nat_cmp o.object n ≡ Less) (λ o. nat_cmp o.object n ≡ Greater) os i
     → (k : ℕ) (d : ObjectCalls) → k < length os → (get_or os k d).object ≢ n
 apart os n i h k d l s = go (ranked (get_or os k d).object n) (cases_order k i)
   where
-    go : ((r : Ordering) → r ≡ nat_cmp (get_or os k d).object n → MatchOrdering r ((get_or os k d).object < n) ((get_or os k d).object ≡ n) (n < (get_or os k d).object))
+    go : ((r : Ordering) → r ≡ nat_cmp (get_or os k d).object n
+        → MatchOrdering r ((get_or os k d).object < n) ((get_or os k d).object ≡ n) (n < (get_or os k d).object))
         → (k ≡ i) ⊎ ((k < i) ⊎ (i < k)) → ⊥
     go rank (inl t) = let g = rank Greater (sym (h.1 k d (omega arith) l)) in omega (arith, g, s)
     go rank (inr (inl t)) = let g = rank Less (sym (h.0 k d (omega arith) t)) in omega (arith, g, s)
@@ -66,20 +72,28 @@ apart os n i h k d l s = go (ranked (get_or os k d).object n) (cases_order k i)
 
 module _ (objects : List ObjectCalls) (limit : ℕ) (e : Claim) (old : List (ℕ × Decision)) where
   -- it is on none of the objects
-  pub not_there : (i : ℕ) → IsPartitionPoint (λ o. nat_cmp o.object (object_of e) ≡ Less) (λ o. nat_cmp o.object (object_of e) ≡ Greater) objects i → AreTaken objects limit e old old
+  pub not_there : (i : ℕ)
+      → IsPartitionPoint (λ o. nat_cmp o.object (object_of e) ≡ Less) (λ o. nat_cmp o.object (object_of e) ≡ Greater)
+      objects i
+      → AreTaken objects limit e old old
   not_there i point = record {
     numbers = refl;
     each = λ k o l is cs h.
-        other_stays cs e limit o.object o.kind (calls_of o.ops) (get_or old k no_answer).1 (λ same. apart objects (object_of e) i point k o l (ap (λ (p : ObjectCalls). p.object) (sym is) ∙ sym same)) h;
+        other_stays cs e limit o.object o.kind (calls_of o.ops) (get_or old k no_answer).1 (λ same. apart objects
+        (object_of e) i point k o l (ap (λ (p : ObjectCalls). p.object) (sym is) ∙ sym same)) h;
   }
 
   -- the number that was found is the object's
-  pub is_own : (k n : ℕ) (own : ObjectCalls) → n ≡ object_of e → own ≡ get_or objects k own → nat_cmp (get_or objects k own).object n ≡ Equal → object_of e ≡ own.object
-  is_own k n own number is eq = sym (ap (λ (o : ObjectCalls). o.object) is ∙ ranked (get_or objects k own).object n Equal (sym eq) ∙ number)
+  pub is_own : (k n : ℕ) (own : ObjectCalls) → n ≡ object_of e → own ≡ get_or objects k own
+      → nat_cmp (get_or objects k own).object n ≡ Equal → object_of e ≡ own.object
+  is_own k n own number is eq =
+      sym (ap (λ (o : ObjectCalls). o.object) is ∙ ranked (get_or objects k own).object n Equal (sym eq) ∙ number)
 
   -- it is on the object at this place
-  pub taken : (at : ℕ) (own : ObjectCalls) (n m : ℕ) (between next : Decision) → AllPairs (λ a b. a.object < b.object) objects → at < length objects
-      → length old ≡ length objects → own ≡ get_or objects at own → object_of e ≡ own.object → n ≡ (get_or old at no_answer).0
+  pub taken : (at : ℕ) (own : ObjectCalls) (n m : ℕ) (between next : Decision)
+      → AllPairs (λ a b. a.object < b.object) objects → at < length objects
+      → length old ≡ length objects → own ≡ get_or objects at own → object_of e ≡ own.object
+      → n ≡ (get_or old at no_answer).0
       → m ≡ (get_or (set old at (n, between)) at no_answer).0 → IsNext limit e own (get_or old at no_answer).1 next
       → AreTaken objects limit e old (set (set old at (n, between)) at (m, next))
   taken at own n m between next rising l lengths is here first second further = record {
@@ -102,42 +116,53 @@ module _ (objects : List ObjectCalls) (limit : ℕ) (e : Claim) (old : List (ℕ
         where
           kept : length middle ≡ length old
           kept = sym (length-map middle (λ (a : ℕ × Decision). a.0))
-              ∙ ap length (map-set_same (λ (a : ℕ × Decision). a.0) old at (n, between) no_answer first) ∙ length-map old (λ (a : ℕ × Decision). a.0)
+              ∙ ap length (map-set_same (λ (a : ℕ × Decision). a.0) old at (n, between) no_answer first)
+              ∙ length-map old (λ (a : ℕ × Decision). a.0)
 
       stays : (k : ℕ) → k ≢ at → get_or new k no_answer ≡ get_or old k no_answer
-      stays k other = get_or-set_other middle at k (m, next) no_answer other ∙ get_or-set_other old at k (n, between) no_answer other
+      stays k other = get_or-set_other middle at k (m, next) no_answer other
+          ∙ get_or-set_other old at k (n, between) no_answer other
 
-      other_object : (k : ℕ) (o : ObjectCalls) → k < length objects → o ≡ get_or objects k o → (k < at) ⊎ (at < k) → object_of e ≢ o.object
+      other_object : (k : ℕ) (o : ObjectCalls) → k < length objects → o ≡ get_or objects k o → (k < at) ⊎ (at < k)
+          → object_of e ≢ o.object
       other_object k o less same (inl before) q =
           let up = rising k at o before l in
-          let there : (get_or objects at o).object ≡ own.object = ap (λ (p : ObjectCalls). p.object) (get_or_default objects at o own l ∙ sym is) in
+          let there : (get_or objects at o).object ≡ own.object = ap (λ (p : ObjectCalls). p.object)
+          (get_or_default objects at o own l ∙ sym is) in
           let it : o.object ≡ (get_or objects k o).object = ap (λ (p : ObjectCalls). p.object) same in
           omega (arith, up, there, it, here, q)
       other_object k o less same (inr after) q =
           let up = rising at k o after less in
-          let there : (get_or objects at o).object ≡ own.object = ap (λ (p : ObjectCalls). p.object) (get_or_default objects at o own l ∙ sym is) in
+          let there : (get_or objects at o).object ≡ own.object = ap (λ (p : ObjectCalls). p.object)
+          (get_or_default objects at o own l ∙ sym is) in
           let it : o.object ≡ (get_or objects k o).object = ap (λ (p : ObjectCalls). p.object) same in
           omega (arith, up, there, it, here, q)
 
-      elsewhere : (k : ℕ) (o : ObjectCalls) → k < length objects → o ≡ get_or objects k o → (k < at) ⊎ (at < k) → IsNext limit e o (get_or old k no_answer).1 (get_or new k no_answer).1
+      elsewhere : (k : ℕ) (o : ObjectCalls) → k < length objects → o ≡ get_or objects k o → (k < at) ⊎ (at < k)
+          → IsNext limit e o (get_or old k no_answer).1 (get_or new k no_answer).1
       elsewhere k o less same side cs h =
           let other : k ≢ at = λ q. elim side [ inl b ↦ omega (arith, b, q) | inr a ↦ omega (arith, a, q) ] in
           subst (λ (a : ℕ × Decision). IsDecidedAt (cs ++ e ∷ []) limit o a.1) (sym (stays k other))
-          (other_stays cs e limit o.object o.kind (calls_of o.ops) (get_or old k no_answer).1 (other_object k o less same side) h)
+          (other_stays cs e limit o.object o.kind (calls_of o.ops) (get_or old k no_answer).1
+          (other_object k o less same side) h)
 
-      go : (k : ℕ) (o : ObjectCalls) → k < length objects → o ≡ get_or objects k o → (k ≡ at) ⊎ ((k < at) ⊎ (at < k)) → IsNext limit e o (get_or old k no_answer).1 (get_or new k no_answer).1
+      go : (k : ℕ) (o : ObjectCalls) → k < length objects → o ≡ get_or objects k o → (k ≡ at) ⊎ ((k < at) ⊎ (at < k))
+          → IsNext limit e o (get_or old k no_answer).1 (get_or new k no_answer).1
       go k o less same (inl q) =
           let it : o ≡ own = same ∙ ap (λ i. get_or objects i o) q ∙ get_or_default objects at o own l ∙ sym is in
-          let there : get_or new k no_answer ≡ (m, next) = ap (λ i. get_or new i no_answer) q ∙ get_or-set_same middle at (m, next) no_answer in_middle in
+          let there : get_or new k no_answer ≡ (m, next) = ap (λ i. get_or new i no_answer) q
+          ∙ get_or-set_same middle at (m, next) no_answer in_middle in
           let before : get_or old at no_answer ≡ get_or old k no_answer = ap (λ i. get_or old i no_answer) (sym q) in
           subst (λ (a : ℕ × Decision). IsNext limit e o (get_or old k no_answer).1 a.1) (sym there)
-          (subst (λ (a : ℕ × Decision). IsNext limit e o a.1 next) before (subst (λ (p : ObjectCalls). IsNext limit e p (get_or old at no_answer).1 next) (sym it) further))
+          (subst (λ (a : ℕ × Decision). IsNext limit e o a.1 next) before
+          (subst (λ (p : ObjectCalls). IsNext limit e p (get_or old at no_answer).1 next) (sym it) further))
       go k o less same (inr side) = elsewhere k o less same side
 
 -- ---- all claims
 
 -- nothing is claimed yet
-pub none_claimed : (objects : List ObjectCalls) (limit : ℕ) (answers : List (ℕ × Decision)) → AreAllOpen objects answers → AreDecided objects [] limit answers
+pub none_claimed : (objects : List ObjectCalls) (limit : ℕ) (answers : List (ℕ × Decision)) → AreAllOpen objects answers
+    → AreDecided objects [] limit answers
 none_claimed objects limit answers h = record {
   numbers = h.numbers;
   each = λ i o l is.
@@ -154,28 +179,36 @@ none_claimed objects limit answers h = record {
     in_answers : (i : ℕ) → i < length objects → i < length answers
     in_answers i l =
         let same : length answers ≡ length objects =
-        sym (length-map answers (λ (a : ℕ × Decision). a.0)) ∙ ap length h.numbers ∙ length-map objects (λ (o : ObjectCalls). o.object) in
+        sym (length-map answers (λ (a : ℕ × Decision). a.0)) ∙ ap length h.numbers
+        ∙ length-map objects (λ (o : ObjectCalls). o.object) in
         omega (arith, l, same)
 
 -- as many answers as objects
-pub same_length : (objects : List ObjectCalls) (claims : List Claim) (limit : ℕ) (answers : List (ℕ × Decision)) → AreDecided objects claims limit answers
+pub same_length : (objects : List ObjectCalls) (claims : List Claim) (limit : ℕ) (answers : List (ℕ × Decision))
+    → AreDecided objects claims limit answers
     → length answers ≡ length objects
 same_length objects claims limit answers h =
-    sym (length-map answers (λ (a : ℕ × Decision). a.0)) ∙ ap length h.numbers ∙ length-map objects (λ (o : ObjectCalls). o.object)
+    sym (length-map answers (λ (a : ℕ × Decision). a.0)) ∙ ap length h.numbers
+    ∙ length-map objects (λ (o : ObjectCalls). o.object)
 
-pub one_more : (objects : List ObjectCalls) (claims : List Claim) (limit : ℕ) (e : Claim) (old new : List (ℕ × Decision)) → AreTaken objects limit e old new
+pub one_more : (objects : List ObjectCalls) (claims : List Claim) (limit : ℕ) (e : Claim)
+    (old new : List (ℕ × Decision))
+    → AreTaken objects limit e old new
     → AreDecided objects claims limit old → AreDecided objects (claims ++ e ∷ []) limit new
 one_more objects claims limit e old new t h = record {
   numbers = t.numbers ∙ h.numbers;
   each = λ i o l is. t.each i o l is claims (h.each i o l is);
 }
 
-pub decided_on_all : (es : List Event) (objects : List ObjectCalls) (claims : List Claim) (limit : ℕ) (answers : List (ℕ × Decision)) → AreObjects es objects
+pub decided_on_all : (es : List Event) (objects : List ObjectCalls) (claims : List Claim) (limit : ℕ)
+    (answers : List (ℕ × Decision))
+    → AreObjects es objects
     → AreDecided objects claims limit answers → AreOnAll es (IsDecided claims limit) answers
 decided_on_all es objects claims limit answers are h =
     on_all es (IsDecided claims limit) objects (length objects) answers (omega arith) (record {
       objects_are = are;
-      numbers = h.numbers ∙ ap (map (λ (o : ObjectCalls). o.object)) (sym (take_all (length objects) objects (omega arith)));
+      numbers =
+          h.numbers ∙ ap (map (λ (o : ObjectCalls). o.object)) (sym (take_all (length objects) objects (omega arith)));
       each = each;
     })
   where
@@ -185,7 +218,8 @@ decided_on_all es objects claims limit answers are h =
     nothing : ObjectCalls
     nothing = record { object = 0; kind = Queue; ops = [] }
 
-    number_at : (i : ℕ) (d : ℕ × Decision) (o : ObjectCalls) → i < length answers → i < length objects → o ≡ get_or objects i o → (get_or answers i d).0 ≡ o.object
+    number_at : (i : ℕ) (d : ℕ × Decision) (o : ObjectCalls) → i < length answers → i < length objects
+        → o ≡ get_or objects i o → (get_or answers i d).0 ≡ o.object
     number_at i d o l m is =
         sym (get_or-map (λ (a : ℕ × Decision). a.0) answers i d d.0 l) ∙ ap (λ xs. get_or xs i d.0) h.numbers
         ∙ get_or-map (λ (p : ObjectCalls). p.object) objects i o d.0 m ∙ ap (λ (p : ObjectCalls). p.object) (sym is)
@@ -195,25 +229,14 @@ decided_on_all es objects claims limit answers are h =
         let o : ObjectCalls = get_or objects i nothing in
         let in_objects : i < length objects = omega (arith, l, lengths) in
         let is : o ≡ get_or objects i o = get_or_default objects i nothing o in_objects in
-        let placed = next_is es objects i o (λ kind calls. IsDecision claims limit o.object kind calls (get_or answers i no_answer).1) are in_objects is (h.each i o in_objects is) in
+        let placed = next_is es objects i o
+        (λ kind calls. IsDecision claims limit o.object kind calls (get_or answers i no_answer).1) are in_objects is
+        (h.each i o in_objects is) in
         let answer : get_or answers i no_answer ≡ get_or answers i d = get_or_default answers i no_answer d l in
-        subst (λ (x : ℕ). IsDecision claims limit x (kind_at es x) (calls_on x (denoted es)) (get_or answers i d).1) (sym (number_at i d o l in_objects is))
-        (subst (λ (a : ℕ × Decision). IsDecision claims limit o.object (kind_at es o.object) (calls_on o.object (denoted es)) a.1) answer placed)
+        subst (λ (x : ℕ). IsDecision claims limit x (kind_at es x) (calls_on x (denoted es)) (get_or answers i d).1)
+        (sym (number_at i d o l in_objects is))
+        (subst (λ (a : ℕ × Decision). IsDecision claims limit o.object (kind_at es o.object)
+        (calls_on o.object (denoted es)) a.1)
+        answer placed)
 
 -- ---- each object is open at first
-
-pub no_objects : (answers : List (ℕ × Decision)) → answers ≡ [] → AreAllOpen [] answers
-no_objects answers none = subst (AreAllOpen []) (sym none) (record { numbers = refl; undecided = λ i d l. absurd (omega (arith, l)) })
-
-pub one_more_open : (objects : List ObjectCalls) (i : ℕ) (o : ObjectCalls) (old new : List (ℕ × Decision)) (n : ℕ) → i < length objects → o ≡ get_or objects i o
-    → n ≡ o.object → new ≡ old ++ (n, Open) ∷ [] → AreAllOpen (take i objects) old → AreAllOpen (take (i + 1) objects) new
-one_more_open objects i o old new n l is own more h = record {
-  numbers =
-      ap (map (λ (a : ℕ × Decision). a.0)) more ∙ map-append (λ (a : ℕ × Decision). a.0) old ((n, Open) ∷ []) ∙ ap (λ xs. xs ++ n ∷ []) h.numbers
-      ∙ ap (λ (x : ℕ). map (λ (p : ObjectCalls). p.object) (take i objects) ++ x ∷ []) (own ∙ ap (λ (p : ObjectCalls). p.object) is)
-      ∙ sym (ap (map (λ (p : ObjectCalls). p.object)) (take_more objects i o l) ∙ map-append (λ (p : ObjectCalls). p.object) (take i objects) (get_or objects i o ∷ []));
-  undecided = subst (All (λ (a : ℕ × Decision). a.1 ≡ Open)) (sym more) (All-push (λ (a : ℕ × Decision). a.1 ≡ Open) old (n, Open) h.undecided refl);
-}
-
-pub all_objects : (objects : List ObjectCalls) (i : ℕ) (answers : List (ℕ × Decision)) → length objects ≤ i → AreAllOpen (take i objects) answers → AreAllOpen objects answers
-all_objects objects i answers l h = subst (λ (os : List ObjectCalls). AreAllOpen os answers) (take_all i objects l) h

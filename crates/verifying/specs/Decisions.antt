@@ -1,7 +1,7 @@
 -- What may be decided of an object of a history by claims.
 use Rattle.std.specs.Prelude.{◌≡◌, ◌<◌, ◌↔◌, ◌⊎◌, ℕ, ⊤, Bool, true, false, List, [], map}
 use Rattle.std.specs.Prelude.{All, AllPairs, Any, Contains, Option, Some, None, IsSome}
-use Rattle.std.specs.List.{filter_map}
+use Rattle.std.specs.List.{filter_map, list_all}
 use Rattle.model.specs.declared.Kind.{Kind}
 use Rattle.model.specs.Linearizable.{IsLinearizable}
 use Rattle.model.specs.Orders.{Call, IsValidOrder, calls_on, events}
@@ -11,16 +11,16 @@ use Rattle.events.specs.Operations.{ObjectCalls}
 use Rattle.certificate.specs.declared.Certificate.{Certificate}
 use Rattle.certificate.specs.Denotes.{AreDistinct}
 use Rattle.checker.specs.Refusals.{AreValid}
-use Rattle.order_search.specs.Outcomes.{IsNoneValid}
+use Rattle.search.specs.Outcomes.{IsNoneValid}
 use Rattle.projection.specs.Cuts.{NamesPart}
 use Rattle.search.specs.Answers.{IsFor}
 use Rattle.refutation.specs.declared.reason.Reason.{Reason}
 use Rattle.refutation.specs.declared.refuting.Doubt.TheVariants.{Possible, NotExceeded}
 use Rattle.refutation.specs.Refutations.{HasNoValidOrder, IsDoubt, IsNamedPart, IsSearch}
 use Rattle.refutation.specs.Refutations.{IsShownBy, steps_of}
-use Rattle.claims.specs.declared.claim.Claim.{Claim}
-use Rattle.claims.specs.declared.claim.Claim.TheVariants as claim
-use Rattle.claims.specs.Denotes.{object_of}
+use Rattle.verifying.specs.declared.claim.Claim.{Claim}
+use Rattle.verifying.specs.declared.claim.Claim.TheVariants as claim
+use Rattle.verifying.specs.Denotes.{object_of}
 use Rattle.verifying.specs.declared.decision.Refuted.{Refuted}
 use Rattle.verifying.specs.declared.decision.Decision.{Decision}
 use Rattle.verifying.specs.declared.decision.Decision.TheVariants.{Order, Impossible, OutOfSteps}
@@ -123,6 +123,18 @@ abbrev pub IsRefused : Kind → List Call → Claim → Type 0
 IsRefused kind calls (claim.Order c) = IsValidOrder kind calls c.order.items → ⊥
 IsRefused kind calls (claim.Reason r _) = IsRefusedReason kind calls r
 
+-- the claim is an order that is valid for an object of this kind and these calls
+abbrev pub IsOrderOf : Kind → List Call → Claim → Type 0
+IsOrderOf kind calls (claim.Order c) = IsValidOrder kind calls c.order.items
+IsOrderOf kind calls (claim.Reason r _) = ⊥
+
+-- no claim is a valid order of this object, which the history names
+pub record LacksOrder (es : List Event) (claims : List Claim) : Type 0 where
+  pub object : ℕ
+  pub named : IsNamed es object
+  pub none : All (λ e. object_of e ≡ object
+      → IsOrderOf (kind_at es object) (calls_on object (denoted es)) e → ⊥) claims
+
 -- What shows that no order of the calls of an object is valid: the reason names a part, and its
 -- evidence holds of the part, which has no valid order.
 pub record IsRefutation (x : ℕ) (kind : Kind) (calls : List Call) (f : Refuted) : Type 0 where
@@ -155,7 +167,7 @@ pub record IsDecision (claims : List Claim) (limit x : ℕ) (kind : Kind) (calls
   -- the reason is claimed, and shows that no order is valid
   pub impossible : IfImpossible d (λ f.
       IsRefutation x kind calls f × Contains claims (claim.Reason f.reason f.note))
-  -- a search had all the steps that it may take
+  -- a claim on the object asks for a search with this limit (that it took the steps is not said)
   pub out_of_steps : IfOutOfSteps d (λ n.
       Any (λ e. (object_of e ≡ x) × SearchesIn limit n e) claims)
   -- a search was refused memory, for which a claim on the object asks
@@ -189,3 +201,5 @@ pub record AreDecisionsOn (es : List Event) (claims : List Claim) (limit : ℕ)
   pub distinct : AreDistinct (certificates_in answers)
   pub valid : All (λ a. IsSome (certificate_in a.1)) answers
       → AreValid es (certificates_in answers)
+  -- where one has no order the claims have no valid order of some object
+  pub lacking : list_all (λ a. is_order a.1) answers ≡ false → LacksOrder es claims

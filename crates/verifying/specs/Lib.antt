@@ -1,9 +1,11 @@
+pub mod Denotes
+pub mod Faults
+pub mod Texts
 pub mod Decisions
 pub mod Taking
 pub use Rattle.model.specs.Linearizable
 pub use Rattle.model.specs.Orders
 pub use Rattle.events.specs.Events
 pub use Rattle.events.specs.Operations
-pub use Rattle.order_search.specs.Outcomes
+pub use Rattle.search.specs.Outcomes
 pub use Rattle.search.specs.Answers
-pub use Rattle.claims.specs.Denotes

@@ -1,7 +1,7 @@
 -- How the decisions on all objects are made, claim by claim. No public clause speaks of it.
 use Rattle.std.specs.Prelude.{◌≡◌, ◌<◌, ℕ, List, [], ◌∷◌, ◌++◌, length, map, get_or, All}
 use Rattle.events.specs.Operations.{ObjectCalls, calls_of}
-use Rattle.claims.specs.declared.claim.Claim.{Claim}
+use Rattle.verifying.specs.declared.claim.Claim.{Claim}
 use Rattle.verifying.specs.declared.decision.Decision.{Decision}
 use Rattle.verifying.specs.declared.decision.Decision.TheVariants.{Open}
 use Rattle.verifying.specs.Decisions.{IsDecision}

@@ -1,22 +1,15 @@
 //! The decisions on all objects of a history by claims.
 
-ghost use Rattle.std.specs.Prelude.{◌≡◌, ◌<◌, ◌↔◌, ◌++◌, ◌∷◌, [], ℕ, List, length, map, IfOk, OnOk};
-ghost use Rattle.std.specs.Prelude.{All, AllPairs, Any, Contains, IsSome, true};
-ghost use Rattle.model.specs.Linearizable.{IsLinearizable};
-ghost use Rattle.model.specs.Orders.{events};
-ghost use Rattle.events.specs.Events.{IsNamed, kind_at, denoted};
+ghost use Rattle.std.specs.Prelude.{◌≡◌, ◌<◌, ◌++◌, ◌∷◌, [], List, length, IfOk, OnOk, AllPairs};
 ghost use Rattle.events.specs.Operations.{calls_of};
-ghost use Rattle.certificate.specs.Denotes.{AreDistinct};
-ghost use Rattle.checker.specs.Refusals.{AreValid};
-ghost use Rattle.claims.specs.declared.claim.Claim.{Claim};
-ghost use Rattle.claims.specs.Denotes.{object_of};
-ghost use Rattle.verifying.specs.Decisions.{IsDecision, IsDecisionOn, certificate_in};
-ghost use Rattle.verifying.specs.Decisions.{certificates_in, is_impossible};
-ghost use Rattle.verifying.specs.Taking.{AreAllOpen, AreDecided, AreTaken};
+ghost use Rattle.verifying.specs.declared.claim.Claim.{Claim};
+ghost use Rattle.verifying.specs.Denotes.{object_of};
+ghost use Rattle.verifying.specs.Decisions.{AreDecisionsOn, IsDecision};
+ghost use Rattle.verifying.specs.Taking.{AreAllOpen, AreTaken};
 
+use crate::Claim;
 use crate::decision::Decision;
 use crate::object::decide_by_claim;
-use claims::Claim;
 use events::{History, ObjectHistory, split};
 use locality::linearizable_has_orders;
 use std::alloc::{AllocError, Global};
@@ -84,30 +77,19 @@ fn take_claim(
 }
 
 /// Decides on each object of a history by the claims on it, in their order, and answers in rising
-/// number of the objects. The first claim that is shown decides: an order that is valid, a reason by
-/// which no order is, or the search of the whole object, if a claim asks for it. A search for which
-/// a claim names no number of steps takes at most `limit`.
+/// number of the objects. The first claim that is shown decides (no clause says that it is the
+/// first): an order that is valid, a reason by which no order is, or the search of the whole object,
+/// if a claim asks for it. A search for which a claim names no number of steps has the limit `limit`.
 ///
-/// An error: memory was refused for the split, the list of answers, a part or the check of an order.
+/// An error: an allocation failed for the split, the list of answers, a part or the check of an
+/// order.
 pub fn decide_by_claims(
     alloc: Global,
     history: &History,
     claims: Vec<Claim>,
     limit: u64,
 ) -> Result<Vec<(u32, Decision)>, AllocError>
-    ensures rising { IfOk result (λ v. AllPairs (λ a b. a.0 < b.0) v.items) }
-    // the objects that some invocation names, and no others
-    ensures named { IfOk result (λ v. (x : ℕ)
-        → Contains (map (λ a. a.0) v.items) x ↔ IsNamed history.now x) }
-    ensures decisions { IfOk result (λ v.
-        All (λ a. IsDecisionOn history.now claims.items limit a.0 a.1) v.items) }
-    // Where one is impossible the history is not linearizable.
-    ensures impossible { IfOk result (λ v. Any (λ a. is_impossible a.1 ≡ true) v.items
-        → IsLinearizable (kind_at history.now) (events (denoted history.now)) → ⊥) }
-    // Where each has an order `check_all` accepts the certificates.
-    ensures distinct { IfOk result (λ v. AreDistinct (certificates_in v.items)) }
-    ensures valid { IfOk result (λ v. All (λ a. IsSome (certificate_in a.1)) v.items
-        → AreValid history.now (certificates_in v.items)) }
+    ensures { IfOk result (λ v. AreDecisionsOn history.now claims.items limit v.items) }
 {
     // These two do nothing. The first says that the events denote a well-formed history, the second
     // that each object of a linearizable one has a valid order.

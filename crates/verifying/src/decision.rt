@@ -22,8 +22,7 @@ pub enum Decision {
     Order(Certificate),
     /// No order of the operations is valid, and this shows it.
     Impossible(Refuted),
-    /// No claim is shown. A search had no answer within this many steps, which are all that it
-    /// might take.
+    /// No claim is shown. A search gave no answer within its limit, which is this many steps.
     OutOfSteps(u64),
     /// No claim is shown. A search was refused memory.
     NoMemory,

@@ -7,13 +7,13 @@ ghost use Rattle.model.specs.Orders.{Call};
 ghost use Rattle.events.specs.Operations.{ObjectCalls, calls_of};
 ghost use Rattle.refutation.specs.Refutations.{IsDoubt, IsNamedPart};
 ghost use Rattle.verifying.specs.Decisions.{IsAnswer};
-ghost use Rattle.claims.specs.declared.claim.Claim.TheVariants as claim;
-ghost use Rattle.claims.specs.Denotes.{object_of};
+ghost use Rattle.verifying.specs.declared.claim.Claim.TheVariants as claim;
+ghost use Rattle.verifying.specs.Denotes.{object_of};
 
+use crate::Claim;
 use crate::decision::{Decision, Refuted};
 use certificate::Certificate;
 use checker::{Refusal, check_object};
-use claims::Claim;
 use events::ObjectHistory;
 use refutation::{Doubt, Reason, Refutation, refute};
 use std::alloc::{AllocError, Global};
@@ -58,7 +58,7 @@ fn decide_by_doubt(reason: &Reason, limit: u64, doubt: Doubt) -> Decision
     }
 }
 
-/// What is decided by a reason. Where it names no number of steps a search takes at most `limit`.
+/// What is decided by a reason. Where it names no number of steps a search has the limit `limit`.
 ///
 /// An error: memory was refused.
 fn decide_by_reason(
@@ -80,7 +80,7 @@ fn decide_by_reason(
 }
 
 /// What is decided of an object by a claim on it. Where a reason names no number of steps a search
-/// takes at most `limit`.
+/// has the limit `limit`.
 ///
 /// An error: memory was refused.
 pub fn decide_by_claim(

@@ -1,5 +1,5 @@
-use Rattle.locality.proofs.ValidOrders.{linearizable_has_orders_lem}
+use Rattle.locality.proofs.OneKind.{orders_of_kinds}
 use Rattle.locality.proofs.linearizable_has_orders.Goals as goal
 
 pub returns : goal.returns
-returns c = linearizable_has_orders_lem
+returns c = orders_of_kinds

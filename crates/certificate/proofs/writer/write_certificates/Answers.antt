@@ -2,7 +2,7 @@ use Rattle.std.proofs.Common.{rules, arith, subst}
 use Rattle.std.proofs.lemmas.List.{take_all}
 use Rattle.edn_reader.specs.Text.{IsInt64}
 use Rattle.std.specs.List.{AllByRecursion}
-use Rattle.edn_writer.proofs.Fronts.{within, further, fails}
+use Rattle.edn.proofs.Fronts.{within, further, fails}
 use Rattle.certificate.specs.Lines.{lines_of}
 use Rattle.certificate.specs.declared.Certificate.{Certificate}
 use Rattle.certificate.proofs.Writing.{lines_left, lines_spell, all_taken_item, InProfiles}

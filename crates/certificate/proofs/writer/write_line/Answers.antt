@@ -2,8 +2,8 @@ use Rattle.std.proofs.Common.{true, rules}
 use Rattle.std.specs.Prelude.{codes, pos}
 use Rattle.std.specs.Fmt.{signed_decimal}
 use Rattle.std.specs.Io.KnownBytes.{Appends}
-use Rattle.byte_streams.specs.Sent.{WritesPrefix}
-use Rattle.edn_writer.proofs.Fronts.{front_of_first, three_2, three_3, fails, sends_third}
+use Rattle.edn.specs.Sent.{WritesPrefix}
+use Rattle.edn.proofs.Fronts.{front_of_first, three_2, three_3, fails, sends_third}
 use Rattle.certificate.specs.Lines.{numbers_text}
 use Rattle.certificate.proofs.writer.write_line.Goals as goal
 

@@ -1,9 +1,9 @@
 use Rattle.std.proofs.Common.{rules}
 use Rattle.std.specs.Prelude.{codes}
 use Rattle.std.specs.Fmt.{signed_decimal}
-use Rattle.byte_streams.specs.Sent.{Writes}
+use Rattle.edn.specs.Sent.{Writes}
 use Rattle.edn_reader.specs.Text.{between}
-use Rattle.edn_writer.proofs.Fronts.{front_of_first, fails, sends_behind}
+use Rattle.edn.proofs.Fronts.{front_of_first, fails, sends_behind}
 use Rattle.certificate.proofs.writer.write_next.Goals as goal
 
 pub returns-in_err-write_between-clause-sent : goal.returns-in_err-write_between-clause-sent

@@ -2,9 +2,9 @@ use Rattle.std.proofs.Common.{◌++◌, true, get_or, rules}
 use Rattle.std.specs.Prelude.{codes, pos}
 use Rattle.std.specs.Fmt.{signed_decimal}
 use Rattle.std.specs.Io.KnownBytes.{Appends}
-use Rattle.byte_streams.specs.Sent.{WritesPrefix}
+use Rattle.edn.specs.Sent.{WritesPrefix}
 use Rattle.edn_reader.specs.Text.{between, IsInt64}
-use Rattle.edn_writer.proofs.Fronts.{within, further, fails}
+use Rattle.edn.proofs.Fronts.{within, further, fails}
 use Rattle.certificate.specs.Lines.{numbers_text}
 use Rattle.certificate.proofs.Writing.{numbers_left, all_taken}
 use Rattle.certificate.proofs.writer.write_numbers.Goals as goal

@@ -7,7 +7,7 @@ use Rattle.checker.specs.Checking.{AreForThese, IsLeastBesides}
 use Rattle.checker.specs.Refusals.{AreValid, IsFirstRefusal}
 use Rattle.checker.proofs.Certificates.{AreFine, are_objects, next_fine, next_is_first, one_more_fine, all_valid, least_strange, strange_is_not_valid}
 use Rattle.checker.proofs.all.check_all.Goals as goal
-use Rattle.checker.proofs.all.check_all.Goals.{In_err-check_piece, After-strange_object}
+use Rattle.checker.proofs.all.check_all.Goals.{In_err-check_object_at, After-strange_object}
 
 pub loop-object-init : goal.loop-object-init
 loop-object-init c = record {
@@ -17,22 +17,22 @@ loop-object-init c = record {
 }
 
 -- the refusal of the object at hand is the first
-first : (c : In_err-check_piece) → IsFirstRefusal c.args.history.now c.args.certificates.now c.in_err-check_piece.field-0.0
-    × (AreValid c.args.history.now c.args.certificates.now → c.in_err-check_piece.field-0.0 ≡ NoMemory)
+first : (c : In_err-check_object_at) → IsFirstRefusal c.args.history.now c.args.certificates.now c.in_err-check_object_at.field-0.0
+    × (AreValid c.args.history.now c.args.certificates.now → c.in_err-check_object_at.field-0.0 ≡ NoMemory)
 first c =
     let l = c.loop-object in
     next_is_first c.args.history.now c.args.certificates.now c.deref-object-items.result.now l.object-index c.object-item.result
-    c.in_err-check_piece.field-0.0 c.requires l.invariant.objects l.invariant.fine c.loop-object-test.true c.object-item.is c.in_err-check_piece.ensures.refused
+    c.in_err-check_object_at.field-0.0 c.requires l.invariant.objects l.invariant.fine c.loop-object-test.true c.object-item.is c.in_err-check_object_at.ensures.refused
 
-pub returns-in_err-check_piece-clause-refused : goal.returns-in_err-check_piece-clause-refused
-returns-in_err-check_piece-clause-refused c =
+pub returns-in_err-check_object_at-clause-refused : goal.returns-in_err-check_object_at-clause-refused
+returns-in_err-check_object_at-clause-refused c =
     let p = err_from_is_err_and c.from_residual.result c.from_residual.ensures.1 in
-    rw (p.1, p.2) (first (goal.at.returns-in_err-check_piece-clause-refused c).In_err-check_piece).0
+    rw (p.1, p.2) (first (goal.at.returns-in_err-check_object_at-clause-refused c).In_err-check_object_at).0
 
-pub returns-in_err-check_piece-clause-exact : goal.returns-in_err-check_piece-clause-exact
-returns-in_err-check_piece-clause-exact c = λ valid.
+pub returns-in_err-check_object_at-clause-exact : goal.returns-in_err-check_object_at-clause-exact
+returns-in_err-check_object_at-clause-exact c = λ valid.
     let p = err_from_is_err_and c.from_residual.result c.from_residual.ensures.1 in
-    rw (p.1, p.2) ((first (goal.at.returns-in_err-check_piece-clause-exact c).In_err-check_piece).1 valid)
+    rw (p.1, p.2) ((first (goal.at.returns-in_err-check_object_at-clause-exact c).In_err-check_object_at).1 valid)
 
 pub loop-object-preserved : goal.loop-object-preserved
 loop-object-preserved c =
@@ -44,7 +44,7 @@ loop-object-preserved c =
     let o = c.object-item.result in
     let inside = c.loop-object-test.true in
     let whole = take_more fs i o inside ∙ ap (λ x. take i fs ++ x ∷ []) (sym c.object-item.is) in
-    let fine = next_fine es certificates fs i o l.invariant.objects inside c.object-item.is c.in_ok-check_piece.ensures.fine in
+    let fine = next_fine es certificates fs i o l.invariant.objects inside c.object-item.is c.in_ok-check_object_at.ensures.fine in
     record { objects = l.invariant.objects; fine = subst (AreFine es certificates) (sym whole) (one_more_fine es certificates (take i fs) o l.invariant.fine fine) }
 
 -- at the end all objects are checked
@@ -72,10 +72,10 @@ returns-clause-valid c =
     all_valid c.args.history.now certificates c.deref-object-items.result.now c.loop-object.invariant.objects (checked d)
     (subst (λ os. AreForThese (map (λ (o : ObjectCalls). o.object) os) certificates) (same_objects d) c.in-None.ensures.none)
 
-pub returns-in_err-check_piece-clause-answer : goal.returns-in_err-check_piece-clause-answer
-returns-in_err-check_piece-clause-answer c =
+pub returns-in_err-check_object_at-clause-answer : goal.returns-in_err-check_object_at-clause-answer
+returns-in_err-check_object_at-clause-answer c =
     let p = err_from_is_err_and c.from_residual.result c.from_residual.ensures.1 in
-    let f = first (goal.at.returns-in_err-check_piece-clause-answer c).In_err-check_piece in
+    let f = first (goal.at.returns-in_err-check_object_at-clause-answer c).In_err-check_object_at in
     rw (p.1, p.2) (record { valid = tt; refused = f.0; exact = f.1 })
 
 pub returns-in-Some-clause-answer : goal.returns-in-Some-clause-answer

@@ -1,6 +1,7 @@
 use Rattle.std.proofs.Common.{◌≤◌, ◌*◌}
+use Rattle.desk_model.specs.Limits.{max_calls}
 use Rattle.clients.proofs.room.calls_on.Given as goal
 
--- no client has more than 10,000
+-- no client has more calls than a desk lets it make
 abbrev pub invariant-loop-client : goal.invariant-loop-client
-invariant-loop-client l = l.count ≤ l.client * 10000
+invariant-loop-client l = l.count ≤ l.client * max_calls

@@ -1,19 +1,45 @@
+use Rattle.history_commands.specs.Refuted.{IsRefute}
+use Rattle.history_commands.specs.Searches.{IsSearch}
+use Rattle.history_commands.specs.Verified.{IsVerification}
+use Rattle.commands.specs.Runs.{IsRun}
+use Rattle.commands.specs.Simulated.{IsSimulation}
+use Rattle.commands.proofs.Leaving.{leaves_as, made_as}
 use Rattle.commands.proofs.program.perform.Goals as goal
 
 pub returns-in-Check : goal.returns-in-Check
-returns-in-Check g c = record { performs = rw c.in-Check.is c.report_check.ensures.leaves }
+returns-in-Check g c = record { performs = rw c.in-Check.is c.check_bytes.ensures.leaves }
 
 pub returns-in-Search : goal.returns-in-Search
-returns-in-Search g c = record { performs = rw c.in-Search.is c.report_search.ensures.leaves }
-
-pub returns-in-Run : goal.returns-in-Run
-returns-in-Run g c = record { performs = rw c.in-Run.is c.report_run.ensures.leaves }
-
-pub returns-in-Simulate : goal.returns-in-Simulate
-returns-in-Simulate g c = record { performs = rw c.in-Simulate.is c.report_simulation.ensures.leaves }
+returns-in-Search g c = record {
+  performs = rw c.in-Search.is
+      (leaves_as c.put_out.ensures.leaves
+      (made_as (IsSearch c.args.first.now c.in-Search.steps) c.search.result c.search.ensures));
+}
 
 pub returns-in-Refute : goal.returns-in-Refute
-returns-in-Refute g c = record { performs = rw c.in-Refute.is c.report_refutation.ensures.leaves }
+returns-in-Refute g c = record {
+  performs = rw c.in-Refute.is
+      (leaves_as c.put_out-in-Refute.ensures.leaves
+      (made_as (IsRefute c.args.first.now c.args.second.now c.in-Refute.steps) c.refute.result c.refute.ensures));
+}
 
 pub returns-in-Verify : goal.returns-in-Verify
-returns-in-Verify g c = record { performs = rw c.in-Verify.is c.report_verification.ensures.leaves }
+returns-in-Verify g c = record {
+  performs = rw c.in-Verify.is
+      (leaves_as c.put_out-in-Verify.ensures.leaves
+      (made_as (IsVerification c.args.first.now c.args.second.now c.in-Verify.steps) c.verify.result
+      c.verify.ensures));
+}
+
+pub returns-in-Run : goal.returns-in-Run
+returns-in-Run g c = record {
+  performs = rw c.in-Run.is
+      (leaves_as c.put_out-in-Run.ensures.leaves (made_as (IsRun c.in-Run.options) c.run.result c.run.ensures));
+}
+
+pub returns-in-Simulate : goal.returns-in-Simulate
+returns-in-Simulate g c = record {
+  performs = rw c.in-Simulate.is
+      (leaves_as c.put_out-in-Simulate.ensures.leaves
+      (made_as (IsSimulation c.args.first.now) c.play.result c.play.ensures));
+}

@@ -11,7 +11,8 @@ returns c =
     let es = c.in_ok-history.field-0.history in
     let cs = c.deref.result.now in
     let are_events = c.in_ok-history.ensures.history in
-    let are_certificates = subst (AreCertificatesOf js ls) (sym c.deref.ensures.value) c.in_ok-history.ensures.certificates in
+    let are_certificates = subst (AreCertificatesOf js ls) (sym c.deref.ensures.value)
+    c.in_ok-history.ensures.certificates in
     let e = c.verdict_by-verdict.ensures in
     record {
       text = record {
@@ -22,5 +23,6 @@ returns c =
         text_is = search rules;
       };
       says = says_of js ls es cs are_events are_certificates c.verdict_by-verdict.result e.judges;
-      accepted = λ kinds quota sound. e.accepts (c.sound_record_is_accepted.ensures kinds quota js ls sound es cs are_events are_certificates);
+      accepted = λ kinds quota sound. e.accepts
+          (c.sound_record_is_accepted.ensures kinds quota js ls sound es cs are_events are_certificates);
     }

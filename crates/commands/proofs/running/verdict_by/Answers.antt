@@ -7,6 +7,7 @@ returns c =
     let e = c.check_all-checked.ensures in
     let is = c.verdict_on_check.ensures in
     record {
-      judges = judges_by es c.args.certificates.now c.check_all-checked.result c.verdict_on_check.result is e.valid e.refused;
+      judges = judges_by es c.args.certificates.now c.check_all-checked.result c.verdict_on_check.result is e.valid
+          e.refused;
       accepts = λ valid. yes_unless_memory es c.check_all-checked.result c.verdict_on_check.result is (e.exact valid);
     }

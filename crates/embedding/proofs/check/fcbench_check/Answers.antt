@@ -1,8 +1,9 @@
-use Rattle.std.proofs.Common.{rules, ◌≡◌, ◌∙◌}
+use Rattle.std.proofs.lemmas.Result.{IfOk-weaker}
 use Rattle.judging.specs.Texts.{IsLinearizableText}
-use Rattle.outputs.specs.Checked.{IsCheck}
-use Rattle.outputs.specs.Statuses.{yes_status}
-use Rattle.outputs.proofs.Meanings.{is_check}
+use Rattle.history_commands.specs.Checked.{IsCheck}
+use Rattle.history_commands.specs.declared.status.Status.TheVariants.{Yes}
+use Rattle.history_commands.proofs.Checked.{is_check}
+use Rattle.history_commands.proofs.Numbers.{yes_by_number}
 use Rattle.embedding.specs.Handed.{IsAnswered}
 use Rattle.embedding.proofs.Handing.{accepted, answered, shows, yes_is_other}
 use Rattle.embedding.proofs.check.fcbench_check.Goals as goal
@@ -13,15 +14,13 @@ returns c =
     let o = c.args.certificates.now in
     let v = c.judge_alone-verdict.result in
     let e = c.judge_alone-verdict.ensures in
-    let status = c.send_verdict-status.result in
     let out = c.args.out.now in
     let checked : IsAnswered (IsCheck h o) c.answer.result out c.answer.new.out c.answer.new.needed =
-    answered (IsCheck h o) status c.answer.result c.deref.result.now out c.answer.new.out c.answer.new.needed
-    (λ n. let w = c.send_verdict-status.ensures.leaves.written n in
-    let text : c.deref.result.now ≡ w.0 = search rules in
-    is_check h o status c.deref.result.now (v, record { linearizable = e.linearizable; judges = e.judges; accepts = e.accepts }, w.1.0, text ∙ w.1.1)) c.answer.ensures.whole c.answer.ensures.memory in
+    answered (IsCheck h o) c.verdict_output.result c.answer.result out c.answer.new.out c.answer.new.needed
+    (IfOk-weaker c.verdict_output.result _ _ (λ made k. is_check h o made.status made.text.items
+    (v, record { linearizable = e.linearizable; judges = e.holds.judges; accepts = e.holds.accepts }, k.0, k.1)) c.verdict_output.ensures) c.answer.ensures.made c.answer.ensures.memory in
     record {
-      linearizable = λ e. (shows (IsCheck h o) (λ _. IsLinearizableText h) yes_status c.answer.result out c.answer.new.out c.answer.new.needed yes_is_other (λ text is. is.linearizable) checked e).1;
+      linearizable = shows (IsCheck h o) (IsLinearizableText h) Yes c.answer.result out c.answer.new.out c.answer.new.needed yes_by_number yes_is_other (λ status text is. is.linearizable) checked;
       checked = checked;
       accepts = accepted h o c.answer.result out c.answer.new.out c.answer.new.needed checked;
     }

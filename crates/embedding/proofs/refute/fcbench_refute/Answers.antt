@@ -1,7 +1,9 @@
-use Rattle.std.proofs.Common.{rules, ◌≡◌, ℕ, subst, sym}
+use Rattle.std.proofs.Common.{ℕ, subst}
+use Rattle.std.specs.Prelude.{IfOk}
 use Rattle.history_commands.specs.Refuted.{IsRefute}
-use Rattle.history_commands.specs.Searches.{IsNotLinearizableText}
-use Rattle.outputs.specs.Statuses.{no_status}
+use Rattle.judging.specs.Texts.{IsNotLinearizableText}
+use Rattle.history_commands.specs.declared.status.Status.TheVariants.{No}
+use Rattle.history_commands.proofs.Numbers.{no_by_number}
 use Rattle.embedding.specs.Handed.{IsAnswered}
 use Rattle.embedding.specs.Steps.{search_steps}
 use Rattle.embedding.proofs.Handing.{answered, shows, no_is_other}
@@ -11,14 +13,11 @@ pub returns : goal.returns
 returns c =
     let h = c.args.history.now in
     let Is = IsRefute h c.args.reasons.now (search_steps c.args.steps) in
-    let status = c.report_refutation-status.result in
     let out = c.args.out.now in
     let told : IsAnswered Is c.answer.result out c.answer.new.out c.answer.new.needed =
-    answered Is status c.answer.result c.deref.result.now out c.answer.new.out c.answer.new.needed
-    (λ n. let w = c.report_refutation-status.ensures.leaves.written n in
-    let text : c.deref.result.now ≡ w.0 = search rules in
-    subst (Is status) (sym text) (subst (λ (steps : ℕ). IsRefute h c.args.reasons.now steps status w.0) c.search_steps.ensures w.1)) c.answer.ensures.whole c.answer.ensures.memory in
+    answered Is c.refute.result c.answer.result out c.answer.new.out c.answer.new.needed
+    (subst (λ (steps : ℕ). IfOk c.refute.result (λ o. IsRefute h c.args.reasons.now steps o.status o.text.items)) c.search_steps.ensures c.refute.ensures) c.answer.ensures.made c.answer.ensures.memory in
     record {
-      refuted = λ e. (shows Is (λ _. IsNotLinearizableText h) no_status c.answer.result out c.answer.new.out c.answer.new.needed no_is_other (λ text is. is.refuted) told e).1;
+      refuted = shows Is (IsNotLinearizableText h) No c.answer.result out c.answer.new.out c.answer.new.needed no_by_number no_is_other (λ status text is. is.refuted) told;
       answered = told;
     }

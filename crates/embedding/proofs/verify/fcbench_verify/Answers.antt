@@ -1,8 +1,10 @@
-use Rattle.std.proofs.Common.{rules, ◌≡◌, ℕ, subst, sym}
+use Rattle.std.proofs.Common.{ℕ, subst}
+use Rattle.std.specs.Prelude.{IfOk}
 use Rattle.judging.specs.Texts.{IsLinearizableText}
-use Rattle.history_commands.specs.Searches.{IsNotLinearizableText}
+use Rattle.judging.specs.Texts.{IsNotLinearizableText}
 use Rattle.history_commands.specs.Verified.{IsVerification}
-use Rattle.outputs.specs.Statuses.{no_status, yes_status}
+use Rattle.history_commands.specs.declared.status.Status.TheVariants.{Yes, No}
+use Rattle.history_commands.proofs.Numbers.{no_by_number, yes_by_number}
 use Rattle.embedding.specs.Handed.{IsAnswered}
 use Rattle.embedding.specs.Steps.{search_steps}
 use Rattle.embedding.proofs.Handing.{answered, shows, no_is_other, yes_is_other}
@@ -13,15 +15,12 @@ returns c =
     let h = c.args.history.now in
     let e = c.args.evidence.now in
     let Is = IsVerification h e (search_steps c.args.steps) in
-    let status = c.report_verification-status.result in
     let out = c.args.out.now in
     let verified : IsAnswered Is c.answer.result out c.answer.new.out c.answer.new.needed =
-    answered Is status c.answer.result c.deref.result.now out c.answer.new.out c.answer.new.needed
-    (λ n. let w = c.report_verification-status.ensures.leaves.written n in
-    let text : c.deref.result.now ≡ w.0 = search rules in
-    subst (Is status) (sym text) (subst (λ (steps : ℕ). IsVerification h e steps status w.0) c.search_steps.ensures w.1)) c.answer.ensures.whole c.answer.ensures.memory in
+    answered Is c.verify.result c.answer.result out c.answer.new.out c.answer.new.needed
+    (subst (λ (steps : ℕ). IfOk c.verify.result (λ o. IsVerification h e steps o.status o.text.items)) c.search_steps.ensures c.verify.ensures) c.answer.ensures.made c.answer.ensures.memory in
     record {
-      linearizable = λ e. (shows Is (λ _. IsLinearizableText h) yes_status c.answer.result out c.answer.new.out c.answer.new.needed yes_is_other (λ text is. is.linearizable) verified e).1;
-      refuted = λ e. (shows Is (λ _. IsNotLinearizableText h) no_status c.answer.result out c.answer.new.out c.answer.new.needed no_is_other (λ text is. is.refuted) verified e).1;
+      linearizable = shows Is (IsLinearizableText h) Yes c.answer.result out c.answer.new.out c.answer.new.needed yes_by_number yes_is_other (λ status text is. is.linearizable) verified;
+      refuted = shows Is (IsNotLinearizableText h) No c.answer.result out c.answer.new.out c.answer.new.needed no_by_number no_is_other (λ status text is. is.refuted) verified;
       verified = verified;
     }

@@ -1,7 +1,7 @@
 use Rattle.std.proofs.Common.{◌∷◌, ap, sym, ◌∙◌, subst, arith}
 use Rattle.std.proofs.lemmas.List.{nil_from_length}
 use Rattle.history.specs.Pieces.{joined_by_feeds, AreReadFrom}
-use Rattle.history.proofs.PiecesJoined.{nothing_joined, join_more, all_joined, has_rows}
+use Rattle.history.proofs.PiecesJoined.{nothing_joined, join_more, all_joined}
 use Rattle.history.proofs.pieces.join_parts.Goals as goal
 
 pub loop-part-init : goal.loop-part-init
@@ -9,22 +9,28 @@ loop-part-init c = λ pieces are. nothing_joined pieces c.new-seams.result _ are
 
 pub loop-part-preserved : goal.loop-part-preserved
 loop-part-preserved c = λ pieces are.
-    join_more (joined_by_feeds pieces) c.loop-part.seams c.in_ok-seams.seams c.in_ok-part.field-0 c.loop-part.part-iterator.rest.items c.next.new.self.rest.items
-    (c.loop-part.invariant pieces are) (c.in-Some.ensures.steps.0 ∙ ap (λ o. o ∷ c.next.new.self.rest.items) c.in_ok-part.was) (λ ds es h p. c.in_ok-seams.ensures ds es h p)
+    join_more (joined_by_feeds pieces) c.loop-part.seams c.in_ok-seams.seams c.in_ok-part.field-0
+    c.loop-part.part-iterator.rest.items c.next.new.self.rest.items
+    (c.loop-part.invariant pieces are) (c.in-Some.ensures.steps.0
+    ∙ ap (λ o. o ∷ c.next.new.self.rest.items) c.in_ok-part.was) (λ ds es h p. c.in_ok-seams.ensures ds es h p)
 
-pub into_table-requires : goal.into_table-requires
-into_table-requires c =
+pub into_history-requires : goal.into_history-requires
+into_history-requires c =
     let r = c.requires in
     let ok = c.loop-part.part-iterator.rest.ok in
     let none = c.in-None.ensures.steps.0 in
-    let all = all_joined (joined_by_feeds r.0) c.loop-part.seams c.loop-part.part-iterator.rest.items (nil_from_length _ (omega (arith, ok, none)))
-    (c.loop-part.invariant r.0 (subst (AreReadFrom r.0) (sym c.into_iter-part-iterator.ensures.into_iter_gives.0) r.1)) in
+    let all = all_joined (joined_by_feeds r.0) c.loop-part.seams c.loop-part.part-iterator.rest.items
+    (nil_from_length _ (omega (arith, ok, none)))
+    (c.loop-part.invariant r.0 (subst (AreReadFrom r.0)
+    (sym c.into_iter-part-iterator.ensures.into_iter_gives.0) r.1)) in
     (all.0, all.1)
 
 pub returns : goal.returns
 returns c = λ pieces are.
     let ok = c.loop-part.part-iterator.rest.ok in
     let none = c.in-None.ensures.steps.0 in
-    has_rows (joined_by_feeds pieces) c.loop-part.seams _ c.into_table.ensures
-    (all_joined (joined_by_feeds pieces) c.loop-part.seams c.loop-part.part-iterator.rest.items (nil_from_length _ (omega (arith, ok, none)))
-    (c.loop-part.invariant pieces (subst (AreReadFrom pieces) (sym c.into_iter-part-iterator.ensures.into_iter_gives.0) are)))
+    let all = all_joined (joined_by_feeds pieces) c.loop-part.seams c.loop-part.part-iterator.rest.items
+    (nil_from_length _ (omega (arith, ok, none)))
+    (c.loop-part.invariant pieces (subst (AreReadFrom pieces)
+    (sym c.into_iter-part-iterator.ensures.into_iter_gives.0) are)) in
+    (all.0, all.2, c.into_history.ensures all.0 all.1)

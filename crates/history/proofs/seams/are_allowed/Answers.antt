@@ -1,7 +1,6 @@
 use Rattle.std.proofs.Common.{get_or}
 use Rattle.number_map.specs.Lookup.{value_of}
 use Rattle.seq_objects.specs.declared.function.Function.TheVariants.{Enqueue}
-use Rattle.events.proofs.Gathering.{nobody}
 use Rattle.history.specs.declared.client_map.MapType.TheVariants.{Invoke}
 use Rattle.history.specs.declared.part.FirstMap.{FirstMap}
 use Rattle.history.specs.Parts.{IsAllowed}
@@ -10,9 +9,14 @@ use Rattle.history.proofs.seams.are_allowed.Goals as goal
 
 pub loop-first-preserved : goal.loop-first-preserved
 loop-first-preserved c =
-    let none : FirstMap = record { map_type = Invoke; function = Enqueue; event = nobody } in
-    all_more (IsAllowed (value_of c.args.processes.now)) c.args.firsts.now c.loop-first.first-index none c.loop-first-test.true c.loop-first.invariant
-    (allowed_at (value_of c.args.processes.now) (get_or c.args.firsts.now c.loop-first.first-index none) c.get-kept.result c.process_fault.result c.get-kept.ensures c.if-is_some.ensures c.process_fault.ensures)
+    let none : FirstMap = record { map_type = Invoke; function = Enqueue; process = 0; object = 0 } in
+    all_more (IsAllowed (value_of c.args.processes.now)) c.args.firsts.now c.loop-first.first-index none
+    c.loop-first-test.true c.loop-first.invariant
+    (allowed_at (value_of c.args.processes.now)
+    (get_or c.args.firsts.now c.loop-first.first-index none) c.get-kept.result c.process_fault.result
+    c.get-kept.ensures c.if-is_some.ensures c.process_fault.ensures)
 
 pub returns : goal.returns
-returns c = λ _. all_done (IsAllowed (value_of c.args.processes.now)) c.args.firsts.now c.loop-first.first-index c.loop-first-test.false c.loop-first.invariant
+returns c = λ _. all_done (IsAllowed
+    (value_of c.args.processes.now)) c.args.firsts.now c.loop-first.first-index c.loop-first-test.false
+    c.loop-first.invariant

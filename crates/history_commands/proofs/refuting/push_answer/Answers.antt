@@ -11,5 +11,8 @@ returns c =
     let answer = c.args.answer.now in
     let n = c.call_count_of-whole.result in
     let same = same_lines es n (call_count_on es reason) c.args.steps reason answer
-    (λ shown. counted es c.args.objects.now reason.object n c.requires.calls (c.call_count_of-whole.ensures (c.requires.named reason.object (named_by es reason answer c.requires.answer shown)))) in
-    subst (λ (l : List ℕ). OnOk c.push_answer_on.result (c.push_answer_on.new.text.items ≡ c.args.text.now.items ++ l)) same c.push_answer_on.ensures
+    (λ shown. counted es c.args.objects.now reason.object n c.requires.calls
+    (c.call_count_of-whole.ensures
+    (c.requires.named reason.object (named_by es reason answer c.requires.answer shown)))) in
+    subst (λ (l : List ℕ). OnOk c.push_answer_on.result (c.push_answer_on.new.text.items ≡ c.args.text.now.items ++ l))
+    same c.push_answer_on.ensures

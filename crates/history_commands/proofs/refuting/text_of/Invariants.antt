@@ -6,7 +6,8 @@ use Rattle.history_commands.proofs.refuting.text_of.Given as goal
 
 abbrev pub invariant-reasons : goal.invariant-reasons
 invariant-reasons l = record {
-  text : l.text.items ++ refutations_text l.fn.history l.fn.steps l.reasons_left l.answers_left ≡ refutations_text l.fn.history l.fn.steps l.reasons l.answers;
+  text : l.text.items ++ refutations_text l.fn.history l.fn.steps l.reasons_left l.answers_left
+      ≡ refutations_text l.fn.history l.fn.steps l.reasons l.answers;
   each : AllZip (IsAnswer l.fn.history) l.reasons_left l.answers_left;
 }
 

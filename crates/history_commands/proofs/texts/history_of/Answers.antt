@@ -1,7 +1,8 @@
 use Rattle.std.proofs.Common.{subst, sym}
-use Rattle.history_commands.specs.Searches.{IsUnsearched}
+use Rattle.history_commands.specs.Searches.{IsHistoryUnread}
 use Rattle.history_commands.proofs.Stopping.{stops_search}
 use Rattle.history_commands.proofs.texts.history_of.Goals as goal
 
 pub returns-in-Err-clause-unread : goal.returns-in-Err-clause-unread
-returns-in-Err-clause-unread c = subst (IsUnsearched c.args.text.now) (sym c.verdict_on_failure.ensures) (stops_search c.args.text.now c.in-Err.stop c.in-Err.ensures.stop)
+returns-in-Err-clause-unread c = subst (IsHistoryUnread c.args.text.now) (sym c.from.ensures)
+    (stops_search c.args.text.now c.in-Err.stop c.in-Err.ensures.stop)

@@ -1,6 +1,6 @@
-use Rattle.std.proofs.Common.{◌≡◌, ◌++◌, true, codes, decimal}
+use Rattle.std.proofs.Common.{◌++◌, true, codes, decimal}
 use Rattle.std.proofs.lemmas.Result.{on_ok_weaker}
-use Rattle.reason_text.specs.Lines.{line_of}
+use Rattle.refutation.specs.Lines.{line_of}
 use Rattle.reason_report.specs.Operations.{operations_text}
 use Rattle.history_commands.specs.Verified.{note_line}
 use Rattle.history_commands.proofs.Verified.{joined}
@@ -9,6 +9,11 @@ use Rattle.history_commands.proofs.verification.push_impossible.Goals as goal
 pub returns : goal.returns
 returns c =
     let f = c.args.refuted.now in
-    on_ok_weaker c.push_reason.result (λ last. joined c.args.text.now.items ((codes "; object " ++ decimal c.args.object) ++ codes ": impossible\n") (note_line f.note)
-    (operations_text true c.args.history.now f.part.ops) (codes "; " ++ line_of f.reason) c.push_note.new.text.items c.push_claimed_note.new.text.items
-    c.push_operations.new.text.items c.push_reason.new.text.items c.in_ok-push_note.ensures c.in_ok-push_claimed_note.ensures c.in_ok-push_operations.ensures last) c.push_reason.ensures
+    on_ok_weaker c.push_reason.result
+    (λ last. joined c.args.text.now.items ((codes "; object " ++ decimal c.args.object) ++ codes ": impossible\n")
+    (note_line f.note)
+    (operations_text true c.args.history.now f.part.ops) (codes "; " ++ line_of f.reason) c.push_note.new.text.items
+    c.push_claimed_note.new.text.items
+    c.push_operations.new.text.items c.push_reason.new.text.items c.in_ok-push_note.ensures
+    c.in_ok-push_claimed_note.ensures c.in_ok-push_operations.ensures last)
+    c.push_reason.ensures

@@ -1,25 +1,15 @@
-use Rattle.std.proofs.Common.{rules, ◌≡◌, ℕ, subst}
+use Rattle.std.proofs.Common.{rules, ◌≡◌, ℕ, List, subst, sym}
+use Rattle.verifying.specs.declared.decision.Decision.{Decision}
 use Rattle.verifying.specs.Decisions.{AreDecisionsOn}
 use Rattle.history_commands.proofs.verification.verify_claims.Goals as goal
 
-pub returns-in-Ok-clause-undecided : goal.returns-in-Ok-clause-undecided
-returns-in-Ok-clause-undecided c =
+pub returns : goal.returns
+returns c =
     let es = c.args.history.now in
     let claims = c.args.claims.items in
-    let answers = c.in-Ok.answers.items in
-    let d = c.in-Ok.ensures in
+    let answers = c.in_ok-answers.answers.items in
     let is : c.from.result ≡ c.args.steps = search rules in
-    let decided : AreDecisionsOn es claims c.from.result answers =
-    record { rising = d.rising; named = d.named; decisions = d.decisions; impossible = d.impossible; distinct = d.distinct; valid = d.valid } in
-    c.judge_decisions.ensures.undecided claims c.args.steps (subst (λ (n : ℕ). AreDecisionsOn es claims n answers) is decided)
-
-pub returns-in-Ok-clause-verdict : goal.returns-in-Ok-clause-verdict
-returns-in-Ok-clause-verdict c =
-    let es = c.args.history.now in
-    let claims = c.args.claims.items in
-    let answers = c.in-Ok.answers.items in
-    let d = c.in-Ok.ensures in
-    let is : c.from.result ≡ c.args.steps = search rules in
-    let decided : AreDecisionsOn es claims c.from.result answers =
-    record { rising = d.rising; named = d.named; decisions = d.decisions; impossible = d.impossible; distinct = d.distinct; valid = d.valid } in
-    c.judge_decisions.ensures.verdict claims c.args.steps (subst (λ (n : ℕ). AreDecisionsOn es claims n answers) is decided)
+    let limited = subst (λ (n : ℕ). AreDecisionsOn es claims n answers) is c.in_ok-answers.ensures in
+    c.judge_decisions.ensures claims c.args.steps
+    (subst (λ (xs : List (ℕ × Decision)). AreDecisionsOn es claims c.args.steps xs) (sym c.deref.ensures.value)
+    limited)

@@ -1,20 +1,13 @@
-use Rattle.std.proofs.Common.{◌∙◌, ap, sym, subst}
-use Rattle.judging.specs.Texts.{DenoteOnly, verdict_of}
-use Rattle.judging.specs.Verdicts.{IsYesUnlessMemory}
-use Rattle.judging.proofs.Judging.{judged, linearizable_text, valid_here}
+use Rattle.judging.specs.Verdicts.{Holds}
+use Rattle.judging.proofs.decision.judge.Given.{Over}
 use Rattle.judging.proofs.decision.judge.Goals as goal
+use Rattle.judging.proofs.decision.judge.Goals.{After-judge_read}
 
-pub returns-in-Err-clause-accepts : goal.returns-in-Err-clause-accepts
-returns-in-Err-clause-accepts g c v = subst IsYesUnlessMemory (sym (c.verdict_on_failure.ensures ∙ ap verdict_of (c.in-Err.ensures.accepts v))) tt
+holds : (g : Over) (c : After-judge_read g) → Holds c.args.history.now c.args.certificates.now c.judge_read.result
+holds g c = c.judge_read.ensures c.args.history.now c.history_by-read.ensures
 
-pub returns-in-Ok : goal.returns-in-Ok
-returns-in-Ok g c =
-    let e = c.verdict_on.ensures in
-    let es = c.in-Ok.client_events in
-    let texts : DenoteOnly c.args.history.now c.args.certificates.now es c.deref.result.now =
-    subst (DenoteOnly c.args.history.now c.args.certificates.now es) (sym c.deref.ensures.value) c.in-Ok.ensures.texts in
-    record {
-      linearizable = linearizable_text _ _ _ _ texts _ e.linearizable;
-      judges = judged _ _ _ _ texts _ e.judges;
-      accepts = λ v. e.accepts (valid_here _ _ _ _ texts v);
-    }
+pub returns-clause-linearizable : goal.returns-clause-linearizable
+returns-clause-linearizable g c = (holds g c).linearizable
+
+pub returns-clause-holds : goal.returns-clause-holds
+returns-clause-holds g c = holds g c

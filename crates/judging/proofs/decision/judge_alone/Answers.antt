@@ -1,20 +1,36 @@
-use Rattle.std.proofs.Common.{◌∙◌, ap, sym, subst}
-use Rattle.judging.specs.Texts.{DenoteOnly, verdict_of}
-use Rattle.judging.specs.Verdicts.{IsYesUnlessMemory}
-use Rattle.judging.proofs.Judging.{judged, linearizable_text, valid_here}
+use Rattle.std.proofs.Common.{sym, subst}
+use Rattle.judging.specs.Texts.{DenoteOnly}
+use Rattle.judging.specs.Verdicts.{AreBothRead, Holds}
+use Rattle.judging.proofs.Judging.{holds_checked, holds_stopped}
 use Rattle.judging.proofs.decision.judge_alone.Goals as goal
+use Rattle.judging.proofs.decision.judge_alone.Goals.{After-with_certificates}
 
-pub returns-in-Err-clause-accepts : goal.returns-in-Err-clause-accepts
-returns-in-Err-clause-accepts c v = subst IsYesUnlessMemory (sym (c.verdict_on_failure.ensures ∙ ap verdict_of (c.in-Err.ensures.accepts v))) tt
+read : (c : After-with_certificates) → AreBothRead (λ v. v.items) c.args.history.now c.args.certificates.now
+    c.with_certificates.result
+read c =
+    let h = c.history_in.ensures in
+    c.with_certificates.ensures.read c.args.history.now
+    (record { denotes = h.denotes; only = h.only; short = h.short; stop = h.stop; accepts = h.accepts })
 
 pub returns-in-Ok : goal.returns-in-Ok
 returns-in-Ok c =
-    let e = c.verdict_alone.ensures in
-    let es = c.in-Ok.client_events in
-    let texts : DenoteOnly c.args.history.now c.args.certificates.now es c.deref.result.now =
-    subst (DenoteOnly c.args.history.now c.args.certificates.now es) (sym c.deref.ensures.value) c.in-Ok.ensures.texts in
-    record {
-      linearizable = linearizable_text _ _ _ _ texts _ e.linearizable;
-      judges = judged _ _ _ _ texts _ e.judges;
-      accepts = λ v. e.accepts (valid_here _ _ _ _ texts v);
-    }
+    let h = c.args.history.now in
+    let k = c.args.certificates.now in
+    let both = subst (AreBothRead (λ v. v.items) h k) c.in-Ok.is
+    (read (goal.at.returns-in-Ok c).After-with_certificates) in
+    let holds = holds_checked h k c.in-Ok.client_events c.deref.result.now c.check_all-checked.result
+    c.verdict_on_check.result
+    c.valid_certificates_suffice.ensures
+    (subst (DenoteOnly h k c.in-Ok.client_events)
+    (sym c.deref.ensures.value) both.texts) c.check_all-checked.ensures.answer
+    c.verdict_on_check.ensures in
+    record { linearizable = holds.linearizable; holds = holds }
+
+pub returns-in-Err : goal.returns-in-Err
+returns-in-Err c =
+    let h = c.args.history.now in
+    let k = c.args.certificates.now in
+    let both = subst (AreBothRead (λ v. v.items) h k) c.in-Err.is
+    (read (goal.at.returns-in-Err c).After-with_certificates) in
+    let holds = subst (Holds h k) (sym c.from.ensures) (holds_stopped h k c.in-Err.stop both.stop both.accepts) in
+    record { linearizable = holds.linearizable; holds = holds }

@@ -11,5 +11,6 @@ returns c text es cs d valid =
     record {
       client_events = es;
       history_text = d;
-      linearizable = c.named_objects.ensures (kind_at es) (denoted es) (denoted_is_history es proper) (orders es cs valid);
+      linearizable = c.named_objects.ensures (kind_at es) (denoted es) (denoted_is_history es proper)
+          (orders es cs valid);
     }

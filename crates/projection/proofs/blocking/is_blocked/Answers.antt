@@ -2,21 +2,21 @@ use Rattle.std.proofs.Common.{nat_lt, ◌&&◌, Bool, MatchBool, List, refl, sym
 use Rattle.events.specs.declared.operations.Invocation.{Invocation}
 use Rattle.events.specs.Operations.{calls_of}
 use Rattle.projection.specs.Ahead.{IsBlocked}
-use Rattle.projection.specs.Pieces.{IsTaking}
+use Rattle.projection.specs.Pieces.{IsRemoval}
 use Rattle.projection.proofs.Blocked.{blocked_shows, blocked_piece, decided_of}
 use Rattle.projection.proofs.blocking.is_blocked.Goals as goal
 
 pub returns-in_default-clause-counts : goal.returns-in_default-clause-counts
 returns-in_default-clause-counts c b =
     let t = blocked_piece c.args.history.now.ops c.args.number c.args.from b in
-    c.in_default.ensures.none refl b.taking.op b.at b.found
-    (subst (λ (os : List Invocation). IsTaking os c.args.number b.taking.op b.at b.found)
+    c.in_default.ensures.none refl b.removal.op b.at b.found
+    (subst (λ (os : List Invocation). IsRemoval os c.args.number b.removal.op b.at b.found)
     (sym c.ops-operations.ensures.ops) t)
 
 pub returns-then-settled-clause-counts : goal.returns-then-settled-clause-counts
 returns-then-settled-clause-counts c =
     let h = c.args.history.now in
-    let t = c.in-Some.taking in
+    let t = c.in-Some.removal in
     subst (λ (z : Bool). MatchBool (z && nat_lt c.times-ahead.result.1 c.times-ahead.result.0)
     (IsBlocked c.args.number c.args.from (calls_of h.ops))
     (IsBlocked c.args.number c.args.from (calls_of h.ops) → ⊥))
@@ -29,7 +29,7 @@ returns-then-settled-clause-counts c =
 pub returns-then-settled-clause-shows : goal.returns-then-settled-clause-shows
 returns-then-settled-clause-shows c e =
     let h = c.args.history.now in
-    let t = c.in-Some.taking in
+    let t = c.in-Some.removal in
     let decided = decided_of h c.ops-operations.result.now c.args.number t.number c.args.from t.op t.at
     t.found c.times-ahead.result.0 c.times-ahead.result.1 c.ops-operations.ensures.kept
     c.ops-operations.ensures.ops c.in-Some.ensures.named c.in-Some.ensures.some c.times-ahead.ensures.ahead
@@ -46,7 +46,7 @@ returns-then-settled-clause-shows c e =
 pub returns-else-settled-clause-counts : goal.returns-else-settled-clause-counts
 returns-else-settled-clause-counts c =
     let h = c.args.history.now in
-    let t = c.in-Some.taking in
+    let t = c.in-Some.removal in
     let none = subst
     (λ (z : Bool). MatchBool (z && nat_lt c.times-ahead.result.1 c.times-ahead.result.0)
     (IsBlocked c.args.number c.args.from (calls_of h.ops))

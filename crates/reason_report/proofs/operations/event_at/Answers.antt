@@ -5,8 +5,10 @@ use Rattle.reason_report.proofs.operations.event_at.Goals as goal
 
 pub returns-in_default : goal.returns-in_default
 returns-in_default c =
-    let by_number = c.in_default.ensures.position (λ e. e.number) (answers_always _ _ _ (λ f a r g called. search rules)) in
-    none_here c.args.events.now c.args.number c.in_default.field-0 (by_number (search_rises c.args.events.now c.args.number c.requires.rising))
+    let by_number = c.in_default.ensures.position (λ e. e.number)
+    (answers_always _ _ _ (λ f a r g called. search rules)) in
+    none_here c.args.events.now c.args.number c.in_default.field-0
+    (by_number (search_rises c.args.events.now c.args.number c.requires.rising))
 
 pub returns : goal.returns
 returns c =

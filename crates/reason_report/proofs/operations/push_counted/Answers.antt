@@ -10,5 +10,6 @@ returns c =
     let other : is_same c.args.told.now c.args.counted.now ≡ false = sym c.is_same.ensures ∙ c.if-is_same.false in
     let said = call_text c.args.counted.now in
     on_ok_weaker c.push_call.result (λ k.
-    subst (λ b. c.push_call.new.text.items ≡ c.args.text.now.items ++ (if b then [] else codes ", counted as " ++ said)) (sym other)
+    subst (λ b. c.push_call.new.text.items ≡ c.args.text.now.items ++ (if b then [] else codes ", counted as " ++ said))
+    (sym other)
     (two_pushed _ (codes ", counted as ") said _ _ c.in_ok-extend_from_slice.ensures.items k)) c.push_call.ensures

@@ -5,5 +5,6 @@ use Rattle.reason_report.proofs.operations.push_recorded.Goals as goal
 
 pub returns : goal.returns
 returns c =
-    subst (λ told. OnOk c.push_said.result (c.push_said.new.text.items ≡ c.args.text.now.items ++ said_text told c.args.operation.now))
+    subst (λ told. OnOk c.push_said.result
+    (c.push_said.new.text.items ≡ c.args.text.now.items ++ said_text told c.args.operation.now))
     c.operation_in-told.ensures c.push_said.ensures

@@ -1,5 +1,5 @@
 use Rattle.std.proofs.Common.{rules}
-use Rattle.edn_writer.proofs.Fronts.{front_of_first, fails, sends_behind}
+use Rattle.edn.proofs.Fronts.{front_of_first, fails, sends_behind}
 use Rattle.report.specs.Lines.{comment_text}
 use Rattle.report.specs.Pieces.{pieces_text}
 use Rattle.report.proofs.pieces.write_line.Goals as goal
@@ -11,5 +11,6 @@ returns-in_err-write_comment g c =
 
 pub returns : goal.returns
 returns g c = record {
-  sent = sends_behind _ _ _ _ _ (comment_text c.args.commented) (pieces_text c.args.pieces.now) c.in_ok-write_comment.ensures.sent.0.0 c.write_pieces.ensures.sent;
+  sent = sends_behind _ _ _ _ _ (comment_text c.args.commented)
+      (pieces_text c.args.pieces.now) c.in_ok-write_comment.ensures.sent.0.0 c.write_pieces.ensures.sent;
 }

@@ -8,6 +8,8 @@ loop-object-preserved c =
     let l = c.loop-object in
     let is = c.empty.ensures ∙ ap empty c.kind.ensures in
     record {
-      kinds = kinds_more c.args.header.now.kinds l.object l.objects.items c.push.new.self.items c.empty.result l.invariant.kinds is c.in_ok-push.ensures.items;
-      empty = empty_more l.objects.items c.push.new.self.items c.empty.result _ l.invariant.empty is c.in_ok-push.ensures.items;
+      kinds = kinds_more c.args.header.now.kinds l.object l.objects.items c.push.new.self.items c.empty.result
+          l.invariant.kinds is c.in_ok-push.ensures.items;
+      empty = empty_more l.objects.items c.push.new.self.items c.empty.result _ l.invariant.empty is
+          c.in_ok-push.ensures.items;
     }

@@ -1,5 +1,5 @@
 use Rattle.std.proofs.Common.{rules, All, subst}
-use Rattle.byte_streams.specs.Sent.{WritesPrefix}
+use Rattle.edn.specs.Sent.{WritesPrefix}
 use Rattle.edn_reader.specs.Text.{InProfile}
 use Rattle.transcript.specs.declared.line.Line.{Line}
 use Rattle.transcript.specs.Lines.{form_of}

@@ -1,4 +1,4 @@
-use Rattle.edn_writer.proofs.Fronts.{further}
+use Rattle.edn.proofs.Fronts.{further}
 use Rattle.transcript.specs.Pieces.{lines_text}
 use Rattle.transcript.proofs.Texts.{lines_left}
 use Rattle.transcript.proofs.Profiles.{profiles_more, all_profiles}

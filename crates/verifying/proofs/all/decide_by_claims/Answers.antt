@@ -4,22 +4,28 @@ use Rattle.std.proofs.lemmas.List.{nil_from_length}
 use Rattle.events.specs.Operations.{ObjectCalls}
 use Rattle.checker.proofs.Certificates.{are_objects}
 use Rattle.checker.proofs.Collected.{distinct, valid}
-use Rattle.claims.specs.declared.claim.Claim.{Claim}
+use Rattle.verifying.specs.declared.claim.Claim.{Claim}
 use Rattle.verifying.specs.Decisions.{certificate_in}
 use Rattle.verifying.specs.Taking.{AreAllOpen, AreDecided, AreTaken}
-use Rattle.verifying.proofs.Decided.{IsDecided, certifies, not_linearizable}
+use Rattle.verifying.proofs.Decided.{IsDecided, certifies, lacks_order, not_linearizable}
 use Rattle.verifying.proofs.Taken.{decided_on_all, none_claimed, one_more, same_length}
 use Rattle.verifying.proofs.all.decide_by_claims.Goals as goal
 
 pub loop-claim-init : goal.loop-claim-init
 loop-claim-init c =
     let objects = c.in_ok-objects.objects.items in
-    let all_open = subst (λ (os : List ObjectCalls). AreAllOpen os c.in_ok-answers.answers.items) c.deref.ensures.value c.in_ok-answers.ensures in
-    record { taken = []; parts = refl; decided = none_claimed objects c.args.limit c.in_ok-answers.answers.items all_open }
+    let all_open = subst (λ (os : List ObjectCalls). AreAllOpen os c.in_ok-answers.answers.items) c.deref.ensures.value
+    c.in_ok-answers.ensures in
+    record {
+      taken = [];
+      parts = refl;
+      decided = none_claimed objects c.args.limit c.in_ok-answers.answers.items all_open;
+    }
 
 pub take_claim-requires-clause-each : goal.take_claim-requires-clause-each
 take_claim-requires-clause-each c =
-    same_length c.in_ok-objects.objects.items c.loop-claim.invariant.taken c.args.limit c.loop-claim.answers.items c.loop-claim.invariant.decided
+    same_length c.in_ok-objects.objects.items c.loop-claim.invariant.taken c.args.limit c.loop-claim.answers.items
+    c.loop-claim.invariant.decided
     ∙ ap length (sym c.deref-in-loop-claim.ensures.value)
 
 pub loop-claim-preserved : goal.loop-claim-preserved
@@ -28,11 +34,16 @@ loop-claim-preserved c =
     let h = c.loop-claim.invariant in
     let claim = c.in-Some.claim in
     let rest = c.next.new.self.rest.items in
-    let taken = subst (λ (os : List ObjectCalls). AreTaken os c.args.limit claim c.loop-claim.answers.items c.take_claim.new.answers.items) c.deref-in-loop-claim.ensures.value c.in_ok-take_claim.ensures in
+    let taken = subst
+    (λ (os : List ObjectCalls). AreTaken os c.args.limit claim c.loop-claim.answers.items
+    c.take_claim.new.answers.items)
+    c.deref-in-loop-claim.ensures.value c.in_ok-take_claim.ensures in
     record {
       taken = h.taken ++ claim ∷ [];
-      parts = append_assoc h.taken (claim ∷ []) rest ∙ ap (λ xs. h.taken ++ xs) (sym c.in-Some.ensures.steps.0) ∙ h.parts;
-      decided = one_more objects h.taken c.args.limit claim c.loop-claim.answers.items c.take_claim.new.answers.items taken h.decided;
+      parts =
+          append_assoc h.taken (claim ∷ []) rest ∙ ap (λ xs. h.taken ++ xs) (sym c.in-Some.ensures.steps.0) ∙ h.parts;
+      decided = one_more objects h.taken c.args.limit claim c.loop-claim.answers.items c.take_claim.new.answers.items
+          taken h.decided;
     }
 
 pub returns : goal.returns
@@ -50,12 +61,15 @@ returns c =
     let given : c.into_iter-claim-iterator.result.rest.items ≡ claims = search rules in
     let all = sym (append-nil h.taken) ∙ ap (λ xs. h.taken ++ xs) (sym left) ∙ h.parts ∙ given in
     let decided = subst (λ (cs : List Claim). AreDecided objects cs limit answers) all h.decided in
-    let on_all = decided_on_all es objects claims limit answers (are_objects _ _ _ refl s.rising s.named s.kinds s.calls) decided in
+    let on_all = decided_on_all es objects claims limit answers
+    (are_objects _ _ _ refl s.rising s.named s.kinds s.calls) decided in
     record {
       rising = on_all.rising;
       named = on_all.named;
       decisions = on_all.each;
-      impossible = not_linearizable es claims limit answers c.linearizable_has_orders.ensures c.events.ensures.history on_all;
+      impossible =
+          not_linearizable es claims limit answers c.linearizable_has_orders.ensures c.events.ensures.history on_all;
       distinct = distinct certificate_in es (IsDecided claims limit) answers (certifies claims limit) on_all;
       valid = valid certificate_in es (IsDecided claims limit) answers (certifies claims limit) on_all;
+      lacking = lacks_order es claims limit answers on_all;
     }

@@ -1,5 +1,5 @@
 use Rattle.std.proofs.Common.{◌≡◌, ◌++◌, List}
-use Rattle.claims.specs.declared.claim.Claim.{Claim}
+use Rattle.verifying.specs.declared.claim.Claim.{Claim}
 use Rattle.verifying.specs.Taking.{AreDecided}
 use Rattle.verifying.proofs.all.decide_by_claims.Given as goal
 

@@ -3,4 +3,6 @@ use Rattle.history.proofs.PartMore.{no_maps}
 use Rattle.history.proofs.part.Part.new.Goals as goal
 
 pub returns : goal.returns
-returns c = no_maps (record { seen = c.new.result; firsts = c.new-2.result; objects = c.new-3.result; maps = 0; rows = c.new-4.result }) c.new.ensures c.new-2.ensures.items refl c.new-4.ensures
+returns c = no_maps (record
+    { seen = c.new.result; firsts = c.new-2.result; objects = c.new-3.result; maps = 0; events = c.new-4.result })
+    c.new.ensures refl c.new-4.ensures.items

@@ -8,7 +8,8 @@ use Rattle.history.proofs.part.Part.read_lines.Given as goal
 
 abbrev pub invariant-elements : goal.invariant-elements
 invariant-elements l = record {
-  along : (ds : List Datum) → IsPartOf l.fn.self ds → Along (λ es. IsPartOf l.self (ds ++ es)) l.lines (left_of l.elements) (start_of l.elements);
+  along : (ds : List Datum) → IsPartOf l.fn.self ds → Along (λ es. IsPartOf l.self (ds ++ es)) l.lines
+      (left_of l.elements) (start_of l.elements);
   keeps : keeping_in l.elements ≡ truncated_kept;
 }
 

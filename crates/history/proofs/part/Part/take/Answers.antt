@@ -7,4 +7,6 @@ pub returns-in-Ignored : goal.returns-in-Ignored
 returns-in-Ignored c = λ ds d says h.
     let old = c.args.self.now in
     let s = subst (λ o. Says o d) c.in-Ignored.is says in
-    part_skip old (record { seen = old.seen; firsts = old.firsts; objects = old.objects; maps = old.maps + 1; rows = old.rows }) ds d h s.0 s.1 refl
+    part_skip old (record
+    { seen = old.seen; firsts = old.firsts; objects = old.objects; maps = old.maps + 1; events = old.events }) ds
+    d h s.0 s.1 refl

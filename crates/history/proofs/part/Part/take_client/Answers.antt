@@ -1,8 +1,6 @@
-use Rattle.std.proofs.Common.{◌+◌, ◌++◌, ◌∷◌, [], List, refl, sym}
-use Rattle.events.specs.declared.event.Event.{Event}
-use Rattle.events.specs.Rows.{IsRowsOf}
+use Rattle.std.proofs.Common.{◌+◌, refl, sym}
 use Rattle.history.specs.declared.part.Part.{Part}
-use Rattle.history.proofs.PartMore.{noted_map, part_more, was_ok}
+use Rattle.history.proofs.PartMore.{part_more, pushed}
 use Rattle.history.proofs.part.Part.take_client.Goals as goal
 
 pub returns : goal.returns
@@ -16,7 +14,9 @@ returns c = λ ds d says h.
       firsts = c.note_process.new.firsts;
       objects = c.note_object.new.objects;
       maps = old.maps + 1;
-      rows = c.push.new.self;
+      events = c.push.new.self;
     } in
-    part_more old new ds d m says.0 f a h says.1 c.in_ok-function.was (sym (c.in_ok-action.ensures says.0 says.2)) c.in_ok-note_process.ensures c.in_ok-note_object.ensures refl
-    (was_ok c.push.result c.in_ok-ok.field-0 ((es : List Event) → IsRowsOf old.rows es → IsRowsOf c.push.new.self (es ++ (noted_map m f old.maps a).event ∷ [])) c.in_ok-ok.ensures.value c.push.ensures)
+    part_more old new ds d m says.0 f a h says.1 c.in_ok-function.was
+    (sym (c.in_ok-action.ensures says.0 says.2)) c.in_ok-note_process.ensures c.in_ok-note_object.ensures refl
+    (pushed c.push.result c.in_ok-ok.field-0 c.push.new.self.items _ old.events.items c.in_ok-ok.ensures.value
+    c.push.ensures.items)

@@ -1,4 +1,4 @@
-use Rattle.std.proofs.Common.{◌+◌, ◌≤◌, map, All, ap, sym, ◌∙◌, subst, arith}
+use Rattle.std.proofs.Common.{◌+◌, ◌≤◌, map, All, refl, sym, subst, arith}
 use Rattle.number_map.specs.Lookup.{value_of}
 use Rattle.events.specs.Operations.{IsListed}
 use Rattle.history.specs.Noting.{IsOneKind}
@@ -11,12 +11,21 @@ returns c = λ ds es h p.
     let old = c.args.self in
     let part = c.args.part in
     let maps : part.maps ≤ 1000000 = c.if-maps-gt-MAX_MAPS.false in
-    let few : part.maps + old.joined.maps ≤ 1000000 = omega (arith, maps, c.if-before-maps.false, c.maps-before.ensures) in
-    joined_more old (record { seen = record { processes = c.keep_processes.new.processes; kinds = c.keep_kinds.new.kinds }; joined = c.in_ok-joined.joined }) part
-    c.deref-6.result.now ds es h p
-    (subst (All (IsAllowed (value_of old.seen.processes))) c.deref.ensures.value (c.are_allowed.ensures c.if-not-are_allowed.false))
-    (subst (All (λ x. IsOneKind (value_of old.seen.kinds x) (value_of part.seen.kinds x))) c.deref-2.ensures.value (c.are_of_one_kind.ensures c.if-not-are_of_one_kind.false)) few
-    (λ k i. c.in_ok-keep_processes.ensures k (subst (λ ms. IsListed (value_of part.seen.processes k) (map (λ m. m.event.process) ms) k) (sym c.deref-3.ensures.value) i))
-    (λ x i. c.in_ok-keep_kinds.ensures x (subst (λ xs. IsListed (value_of part.seen.kinds x) xs x) (sym c.deref-4.ensures.value) i))
-    (c.deref-6.ensures.value ∙ (c.in_ok-first_events.ensures ∙ ap (map (λ m. m.event)) c.deref-5.ensures.value))
-    (λ n xs fs j r a w. c.in_ok-joined.ensures n xs fs j r a w)
+    let few : part.maps + old.maps ≤ 1000000 = omega (arith, maps, c.if-before-maps.false) in
+    joined_more old (record {
+      seen = record
+          { processes = c.keep_processes.new.processes; kinds = c.keep_kinds.new.kinds };
+      events = c.in_ok-events.events;
+      maps = old.maps + part.maps;
+    }) part
+    ds es h p
+    (subst (All (IsAllowed (value_of old.seen.processes))) c.deref.ensures.value
+    (c.are_allowed.ensures c.if-not-are_allowed.false))
+    (subst (All (λ x. IsOneKind (value_of old.seen.kinds x) (value_of part.seen.kinds x))) c.deref-2.ensures.value
+    (c.are_of_one_kind.ensures c.if-not-are_of_one_kind.false)) few
+    (λ k i. c.in_ok-keep_processes.ensures k (subst
+    (λ ms. IsListed (value_of part.seen.processes k) (map (λ m. m.process) ms) k)
+    (sym c.deref-3.ensures.value) i))
+    (λ x i. c.in_ok-keep_kinds.ensures x (subst (λ xs. IsListed (value_of part.seen.kinds x) xs x)
+    (sym c.deref-4.ensures.value) i))
+    c.in_ok-events.ensures refl

@@ -1,6 +1,6 @@
 use Rattle.std.proofs.Common.{rules, ◌≡◌, ◌∙◌, ◌<◌, ◌≤◌, ◌+◌, ◌∷◌, [], ℕ, length, length-append, ap, sym, subst, arith}
 use Rattle.publication.specs.Handles.{DeskSeen}
-use Rattle.workload.specs.Workloads.{Work}
+use Rattle.clients.specs.Workloads.{Work}
 use Rattle.clients.specs.Made.{HasMetBelow, HasWorked}
 use Rattle.clients.proofs.Ends.{is_new}
 use Rattle.clients.proofs.Meetings.{keeps_on, met_more, still_worked}
@@ -11,14 +11,16 @@ use Rattle.clients.proofs.run.fn.run_all.scope.Goals as goal
 pub spawn_with-requires-clause-runs : goal.spawn_with-requires-clause-runs
 spawn_with-requires-clause-runs g c κs within =
     let d = c.captures.desk.now in let w = c.captures.workload.now in let so_far = c.loop.invariant in
-    let one = one_fewer d.id c.pop.new.self.items c.loop.clients.items c.in-Some.client c.in-Some.ensures.items so_far.clients in
+    let one = one_fewer d.id c.pop.new.self.items c.loop.clients.items c.in-Some.client c.in-Some.ensures.items
+    so_far.clients in
     let low : length c.pop.new.self.items < length w.calls = omega (arith, one.1, so_far.left, so_far.started) in
     (is_new d w (length c.pop.new.self.items) c.in-Some.client one.0 so_far.desk low, search rules)
 
 pub loop-preserved : goal.loop-preserved
 loop-preserved g c =
     let d = c.captures.desk.now in let w = c.captures.workload.now in let so_far = c.loop.invariant in
-    let one = one_fewer d.id c.pop.new.self.items c.loop.clients.items c.in-Some.client c.in-Some.ensures.items so_far.clients in
+    let one = one_fewer d.id c.pop.new.self.items c.loop.clients.items c.in-Some.client c.in-Some.ensures.items
+    so_far.clients in
     let worker = c.in_ok-worker.worker in let items = c.push_reserved.ensures.items in
     let long = ap length items ∙ length-append c.loop.workers.items (worker ∷ []) in
     let promise = c.in_ok-worker.ensures.ok in
@@ -29,22 +31,29 @@ loop-preserved g c =
       left = omega (arith, one.1, so_far.left);
       started = omega (arith, long, so_far.started);
       room = subst (λ z. length w.calls ≤ z) (sym c.push_reserved.ensures.capacity) so_far.room;
-      promised = and_last (λ h k. (h.promise.0.now ≡ d) × (h.promise.1.now ≡ w) × (h.promise.2 + (k + 1) ≡ length w.calls)) c.loop.workers.items
-          c.push_reserved.new.self.items worker items so_far.promised
-          (ap (λ p. p.0.now) promise, ap (λ p. p.1.now) promise, omega (arith, number, one.1, so_far.left, so_far.started));
+      promised = and_last
+          (λ h k. (h.promise.0.now ≡ d) × (h.promise.1.now ≡ w) × (h.promise.2 + (k + 1) ≡ length w.calls))
+          c.loop.workers.items
+          c.push_reserved.new.self.items worker items so_far.promised (
+            ap (λ p. p.0.now) promise,
+            ap (λ p. p.1.now) promise,
+            omega (arith, number, one.1, so_far.left, so_far.started),
+          );
     }
 
 pub work-own-requires-after_bounds : goal.work-own-requires-after_bounds
 work-own-requires-after_bounds g c κs within =
     let d = c.captures.desk.now in let w = c.captures.workload.now in let so_far = c.loop.invariant in
-    let one = one_fewer d.id c.pop-2.new.self.items c.loop.clients.items c.in-Some-pop.own c.in-Some-pop.ensures.items so_far.clients in
+    let one = one_fewer d.id c.pop-2.new.self.items c.loop.clients.items c.in-Some-pop.own c.in-Some-pop.ensures.items
+    so_far.clients in
     let low : length c.pop-2.new.self.items < length w.calls = omega (arith, one.1, so_far.left, so_far.started) in
     is_new d w (length c.pop-2.new.self.items) c.in-Some-pop.own one.0 so_far.desk low
 
 pub part-own-requires : goal.part-own-requires
 part-own-requires g c =
     let d = c.captures.desk.now in let so_far = c.loop-2.invariant in let worker = c.in-Some-pop-2.worker in
-    let here = all_but_last (λ h k. h.promise.0.now ≡ d) c.pop-in-loop-2.new.self.items c.loop-2.workers.items worker c.in-Some-pop-2.ensures.items so_far.desks in
+    let here = all_but_last (λ h k. h.promise.0.now ≡ d) c.pop-in-loop-2.new.self.items c.loop-2.workers.items worker
+    c.in-Some-pop-2.ensures.items so_far.desks in
     record { own = so_far.own; other = c.join.ensures.desk ∙ ap (λ (e : DeskSeen). e.id) here.0 }
 
 pub loop-2-preserved : goal.loop-2-preserved
@@ -55,29 +64,40 @@ loop-2-preserved g c =
     let long = ap length items ∙ length-append before (worker ∷ []) in
     record {
       own = c.part-own.ensures.desk ∙ so_far.own;
-      kept = keeps_on c.work-own.result.knows c.loop-2.own.knows c.part-own.result.knows so_far.kept c.part-own.ensures.kept;
+      kept = keeps_on c.work-own.result.knows c.loop-2.own.knows c.part-own.result.knows so_far.kept
+          c.part-own.ensures.kept;
       left = omega (arith, long, so_far.left);
       desks = here.1;
       met = λ w made all.
           let h = so_far.met w made all in
-          let there = all_but_last (λ h k. (h.promise.1.now ≡ w) × (h.promise.2 + (k + 1) ≡ c.clients-end-2.result)) before c.loop-2.workers.items worker items h.0 in
-          let number : worker.promise.2 ≡ c.loop-2.counter = let place = there.0.1 in omega (arith, place, long, so_far.left) in
+          let there = all_but_last (λ h k. (h.promise.1.now ≡ w) × (h.promise.2 + (k + 1) ≡ c.clients-end-2.result))
+          before c.loop-2.workers.items worker items h.0 in
+          let number : worker.promise.2 ≡ c.loop-2.counter = let place = there.0.1 in
+          omega (arith, place, long, so_far.left) in
           let work = there.0.0 in let desk = here.0 in
-          let worked : HasWorked d w c.loop-2.counter c.join.result = subst (λ (t : DeskSeen × Work × ℕ). HasWorked t.0 t.1 t.2 c.join.result) (λ i. (desk i, work i, number i)) c.join.ensures in
-          (there.1, met_more w c.loop-2.own c.part-own.result c.loop-2.counter h.1 c.part-own.ensures.kept (c.part-own.ensures.met w c.loop-2.counter made worked));
+          let worked : HasWorked d w c.loop-2.counter c.join.result = subst
+          (λ (t : DeskSeen × Work × ℕ). HasWorked t.0 t.1 t.2 c.join.result) (λ i. (desk i, work i, number i))
+          c.join.ensures in (
+            there.1,
+            met_more w c.loop-2.own c.part-own.result c.loop-2.counter h.1 c.part-own.ensures.kept
+                (c.part-own.ensures.met w c.loop-2.counter made worked),
+          );
     }
 
 pub returns : goal.returns
 returns g c =
-    let d = c.captures.desk.now in let w = c.captures.workload.now in let started = c.loop.invariant in let so_far = c.loop-2.invariant in
-    let one = one_fewer d.id c.pop-2.new.self.items c.loop.clients.items c.in-Some-pop.own c.in-Some-pop.ensures.items started.clients in
+    let d = c.captures.desk.now in let w = c.captures.workload.now in let started = c.loop.invariant in
+    let so_far = c.loop-2.invariant in
+    let one = one_fewer d.id c.pop-2.new.self.items c.loop.clients.items c.in-Some-pop.own c.in-Some-pop.ensures.items
+    started.clients in
     let end = c.clients-end.ensures.clients in let end_2 = c.clients-end-2.ensures.clients in
     let last = c.loop-test.false in let last_2 = c.loop-2-test.false in let clients = started.desk.clients in
     let first : c.in-Some-pop.own.knows.number ≡ 0 = one.0.number ∙ omega (arith, one.1, started.left, end, last) in
     let all : c.loop-2.counter ≡ d.clients = omega (arith, so_far.left, last_2, end_2, clients) in
     let met = so_far.met w started.desk (λ k e low. let p = started.promised k e low in (p.1, p.2 ∙ sym end_2)) in (
       record {
-        worked = still_worked d w 0 c.work-own.result c.loop-2.own (subst (λ n. HasWorked d w n c.work-own.result) first c.work-own.ensures)
+        worked = still_worked d w 0 c.work-own.result c.loop-2.own
+            (subst (λ n. HasWorked d w n c.work-own.result) first c.work-own.ensures)
             so_far.kept so_far.own;
         met = subst (HasMetBelow w c.loop-2.own) all met.1;
       },

@@ -1,5 +1,5 @@
 use Rattle.std.proofs.Common.{◌≡◌, ℕ, ◌+◌, ◌<◌, ◌≤◌, length, get_or, vec_capacity}
-use Rattle.workload.specs.Workloads.{Work}
+use Rattle.clients.specs.Workloads.{Work}
 use Rattle.clients.specs.Made.{AreNew, HasMetBelow, IsDeskFor, Keeps}
 use Rattle.clients.proofs.run.fn.run_all.scope.Given as goal
 
@@ -12,7 +12,8 @@ invariant-loop g l = record {
   started : length l.workers.items + 1 ≡ l.counter;
   room : length l.workload.calls ≤ vec_capacity l.workers;
   promised : (k : ℕ) (d : _) → k < length l.workers.items → ((get_or l.workers.items k d).promise.0.now ≡ l.desk)
-      × ((get_or l.workers.items k d).promise.1.now ≡ l.workload) × ((get_or l.workers.items k d).promise.2 + (k + 1) ≡ length l.workload.calls);
+      × ((get_or l.workers.items k d).promise.1.now ≡ l.workload)
+      × ((get_or l.workers.items k d).promise.2 + (k + 1) ≡ length l.workload.calls);
 }
 
 -- client 0 has met those whose threads have ended
@@ -23,6 +24,11 @@ invariant-loop-2 g l = record {
   left : length l.workers.items + l.counter ≡ l.end;
   desks : (k : ℕ) (d : _) → k < length l.workers.items → (get_or l.workers.items k d).promise.0.now ≡ l.desk;
   met : (w : Work) → IsDeskFor l.desk w
-      → ((k : ℕ) (d : _) → k < length l.initial.workers.items → ((get_or l.initial.workers.items k d).promise.1.now ≡ w) × ((get_or l.initial.workers.items k d).promise.2 + (k + 1) ≡ l.end))
-      → ((k : ℕ) (d : _) → k < length l.workers.items → ((get_or l.workers.items k d).promise.1.now ≡ w) × ((get_or l.workers.items k d).promise.2 + (k + 1) ≡ l.end)) × HasMetBelow w l.own l.counter;
+      → ((k : ℕ) (d : _) → k < length l.initial.workers.items
+      → ((get_or l.initial.workers.items k d).promise.1.now ≡ w)
+      × ((get_or l.initial.workers.items k d).promise.2 + (k + 1) ≡ l.end))
+      → ((k : ℕ) (d : _) → k < length l.workers.items
+      → ((get_or l.workers.items k d).promise.1.now ≡ w)
+      × ((get_or l.workers.items k d).promise.2 + (k + 1) ≡ l.end))
+      × HasMetBelow w l.own l.counter;
 }

@@ -1,3 +1,0 @@
-pub mod Denotes
-pub mod Faults
-pub mod Texts

@@ -1,0 +1,61 @@
+//! What is said of words that ask for no line.
+
+ghost use Rattle.std.specs.Prelude.{◌≡◌, ◌≢◌};
+ghost use Rattle.clap.specs.Values.{kind_of};
+ghost use Rattle.command_line.specs.Lines as spec;
+
+use crate::asking::LineFault;
+use crate::lines::Unread;
+use crate::table::Takes;
+use clap::Error;
+use clap::error::ErrorKind;
+use std::alloc::{AllocError, Global};
+
+/// What `--kind` takes.
+const KINDS: &str = "queue, stack, heap, register, map, mutex, mixed";
+
+/// What `--first` takes.
+const FIRSTS: &str = "number, return";
+
+/// What `clap` says: help, or what is wrong.
+pub(crate) fn fault_of(alloc: Global, error: &Error) -> LineFault
+    ensures { spec.IsFor (kind_of error.now) result }
+{
+    if error.kind() == ErrorKind::OutOfMemory {
+        return LineFault::NoMemory;
+    }
+    match format!(in alloc; "{error}") {
+        Ok(text) if error.use_stderr() => LineFault::Refused(text),
+        Ok(text) => LineFault::Help(text),
+        Err(_) => LineFault::NoMemory,
+    }
+}
+
+/// What is said of a value that `clap` lets pass.
+fn reason_of(alloc: Global, unread: &Unread) -> Result<String, AllocError> {
+    let Unread::Value(name, takes) = unread else {
+        return String::from_str(alloc, "error: these words are no command\n");
+    };
+    match takes {
+        Takes::Kind => format!(in alloc; "error: --{name} takes one of the words {KINDS}\n"),
+        Takes::First => format!(in alloc; "error: --{name} takes one of the words {FIRSTS}\n"),
+        Takes::Number(bounds) => format!(in alloc;
+            "error: --{name} takes a number from {} to {}\n",
+            bounds.least, bounds.most
+        ),
+    }
+}
+
+/// Says why what was found fits no line.
+pub(crate) fn explain(alloc: Global, unread: &Unread) -> LineFault
+    ensures memory { unread.now ≡ Unread.NoMemory → result ≡ LineFault.NoMemory }
+    ensures refused { result ≢ LineFault.NoMemory → spec.IsRefused result }
+{
+    if matches!(unread, Unread::NoMemory) {
+        return LineFault::NoMemory;
+    }
+    match reason_of(alloc, unread) {
+        Ok(text) => LineFault::Refused(text),
+        Err(_) => LineFault::NoMemory,
+    }
+}

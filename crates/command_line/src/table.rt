@@ -1,0 +1,217 @@
+//! The commands, with their files and their options. Rows are tuples, since a contract can name no
+//! constant that holds a struct with references.
+
+ghost use Rattle.std.specs.Prelude.{◌≡◌};
+ghost use Rattle.command_line.specs.Lines as spec;
+
+/// Which command it is.
+#[derive(Clone, Copy)]
+pub enum Verb {
+    Check,
+    Search,
+    Refute,
+    Verify,
+    Run,
+    Simulate,
+}
+
+/// The numbers that an option takes, and the one where it is absent.
+#[derive(Clone, Copy)]
+pub struct Bounds {
+    pub least: u64,
+    pub most: u64,
+    pub default: u64,
+}
+
+/// What an option takes.
+#[derive(Clone, Copy)]
+pub enum Takes {
+    Number(Bounds),
+    /// The name of a kind, or `mixed`.
+    Kind,
+    /// The name of what is tried first.
+    First,
+}
+
+/// A file: its name, and its help.
+pub type FileRow = (&'static str, &'static str);
+
+/// An option: its name, its help, and what it takes.
+pub type OptionRow = (&'static str, &'static str, Takes);
+
+/// A command: which it is, its name, what it does, its files in their order, and its options.
+pub type CommandRow = (
+    Verb,
+    &'static str,
+    &'static str,
+    &'static [FileRow],
+    &'static [OptionRow],
+);
+
+pub const WORKERS: Bounds = Bounds {
+    least: 1,
+    most: 16,
+    default: 1,
+};
+
+/// The most steps of a search.
+pub const STEPS: Bounds = Bounds {
+    least: 0,
+    most: 1_000_000_000,
+    default: 1_000_000,
+};
+
+pub const OBJECTS: Bounds = Bounds {
+    least: 1,
+    most: 16,
+    default: 1,
+};
+
+pub const CLIENTS: Bounds = Bounds {
+    least: 1,
+    most: 32,
+    default: 2,
+};
+
+/// The calls of each client.
+pub const CALLS: Bounds = Bounds {
+    least: 0,
+    most: 10_000,
+    default: 100,
+};
+
+pub const SEED: Bounds = Bounds {
+    least: 0,
+    most: 18_446_744_073_709_551_615,
+    default: 0,
+};
+
+const HISTORY: FileRow = (
+    "HISTORY",
+    "a file of operation maps as Jepsen writes them; docs/tutorial.md says how to make one from a Jepsen store",
+);
+
+/// The commands, as help lists them.
+pub const COMMANDS: [CommandRow; 6] = [
+    (
+        Verb::Check,
+        "check",
+        "checks a history by certificates, one order of operations for each object",
+        &[
+            HISTORY,
+            (
+                "CERTS",
+                "a file of certificates, one order of operations for each object",
+            ),
+        ],
+        &[(
+            "workers",
+            "how many threads share the check, 1 to 16 (default 1)",
+            Takes::Number(WORKERS),
+        )],
+    ),
+    (
+        Verb::Search,
+        "search",
+        "searches for an order for each object, or shows that there is none",
+        &[HISTORY],
+        &[
+            (
+                "steps",
+                "the most steps for each object, 0 to 1000000000 (default 1000000)",
+                Takes::Number(STEPS),
+            ),
+            (
+                "first",
+                "which operation is tried first: that of the least number, or of the least return (default number)",
+                Takes::First,
+            ),
+        ],
+    ),
+    (
+        Verb::Refute,
+        "refute",
+        "checks reasons why a history is not linearizable",
+        &[
+            HISTORY,
+            (
+                "REASONS",
+                "a file of reasons, each a small part of the history that has no valid order",
+            ),
+        ],
+        &[(
+            "steps",
+            "the most steps for each reason, 0 to 1000000000 (default 1000000)",
+            Takes::Number(STEPS),
+        )],
+    ),
+    (
+        Verb::Verify,
+        "verify",
+        "checks orders and reasons from any source, and judges the history by them",
+        &[
+            HISTORY,
+            (
+                "EVIDENCE",
+                "a file of orders, reasons and searches for objects of the history",
+            ),
+        ],
+        &[(
+            "steps",
+            "the most steps of a search where the evidence names none, 0 to 1000000000 (default 1000000)",
+            Takes::Number(STEPS),
+        )],
+    ),
+    (
+        Verb::Run,
+        "run",
+        "runs clients on objects and judges what they did",
+        &[],
+        &[
+            (
+                "kind",
+                "the kind of all objects: queue, stack, heap, register, map or mutex; or mixed, which is the first five in turn (default queue)",
+                Takes::Kind,
+            ),
+            (
+                "objects",
+                "how many objects, 1 to 16 (default 1)",
+                Takes::Number(OBJECTS),
+            ),
+            (
+                "clients",
+                "how many clients, 1 to 32 (default 2)",
+                Takes::Number(CLIENTS),
+            ),
+            (
+                "calls",
+                "how many calls each client makes, 0 to 10000 (default 100)",
+                Takes::Number(CALLS),
+            ),
+            (
+                "seed",
+                "what the calls are drawn from (default 0)",
+                Takes::Number(SEED),
+            ),
+        ],
+    ),
+    (
+        Verb::Simulate,
+        "simulate",
+        "plays a schedule and judges its record",
+        &[("SCHEDULE", "a file of steps of clients")],
+        &[],
+    ),
+];
+
+/// Which command has this name.
+pub(crate) fn verb_named(name: &str) -> Option<Verb>
+    ensures { result ≡ spec.verb_named name.now }
+{
+    for row in COMMANDS.iter() {
+        if row.1 == name {
+            return Some(row.0);
+        }
+    }
+    None
+}

@@ -1,0 +1,95 @@
+-- What a command leaves, put together from what was sent: all lines, or a beginning of them.
+use Rattle.std.proofs.Common.{◌≡◌, ◌≢◌, ℕ, Bool, true, false, List, Option, refl, subst, sym, inl, inr}
+use Rattle.std.specs.Prelude.{◌⊎◌, Result, Ok, Err, IfOk}
+use Rattle.std.specs.Io.KnownBytes.{Appends}
+use Rattle.std.specs.declared.alloc.AllocError.{AllocError}
+use Rattle.edn.specs.Sent.{WritesPrefix}
+use Rattle.checker.specs.declared.refusal.Refusal.{Refusal}
+use Rattle.checker.specs.declared.refusal.Refusal.TheVariants as refusal
+use Rattle.report.specs.declared.verdict.Verdict.{Verdict}
+use Rattle.report.specs.declared.verdict.Verdict.TheVariants as verdict
+use Rattle.report.specs.Lines.{verdict_text}
+use Rattle.history_commands.specs.Outputs.{IsExactly, IsOutOfMemory, IsVerdictOutput, number_of, status_of}
+use Rattle.history_commands.specs.declared.output.Output.{Output}
+use Rattle.history_commands.specs.declared.status.Status.{Status}
+use Rattle.history_commands.specs.declared.status.Status.TheVariants.{Yes, No, Malformed, Undecided, OutOfMemory}
+use Rattle.history_commands.specs.declared.status.Status.TheVariants.{NoThread, Failed, Usage}
+use Rattle.commands.specs.Left.{IsMade, Leaves}
+
+-- an output of one relation is an output of another
+pub leaves_as : {P Q : Status → List ℕ → Type 0} {before after : Option (List ℕ)} {number : ℕ} {broken : Bool}
+    → Leaves P before number after broken → ((status : Status) (out : List ℕ) → P status out → Q status out)
+    → Leaves Q before number after broken
+leaves_as h more = record {
+  written = λ n. let k = h.written n in (k.0, k.1, more k.0 k.1 k.2, k.3, k.4);
+  usable = h.usable;
+  failed = h.failed;
+  front = λ e. let k = h.front e in (k.0, k.1, more k.0 k.1 k.2, k.3);
+}
+
+-- no number but its own is that of a failed output
+own_number : (status : Status) → status ≢ Failed → number_of status ≢ number_of Failed
+own_number Yes other e = absurd cc
+own_number No other e = absurd cc
+own_number Malformed other e = absurd cc
+own_number Undecided other e = absurd cc
+own_number OutOfMemory other e = absurd cc
+own_number NoThread other e = absurd cc
+own_number Failed other e = other refl
+own_number Usage other e = absurd cc
+
+module _ (status : Status) (lines : List ℕ) {before after : Option (List ℕ)} {broken : Bool} where
+  pub wrote_all : status ≢ Failed → Appends before after lines → broken ≡ false
+      → Leaves (IsExactly status lines) before (number_of status) after broken
+  wrote_all other sent usable = record {
+    written = λ n. (status, lines, (refl, refl), refl, sent);
+    usable = λ n. usable;
+    failed = λ e. absurd (own_number status other e);
+    front = λ e. absurd (own_number status other e);
+  }
+
+  pub wrote_front : WritesPrefix before after lines → broken ≡ true
+      → Leaves (IsExactly status lines) before (number_of Failed) after broken
+  wrote_front sent failed = record {
+    written = λ n. absurd (n refl);
+    usable = λ n. absurd (n refl);
+    failed = λ e. failed;
+    front = λ e. (status, lines, (refl, refl), sent);
+  }
+
+-- ---- what was made
+
+-- what was made has this property, or memory was refused
+pub made_as : (P : Status → List ℕ → Type 0) (made : Result Output AllocError)
+    → IfOk made (λ o. P o.status o.text.items)
+    → (status : Status) (out : List ℕ) → IsMade made status out → P status out ⊎ IsOutOfMemory status out
+made_as P (Ok o) h status out k = inl (subst (λ s. P s out) (sym k.0) (subst (P o.status) (sym k.1) h))
+made_as P (Err e) h status out k = inr k
+
+-- ---- a verdict
+
+no_fails : (r : Refusal) → status_of (verdict.No r) ≢ Failed
+no_fails (refusal.NoCertificate x) e = absurd cc
+no_fails (refusal.StrangeObject x) e = absurd cc
+no_fails (refusal.BadOrder x f) e = absurd cc
+no_fails refusal.NoMemory e = absurd cc
+
+verdict_is_written : (v : Verdict) → status_of v ≢ Failed
+verdict_is_written (verdict.Yes s) e = absurd cc
+verdict_is_written (verdict.No r) e = no_fails r e
+verdict_is_written (verdict.Malformed f) e = absurd cc
+verdict_is_written verdict.NoMemory e = absurd cc
+
+-- the lines of this verdict, of which it holds
+module _ (IsSaid : Verdict → Type 0) (v : Verdict) (said : IsSaid v) {before after : Option (List ℕ)} {broken : Bool}
+  where
+    pub wrote_verdict : Appends before after (verdict_text false v) → broken ≡ false
+        → Leaves (IsVerdictOutput IsSaid) before (number_of (status_of v)) after broken
+    wrote_verdict sent usable = leaves_as
+        (wrote_all (status_of v) (verdict_text false v) (verdict_is_written v) sent usable)
+        (λ status out k. (v, said, k.0, k.1))
+
+    pub wrote_front_of : WritesPrefix before after (verdict_text false v) → broken ≡ true
+        → Leaves (IsVerdictOutput IsSaid) before (number_of Failed) after broken
+    wrote_front_of sent failed =
+        leaves_as (wrote_front (status_of v) (verdict_text false v) sent failed) (λ status out k. (v, said, k.0, k.1))

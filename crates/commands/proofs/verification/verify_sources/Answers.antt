@@ -1,0 +1,37 @@
+use Rattle.std.proofs.Common.{ℕ, List, sym, subst, inl}
+use Rattle.edn.specs.Given.{WasRead}
+use Rattle.judging.specs.Reads.{read_limit}
+use Rattle.judging.specs.Texts.{IsHistoryRead}
+use Rattle.history_commands.specs.Verified.{IsVerification}
+use Rattle.commands.proofs.Leaving.{leaves_as, made_as}
+use Rattle.commands.proofs.verification.verify_sources.Goals as goal
+
+pub returns-clause-leaves : goal.returns-clause-leaves
+returns-clause-leaves g c =
+    let h = c.deref.result.now in
+    let e = c.deref-2.result.now in
+    let r = c.history_in-read.ensures in
+    let is_read : IsHistoryRead h c.history_in-read.result = record {
+      denotes = r.denotes;
+      only = r.only;
+      short = r.short;
+      stop = r.stop;
+      accepts = r.accepts;
+    } in
+    let first = subst
+    (λ (x : List ℕ). WasRead read_limit (g.H.Source.remaining c.args.history.now)
+    (g.H.Source.remaining c.read_text.new.source) x)
+    (sym c.deref.ensures.value) c.in-Ok.ensures.read in
+    let second = subst
+    (λ (x : List ℕ). WasRead read_limit (g.E.Source.remaining c.args.evidence.now)
+    (g.E.Source.remaining c.read_text-2.new.source) x)
+    (sym c.deref-2.ensures.value) c.in-Ok-read_text.ensures.read in
+    leaves_as c.put_out.ensures.leaves (λ status out k.
+    inl (
+      h,
+      e,
+      first,
+      second,
+      made_as (IsVerification h e c.args.steps) c.verify_history.result (c.verify_history.ensures h is_read) status
+          out k,
+    ))

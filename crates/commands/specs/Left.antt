@@ -1,0 +1,28 @@
+-- What a command leaves.
+use Rattle.std.specs.Prelude.{◌≡◌, ◌≢◌, ℕ, Bool, true, false, List, Option, Result, Ok, Err}
+use Rattle.std.specs.Io.KnownBytes.{Appends}
+use Rattle.std.specs.declared.alloc.AllocError.{AllocError}
+use Rattle.edn.specs.Sent.{WritesPrefix}
+use Rattle.history_commands.specs.Outputs.{IsExactly, IsOutOfMemory, number_of}
+use Rattle.history_commands.specs.declared.output.Output.{Output}
+use Rattle.history_commands.specs.declared.status.Status.{Status}
+use Rattle.history_commands.specs.declared.status.Status.TheVariants.{Failed}
+
+-- What a command leaves. Its output is a status and lines of which `IsOutput` holds. What the sink
+-- was sent is given as it was before and after, and whether the sink is then broken. The number is
+-- the exit status.
+pub record Leaves (IsOutput : Status → List ℕ → Type 0) (sent_before : Option (List ℕ)) (number : ℕ)
+    (sent : Option (List ℕ)) (broken : Bool) : Type 0 where
+  -- the lines were written, and the number is that of their status
+  pub written : number ≢ number_of Failed → (status : Status) × (out : List ℕ)
+      × IsOutput status out × (number ≡ number_of status) × Appends sent_before sent out
+  pub usable : number ≢ number_of Failed → broken ≡ false
+  -- the sink failed, and a beginning of the lines was written
+  pub failed : number ≡ number_of Failed → broken ≡ true
+  pub front : number ≡ number_of Failed → (status : Status) × (out : List ℕ)
+      × IsOutput status out × WritesPrefix sent_before sent out
+
+-- what was made, or one line says that memory was refused
+abbrev pub IsMade : Result Output AllocError → Status → List ℕ → Type 0
+IsMade (Ok o) status out = IsExactly o.status o.text.items status out
+IsMade (Err e) status out = IsOutOfMemory status out

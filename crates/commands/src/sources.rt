@@ -1,0 +1,74 @@
+//! What a command reads: the texts of its files.
+
+ghost use Rattle.std.specs.Prelude.{◌≡◌, false, IfOk, IfErr, OnOk};
+ghost use Rattle.commands.specs.Left.{Leaves};
+ghost use Rattle.commands.specs.Performed as spec;
+ghost use Rattle.commands.specs.Performed.{IsFileText};
+ghost use Rattle.history_commands.specs.Outputs.{IsOutOfMemory};
+ghost use Rattle.judging.specs.Reads.{Left, WasRefused};
+ghost use Rattle.judging.specs.declared.reading.ReadFault.TheVariants as fault_is;
+
+use crate::put_out::put_out;
+use command_line::Line;
+use edn::{Sink, Source};
+use judging::{ReadFault, read_text};
+use std::alloc::{AllocError, Global};
+
+/// Which of a command's files could not be read.
+#[derive(Clone, Copy, Debug, PartialEq, Eq)]
+pub enum Unread {
+    First,
+    Second,
+}
+
+/// Whether the command reads a file.
+pub(crate) fn has_first(line: &Line) -> bool
+    ensures { result ≡ spec.has_first line.now }
+{
+    !matches!(line, Line::Run(_))
+}
+
+/// Whether the command reads two files.
+pub(crate) fn has_second(line: &Line) -> bool
+    ensures { result ≡ spec.has_second line.now }
+{
+    matches!(
+        line,
+        Line::Check { .. } | Line::Refute { .. } | Line::Verify { .. }
+    )
+}
+
+/// The text of a file of the command, or none if it has no such file.
+pub(crate) fn file_text<F: Source>(
+    alloc: Global,
+    has_file: bool,
+    file: &mut F,
+) -> Result<Vec<u8>, ReadFault>
+    requires { F.broken file.old ≡ false }
+    ensures read { IfOk result (λ v.
+        IsFileText has_file (F.remaining file.old) (F.remaining file.new) v.items) }
+    ensures usable { OnOk result (F.broken file.new ≡ false) }
+    ensures fault { IfErr result (Left (F.broken file.new)) }
+    ensures refused { IfErr result (λ e. e ≡ ReadFault.Failed →
+        WasRefused F.remaining F.refuses file.old file.new) }
+{
+    if !has_file {
+        return Ok(Vec::new(alloc));
+    }
+    read_text(alloc, file)
+}
+
+/// What becomes of a command of which a text was not read.
+pub(crate) fn stop<S: Sink>(fault: ReadFault, which: Unread, sink: &mut S) -> Result<u8, Unread>
+    requires working { S.broken sink.old ≡ false }
+    ensures leaves { IfOk result (λ number. Leaves IsOutOfMemory
+        (S.sent sink.old) number (S.sent sink.new) (S.broken sink.new)) }
+    ensures memory { IfOk result (λ _. fault ≡ fault_is.NoMemory) }
+    ensures unread { IfErr result (λ e. (e ≡ which) × (fault ≡ fault_is.Failed)) }
+    ensures nothing_written { IfErr result (λ _. sink.new ≡ sink.old) }
+{
+    match fault {
+        ReadFault::Failed => Err(which),
+        ReadFault::NoMemory => Ok(put_out(Err(AllocError), sink)),
+    }
+}

@@ -1,0 +1,45 @@
+//! The verification of a history by evidence, as both come from sources.
+
+ghost use Rattle.std.specs.Prelude.{◌≡◌, false, true, IfOk, IfErr};
+ghost use Rattle.commands.specs.Left.{Leaves};
+ghost use Rattle.commands.specs.Performed.{IsUnread, IsVerificationIn, OnTexts};
+
+use crate::put_out::put_out;
+use crate::sources::{Unread, stop};
+use edn::{Sink, Source};
+use history_commands::verify_history;
+use judging::{history_in, read_text};
+use std::alloc::Global;
+
+/// Judges the history in one text by the evidence in another, writes the lines, and gives the exit
+/// status. The evidence is read when the history is made: who looks for it may work meanwhile.
+pub(crate) fn verify_sources<H: Source, E: Source, S: Sink>(
+    alloc: Global,
+    history: &mut H,
+    evidence: &mut E,
+    steps: u32,
+    sink: &mut S,
+) -> Result<u8, Unread>
+    requires history { H.broken history.old ≡ false }
+    requires evidence { E.broken evidence.old ≡ false }
+    requires sink { S.broken sink.old ≡ false }
+    ensures leaves { IfOk result (λ number. Leaves (OnTexts true true (IsVerificationIn steps)
+        (H.remaining history.old) (H.remaining history.new)
+        (E.remaining evidence.old) (E.remaining evidence.new))
+        (S.sent sink.old) number (S.sent sink.new) (S.broken sink.new)) }
+    ensures unread { IfErr result (IsUnread H.remaining H.broken H.refuses
+        E.remaining E.broken E.refuses history.old history.new
+        evidence.old evidence.new sink.old sink.new) }
+{
+    let text = match read_text(alloc, history) {
+        Ok(text) => text,
+        Err(fault) => return stop(fault, Unread::First, sink),
+    };
+    let read = history_in(alloc, &text);
+    drop(text);
+    let claims = match read_text(alloc, evidence) {
+        Ok(text) => text,
+        Err(fault) => return stop(fault, Unread::Second, sink),
+    };
+    Ok(put_out(verify_history(alloc, read, &claims, steps), sink))
+}

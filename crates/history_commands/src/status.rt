@@ -1,0 +1,71 @@
+//! How a command ends.
+
+ghost use Rattle.std.specs.Prelude.{◌≡◌, ◌≢◌};
+ghost use Rattle.history_commands.specs.Outputs as spec;
+
+use checker::Refusal;
+use report::Verdict;
+
+/// How a command ends.
+#[derive(Clone, Copy, Debug, PartialEq, Eq)]
+pub enum Status {
+    /// The history is linearizable, or each object has a certificate.
+    Yes,
+    /// The certificates are refused, or the history is not linearizable.
+    No,
+    /// A text other than evidence is malformed, or a client of a schedule has not ended.
+    Malformed,
+    /// Some object stays open, nothing is shown, or the evidence is malformed.
+    Undecided,
+    OutOfMemory,
+    /// A thread could not be started.
+    NoThread,
+    /// The output failed, or a file could not be read.
+    Failed,
+    /// The command line is refused.
+    Usage,
+}
+
+impl Status {
+    /// The exit status.
+    pub fn number(self) -> u8
+        ensures { result ≡ spec.number_of self }
+    {
+        match self {
+            Status::Yes => 0,
+            Status::No => 1,
+            Status::Malformed => 2,
+            Status::Undecided | Status::OutOfMemory | Status::NoThread => 3,
+            Status::Failed => 4,
+            Status::Usage => 64,
+        }
+    }
+}
+
+/// How a command ends with this verdict.
+pub fn status_of(verdict: &Verdict) -> Status
+    ensures is { result ≡ spec.status_of verdict.now }
+    ensures other { result ≢ Status.Failed }
+{
+    match verdict {
+        Verdict::Yes(_) => Status::Yes,
+        Verdict::No(Refusal::NoMemory) | Verdict::NoMemory => Status::OutOfMemory,
+        Verdict::No(_) => Status::No,
+        Verdict::Malformed(_) => Status::Malformed,
+    }
+}
+
+/// How a command on the objects of a history ends: with no, where one is impossible, and with yes,
+/// where each has an order.
+pub(crate) fn status_by(is_one_impossible: bool, are_all_found: bool) -> Status
+    ensures is { result ≡ spec.status_by is_one_impossible are_all_found }
+    ensures other { result ≢ Status.Failed }
+{
+    if is_one_impossible {
+        Status::No
+    } else if are_all_found {
+        Status::Yes
+    } else {
+        Status::Undecided
+    }
+}

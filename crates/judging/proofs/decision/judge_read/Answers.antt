@@ -1,0 +1,20 @@
+use Rattle.std.proofs.Common.{sym, subst}
+use Rattle.judging.specs.Texts.{DenoteOnly}
+use Rattle.judging.specs.Verdicts.{AreBothRead, Holds}
+use Rattle.judging.proofs.Judging.{holds_checked, holds_stopped}
+use Rattle.judging.proofs.decision.judge_read.Goals as goal
+
+pub returns-in-Ok : goal.returns-in-Ok
+returns-in-Ok g c = λ h read.
+    let k = c.args.certificates.now in
+    let both = subst (AreBothRead (λ v. v.items) h k) c.in-Ok.is (c.with_certificates.ensures.read h read) in
+    holds_checked h k c.in-Ok.client_events c.deref.result.now c.check-checked.result c.verdict_on_check.result
+    c.valid_certificates_suffice.ensures
+    (subst (DenoteOnly h k c.in-Ok.client_events) (sym c.deref.ensures.value) both.texts) c.check-checked.ensures
+    c.verdict_on_check.ensures
+
+pub returns-in-Err : goal.returns-in-Err
+returns-in-Err g c = λ h read.
+    let k = c.args.certificates.now in
+    let both = subst (AreBothRead (λ v. v.items) h k) c.in-Err.is (c.with_certificates.ensures.read h read) in
+    subst (Holds h k) (sym c.from.ensures) (holds_stopped h k c.in-Err.stop both.stop both.accepts)

@@ -1,0 +1,45 @@
+-- What a check of two sources does.
+use Rattle.std.specs.Prelude.{ℕ, List, Option, false}
+use Rattle.std.specs.Io.KnownBytes.{Appends}
+use Rattle.edn.specs.Given.{WasRead}
+use Rattle.edn.specs.Sent.{WritesPrefix}
+use Rattle.judging.specs.Texts.{IsLinearizableText, IsNotLinearizableText}
+use Rattle.judging.specs.Verdicts.{Holds}
+use Rattle.report.specs.Lines.{verdict_text}
+use Rattle.report.specs.declared.verdict.Verdict.{Verdict}
+use Rattle.judging.specs.Reads.{read_limit}
+
+-- Both texts were read, and the verdict holds of them. What the sources have left is given as it
+-- was before and after.
+pub record IsVerdictOnRead (history history_left certificates certificates_left : Option (List ℕ))
+    (v : Verdict) : Type 0 where
+  pub first : List ℕ
+  pub second : List ℕ
+  pub first_read : WasRead read_limit history history_left first
+  pub second_read : WasRead read_limit certificates certificates_left second
+  pub holds : Holds first second v
+
+-- The same, and the lines of the verdict were written. What the sink was sent is given as it was
+-- before and after.
+abbrev pub IsJudged : Option (List ℕ) → Option (List ℕ) → Option (List ℕ) → Option (List ℕ)
+    → Option (List ℕ) → Option (List ℕ) → Verdict → Type 0
+IsJudged history history_left certificates certificates_left sent_before sent v =
+    IsVerdictOnRead history history_left certificates certificates_left v
+    × Appends sent_before sent (verdict_text false v)
+
+-- The same, and a beginning of the lines of the verdict was written.
+abbrev pub IsCutOff : Option (List ℕ) → Option (List ℕ) → Option (List ℕ) → Option (List ℕ)
+    → Option (List ℕ) → Option (List ℕ) → Type 0
+IsCutOff history history_left certificates certificates_left sent_before sent =
+    (v : Verdict) × IsVerdictOnRead history history_left certificates certificates_left v
+    × WritesPrefix sent_before sent (verdict_text false v)
+
+-- The text of a history was read, and the history that it denotes is linearizable.
+abbrev pub IsLinearizableRead : Option (List ℕ) → Option (List ℕ) → Type 0
+IsLinearizableRead history history_left =
+    (text : List ℕ) × WasRead read_limit history history_left text × IsLinearizableText text
+
+-- The same, and it is not linearizable.
+abbrev pub IsNotLinearizableRead : Option (List ℕ) → Option (List ℕ) → Type 0
+IsNotLinearizableRead history history_left =
+    (text : List ℕ) × WasRead read_limit history history_left text × IsNotLinearizableText text

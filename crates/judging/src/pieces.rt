@@ -1,0 +1,66 @@
+//! A history's text that is read by several workers, each a piece of it.
+
+ghost use Rattle.std.specs.Prelude.{◌<◌, [], length, map, get_or, IfSome};
+ghost use Rattle.edn_reader.specs.Sound.{IsShort};
+ghost use Rattle.history.specs.Pieces.{IsReadFrom};
+ghost use Rattle.judging.specs.Texts.{DenotesHistory, IsHistoryRead};
+
+use crate::texts::{TextFailure, history_in};
+use edn::MAX_LENGTH;
+use history::{History, Part, join_parts, part_of, pieces_of};
+use std::alloc::Global;
+use std::thread::{Threads, map_indices};
+
+/// The most workers that share a check.
+pub(crate) const MAX_WORKERS: u32 = 16;
+
+/// A text that is shorter is not read in pieces.
+const LEAST_LENGTH: usize = 1_000_000;
+
+/// The history that the text denotes, read in pieces by this many workers. None says nothing of the
+/// text: there is one worker, the text is short or too long, its maps are not in lines of their own,
+/// one of them has a fault, or memory was refused.
+fn history_in_pieces<R: Threads + Sync>(
+    rt: &R,
+    alloc: Global,
+    text: &[u8],
+    workers: u32,
+) -> Option<History>
+    ensures denotes { IfSome result (DenotesHistory text.now) }
+    ensures short { IfSome result (λ _. IsShort text.now) }
+{
+    if workers < 2 || text.len() < LEAST_LENGTH || text.len() > MAX_LENGTH {
+        return None;
+    }
+    let pieces = pieces_of(alloc, text, workers.min(MAX_WORKERS) as usize)?;
+    let pieces = pieces.as_slice();
+    let parts = map_indices(
+        rt,
+        alloc,
+        pieces.len(),
+        &|k: usize| -> Option<Part>
+            requires { k < length pieces.now }
+            ensures { IfSome result (IsReadFrom (get_or (map (λ p. p.now) pieces.entry.now) k [])) }
+        { part_of(alloc, pieces[k]) },
+    );
+    let Ok(parts) = parts else {
+        return None;
+    };
+    join_parts(alloc, parts)
+}
+
+/// As `history_in`, where a long text whose maps are in lines of their own is read by `workers`
+/// threads, at most `MAX_WORKERS`, each a piece of it. With 0 or 1 it starts no thread.
+pub(crate) fn history_by<R: Threads + Sync>(
+    rt: &R,
+    alloc: Global,
+    text: &[u8],
+    workers: u32,
+) -> Result<History, TextFailure>
+    ensures { IsHistoryRead text.now result }
+{
+    match history_in_pieces(rt, alloc, text, workers) {
+        Some(history) => Ok(history),
+        None => history_in(alloc, text),
+    }
+}

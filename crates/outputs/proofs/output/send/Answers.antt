@@ -1,8 +1,0 @@
-use Rattle.outputs.proofs.Leaving.{wrote_all, wrote_front}
-use Rattle.outputs.proofs.output.send.Goals as goal
-
-pub returns-in-Ok : goal.returns-in-Ok
-returns-in-Ok g c = let e = c.in-Ok.ensures.sent.0 in record { leaves = wrote_all c.args.status c.args.lines.now c.requires.other e.0 e.1 }
-
-pub returns-in-Err : goal.returns-in-Err
-returns-in-Err g c = let e = c.in-Err.ensures.sent.1 in record { leaves = wrote_front c.args.status c.args.lines.now e.0 e.1 }

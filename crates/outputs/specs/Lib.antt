@@ -1,3 +1,0 @@
-pub mod Statuses
-pub mod Outputs
-pub mod Checked

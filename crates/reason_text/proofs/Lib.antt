@@ -1,5 +1,0 @@
-pub mod Elements
-pub mod Reading
-pub mod Rising
-pub mod Sending
-pub mod Writing

@@ -1,5 +1,0 @@
-pub mod Denotes
-pub mod Faults
-pub mod Lines
-pub mod Texts
-pub mod Written

@@ -1,0 +1,62 @@
+-- What goes out one after the other: elements, cuts and lines.
+use Rattle.std.proofs.Common.{◌≡◌, ℕ, ◌+◌, ◌<◌, Bool, true, false, List, [], ◌∷◌, ◌++◌, length}
+use Rattle.std.proofs.Common.{take, drop, get_or, Result, Ok, Err, refl, ap, sym, ◌∙◌, subst}
+use Rattle.std.specs.Prelude.{codes, OnOk}
+use Rattle.std.specs.List.{AllByRecursion}
+use Rattle.std.specs.List.Sorted.{IsStrictlySortedBy}
+use Rattle.std.proofs.lemmas.List.{drop_more, take_more}
+use Rattle.edn_reader.specs.Text.{between}
+use Rattle.projection.specs.declared.cutting.Cut.{Cut}
+use Rattle.refutation.specs.declared.reason.Reason.{Reason}
+use Rattle.refutation.specs.Lines.{naturals_text, numbers_text, cut_text, cuts_text, line_of}
+use Rattle.refutation.specs.Lines.{lines_of}
+use Rattle.refutation.specs.Written.{AreNumberKeys}
+
+-- what follows from an `Ok`
+pub on_ok_with : {A E : Type 0} (r : Result A E) (P Q : Type 0) → OnOk r P → (P → Q) → OnOk r Q
+on_ok_with (Ok x) P Q h f = f h
+on_ok_with (Err e) P Q h f = tt
+
+-- ---- numbers
+
+pub no_keys : (ns : List ℕ) → length ns ≡ 0 → ns ≡ []
+no_keys [] e = refl
+no_keys (n ∷ ns) e = absurd cc
+
+pub no_numbers : AreNumberKeys []
+unfolding IsStrictlySortedBy
+no_numbers = record { in_range = tt; rising = tt }
+
+pub some_numbers : (ns : List ℕ) → (length ns ≡ 0 → ⊥)
+    → numbers_text ns ≡ codes ", :numbers [" ++ (naturals_text true ns ++ codes "]")
+some_numbers [] some = absurd (some refl)
+some_numbers (n ∷ ns) some = refl
+
+-- ---- lists
+
+all_with : {X : Type 0} (P : X → Type 0) (xs : List X) (x : X) → AllByRecursion P xs → P x
+    → AllByRecursion P (xs ++ x ∷ [])
+all_with P [] x h p = (p, h)
+all_with P (y ∷ ys) x h p = (h.0, all_with P ys x h.1 p)
+
+pub all_taken_item : {X : Type 0} (P : X → Type 0) (xs : List X) (i : ℕ) (x : X) → i < length xs → x
+    ≡ get_or xs i x
+    → AllByRecursion P (take i xs) → P x → AllByRecursion P (take (i + 1) xs)
+all_taken_item {X} P xs i x lt e h p =
+    subst (AllByRecursion P) (sym (take_more xs i x lt))
+    (all_with P (take i xs) (get_or xs i x) h (subst P e p))
+
+pub cuts_left : (cs : List Cut) (i : ℕ) (c : Cut) (first : Bool) → i < length cs → c ≡ get_or cs i c
+    → cuts_text first (drop i cs) ≡ (between first (codes " ") ++ cut_text c) ++ cuts_text false
+    (drop (i + 1) cs)
+cuts_left cs i c first lt e =
+    let here : drop i cs ≡ c ∷ drop (i + 1) cs = drop_more cs i c lt
+    ∙ ap (λ (y : Cut). y ∷ drop (i + 1) cs) (sym e) in
+    rw here refl
+
+pub lines_left : (rs : List Reason) (i : ℕ) (r : Reason) → i < length rs → r ≡ get_or rs i r
+    → lines_of (drop i rs) ≡ line_of r ++ lines_of (drop (i + 1) rs)
+lines_left rs i r lt e =
+    let here : drop i rs ≡ r ∷ drop (i + 1) rs = drop_more rs i r lt
+    ∙ ap (λ (y : Reason). y ∷ drop (i + 1) rs) (sym e) in
+    rw here refl

@@ -1,0 +1,671 @@
+-- The lines that are written for reasons spell forms that denote them.
+use Rattle.std.proofs.Common.{◌≡◌, ℕ, ◌≤◌, ◌==◌, Bool, true, false, suc, List, [], ◌∷◌, ◌++◌, map}
+use Rattle.std.proofs.Common.{Option, Some, None, lit<, refl, ap, sym, ◌∙◌, subst, append_assoc}
+use Rattle.std.proofs.Common.{arith, get_or}
+use Rattle.std.specs.Prelude.{ℤ, pos, codes, decimal, if◌then◌else◌, option_map, option_and_then}
+use Rattle.std.specs.Fmt.{signed_decimal}
+use Rattle.std.specs.List.{AllByRecursion}
+use Rattle.std.specs.List.Sorted.{IsStrictlySortedBy}
+use Rattle.std.specs.Ordering.{nat_cmp, int_cmp}
+use Rattle.std.specs.BTreeSet.{insert_key}
+use Rattle.std.proofs.lemmas.List.{append-nil}
+use Rattle.std.proofs.lemmas.Bool.{le-leb}
+use Rattle.std.proofs.lemmas.Bool.Decides.{nat_tests}
+use Rattle.std.proofs.lemmas.Cmp.{nat_cmp_total, int_cmp_total}
+use Rattle.edn_reader.specs.Bytes.{is_name}
+use Rattle.edn_reader.specs.Datum.{Datum, integer, keyword, boolean, atom, vector, dictionary}
+use Rattle.edn_reader.specs.Datum.{Entries, no_entries, entry, items_of, Fits, ItemsFit}
+use Rattle.edn_reader.specs.Datum.{EntriesFit, Lacks, max_open}
+use Rattle.edn_reader.specs.Spells.{Spells}
+use Rattle.edn_reader.specs.Text.{between, IsInt64, InProfile, ItemsInProfile, EntriesInProfile}
+use Rattle.edn_reader.specs.Text.{text_of, items_text, entries_text}
+use Rattle.edn_reader.specs.Text as edn
+use Rattle.edn_reader.specs.Laws.{EachSpelled}
+use Rattle.edn_reader.proofs.Joined.{text_spells_it, lines_spell_them}
+use Rattle.edn_fields.specs.Fields.{same_bytes, value_at}
+use Rattle.projection.specs.declared.keeping.Values.{Values}
+use Rattle.projection.specs.declared.keeping.Values.TheVariants.{All, Only}
+use Rattle.projection.specs.declared.cutting.Cut.{Cut}
+use Rattle.projection.specs.declared.cutting.Cut.TheVariants.{From, Until, Without, Keep, Cell}
+use Rattle.projection.specs.declared.cutting.Cut.TheVariants.{Entry}
+use Rattle.projection.specs.declared.counting.Counted.{Counted}
+use Rattle.projection.specs.declared.counting.Counted.TheVariants as counted
+use Rattle.search.specs.declared.trials.TryFirst.{TryFirst}
+use Rattle.search.specs.declared.trials.TryFirst.TheVariants.{LeastNumber, LeastReturn}
+use Rattle.refutation.specs.declared.reason.Evidence.{Evidence}
+use Rattle.refutation.specs.declared.reason.Evidence.TheVariants.{Search, Counting, Ahead}
+use Rattle.refutation.specs.declared.reason.Reason.{Reason}
+use Rattle.refutation.specs.Denotes as spec
+use Rattle.refutation.specs.Denotes.{max_number, integers_with, numbers_with, values_in}
+use Rattle.refutation.specs.Denotes.{numbers_in, cut_in, cuts_with, evidence_in, reason_in}
+use Rattle.refutation.specs.Denotes.{reason_with, CutSeen, seen_values, seen_cut, seen}
+use Rattle.refutation.specs.Lines.{integers_text, naturals_text, values_text, numbers_text}
+use Rattle.refutation.specs.Lines.{cut_text, cuts_text, counted_text}
+use Rattle.refutation.specs.Lines.{evidence_text, search_text, line_of, lines_of, AreInRange}
+use Rattle.refutation.specs.Lines.{SpellsReasons}
+use Rattle.refutation.specs.Written.{AreNumberKeys, AreTypedValues, IsTypedCut}
+use Rattle.refutation.specs.Written.{AreTypedSteps, IsTypedCounted, IsTypedEvidence, IsTypedReason}
+use Rattle.refutation.proofs.Rising.{put_next}
+
+-- ---- the forms that are written
+
+abbrev pub integers_data : List ℤ → List Datum
+integers_data zs = map (λ z. atom (integer z)) zs
+
+abbrev pub numbers_data : List ℕ → List Datum
+numbers_data ns = map (λ n. atom (integer (pos n))) ns
+
+abbrev pub values_datum : Values → Datum
+values_datum All = atom (keyword (codes "all"))
+values_datum (Only s) = vector (items_of (integers_data s.keys))
+
+abbrev pub numbers_entries : List ℕ → Entries
+numbers_entries [] = no_entries
+numbers_entries (n ∷ ns) = entry (codes "numbers") (vector (items_of (numbers_data (n ∷ ns))))
+    no_entries
+
+abbrev pub other_entries : ℤ → List ℕ → Entries
+other_entries other ns = entry (codes "other") (atom (integer other)) (numbers_entries ns)
+
+abbrev pub cut_datum : Cut → Datum
+cut_datum (From n) = dictionary (entry (codes "from") (atom (integer (pos n))) no_entries)
+cut_datum (Until n) = dictionary (entry (codes "until") (atom (integer (pos n))) no_entries)
+cut_datum (Without v n) = dictionary (entry (codes "without") (atom (integer v))
+    (entry (codes "before") (atom (integer (pos n))) no_entries))
+cut_datum (Keep vs ns) = dictionary (entry (codes "keep") (values_datum vs)
+    (numbers_entries ns.keys))
+cut_datum (Cell vs other ns) = dictionary (entry (codes "cell") (values_datum vs)
+    (other_entries other ns.keys))
+cut_datum (Entry key vs other ns) =
+    dictionary (entry (codes "cell") (values_datum vs)
+    (entry (codes "key") (atom (integer key)) (other_entries other ns.keys)))
+
+abbrev pub cuts_data : List Cut → List Datum
+cuts_data cs = map cut_datum cs
+
+abbrev pub from_entries : ℕ → Entries
+from_entries n = entry (codes "from") (atom (integer (pos n))) no_entries
+
+abbrev pub counted_entries : Counted → ℕ → Entries
+counted_entries (counted.Value v) n = entry (codes "value") (atom (integer v)) (from_entries n)
+counted_entries (counted.Entry k v) n = entry (codes "key") (atom (integer k))
+    (entry (codes "value") (atom (integer v)) (from_entries n))
+counted_entries (counted.NoEntry k) n = entry (codes "key") (atom (integer k)) (from_entries n)
+counted_entries counted.Held n = entry (codes "held") (atom (boolean true)) (from_entries n)
+counted_entries counted.Free n = entry (codes "free") (atom (boolean true)) (from_entries n)
+
+-- the entry :from of a count of what was ahead, unless it begins at 0
+abbrev start_entries : Bool → ℕ → Entries
+start_entries at_first n = if at_first then no_entries else from_entries n
+
+abbrev ahead_entries : Bool → ℕ → ℕ → Entries
+ahead_entries at_first number n =
+    entry (codes "ahead") (atom (integer (pos number))) (start_entries at_first n)
+
+abbrev first_word : TryFirst → List ℕ
+first_word LeastNumber = codes "number"
+first_word LeastReturn = codes "return"
+
+abbrev steps_entries : Option ℕ → Entries
+steps_entries None = no_entries
+steps_entries (Some n) = entry (codes "steps") (atom (integer (pos n))) no_entries
+
+abbrev pub search_entries : TryFirst → Option ℕ → Entries
+search_entries LeastNumber None = no_entries
+search_entries first steps = entry (codes "search")
+    (dictionary (entry (codes "first") (atom (keyword (first_word first))) (steps_entries steps)))
+    no_entries
+
+abbrev pub evidence_entries : Evidence → Entries
+evidence_entries (Search trial) = search_entries trial.first trial.steps
+evidence_entries (Counting c) = entry (codes "count")
+    (dictionary (counted_entries c.counted c.from)) no_entries
+evidence_entries (Ahead number from) = entry (codes "count")
+    (dictionary (ahead_entries (from == 0) number from)) no_entries
+
+abbrev pub datum_of : Reason → Datum
+datum_of r = dictionary (entry (codes "object") (atom (integer (pos r.object)))
+    (entry (codes "cuts") (vector (items_of (cuts_data r.cuts.items)))
+    (evidence_entries r.evidence)))
+
+abbrev pub data_of : List Reason → List Datum
+data_of rs = map datum_of rs
+
+-- ---- their texts
+
+integers_are_items : (first : Bool) (zs : List ℤ) → integers_text first zs
+    ≡ items_text first (items_of (integers_data zs))
+integers_are_items first [] = refl
+integers_are_items first (z ∷ zs) = ap (λ t. (between first (codes " ") ++ signed_decimal z) ++ t)
+    (integers_are_items false zs)
+
+naturals_are_items : (first : Bool) (ns : List ℕ) → naturals_text first ns
+    ≡ items_text first (items_of (numbers_data ns))
+naturals_are_items first [] = refl
+naturals_are_items first (n ∷ ns) = ap (λ t. (between first (codes " ") ++ decimal n) ++ t)
+    (naturals_are_items false ns)
+
+values_are_text : (vs : Values) → values_text vs ≡ text_of (values_datum vs)
+values_are_text All = refl
+values_are_text (Only s) = ap (λ t. codes "[" ++ (t ++ codes "]")) (integers_are_items true s.keys)
+
+numbers_are_text : (ns : List ℕ) → numbers_text ns ≡ entries_text false (numbers_entries ns)
+numbers_are_text [] = refl
+numbers_are_text (n ∷ ns) =
+    ap (λ t. codes ", :numbers [" ++ (t ++ codes "]")) (naturals_are_items true (n ∷ ns))
+    ∙ sym (ap (λ t. codes ", :numbers [" ++ t)
+    (append-nil (items_text true (items_of (numbers_data (n ∷ ns))) ++ codes "]")))
+
+cut_is_text : (c : Cut) → cut_text c ≡ text_of (cut_datum c)
+cut_is_text (From n) = ap (λ t. codes "{:from " ++ (t ++ codes "}")) (sym (append-nil (decimal n)))
+cut_is_text (Until n) = ap (λ t. codes "{:until " ++ (t ++ codes "}"))
+    (sym (append-nil (decimal n)))
+cut_is_text (Without v n) =
+    ap (λ t. codes "{:without " ++ ((signed_decimal v ++ (codes ", :before " ++ t)) ++ codes "}"))
+    (sym (append-nil (decimal n)))
+cut_is_text (Keep vs ns) =
+    ap (λ t. codes "{:keep " ++ ((t ++ numbers_text ns.keys) ++ codes "}")) (values_are_text vs)
+    ∙ ap (λ t. codes "{:keep " ++ ((text_of (values_datum vs) ++ t) ++ codes "}"))
+    (numbers_are_text ns.keys)
+cut_is_text (Cell vs other ns) =
+    let pairs = λ (t : List ℕ). codes ", :other " ++ (signed_decimal other ++ t) in
+    ap (λ t. codes "{:cell " ++ ((t ++ pairs (numbers_text ns.keys)) ++ codes "}"))
+    (values_are_text vs)
+    ∙ ap (λ t. codes "{:cell " ++ ((text_of (values_datum vs) ++ pairs t) ++ codes "}"))
+    (numbers_are_text ns.keys)
+cut_is_text (Entry key vs other ns) =
+    let k = signed_decimal key in
+    let z = signed_decimal other in
+    let pairs = λ (t : List ℕ). codes ", :key " ++ (k ++ (codes ", :other " ++ (z ++ t))) in
+    ap (λ t. codes "{:cell " ++ ((t ++ pairs (numbers_text ns.keys)) ++ codes "}"))
+    (values_are_text vs)
+    ∙ ap (λ t. codes "{:cell " ++ ((text_of (values_datum vs) ++ pairs t) ++ codes "}"))
+    (numbers_are_text ns.keys)
+
+cuts_are_items : (first : Bool) (cs : List Cut) → cuts_text first cs
+    ≡ items_text first (items_of (cuts_data cs))
+cuts_are_items first [] = refl
+cuts_are_items first (c ∷ cs) =
+    ap (λ t. (between first (codes " ") ++ t) ++ cuts_text false cs) (cut_is_text c)
+    ∙ ap (λ t. (between first (codes " ") ++ text_of (cut_datum c)) ++ t) (cuts_are_items false cs)
+
+-- the start of a count, and the closing bracket
+closed : (counted start : List ℕ)
+    → counted ++ (codes ", :from " ++ (start ++ codes "}"))
+    ≡ (counted ++ (codes ", :from " ++ (start ++ []))) ++ codes "}"
+closed counted start =
+    ap (λ t. counted ++ (codes ", :from " ++ (t ++ codes "}"))) (sym (append-nil start))
+    ∙ sym (append_assoc counted (codes ", :from " ++ (start ++ [])) (codes "}"))
+
+counted_is_text : (c : Counted) (n : ℕ)
+    → counted_text c ++ (codes ", :from " ++ (decimal n ++ codes "}"))
+    ≡ entries_text true (counted_entries c n) ++ codes "}"
+counted_is_text (counted.Value v) n = closed (codes ":value " ++ signed_decimal v) (decimal n)
+counted_is_text (counted.Entry k v) n =
+    let value = codes ", :value " ++ signed_decimal v in
+    closed ((codes ":key " ++ signed_decimal k) ++ value) (decimal n)
+    ∙ ap (λ t. codes ":key " ++ (t ++ codes "}"))
+    (append_assoc (signed_decimal k) value (codes ", :from " ++ (decimal n ++ [])))
+counted_is_text (counted.NoEntry k) n = closed (codes ":key " ++ signed_decimal k) (decimal n)
+counted_is_text counted.Held n = closed (codes ":held true") (decimal n)
+counted_is_text counted.Free n = closed (codes ":free true") (decimal n)
+
+-- the last number of a map, and its closing bracket
+ended : (d : List ℕ) → d ++ codes "}" ≡ ((d ++ []) ++ codes "}") ++ []
+ended d =
+    ap (λ t. t ++ codes "}") (sym (append-nil d)) ∙ sym (append-nil ((d ++ []) ++ codes "}"))
+
+search_is_text : (first : TryFirst) (steps : Option ℕ)
+    → search_text first steps ≡ entries_text false (search_entries first steps)
+search_is_text LeastNumber None = refl
+search_is_text LeastReturn None = refl
+search_is_text LeastNumber (Some n) =
+    ap (λ t. codes ", :search {:first :number, :steps " ++ t) (ended (decimal n))
+search_is_text LeastReturn (Some n) =
+    ap (λ t. codes ", :search {:first :return, :steps " ++ t) (ended (decimal n))
+
+ahead_is_text : (at_first : Bool) (number n : ℕ)
+    → (codes ", :count {:ahead " ++ decimal number)
+    ++ (if at_first then codes "}" else (codes ", :from " ++ decimal n) ++ codes "}")
+    ≡ entries_text false
+    (entry (codes "count") (dictionary (ahead_entries at_first number n)) no_entries)
+ahead_is_text true number n = ap (λ t. codes ", :count {:ahead " ++ t) (ended (decimal number))
+ahead_is_text false number n =
+    ap (λ t. codes ", :count {:ahead " ++ t) (closed (decimal number) (decimal n)
+    ∙ sym (append-nil
+    ((decimal number ++ (codes ", :from " ++ (decimal n ++ []))) ++ codes "}")))
+
+evidence_is_text : (e : Evidence) → evidence_text e ≡ entries_text false (evidence_entries e)
+evidence_is_text (Search trial) = search_is_text trial.first trial.steps
+evidence_is_text (Counting c) =
+    ap (λ t. codes ", :count {" ++ t) (counted_is_text c.counted c.from)
+    ∙ sym (ap (λ t. codes ", :count {" ++ t) (append-nil
+    (entries_text true (counted_entries c.counted c.from) ++ codes "}")))
+evidence_is_text (Ahead number from) = ahead_is_text (from == 0) number from
+
+line_is_text : (r : Reason) → line_of r ≡ text_of (datum_of r) ++ 10 ∷ []
+line_is_text r =
+    let x = decimal r.object in
+    let pairs = λ (c : List ℕ). λ (e : List ℕ). codes ", :cuts [" ++ ((c ++ codes "]") ++ e) in
+    let cuts = items_text true (items_of (cuts_data r.cuts.items)) in
+    let evidence = entries_text false (evidence_entries r.evidence) in
+    ap (λ t. codes "{:object " ++ ((x ++ pairs t (evidence_text r.evidence)) ++ codes "}\n"))
+    (cuts_are_items true r.cuts.items)
+    ∙ (ap (λ t. codes "{:object " ++ ((x ++ pairs cuts t) ++ codes "}\n"))
+    (evidence_is_text r.evidence)
+    ∙ sym (ap (λ t. codes "{:object " ++ t)
+    (append_assoc (x ++ pairs cuts evidence) (codes "}") (codes "\n"))))
+
+lines_are_texts : (rs : List Reason) → lines_of rs ≡ edn.lines_of (data_of rs)
+lines_are_texts [] = refl
+lines_are_texts (r ∷ rs) = ap (λ t. t ++ lines_of rs) (line_is_text r)
+    ∙ append_assoc (text_of (datum_of r)) (10 ∷ []) (lines_of rs)
+    ∙ ap (λ t. text_of (datum_of r) ++ 10 ∷ t) (lines_are_texts rs)
+
+-- ---- they are well-formed
+
+integers_fit : (n : ℕ) (zs : List ℤ) → ItemsFit n (items_of (integers_data zs))
+integers_fit n [] = tt
+integers_fit n (z ∷ zs) = (tt, integers_fit n zs)
+
+numbers_fit : (n : ℕ) (ns : List ℕ) → ItemsFit n (items_of (numbers_data ns))
+numbers_fit n [] = tt
+numbers_fit n (x ∷ ns) = (tt, numbers_fit n ns)
+
+values_fit : (vs : Values) → Fits 13 (values_datum vs)
+values_fit All = tt
+values_fit (Only s) = (lit< tt, integers_fit 12 s.keys)
+
+lacks_numbers : (k : List ℕ) (ns : List ℕ) → (k ≡ codes "numbers" → ⊥)
+    → Lacks k (numbers_entries ns)
+lacks_numbers k [] other = tt
+lacks_numbers k (n ∷ ns) other = (other, tt)
+
+numbers_entries_fit : (ns : List ℕ) → EntriesFit 13 (numbers_entries ns)
+numbers_entries_fit [] = tt
+numbers_entries_fit (n ∷ ns) = (tt, (lit< tt, numbers_fit 12 (n ∷ ns)), tt)
+
+other_fits : (other : ℤ) (ns : List ℕ) → EntriesFit 13 (other_entries other ns)
+other_fits other ns = (lacks_numbers (codes "other") ns (λ h. cc), tt, numbers_entries_fit ns)
+
+cut_fits : (c : Cut) → Fits 14 (cut_datum c)
+cut_fits (From n) = (lit< tt, (tt, tt, tt))
+cut_fits (Until n) = (lit< tt, (tt, tt, tt))
+cut_fits (Without v n) = (lit< tt, ((λ h. cc, tt), tt, (tt, tt, tt)))
+cut_fits (Keep vs ns) = (
+  lit< tt,
+  (
+    lacks_numbers (codes "keep") ns.keys (λ h. cc),
+    values_fit vs,
+    numbers_entries_fit ns.keys,
+  ),
+)
+cut_fits (Cell vs other ns) = (
+  lit< tt,
+  (
+    (λ h. cc, lacks_numbers (codes "cell") ns.keys (λ h. cc)),
+    values_fit vs,
+    other_fits
+        other ns.keys,
+  ),
+)
+cut_fits (Entry key vs other ns) = (
+  lit< tt,
+  (
+    (λ h. cc, (λ h. cc, lacks_numbers (codes "cell") ns.keys (λ h. cc))),
+    values_fit vs,
+    ((λ h. cc, lacks_numbers (codes "key") ns.keys (λ h. cc)), tt, other_fits other ns.keys),
+  ),
+)
+
+cuts_fit : (cs : List Cut) → ItemsFit 14 (items_of (cuts_data cs))
+cuts_fit [] = tt
+cuts_fit (c ∷ cs) = (cut_fits c, cuts_fit cs)
+
+apart : (k l : List ℕ) → same_bytes k l ≡ false → same_bytes k k ≡ true → k ≡ l → ⊥
+apart k l other own e = let t : true ≡ false = sym own ∙ (ap (same_bytes k) e ∙ other) in cc
+
+counted_fits : (c : Counted) (n : ℕ) → EntriesFit 14 (counted_entries c n)
+counted_fits (counted.Value v) n = ((λ h. cc, tt), tt, (tt, tt, tt))
+counted_fits (counted.Entry k v) n = (
+  (λ h. cc, (λ h. cc, tt)),
+  tt,
+  ((λ h. cc, tt), tt, (tt, tt, tt)),
+)
+counted_fits (counted.NoEntry k) n = ((λ h. cc, tt), tt, (tt, tt, tt))
+counted_fits counted.Held n = (
+  (apart (codes "held") (codes "from") refl refl, tt),
+  tt,
+  (tt, tt, tt),
+)
+counted_fits counted.Free n = (
+  (apart (codes "free") (codes "from") refl refl, tt),
+  tt,
+  (tt, tt, tt),
+)
+
+lacks_search : (k : List ℕ) (first : TryFirst) (steps : Option ℕ) → (k ≡ codes "search" → ⊥)
+    → Lacks k (search_entries first steps)
+lacks_search k LeastNumber None other = tt
+lacks_search k LeastReturn None other = (other, tt)
+lacks_search k LeastNumber (Some n) other = (other, tt)
+lacks_search k LeastReturn (Some n) other = (other, tt)
+
+lacks_evidence : (k : List ℕ) (e : Evidence) → (k ≡ codes "count" → ⊥) → (k ≡ codes "search" → ⊥)
+    → Lacks k (evidence_entries e)
+lacks_evidence k (Search trial) count search = lacks_search k trial.first trial.steps search
+lacks_evidence k (Counting c) count search = (count, tt)
+lacks_evidence k (Ahead number from) count search = (count, tt)
+
+first_is_not_steps : codes "first" ≡ codes "steps" → ⊥
+first_is_not_steps h = let first : 102 ≡ 115 = ap (λ k. get_or k 0 0) h in absurd (omega (arith, first))
+
+search_fits : (first : TryFirst) (steps : Option ℕ) → EntriesFit 15 (search_entries first steps)
+search_fits LeastNumber None = tt
+search_fits LeastReturn None = (tt, (lit< tt, (tt, tt, tt)), tt)
+search_fits LeastNumber (Some n) = (tt, (lit< tt, ((first_is_not_steps, tt), tt, (tt, tt, tt))), tt)
+search_fits LeastReturn (Some n) = (tt, (lit< tt, ((first_is_not_steps, tt), tt, (tt, tt, tt))), tt)
+
+ahead_fits : (at_first : Bool) (number n : ℕ) → EntriesFit 14 (ahead_entries at_first number n)
+ahead_fits true number n = (tt, tt, tt)
+ahead_fits false number n = ((λ h. cc, tt), tt, (tt, tt, tt))
+
+evidence_fits : (e : Evidence) → EntriesFit 15 (evidence_entries e)
+evidence_fits (Search trial) = search_fits trial.first trial.steps
+evidence_fits (Counting c) = (tt, (lit< tt, counted_fits c.counted c.from), tt)
+evidence_fits (Ahead number from) = (tt, (lit< tt, ahead_fits (from == 0) number from), tt)
+
+object_is_not_search : codes "object" ≡ codes "search" → ⊥
+object_is_not_search h = let first : 111 ≡ 115 = ap (λ k. get_or k 0 0) h in absurd (omega (arith, first))
+
+datum_fits : (r : Reason) → Fits max_open (datum_of r)
+datum_fits r = (
+  lit< tt,
+  (
+    (λ h. cc, lacks_evidence (codes "object") r.evidence (λ h. cc) object_is_not_search),
+    tt,
+    (
+      lacks_evidence (codes "cuts") r.evidence (λ h. cc) (λ h. cc),
+      (lit< tt, cuts_fit r.cuts.items),
+      evidence_fits r.evidence,
+    ),
+  ),
+)
+
+-- ---- they can be read back
+
+integers_in_profile : (zs : List ℤ) → AllByRecursion IsInt64 zs
+    → ItemsInProfile (items_of (integers_data zs))
+integers_in_profile [] h = tt
+integers_in_profile (z ∷ zs) h = (h.0, integers_in_profile zs h.1)
+
+numbers_in_profile : (ns : List ℕ) → AllByRecursion (λ n. n ≤ max_number) ns
+    → ItemsInProfile (items_of (numbers_data ns))
+numbers_in_profile [] h = tt
+numbers_in_profile (n ∷ ns) h = let small : n ≤ 4294967295 = h.0 in
+    (omega arith, numbers_in_profile ns h.1)
+
+values_in_profile : (vs : Values) → AreTypedValues vs → InProfile (values_datum vs)
+unfolding is_name
+values_in_profile All h = refl
+values_in_profile (Only s) h = integers_in_profile s.keys h.in_range
+
+numbers_entries_in_profile : (ns : List ℕ) → AreNumberKeys ns
+    → EntriesInProfile (numbers_entries ns)
+unfolding is_name
+numbers_entries_in_profile [] h = tt
+numbers_entries_in_profile (n ∷ ns) h = (refl, numbers_in_profile (n ∷ ns) h.in_range, tt)
+
+number_in_profile : (n : ℕ) → n ≤ max_number → IsInt64 (pos n)
+number_in_profile n h = let small : n ≤ 4294967295 = h in omega arith
+
+cut_in_profile : (c : Cut) → IsTypedCut c → InProfile (cut_datum c)
+unfolding is_name
+cut_in_profile (From n) h = (refl, number_in_profile n h, tt)
+cut_in_profile (Until n) h = (refl, number_in_profile n h, tt)
+cut_in_profile (Without v n) h = (refl, h.0, (refl, number_in_profile n h.1, tt))
+cut_in_profile (Keep vs ns) h = (
+  refl,
+  values_in_profile vs h.0,
+  numbers_entries_in_profile ns.keys
+      h.1,
+)
+cut_in_profile (Cell vs other ns) h = (
+  refl,
+  values_in_profile vs h.0,
+  (refl, h.1, numbers_entries_in_profile ns.keys h.2),
+)
+cut_in_profile (Entry key vs other ns) h = (
+  refl,
+  values_in_profile vs h.0,
+  (
+    refl,
+    h.1,
+    (refl, h.2, numbers_entries_in_profile ns.keys h.3),
+  ),
+)
+
+cuts_in_profile : (cs : List Cut) → AllByRecursion IsTypedCut cs
+    → ItemsInProfile (items_of (cuts_data cs))
+cuts_in_profile [] h = tt
+cuts_in_profile (c ∷ cs) h = (cut_in_profile c h.0, cuts_in_profile cs h.1)
+
+from_in_profile : (n : ℕ) → n ≤ max_number → EntriesInProfile (from_entries n)
+unfolding is_name
+from_in_profile n h = (refl, number_in_profile n h, tt)
+
+counted_in_profile : (c : Counted) (n : ℕ) → IsTypedCounted c → n ≤ max_number
+    → EntriesInProfile (counted_entries c n)
+unfolding is_name
+counted_in_profile (counted.Value v) n t h = (refl, t, from_in_profile n h)
+counted_in_profile (counted.Entry k v) n t h = (refl, t.0, (refl, t.1, from_in_profile n h))
+counted_in_profile (counted.NoEntry k) n t h = (refl, t, from_in_profile n h)
+counted_in_profile counted.Held n t h = (refl, tt, from_in_profile n h)
+counted_in_profile counted.Free n t h = (refl, tt, from_in_profile n h)
+
+search_in_profile : (first : TryFirst) (steps : Option ℕ) → AreTypedSteps steps
+    → EntriesInProfile (search_entries first steps)
+unfolding is_name
+search_in_profile LeastNumber None t = tt
+search_in_profile LeastReturn None t = (refl, (refl, refl, tt), tt)
+search_in_profile LeastNumber (Some n) t =
+    (refl, (refl, refl, (refl, number_in_profile n t, tt)), tt)
+search_in_profile LeastReturn (Some n) t =
+    (refl, (refl, refl, (refl, number_in_profile n t, tt)), tt)
+
+ahead_in_profile : (at_first : Bool) (number n : ℕ) → number ≤ max_number → n ≤ max_number
+    → EntriesInProfile (ahead_entries at_first number n)
+unfolding is_name
+ahead_in_profile true number n h k = (refl, number_in_profile number h, tt)
+ahead_in_profile false number n h k = (refl, number_in_profile number h, from_in_profile n k)
+
+evidence_in_profile : (e : Evidence) → IsTypedEvidence e → EntriesInProfile (evidence_entries e)
+unfolding is_name
+evidence_in_profile (Search trial) t = search_in_profile trial.first trial.steps t
+evidence_in_profile (Counting c) t = (refl, counted_in_profile c.counted c.from t.0 t.1, tt)
+evidence_in_profile (Ahead number from) t =
+    (refl, ahead_in_profile (from == 0) number from t.0 t.1, tt)
+
+datum_in_profile : (r : Reason) → r.object ≤ 65535 → IsTypedReason r → InProfile (datum_of r)
+unfolding is_name
+datum_in_profile r small t = (
+  refl,
+  omega arith,
+  (
+    refl,
+    cuts_in_profile r.cuts.items t.0,
+    evidence_in_profile r.evidence
+        t.1,
+  ),
+)
+
+-- ---- they denote the reasons
+
+number_read : (n : ℕ) → n ≤ max_number → spec.number_in (Some (atom (integer (pos n)))) ≡ Some n
+number_read n h = ap (λ b. if b then Some n else None) (le-leb n max_number h)
+
+integers_read : (xs zs : List ℤ) → IsStrictlySortedBy int_cmp (xs ++ zs)
+    → integers_with xs (items_of (integers_data zs)) ≡ Some (xs ++ zs)
+integers_read xs [] h = ap Some (sym (append-nil xs))
+integers_read xs (z ∷ zs) h =
+    let same : (xs ++ z ∷ []) ++ zs ≡ xs ++ z ∷ zs = append_assoc xs (z ∷ []) zs in
+    ap (λ (keys : List ℤ). integers_with keys (items_of (integers_data zs)))
+    (put_next int_cmp int_cmp_total xs z zs h)
+    ∙ (integers_read (xs ++ z ∷ []) zs (subst (IsStrictlySortedBy int_cmp) (sym same) h)
+    ∙ ap Some same)
+
+numbers_read : (xs ns : List ℕ) → AllByRecursion (λ n. n ≤ max_number) ns
+    → IsStrictlySortedBy nat_cmp (xs ++ ns)
+    → numbers_with xs (items_of (numbers_data ns)) ≡ Some (xs ++ ns)
+numbers_read xs [] small h = ap Some (sym (append-nil xs))
+numbers_read xs (n ∷ ns) small h =
+    let same : (xs ++ n ∷ []) ++ ns ≡ xs ++ n ∷ ns = append_assoc xs (n ∷ []) ns in
+    ap (option_and_then (λ m. numbers_with (insert_key nat_cmp xs m) (items_of (numbers_data ns))))
+    (number_read n small.0)
+    ∙ (ap (λ (keys : List ℕ). numbers_with keys (items_of (numbers_data ns)))
+    (put_next nat_cmp nat_cmp_total xs n ns h)
+    ∙ (numbers_read (xs ++ n ∷ []) ns small.1 (subst (IsStrictlySortedBy nat_cmp) (sym same) h)
+    ∙ ap Some same))
+
+values_read : (vs : Values) → AreTypedValues vs → values_in (Some (values_datum vs))
+    ≡ Some (seen_values vs)
+values_read All t = refl
+values_read (Only s) t = ap (option_map spec.only) (integers_read [] s.keys t.rising)
+
+numbers_at : List ℕ → Option (List ℕ)
+numbers_at ns = numbers_in (value_at (codes "numbers") (numbers_entries ns))
+
+numbers_at_read : (ns : List ℕ) → AreNumberKeys ns → numbers_at ns ≡ Some ns
+unfolding numbers_at
+numbers_at_read [] t = refl
+numbers_at_read (n ∷ ns) t = numbers_read [] (n ∷ ns) t.in_range t.rising
+
+-- a cut with its set of numbers, whether or not it is empty
+keep_read : (d : Datum) (ns : List ℕ)
+    → spec.cut_of (entry (codes "keep") d (numbers_entries ns))
+    ≡ spec.keep_with (values_in (Some d)) (numbers_at ns)
+unfolding numbers_at
+keep_read d [] = refl
+keep_read d (n ∷ ns) = refl
+
+cell_read : (d : Datum) (other : ℤ) (ns : List ℕ)
+    → spec.cut_of (entry (codes "cell") d (other_entries other ns))
+    ≡ spec.cell_with (values_in (Some d)) (Some None) (Some other) (numbers_at ns)
+unfolding numbers_at
+cell_read d other [] = refl
+cell_read d other (n ∷ ns) = refl
+
+entry_read : (d : Datum) (key other : ℤ) (ns : List ℕ)
+    → spec.cut_of (entry (codes "cell") d (entry (codes "key") (atom (integer key)) (other_entries
+    other ns)))
+    ≡ spec.cell_with (values_in (Some d)) (Some (Some key)) (Some other) (numbers_at ns)
+unfolding numbers_at
+entry_read d key other [] = refl
+entry_read d key other (n ∷ ns) = refl
+
+cut_read : (c : Cut) → IsTypedCut c → cut_in (cut_datum c) ≡ Some (seen_cut c)
+cut_read (From n) t = ap (option_map spec.from) (number_read n t)
+cut_read (Until n) t = ap (option_map spec.until) (number_read n t)
+cut_read (Without v n) t = ap (spec.without_with (Some v)) (number_read n t.1)
+cut_read (Keep vs ns) t =
+    keep_read (values_datum vs) ns.keys
+    ∙ (ap (λ v. spec.keep_with v (numbers_at ns.keys)) (values_read vs t.0)
+    ∙ ap (spec.keep_with (Some (seen_values vs))) (numbers_at_read ns.keys t.1))
+cut_read (Cell vs other ns) t =
+    cell_read (values_datum vs) other ns.keys
+    ∙ (ap (λ v. spec.cell_with v (Some None) (Some other) (numbers_at ns.keys)) (values_read vs t.0)
+    ∙ ap (spec.cell_with (Some (seen_values vs)) (Some None) (Some other))
+    (numbers_at_read ns.keys t.2))
+cut_read (Entry key vs other ns) t =
+    entry_read (values_datum vs) key other ns.keys
+    ∙ (ap (λ v. spec.cell_with v (Some (Some key)) (Some other) (numbers_at ns.keys))
+    (values_read vs t.0)
+    ∙ ap (spec.cell_with (Some (seen_values vs)) (Some (Some key)) (Some other))
+    (numbers_at_read ns.keys t.3))
+
+cuts_read : (before : List CutSeen) (cs : List Cut) → AllByRecursion IsTypedCut cs
+    → cuts_with before (items_of (cuts_data cs)) ≡ Some (before ++ map seen_cut cs)
+cuts_read before [] t = ap Some (sym (append-nil before))
+cuts_read before (c ∷ cs) t =
+    ap (option_and_then (λ x. cuts_with (before ++ x ∷ []) (items_of (cuts_data cs))))
+    (cut_read c t.0)
+    ∙ (cuts_read (before ++ seen_cut c ∷ []) cs t.1
+    ∙ ap Some (append_assoc before (seen_cut c ∷ []) (map seen_cut cs)))
+
+counted_read : (c : Counted) (n : ℕ) → n ≤ max_number
+    → spec.evidence_of (counted_entries c n) ≡ Some (Counting (record { counted = c; from = n }))
+counted_read (counted.Value v) n h = ap (spec.count_with (Some (counted.Value v))) (number_read n h)
+counted_read (counted.Entry k v) n h = ap (spec.count_with (Some (counted.Entry k v)))
+    (number_read n h)
+counted_read (counted.NoEntry k) n h = ap (spec.count_with (Some (counted.NoEntry k)))
+    (number_read n h)
+counted_read counted.Held n h = ap (spec.count_with (Some counted.Held)) (number_read n h)
+counted_read counted.Free n h = ap (spec.count_with (Some counted.Free)) (number_read n h)
+
+search_read : (first : TryFirst) (steps : Option ℕ) → AreTypedSteps steps
+    → evidence_in (value_at (codes "count") (search_entries first steps))
+    (value_at (codes "search") (search_entries first steps))
+    ≡ Some (Search (record { first = first; steps = steps }))
+search_read LeastNumber None t = refl
+search_read LeastReturn None t = refl
+search_read LeastNumber (Some n) t =
+    ap (λ v. spec.search_with (Some LeastNumber) (option_map (λ m. Some m) v)) (number_read n t)
+search_read LeastReturn (Some n) t =
+    ap (λ v. spec.search_with (Some LeastReturn) (option_map (λ m. Some m) v)) (number_read n t)
+
+ahead_read : (at_first : Bool) (number n : ℕ) → (n == 0) ≡ at_first → number ≤ max_number
+    → n ≤ max_number → spec.evidence_of (ahead_entries at_first number n) ≡ Some (Ahead number n)
+ahead_read true number n is h k =
+    ap (λ v. spec.ahead_with v (Some 0)) (number_read number h)
+    ∙ ap (λ m. Some (Ahead number m)) (zero_is n is)
+  where
+    zero_is : (n : ℕ) → (n == 0) ≡ true → 0 ≡ n
+    zero_is n e = grind (arith, nat_tests)
+ahead_read false number n is h k =
+    ap (λ v. spec.ahead_with v (spec.number_in (Some (atom (integer (pos n))))))
+    (number_read number h) ∙ ap (spec.ahead_with (Some number)) (number_read n k)
+
+evidence_read : (e : Evidence) → IsTypedEvidence e
+    → evidence_in (value_at (codes "count") (evidence_entries e))
+    (value_at (codes "search") (evidence_entries e)) ≡ Some e
+evidence_read (Search trial) t = search_read trial.first trial.steps t
+evidence_read (Counting c) t = counted_read c.counted c.from t.1
+evidence_read (Ahead number from) t = ahead_read (from == 0) number from refl t.0 t.1
+
+datum_denotes : (r : Reason) → r.object ≤ 65535 → IsTypedReason r → reason_in (datum_of r)
+    ≡ Some (seen r)
+datum_denotes r small t =
+    let cuts = cuts_with [] (items_of (cuts_data r.cuts.items)) in
+    let evidence = evidence_in (value_at (codes "count") (evidence_entries r.evidence))
+    (value_at (codes "search") (evidence_entries r.evidence)) in
+    ap (λ b. reason_with (if b then Some r.object else None) cuts evidence)
+    (le-leb r.object 65535 small)
+    ∙ (ap (λ v. reason_with (Some r.object) v evidence) (cuts_read [] r.cuts.items t.0)
+    ∙ ap (λ v. reason_with (Some r.object) (Some (map seen_cut r.cuts.items)) v)
+    (evidence_read r.evidence t.1))
+
+-- ---- the lines
+
+each_spelled : (rs : List Reason) → AreInRange rs → AllByRecursion IsTypedReason rs
+    → EachSpelled (data_of rs)
+each_spelled [] small t = tt
+each_spelled (r ∷ rs) small t = (
+  text_spells_it (datum_of r) (datum_fits r) (datum_in_profile r (small 0 r (omega arith)) t.0),
+  each_spelled rs (λ k d lt. small (suc k) d (omega arith)) t.1,
+)
+
+each_denoted : (rs : List Reason) → AreInRange rs → AllByRecursion IsTypedReason rs
+    → map reason_in (data_of rs) ≡ map (λ r. Some (seen r)) rs
+each_denoted [] small t = refl
+each_denoted (r ∷ rs) small t =
+    ap (λ v. v ∷ map reason_in (data_of rs)) (datum_denotes r (small 0 r (omega arith)) t.0)
+    ∙ ap (λ vs. Some (seen r) ∷ vs) (each_denoted rs (λ k d lt. small (suc k) d (omega arith)) t.1)
+
+pub lines_spell : (rs : List Reason) → AllByRecursion IsTypedReason rs → AreInRange rs
+    → SpellsReasons rs (lines_of rs)
+lines_spell rs t small = record {
+  forms = data_of rs;
+  spelled = subst (Spells (data_of rs)) (sym (lines_are_texts rs))
+      (lines_spell_them (data_of rs) (each_spelled rs small t));
+  denoted = each_denoted rs small t;
+}

@@ -1,0 +1,15 @@
+use Rattle.std.proofs.Common.{rules}
+use Rattle.std.specs.Prelude.{codes}
+use Rattle.edn.proofs.Fronts.{front_of_first, fails, sends_behind}
+use Rattle.refutation.specs.Lines.{open_cut_text}
+use Rattle.refutation.proofs.cut_writer.write_cut.Goals as goal
+
+pub returns-in_err-write_open_cut-clause-sent : goal.returns-in_err-write_open_cut-clause-sent
+returns-in_err-write_open_cut-clause-sent g c =
+    let h = c.in_err-write_open_cut.ensures.sent in
+    fails _ _ _ _ _ (search rules) (front_of_first _ _ (open_cut_text c.args.cut.now) _ h.1.0) h.1.1
+
+pub returns-clause-sent : goal.returns-clause-sent
+returns-clause-sent g c =
+    sends_behind _ _ _ _ _ (open_cut_text c.args.cut.now) (codes "}")
+    c.in_ok-write_open_cut.ensures.sent.0.0 c.write_bytes.ensures.sent

@@ -1,0 +1,16 @@
+use Rattle.std.proofs.Common.{◌++◌, rules}
+use Rattle.std.specs.Prelude.{codes, decimal}
+use Rattle.edn.proofs.Fronts.{front_of_first, fails, sends_behind}
+use Rattle.refutation.specs.Lines.{first_text}
+use Rattle.refutation.proofs.writer.write_search_in.Goals as goal
+
+pub returns-in_err-write_steps-clause-sent : goal.returns-in_err-write_steps-clause-sent
+returns-in_err-write_steps-clause-sent g c =
+    let h = c.in_err-write_steps.ensures.sent in
+    fails _ _ _ _ _ (search rules) (front_of_first _ _ (first_text c.args.first ++ decimal c.args.steps) _
+    h.1.0) h.1.1
+
+pub returns-clause-sent : goal.returns-clause-sent
+returns-clause-sent g c =
+    sends_behind _ _ _ _ _ (first_text c.args.first ++ decimal c.args.steps) (codes "}")
+    c.in_ok-write_steps.ensures.sent.0.0 c.write_bytes.ensures.sent

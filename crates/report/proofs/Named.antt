@@ -1,0 +1,158 @@
+-- The objects that are counted are those that some invocation names, each once.
+use Rattle.std.proofs.Common.{◌≡◌, ◌≢◌, ℕ, zero, suc, ◌<◌, ◌==◌, Bool, true, false, cond, ◌⊎◌}
+use Rattle.std.proofs.Common.{inl, inr, List, [], ◌∷◌, ◌++◌, length, get_or, map}
+use Rattle.std.proofs.Common.{fold, AllPairs, Contains, refl, ap, sym, ◌∙◌, subst, arith}
+use Rattle.std.specs.Prelude.{nat_eq, ◌||◌, ◌↔◌}
+use Rattle.std.specs.List.{list_any, cons_option}
+use Rattle.std.proofs.lemmas.Bool.{both_ways, or_parts, eqb-true, eq-eqb}
+use Rattle.std.proofs.lemmas.List.Elements.{Contains-append_left, Contains-push, Contains-push_cases}
+use Rattle.std.proofs.lemmas.List.Quantifiers.{all_pairs_push}
+use Rattle.model.specs.declared.AnyOp.{AnyOp}
+use Rattle.events.specs.declared.event.Action.{Action}
+use Rattle.events.specs.declared.event.Action.TheVariants.{Invoke, Ok, Fail, Info}
+use Rattle.events.specs.declared.event.Event.{Event}
+use Rattle.events.specs.Events.{IsNamed}
+use Rattle.report.specs.Counts.{Use, use_by, uses, with_new, same_kind, place_of, objects_in, kinds_in}
+use Rattle.certificate.proofs.Reading.{Contains-cons}
+
+any_none : {X : Type 0} (p : X → Bool) (xs : List X) (k : ℕ) (d : X) → list_any p xs ≡ false → k < length xs
+    → p (get_or xs k d) ≡ false
+any_none p [] k d h lt = absurd (omega arith)
+any_none p (x ∷ xs) zero d h lt = (or_parts (p x) (list_any p xs) h).0
+any_none p (x ∷ xs) (suc k) d h lt = any_none p xs k d (or_parts (p x) (list_any p xs) h).1 (omega arith)
+
+-- ---- each once, by a test that equal elements pass
+
+module _ {X : Type 0} (same : X → X → Bool) (passes : (x y : X) → x ≡ y → same x y ≡ true) where
+  with_new_once : (seen : List X) (x : X) (b : Bool) → list_any (same x) seen ≡ b → AllPairs (λ a c. a ≢ c) seen
+      → AllPairs (λ a c. a ≢ c) (cond b seen (seen ++ x ∷ []))
+  with_new_once seen x true e h = h
+  with_new_once seen x false e h =
+      all_pairs_push (λ (a c : X). a ≢ c) seen x h (λ k d lt equal. both_ways (same x (get_or seen k d))
+      (any_none (same x) seen k d e lt) (passes x (get_or seen k d) (sym equal)))
+
+  seen_once : (seen xs : List X) → AllPairs (λ a c. a ≢ c) seen → AllPairs (λ a c. a ≢ c) (fold (with_new same) seen xs)
+  seen_once seen [] h = h
+  seen_once seen (x ∷ xs) h = seen_once (with_new same seen x) xs (with_new_once seen x (list_any (same x) seen) refl h)
+
+pub objects_once : (us : List Use) → AllPairs (λ a c. a ≢ c) (objects_in us)
+objects_once us = seen_once nat_eq eq-eqb [] (map (λ (u : Use). u.object) us) (λ i j d lt below. absurd (omega arith))
+
+pub kinds_once : (us : List Use) → AllPairs (λ k l. k ≢ l) (kinds_in us)
+kinds_once us = seen_once same_kind (λ k l e. eq-eqb (place_of k) (place_of l) (ap place_of e)) []
+    (map (λ (u : Use). u.kind) us) (λ i j d lt below. absurd (omega arith))
+
+-- ---- those of the list
+
+among : (x : ℕ) (xs : List ℕ) → list_any (nat_eq x) xs ≡ true → Contains xs x
+among x [] h = absurd cc
+among x (y ∷ ys) h = by (x == y) refl h (among x ys)
+  where
+    by : (b : Bool) → (x == y) ≡ b → (b || list_any (nat_eq x) ys) ≡ true
+        → (list_any (nat_eq x) ys ≡ true → Contains ys x) → Contains (y ∷ ys) x
+    by true e k more = (0, omega arith, sym (eqb-true x y e))
+    by false e k more = Contains-cons y ys x (more k)
+
+with_new_has : (seen : List ℕ) (x : ℕ) (b : Bool) → list_any (nat_eq x) seen ≡ b
+    → Contains (cond b seen (seen ++ x ∷ [])) x
+with_new_has seen x true e = among x seen e
+with_new_has seen x false e = Contains-push seen x
+
+with_new_keeps : (seen : List ℕ) (x y : ℕ) (b : Bool) → Contains seen y → Contains (cond b seen (seen ++ x ∷ [])) y
+with_new_keeps seen x y true h = h
+with_new_keeps seen x y false h = Contains-append_left seen (x ∷ []) y h
+
+with_new_from : (seen : List ℕ) (x y : ℕ) (b : Bool) → Contains (cond b seen (seen ++ x ∷ [])) y → Contains seen y
+    ⊎ (x ≡ y)
+with_new_from seen x y true h = inl h
+with_new_from seen x y false h = Contains-push_cases seen x y h
+
+kept : (seen xs : List ℕ) (y : ℕ) → Contains seen y → Contains (fold (with_new nat_eq) seen xs) y
+kept seen [] y h = h
+kept seen (x ∷ xs) y h = kept (with_new nat_eq seen x) xs y (with_new_keeps seen x y (list_any (nat_eq x) seen) h)
+
+seen_from_list : (seen xs : List ℕ) (y k : ℕ) → k < length xs → get_or xs k y ≡ y
+    → Contains (fold (with_new nat_eq) seen xs) y
+seen_from_list seen [] y k lt is = absurd (omega arith)
+seen_from_list seen (x ∷ xs) y zero lt is =
+    subst (Contains (fold (with_new nat_eq) (with_new nat_eq seen x) xs)) is
+    (kept (with_new nat_eq seen x) xs x (with_new_has seen x (list_any (nat_eq x) seen) refl))
+seen_from_list seen (x ∷ xs) y (suc k) lt is = seen_from_list (with_new nat_eq seen x) xs y k (omega arith) is
+
+either_from : (x : ℕ) (seen xs : List ℕ) (y : ℕ) → (Contains seen y ⊎ (x ≡ y)) ⊎ Contains xs y → Contains seen y
+    ⊎ Contains (x ∷ xs) y
+either_from x seen xs y (inl (inl h)) = inl h
+either_from x seen xs y (inl (inr e)) = inr (0, omega arith, e)
+either_from x seen xs y (inr h) = inr (Contains-cons x xs y h)
+
+first_of : {P Q R : Type 0} → P ⊎ Q → (P → R) → R ⊎ Q
+first_of (inl p) f = inl (f p)
+first_of (inr q) f = inr q
+
+seen_to_list : (seen xs : List ℕ) (y : ℕ) → Contains (fold (with_new nat_eq) seen xs) y → Contains seen y
+    ⊎ Contains xs y
+seen_to_list seen [] y h = inl h
+seen_to_list seen (x ∷ xs) y h = either_from x seen xs y
+    (first_of (seen_to_list (with_new nat_eq seen x) xs y h) (with_new_from seen x y (list_any (nat_eq x) seen)))
+
+no_element : {X : Type 0} (y : X) → Contains [] y → ⊥
+no_element y (k, lt, is) = omega arith
+
+from_list : (xs : List ℕ) (y : ℕ) → Contains [] y ⊎ Contains xs y → Contains xs y
+from_list xs y (inl h) = absurd (no_element y h)
+from_list xs y (inr h) = h
+
+-- ---- the objects of the invocations
+
+pub later_named : (e : Event) (es : List Event) (x : ℕ) → IsNamed es x → IsNamed (e ∷ es) x
+later_named e es x n = record {
+  event = n.event;
+  op = n.op;
+  stands = Contains-cons e es n.event n.stands;
+  on_object = n.on_object;
+  invokes = n.invokes;
+}
+
+used_named : (e : Event) (es : List Event) (a : Action) (x k : ℕ) → e.action ≡ a
+    → k < length (map (λ (u : Use). u.object) (cons_option (use_by e.object a) (uses es)))
+    → get_or (map (λ (u : Use). u.object) (cons_option (use_by e.object a) (uses es))) k x ≡ x
+    → ((j : ℕ) → j < length (map (λ (u : Use). u.object) (uses es))
+    → get_or (map (λ (u : Use). u.object) (uses es)) j x ≡ x → IsNamed es x) → IsNamed (e ∷ es) x
+used_named e es (Invoke op) x zero is lt at more = record
+    { event = e; op = op; stands = (0, omega arith, refl); on_object = at; invokes = is }
+used_named e es (Invoke op) x (suc k) is lt at more = later_named e es x (more k (omega arith) at)
+used_named e es (Ok r) x k is lt at more = later_named e es x (more k lt at)
+used_named e es Fail x k is lt at more = later_named e es x (more k lt at)
+used_named e es Info x k is lt at more = later_named e es x (more k lt at)
+
+named_from_uses : (es : List Event) (x k : ℕ) → k < length (map (λ (u : Use). u.object) (uses es))
+    → get_or (map (λ (u : Use). u.object) (uses es)) k x ≡ x → IsNamed es x
+named_from_uses [] x k lt at = absurd (omega arith)
+named_from_uses (e ∷ es) x k lt at = used_named e es e.action x k refl lt at (named_from_uses es x)
+
+use_first : (x : ℕ) (a : Action) (us : List Use) (y : ℕ) → Contains (map (λ (u : Use). u.object) us) y
+    → Contains (map (λ (u : Use). u.object) (cons_option (use_by x a) us)) y
+use_first x (Invoke op) us y h = Contains-cons x (map (λ (u : Use). u.object) us) y h
+use_first x (Ok r) us y h = h
+use_first x Fail us y h = h
+use_first x Info us y h = h
+
+uses_from_named : (es : List Event) (n : Event) (op : AnyOp) (x k : ℕ) → k < length es → get_or es k n ≡ n
+    → n.object ≡ x → n.action ≡ Invoke op → Contains (map (λ (u : Use). u.object) (uses es)) x
+uses_from_named [] n op x k lt at on is = absurd (omega arith)
+uses_from_named (e ∷ es) n op x zero lt at on is =
+    let own : use_by e.object e.action ≡ use_by n.object (Invoke op) = ap
+    (λ (v : Event). use_by v.object v.action) at ∙ ap (use_by n.object) is in
+    let here : Contains (map (λ (u : Use). u.object) (cons_option (use_by n.object (Invoke op)) (uses es))) x =
+    (0, omega arith, on) in
+    subst (λ u. Contains (map (λ (v : Use). v.object) (cons_option u (uses es))) x) (sym own) here
+uses_from_named (e ∷ es) n op x (suc k) lt at on is = use_first e.object e.action (uses es) x
+    (uses_from_named es n op x k (omega arith) at on is)
+
+pub objects_named : (es : List Event) (x : ℕ) → Contains (objects_in (uses es)) x ↔ IsNamed es x
+objects_named es x = (
+  λ h. let c = from_list (map (λ (u : Use). u.object) (uses es)) x
+      (seen_to_list [] (map (λ (u : Use). u.object) (uses es)) x h) in named_from_uses es x c.0 c.1 c.2,
+  λ n. let c = uses_from_named es n.event n.op x n.stands.0 n.stands.1 n.stands.2 n.on_object n.invokes in
+      seen_from_list [] (map (λ (u : Use). u.object) (uses es)) x c.0 c.1 c.2,
+)

@@ -1,0 +1,247 @@
+-- Counting the invocations of a history.
+use Rattle.std.proofs.Common.{◌≡◌, ℕ, suc, ◌==◌, ◌+◌, ◌<◌, ◌&&◌, Bool, true, false, not, cond}
+use Rattle.std.proofs.Common.{List, [], ◌∷◌, ◌++◌, length, take, get_or, map, filter}
+use Rattle.std.proofs.Common.{Option, Some, None, refl, ap, sym, ◌∙◌, subst, arith, length-append}
+use Rattle.std.specs.Prelude.{nat_eq, ◌||◌}
+use Rattle.std.specs.List.{list_any, cons_option}
+use Rattle.std.proofs.lemmas.Bool.{eqb-true, eqb-false, eq-eqb, ne_eqb}
+use Rattle.std.proofs.lemmas.List.{take_more, map-append, append-nil}
+use Rattle.std.proofs.lemmas.List.Elements.{filter-append}
+use Rattle.std.proofs.lemmas.List.Sums.{fold-append}
+use Rattle.model.specs.declared.Kind.{Kind}
+use Rattle.model.specs.Objects.{kind_of}
+use Rattle.model.specs.Orders.{Numbered, ProcessCall, calls_in}
+use Rattle.events.specs.declared.event.Action.{Action}
+use Rattle.events.specs.declared.event.Action.TheVariants.{Invoke, Ok, Fail, Info}
+use Rattle.events.specs.declared.event.Event.{Event}
+use Rattle.events.specs.Events.{denoted, denoted_by, fails, next_event}
+use Rattle.report.specs.Counts.{Use, use_by, uses, with_new, first_seen, same_kind, objects_in}
+use Rattle.report.specs.Counts.{kinds_in, operations_in, operations_of, objects_of, count_of}
+use Rattle.report.specs.Invoked.{invocations, invocation_by, is_of, operation_count, object_numbers, count_in, AreSeen}
+use Rattle.report.specs.declared.counting.Invoked.{Invoked}
+
+-- ---- one element more
+
+pub first_seen-push : {X : Type 0} (same : X → X → Bool) (xs : List X) (y : X) → first_seen same (xs ++ y ∷ [])
+    ≡ with_new same (first_seen same xs) y
+first_seen-push same xs y = fold-append (with_new same) [] xs (y ∷ [])
+
+-- one invocation more, among those of a kind
+pub named_push : (k : Option Kind) (xs : List Invoked) (e : Invoked) → object_numbers k (xs ++ e ∷ [])
+    ≡ cond (is_of k e) (with_new nat_eq (object_numbers k xs) e.object) (object_numbers k xs)
+named_push k xs e = ap (λ is. first_seen nat_eq (map (λ (i : Invoked). i.object) is))
+    (filter-append (is_of k) xs (e ∷ [])) ∙ go (is_of k e)
+  where
+    go : (b : Bool) → first_seen nat_eq (map (λ (i : Invoked). i.object)
+        (filter (is_of k) xs ++ cond b (e ∷ []) [])) ≡ cond b (with_new nat_eq (object_numbers k xs) e.object)
+        (object_numbers k xs)
+    go true = ap (first_seen nat_eq) (map-append (λ (i : Invoked). i.object) (filter (is_of k) xs) (e ∷ []))
+        ∙ first_seen-push nat_eq (map (λ (i : Invoked). i.object) (filter (is_of k) xs)) e.object
+    go false = ap (λ is. first_seen nat_eq (map (λ (i : Invoked). i.object) is)) (append-nil (filter (is_of k) xs))
+
+any_push : (p : ℕ → Bool) (xs : List ℕ) (y : ℕ) → list_any p (xs ++ y ∷ []) ≡ (list_any p xs || p y)
+any_push p [] y = or_false (p y)
+  where
+    or_false : (b : Bool) → (b || false) ≡ b
+    or_false true = refl
+    or_false false = refl
+any_push p (x ∷ xs) y = ap (λ b. p x || b) (any_push p xs y) ∙ or_assoc (p x) (list_any p xs) (p y)
+  where
+    or_assoc : (a b c : Bool) → (a || (b || c)) ≡ ((a || b) || c)
+    or_assoc true b c = refl
+    or_assoc false b c = refl
+
+-- one object more: it is among those that were seen, or new
+with_object : (old new : ℕ → Bool) (n more o : ℕ) (seen : List ℕ) → ((x : ℕ) → new x ≡ cond (o == x) true (old x))
+    → more ≡ cond (old o) 0 1
+    → AreSeen old n seen → AreSeen new (n + more) (with_new nat_eq seen o)
+with_object old new n more o seen among is h = go (list_any (nat_eq o) seen) refl
+  where
+    known : list_any (nat_eq o) seen ≡ true → (x : ℕ) (b : Bool) → (o == x) ≡ b → cond b true (old x)
+        ≡ list_any (nat_eq x) seen
+    known q x true e = sym (subst (λ y. list_any (nat_eq y) seen ≡ true) (eqb-true o x e) q)
+    known q x false e = h.objects x
+
+    fresh : (x : ℕ) (b : Bool) → (o == x) ≡ b → cond b true (old x) ≡ (list_any (nat_eq x) seen || (x == o))
+    fresh x true e = sym (ap (λ b. list_any (nat_eq x) seen || b) (eq-eqb x o (sym (eqb-true o x e)))
+        ∙ or_true (list_any (nat_eq x) seen))
+      where
+        or_true : (b : Bool) → (b || true) ≡ true
+        or_true true = refl
+        or_true false = refl
+    fresh x false e = h.objects x ∙ sym (ap (λ b. list_any (nat_eq x) seen || b)
+        (ne_eqb x o (λ q. eqb-false o x e (sym q))) ∙ or_false (list_any (nat_eq x) seen))
+      where
+        or_false : (b : Bool) → (b || false) ≡ b
+        or_false true = refl
+        or_false false = refl
+
+    go : (b : Bool) → list_any (nat_eq o) seen ≡ b → AreSeen new (n + more) (cond b seen (seen ++ o ∷ []))
+    go true q =
+        let none : more ≡ 0 = is ∙ ap (λ b. cond b 0 1) (h.objects o ∙ q) in
+        let count = h.count in
+        record { objects = λ x. among x ∙ known q x (o == x) refl; count = omega (arith, none, count) }
+    go false q =
+        let one : more ≡ 1 = is ∙ ap (λ b. cond b 0 1) (h.objects o ∙ q) in
+        let count = h.count in
+        let long : length (seen ++ o ∷ []) ≡ length seen + 1 = length-append seen (o ∷ []) in
+        record {
+          objects = λ x. among x ∙ fresh x (o == x) refl
+              ∙ sym (any_push (nat_eq x) seen o);
+          count = omega (arith, one, count, long);
+        }
+
+pub one_of_kind : (k : Option Kind) (xs : List Invoked) (e : Invoked) (old new : ℕ → Bool) (n more : ℕ) → is_of k e
+    ≡ true
+    → ((x : ℕ) → new x ≡ cond (e.object == x) true (old x)) → more ≡ cond (old e.object) 0 1
+    → AreSeen old n (object_numbers k xs) → AreSeen new (n + more) (object_numbers k (xs ++ e ∷ []))
+one_of_kind k xs e old new n more own among is h =
+    subst (AreSeen new (n + more)) (sym
+    (named_push k xs e ∙ ap (λ b. cond b (with_new nat_eq (object_numbers k xs) e.object)
+    (object_numbers k xs)) own)) (with_object old new n more e.object (object_numbers k xs) among is h)
+
+pub one_of_another : (k : Option Kind) (xs : List Invoked) (e : Invoked) (old : ℕ → Bool) (n : ℕ) → is_of k e ≡ false
+    → AreSeen old n (object_numbers k xs) → AreSeen old (n + 0) (object_numbers k (xs ++ e ∷ []))
+one_of_another k xs e old n other h =
+    let same : object_numbers k (xs ++ e ∷ []) ≡ object_numbers k xs = named_push k xs e
+    ∙ ap (λ b. cond b (with_new nat_eq (object_numbers k xs) e.object) (object_numbers k xs)) other in
+    let count : n ≡ length (object_numbers k xs) = h.count in
+    let more : n + 0 ≡ length (object_numbers k xs) = omega (arith, count) in
+    subst (AreSeen old (n + 0)) (sym same) (record { objects = h.objects; count = more })
+
+pub seen_next : (k : Option Kind) (all : List Invoked) (i : ℕ) (d : Invoked) (new : ℕ → Bool) (m : ℕ) → i < length all
+    → AreSeen new m (object_numbers k (take i all ++ get_or all i d ∷ []))
+    → AreSeen new m (object_numbers k (take (i + 1) all))
+seen_next k all i d new m lt h = subst (λ xs. AreSeen new m (object_numbers k xs)) (sym (take_more all i d lt)) h
+
+-- ---- kinds
+
+-- one kind more
+pub kinds_on : (all : List Invoked) (i : ℕ) (d : Invoked) (old new : List Kind) → i < length all → old
+    ≡ first_seen same_kind (map (λ (v : Invoked). v.kind) (take i all))
+    → new ≡ with_new same_kind old (get_or all i d).kind → new
+    ≡ first_seen same_kind (map (λ (v : Invoked). v.kind) (take (i + 1) all))
+kinds_on all i d old new lt h step =
+    let k = (get_or all i d).kind in
+    step ∙ ap (λ ks. with_new same_kind ks k) h
+    ∙ sym (first_seen-push same_kind (map (λ (v : Invoked). v.kind) (take i all)) k)
+    ∙ ap (first_seen same_kind) (sym (ap (map (λ (v : Invoked). v.kind)) (take_more all i d lt)
+    ∙ map-append (λ (v : Invoked). v.kind) (take i all) (get_or all i d ∷ [])))
+
+-- ---- what is counted is what the history has
+
+abbrev pub of_invoked : Invoked → Use
+of_invoked i = record { object = i.object; kind = i.kind }
+
+uses_step : (x : ℕ) (a : Action) (failed : Bool) (us : List Use) (later : List Invoked) → us ≡ map of_invoked later
+    → cons_option (use_by x a) us ≡ map of_invoked (invocation_by x a failed ++ later)
+uses_step x (Invoke op) failed us later h = ap (λ vs. record { object = x; kind = kind_of op } ∷ vs) h
+uses_step x (Ok r) failed us later h = h
+uses_step x Fail failed us later h = h
+uses_step x Info failed us later h = h
+
+pub uses_are : (es : List Event) → uses es ≡ map of_invoked (invocations es)
+uses_are [] = refl
+uses_are (e ∷ es) = uses_step e.object e.action (fails (next_event e.process es)) (uses es) (invocations es)
+    (uses_are es)
+
+map-map : {X Y Z : Type 0} (f : X → Y) (g : Y → Z) (xs : List X) → map g (map f xs) ≡ map (λ x. g (f x)) xs
+map-map f g [] = refl
+map-map f g (x ∷ xs) = ap (λ zs. g (f x) ∷ zs) (map-map f g xs)
+
+one_of_mapped : {X Y : Type 0} (f : X → Y) (x : X) (ys : List Y) (xs : List X) (b : Bool) → ys ≡ map f xs
+    → cond b (f x ∷ ys) ys ≡ map f (cond b (x ∷ xs) xs)
+one_of_mapped f x ys xs true h = ap (λ zs. f x ∷ zs) h
+one_of_mapped f x ys xs false h = h
+
+filter-map : {X Y : Type 0} (f : X → Y) (p : Y → Bool) (xs : List X) → filter p (map f xs)
+    ≡ map f (filter (λ x. p (f x)) xs)
+filter-map f p [] = refl
+filter-map f p (x ∷ xs) = one_of_mapped f x (filter p (map f xs)) (filter (λ y. p (f y)) xs) (p (f x))
+    (filter-map f p xs)
+
+pub filter-everything : {X : Type 0} (xs : List X) → filter (λ x. true) xs ≡ xs
+filter-everything [] = refl
+filter-everything (x ∷ xs) = ap (λ ys. x ∷ ys) (filter-everything xs)
+
+pub kinds_are : (es : List Event) → first_seen same_kind (map (λ (i : Invoked). i.kind) (invocations es))
+    ≡ kinds_in (uses es)
+kinds_are es = ap (first_seen same_kind) (sym (map-map of_invoked (λ (u : Use). u.kind) (invocations es))
+    ∙ ap (map (λ (u : Use). u.kind)) (sym (uses_are es)))
+
+pub objects_are : (es : List Event) → object_numbers None (invocations es) ≡ objects_in (uses es)
+objects_are es =
+    ap (λ xs. first_seen nat_eq (map (λ (i : Invoked). i.object) xs)) (filter-everything (invocations es))
+    ∙ ap (first_seen nat_eq) (sym (map-map of_invoked (λ (u : Use). u.object) (invocations es))
+    ∙ ap (map (λ (u : Use). u.object)) (sym (uses_are es)))
+
+pub objects_of_are : (k : Kind) (es : List Event) → object_numbers (Some k) (invocations es) ≡ objects_of k es
+objects_of_are k es =
+    ap (first_seen nat_eq) (sym (map-map of_invoked (λ (u : Use). u.object) (filter (is_of (Some k)) (invocations es)))
+    ∙ ap (map (λ (u : Use). u.object)) (sym (filter-map of_invoked (λ (u : Use). same_kind k u.kind)
+    (invocations es)) ∙ ap (filter (λ (u : Use). same_kind k u.kind)) (sym (uses_are es))))
+
+-- ---- operations
+
+-- a call of this kind, or any
+abbrev pub is_call_of : Option Kind → ProcessCall → Bool
+is_call_of None c = true
+is_call_of (Some k) c = same_kind k (kind_of c.call.op)
+
+abbrev counted : Option Kind → Invoked → Bool
+counted k i = is_of k i && not i.failed
+
+-- one invocation that did not fail, and its call
+happened : (b : Bool) (i : Invoked) (c : ProcessCall) (is : List Invoked) (cs : List ProcessCall) → length is
+    ≡ length cs → length (cond (b && true) (i ∷ is) is) ≡ length (cond b (c ∷ cs) cs)
+happened true i c is cs h = ap suc h
+happened false i c is cs h = h
+
+-- one that failed
+missed : (b : Bool) (i : Invoked) (is : List Invoked) → cond (b && false) (i ∷ is) is ≡ is
+missed true i is = refl
+missed false i is = refl
+
+count_step : (k : Option Kind) (n p x : ℕ) (a : Action) (failed : Bool) (rest : List Numbered) (later : List Invoked)
+    → length (filter (counted k) later) ≡ length (filter (is_call_of k) (calls_in rest))
+    → length (filter (counted k) (invocation_by x a failed ++ later))
+    ≡ length (filter (is_call_of k) (calls_in (denoted_by n p x a failed ++ rest)))
+count_step None n p x (Invoke op) true rest later h = h
+count_step None n p x (Invoke op) false rest later h = ap suc h
+count_step (Some k) n p x (Invoke op) true rest later h = ap length
+    (missed (same_kind k (kind_of op)) _ (filter (counted (Some k)) later)) ∙ h
+count_step (Some k) n p x (Invoke op) false rest later h = happened (same_kind k (kind_of op)) _ _
+    (filter (counted (Some k)) later) (filter (is_call_of (Some k)) (calls_in rest)) h
+count_step k n p x (Ok r) failed rest later h = h
+count_step k n p x Fail failed rest later h = h
+count_step k n p x Info failed rest later h = h
+
+count_is : (k : Option Kind) (es : List Event) → operation_count k (invocations es)
+    ≡ length (filter (is_call_of k) (calls_in (denoted es)))
+count_is None [] = refl
+count_is (Some k) [] = refl
+count_is k (e ∷ es) = count_step k e.number e.process e.object e.action (fails (next_event e.process es))
+    (denoted es) (invocations es) (count_is k es)
+
+pub operations_are : (es : List Event) → operation_count None (invocations es) ≡ length (operations_in es)
+operations_are es = count_is None es ∙ ap length (filter-everything (calls_in (denoted es)))
+
+pub operations_of_are : (k : Kind) (es : List Event) → operation_count (Some k) (invocations es)
+    ≡ length (operations_of k es)
+operations_of_are k es = count_is (Some k) es
+
+map-same : {X Y : Type 0} (f g : X → Y) (xs : List X) → ((x : X) → f x ≡ g x) → map f xs ≡ map g xs
+map-same f g [] h = refl
+map-same f g (x ∷ xs) h = ap (λ y. y ∷ map f xs) (h x) ∙ ap (λ ys. g x ∷ ys) (map-same f g xs h)
+
+count_is_of : (es : List Event) (k : Kind) → count_in (invocations es) k ≡ count_of es k
+count_is_of es k =
+    let objects : length (object_numbers (Some k) (invocations es))
+    ≡ length (objects_of k es) = ap length (objects_of_are k es) in
+    let operations = operations_of_are k es in
+    cc (objects, operations)
+
+pub counts_are : (es : List Event) → map (count_in (invocations es))
+    (first_seen same_kind (map (λ (i : Invoked). i.kind) (invocations es))) ≡ map (count_of es) (kinds_in (uses es))
+counts_are es = ap (map (count_in (invocations es))) (kinds_are es)
+    ∙ map-same (count_in (invocations es)) (count_of es) (kinds_in (uses es)) (count_is_of es)

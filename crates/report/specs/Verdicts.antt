@@ -1,0 +1,21 @@
+-- The verdict on a check of certificates.
+use Rattle.std.specs.Prelude.{◌≡◌, ◌≢◌, ⊤, List, Result, Ok, Err}
+use Rattle.events.specs.declared.event.Event.{Event}
+use Rattle.checker.specs.declared.refusal.Refusal.{Refusal}
+use Rattle.checker.specs.declared.refusal.Refusal.TheVariants as refusal
+use Rattle.report.specs.Counts.{AreCountsOf}
+use Rattle.report.specs.declared.verdict.Verdict.{Verdict}
+use Rattle.report.specs.declared.verdict.Verdict.TheVariants.{Yes, No, Malformed, NoMemory}
+
+-- Where the certificates of these client events were checked with this result: yes with the counts
+-- of the events, or no with the refusal. `NoMemory` is answered for the refusal of that name, and
+-- where memory for the counts was refused.
+abbrev pub IsVerdictOnCheck : List Event → Result Unit Refusal → Verdict → Type 0
+IsVerdictOnCheck es (Ok u) (Yes s) = AreCountsOf es s
+IsVerdictOnCheck es (Ok u) (No r) = ⊥
+IsVerdictOnCheck es (Ok u) (Malformed f) = ⊥
+IsVerdictOnCheck es (Ok u) NoMemory = ⊤
+IsVerdictOnCheck es (Err e) (Yes s) = ⊥
+IsVerdictOnCheck es (Err e) (No r) = (r ≡ e) × (e ≢ refusal.NoMemory)
+IsVerdictOnCheck es (Err e) (Malformed f) = ⊥
+IsVerdictOnCheck es (Err e) NoMemory = e ≡ refusal.NoMemory

@@ -1,2 +1,0 @@
-pub mod Undoing
-pub use Rattle.model.specs.Objects

@@ -1,0 +1,11 @@
+-- Positions of a search, and how it goes on, by their parts.
+use Rattle.std.proofs.Common.{ℕ, List}
+use Rattle.model.specs.Objects.{Content}
+use Rattle.search.specs.declared.level.Window.{Window}
+use Rattle.search.specs.Searching.{Position, Turn}
+
+abbrev pub position : Content → List ℕ → List ℕ → ℕ → Position
+position content next back high = record { content = content; next = next; back = back; high = high }
+
+abbrev pub turn : ℕ → Window → ℕ → Turn
+turn at window left = record { at = at; window = window; left = left }

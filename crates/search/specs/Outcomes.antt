@@ -1,0 +1,28 @@
+-- What a search answers.
+use Rattle.std.specs.Prelude.{ℕ, ℤ, ⊤, List}
+use Rattle.model.specs.declared.Kind.{Kind}
+use Rattle.model.specs.Orders.{Call, IsValidOrder}
+use Rattle.search.specs.declared.finding.Outcome.{Outcome}
+use Rattle.search.specs.declared.finding.Outcome.TheVariants.{Found, Impossible, OutOfSteps}
+use Rattle.search.specs.declared.finding.Outcome.TheVariants.{TooLarge, NoMemory}
+
+-- the most operations that `find_order` takes on, those that failed apart
+abbrev pub max_operations : ℕ
+max_operations = 4096
+
+-- The most operations that any search takes on, those that failed apart: a place, and the one after
+-- it, are numbers of 32 bits. No history within the limits of its form has as many.
+abbrev pub max_places : ℕ
+max_places = 4294967294
+
+-- where an order was found, this holds of it
+abbrev pub IfFound : Outcome → (List ℤ → Type 0) → Type 0
+IfFound (Found order) P = P order.items
+IfFound Impossible P = ⊤
+IfFound OutOfSteps P = ⊤
+IfFound TooLarge P = ⊤
+IfFound NoMemory P = ⊤
+
+-- no order of the calls is valid
+abbrev pub IsNoneValid : Kind → List Call → Type 0
+IsNoneValid kind calls = (order : List ℤ) → IsValidOrder kind calls order → ⊥

@@ -1,0 +1,61 @@
+-- What objects contain that can go back, and what undoes an operation.
+use Rattle.std.specs.Prelude.{◌≡◌, ℤ, List, [], ◌∷◌, length, take, drop, ◌-◌, Some, None}
+use Rattle.std.specs.List.{remove}
+use Rattle.std.specs.FinMap as map
+use Rattle.model.specs.declared.AnyOp.{AnyOp}
+use Rattle.model.specs.declared.AnyReply.TheVariants.{Value}
+use Rattle.model.specs.Objects.{Content, queue, stack, heap, register, table, mutex, next}
+use Rattle.search.specs.declared.reversible.Reversible.{Reversible}
+use Rattle.search.specs.declared.reversible.Reversible.TheVariants.{Queue, Stack, Heap, Register}
+use Rattle.search.specs.declared.reversible.Reversible.TheVariants.{Map, Mutex}
+use Rattle.search.specs.declared.kept.Kept.{Kept}
+use Rattle.search.specs.declared.kept.Kept.TheVariants as kept
+use Rattle.search.specs.declared.step.Undo.{Undo}
+use Rattle.search.specs.declared.step.Undo.TheVariants.{Nothing, TakeFirst, TakeLast, TakeAt}
+use Rattle.search.specs.declared.step.Undo.TheVariants.{PutFirst, SetRegister, SetKey, SetHeld}
+use Rattle.search.specs.declared.step.Step.{Step}
+
+abbrev pub content_of : Reversible → Content
+content_of (Queue vs) = queue vs.items
+content_of (Stack vs) = stack vs.items
+content_of (Heap vs) = heap vs.items
+content_of (Register v) = register v
+content_of (Map m) = table m
+content_of (Mutex held) = mutex held
+
+abbrev pub content_kept : Kept → Content
+content_kept (kept.Queue vs) = queue vs.items
+content_kept (kept.Stack vs) = stack vs.items
+content_kept (kept.Heap vs) = heap vs.items
+content_kept (kept.Whole object) = content_of object
+
+-- the values after something was undone
+abbrev pub values_undone : Undo → List ℤ → List ℤ
+values_undone Nothing vs = vs
+values_undone TakeFirst vs = drop 1 vs
+values_undone TakeLast vs = take (length vs - 1) vs
+values_undone (TakeAt k) vs = remove vs k
+values_undone (PutFirst v) vs = v ∷ vs
+values_undone u vs = vs
+
+-- the content after something was undone
+abbrev pub undone : Undo → Content → Content
+undone u (queue vs) = queue (values_undone u vs)
+undone u (stack vs) = stack (values_undone u vs)
+undone u (heap vs) = heap (values_undone u vs)
+undone (SetRegister v) (register w) = register v
+undone (SetKey k None) (table m) = table (map.remove m k)
+undone (SetKey k (Some v)) (table m) = table (map.insert m k v)
+undone (SetHeld held) (mutex h) = mutex held
+undone u c = c
+
+-- the step of an operation, from one content to the next, and back by what undoes it
+pub record IsStep (before : Content) (op : AnyOp) (after : Content) (step : Step) : Type 0 where
+  pub does : next before op ≡ Some (after, step.reply)
+  pub back : undone step.undo after ≡ before
+
+-- the step of an operation that takes the first value, where there is one
+abbrev pub IsTaken : List ℤ → List ℤ → Step → Type 0
+IsTaken [] after step = (after ≡ []) × (step ≡ record { reply = Value None; undo = Nothing })
+IsTaken (v ∷ vs) after step =
+    (after ≡ vs) × (step ≡ record { reply = Value (Some v); undo = PutFirst v })

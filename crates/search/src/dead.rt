@@ -1,0 +1,126 @@
+//! The pairs of operations done and content from which no order goes on. They take a bounded amount
+//! of memory: the oldest are forgotten, and what begins with them may then be searched again.
+
+ghost use Rattle.std.specs.Prelude.{◌≡◌, ◌⊎◌, [], IsTrue, IfOk, OnOk};
+ghost use Rattle.search.specs.Undoing.{content_of};
+ghost use Rattle.search.specs.Remembered.{HasPair, IsKept, IsRemembered};
+ghost use Rattle.search.specs.Remembered.{IsRememberedIfSome};
+
+use crate::pairs::{Pair, Pairs};
+use crate::undone::Undone;
+use crate::{Kept, Reversible};
+use events::Invocation;
+use seq_objects::AnyOp;
+use std::alloc::{AllocError, Global};
+use std::collections::BTreeSet;
+
+/// How many bytes the pairs of one generation take at most, except for the last one.
+const MOST_BYTES: usize = 128 << 20;
+
+/// How many bytes a pair takes apart from what it lists.
+const BYTES_OF_A_PAIR: usize = 240;
+
+/// How many bytes a place that is not done takes, as a list may have room for twice as many.
+const BYTES_OF_A_PLACE: usize = 8;
+
+const BYTES_OF_A_SMALL_VALUE: usize = 4;
+
+const BYTES_OF_A_VALUE: usize = 16;
+
+/// How many bytes a key of a map takes with its value, in a tree whose nodes may be half full.
+const BYTES_OF_A_KEY: usize = 64;
+
+/// How many keys a map that does these operations may have.
+fn key_count(alloc: Global, items: &[Invocation]) -> Result<usize, AllocError> {
+    let mut keys = BTreeSet::new(alloc);
+    for item in items {
+        if let AnyOp::Put(key, _) = item.op {
+            keys.insert(key)?;
+        }
+    }
+    Ok(keys.len())
+}
+
+/// How many bytes this content takes at most, where a map has this many keys.
+fn bytes_of_content(content: &Kept, keys: usize) -> usize {
+    match content {
+        Kept::Queue(values) => values.len().saturating_mul(BYTES_OF_A_SMALL_VALUE),
+        Kept::Stack(values) => values.len().saturating_mul(BYTES_OF_A_SMALL_VALUE),
+        Kept::Heap(values) => values.len().saturating_mul(BYTES_OF_A_SMALL_VALUE),
+        Kept::Whole(object) => match object {
+            Reversible::Queue(values) => values.len().saturating_mul(BYTES_OF_A_VALUE),
+            Reversible::Stack(values) => values.len().saturating_mul(BYTES_OF_A_VALUE),
+            Reversible::Heap(values) => values.len().saturating_mul(BYTES_OF_A_VALUE),
+            Reversible::Map(_) => keys.saturating_mul(BYTES_OF_A_KEY),
+            Reversible::Register(_) => 0,
+            Reversible::Mutex(_) => 0,
+        },
+    }
+}
+
+/// The pairs that are remembered. Once the younger ones take as much as they may, they become the
+/// older ones, and those that were the older ones are forgotten.
+#[derive(Drop)]
+pub(crate) struct Dead {
+    pub older: Pairs,
+    pub younger: Pairs,
+    /// How many keys a map may have.
+    pub keys: usize,
+}
+
+impl Dead {
+    /// None, in a search among these operations.
+    pub fn new(alloc: Global, items: &[Invocation]) -> Result<Dead, AllocError>
+        ensures older { IfOk result (λ d. d.older.pairs.items ≡ []) }
+        ensures younger { IfOk result (λ d. d.younger.pairs.items ≡ []) }
+    {
+        Ok(Dead {
+            older: Pairs::new(alloc),
+            younger: Pairs::new(alloc),
+            keys: key_count(alloc, items)?,
+        })
+    }
+
+    /// Whether a pair is remembered.
+    pub fn holds(&self, hash: u64, high: u32, undone: &Undone, object: &Reversible) -> bool
+        ensures { IsTrue result →
+            HasPair self.now.older.pairs.items undone.now.next.items high (content_of object.now)
+            ⊎ HasPair self.now.younger.pairs.items undone.now.next.items high
+            (content_of object.now) }
+    {
+        self.younger.holds(hash, high, undone, object)
+            || self.older.holds(hash, high, undone, object)
+    }
+
+    /// Makes room for a pair that takes this much: forgets the older ones, if it must.
+    fn make_room(&mut self, alloc: Global, bytes: usize)
+        ensures { IsKept self.old self.new }
+    {
+        if self.younger.bytes.saturating_add(bytes) > MOST_BYTES {
+            self.older = std::mem::replace(&mut self.younger, Pairs::new(alloc));
+        }
+    }
+
+    /// Remembers a pair.
+    pub fn remember(&mut self, alloc: Global, pair: Pair) -> Result<(), AllocError>
+        ensures { OnOk result (IsRemembered self.old pair self.new) }
+    {
+        let places = pair.undone.len().saturating_mul(BYTES_OF_A_PLACE);
+        let bytes = BYTES_OF_A_PAIR
+            .saturating_add(places)
+            .saturating_add(bytes_of_content(&pair.content, self.keys));
+        self.make_room(alloc, bytes);
+        self.younger.remember(alloc, pair, bytes)?;
+        Ok(())
+    }
+
+    /// Remembers a pair, if there is one.
+    pub fn remember_if_some(&mut self, alloc: Global, pair: Option<Pair>) -> Result<(), AllocError>
+        ensures { OnOk result (IsRememberedIfSome self.old pair self.new) }
+    {
+        match pair {
+            Some(pair) => self.remember(alloc, pair),
+            None => Ok(()),
+        }
+    }
+}

@@ -1,0 +1,77 @@
+//! Contents that are kept to compare with.
+
+ghost use Rattle.std.specs.Prelude.{◌≡◌, ◌↔◌, IsTrue, IfOk, IfSome};
+ghost use Rattle.search.specs.Undoing.{content_of, content_kept};
+
+use crate::reversible::Reversible;
+use std::alloc::{AllocError, Global};
+use std::collections::VecDeque;
+
+/// What an object contained, with values of four bytes where all are small.
+#[derive(Drop)]
+pub enum Kept {
+    Queue(Vec<i32>),
+    Stack(Vec<i32>),
+    Heap(Vec<i32>),
+    Whole(Reversible),
+}
+
+/// The values, where all are small.
+fn narrowed(alloc: Global, values: &VecDeque<i64>) -> Result<Option<Vec<i32>>, AllocError>
+    ensures { IfOk result (λ o. IfSome o (λ v. v.items ≡ values.now.items)) }
+{
+    let mut narrow = Vec::with_capacity(alloc, values.len())?;
+    for k in 0..values.len() {
+        let Ok(v) = i32::try_from(values[k]) else {
+            return Ok(None);
+        };
+        narrow.push(v)?;
+    }
+    Ok(Some(narrow))
+}
+
+/// Whether these are the values.
+fn are_values(narrow: &[i32], values: &VecDeque<i64>) -> bool
+    ensures { IsTrue result ↔ (narrow.now ≡ values.now.items) }
+{
+    if narrow.len() != values.len() {
+        return false;
+    }
+    for k in 0..narrow.len() {
+        if i64::from(narrow[k]) != values[k] {
+            return false;
+        }
+    }
+    true
+}
+
+impl Kept {
+    /// What the object contains.
+    pub fn of(alloc: Global, object: &Reversible) -> Result<Kept, AllocError>
+        ensures { IfOk result (λ kept. content_kept kept ≡ content_of object.now) }
+    {
+        let narrow = match object {
+            Reversible::Queue(values) => narrowed(alloc, values)?.map(Kept::Queue),
+            Reversible::Stack(values) => narrowed(alloc, values)?.map(Kept::Stack),
+            Reversible::Heap(values) => narrowed(alloc, values)?.map(Kept::Heap),
+            _ => None,
+        };
+        match narrow {
+            Some(kept) => Ok(kept),
+            None => Ok(Kept::Whole(object.try_copy()?)),
+        }
+    }
+
+    /// Whether the object contains this.
+    pub fn is_in(&self, object: &Reversible) -> bool
+        ensures { IsTrue result ↔ (content_kept self.now ≡ content_of object.now) }
+    {
+        match (self, object) {
+            (Kept::Queue(narrow), Reversible::Queue(values)) => are_values(narrow, values),
+            (Kept::Stack(narrow), Reversible::Stack(values)) => are_values(narrow, values),
+            (Kept::Heap(narrow), Reversible::Heap(values)) => are_values(narrow, values),
+            (Kept::Whole(kept), _) => kept.same(object),
+            _ => false,
+        }
+    }
+}

@@ -1,4 +1,0 @@
-pub mod Named
-pub mod Uses
-pub mod KindsCounted
-pub mod Rows

@@ -1,0 +1,96 @@
+-- Forms read one after the other.
+use Rattle.std.proofs.Common.{◌≡◌, ℕ, ◌+◌, ◌<◌, ◌≤◌, List, [], ◌∷◌, ◌++◌, length, take, drop, get_or}
+use Rattle.std.proofs.Common.{map, Some, None, true, false, ap, sym, ◌∙◌, arith}
+use Rattle.std.proofs.lemmas.List.{drop_more, take_more, take-append-drop, length-take-le, length-map, map-append}
+use Rattle.edn_reader.specs.Datum.{Datum}
+use Rattle.edn_reader.specs.View.{view, views}
+use Rattle.edn_reader.specs.declared.form.Form.{Form}
+use Rattle.edn_fields.specs.FirstFaults.{AreFaultless}
+use Rattle.verifying.specs.declared.claim.Claim.{Claim}
+use Rattle.verifying.specs.Denotes.{claim_in, seen, Denotes}
+use Rattle.verifying.specs.Faults.{rank_of, IsFault, IsFirstFault, IsSoundBefore}
+use Rattle.verifying.specs.declared.fault.ClaimFault.{ClaimFault}
+use Rattle.verifying.specs.declared.fault.ClaimFaultKind.{ClaimFaultKind}
+use Rattle.verifying.specs.declared.fault.ClaimFaultKind.TheVariants.{NotACertificate, NotAReason, NoMemory}
+
+-- a form among those that are claims is one
+is_read : (earlier later : List Datum) (d : Datum) (rs : List Claim)
+    → map claim_in (earlier ++ d ∷ later) ≡ map (λ r. Some (seen r)) rs → claim_in d ≡ None → ⊥
+is_read [] later d [] h none = absurd cc
+is_read [] later d (r ∷ rs) h none = let e : claim_in d ≡ Some (seen r) = cc in absurd cc
+is_read (e ∷ es) later d [] h none = absurd cc
+is_read (e ∷ es) later d (r ∷ rs) h none =
+    let more : map claim_in (es ++ d ∷ later) ≡ map (λ r. Some (seen r)) rs = cc in is_read es later d rs more none
+
+pub no_fault : (ds : List Datum) (rs : List Claim) → Denotes ds rs → AreFaultless IsFault ds
+no_fault ds rs h earlier later d NotACertificate split fault =
+    is_read earlier later d rs (ap (map claim_in) (sym split) ∙ h) fault.1
+no_fault ds rs h earlier later d NotAReason split fault =
+    is_read earlier later d rs (ap (map claim_in) (sym split) ∙ h) fault.1
+no_fault ds rs h earlier later d NoMemory split fault = fault
+
+only_fault : (earlier : List Datum) (d : Datum) (kind other : ClaimFaultKind) → IsFault earlier d kind
+    → IsFault earlier d other
+    → rank_of kind ≤ rank_of other
+only_fault earlier d NotACertificate NotACertificate h k = omega arith
+only_fault earlier d NotACertificate NotAReason h k = omega arith
+only_fault earlier d NotACertificate NoMemory h k = omega arith
+only_fault earlier d NotAReason NotACertificate h k = absurd (let e : true ≡ false = sym k.0 ∙ h.0 in cc)
+only_fault earlier d NotAReason NotAReason h k = omega arith
+only_fault earlier d NotAReason NoMemory h k = omega arith
+only_fault earlier d NoMemory other h k = absurd h
+
+split_at : (fs : List Form) (i : ℕ) (f : Form) → i < length fs → f ≡ get_or fs i f
+    → views fs ≡ views (take i fs) ++ view f ∷ views (drop (i + 1) fs)
+split_at fs i f lt is =
+    let at = drop_more fs i f lt ∙ ap (λ (y : Form). y ∷ drop (i + 1) fs) (sym is) in
+    ap views (sym (take-append-drop i fs) ∙ ap (λ (xs : List Form). take i fs ++ xs) at)
+    ∙ map-append view (take i fs) (f ∷ drop (i + 1) fs)
+
+-- what is wrong with a form is wrong with it after any others
+after_any : (earlier : List Datum) (d : Datum) (kind : ClaimFaultKind) → IsFault [] d kind → IsFault earlier d kind
+after_any earlier d NotACertificate h = h
+after_any earlier d NotAReason h = h
+after_any earlier d NoMemory h = h
+
+pub first_fault : (fs : List Form) (i : ℕ) (f : Form) (rs : List Claim) (kind : ClaimFaultKind) → i < length fs
+    → f ≡ get_or fs i f → Denotes (views (take i fs)) rs → IsFault [] (view f) kind
+    → IsFirstFault (views fs) (record { kind = kind; form = i })
+first_fault fs i f rs kind lt is h fault =
+    let stands = after_any (views (take i fs)) (view f) kind fault in
+    record {
+      earlier = views (take i fs);
+      form = view f;
+      later = views (drop (i + 1) fs);
+      split = split_at fs i f lt is;
+      place = length-map (take i fs) view ∙ length-take-le i fs (omega arith);
+      stands = stands;
+      least = no_fault (views (take i fs)) rs h;
+      first = λ k. only_fault (views (take i fs)) (view f) kind k stands;
+    }
+
+pub not_denoted : (ds : List Datum) (e : ClaimFault) → IsFirstFault ds e → (rs : List Claim) → Denotes ds rs → ⊥
+not_denoted ds e f rs h = no_fault ds rs h f.earlier f.later f.form e.kind f.split f.stands
+
+pub sound_before : (fs : List Form) (i : ℕ) (f : Form) (rs : List Claim) → i < length fs → f ≡ get_or fs i f
+    → Denotes (views (take i fs)) rs → IsSoundBefore (views fs) i
+sound_before fs i f rs lt is h = record {
+  earlier = views (take i fs);
+  form = view f;
+  later = views (drop (i + 1) fs);
+  split = split_at fs i f lt is;
+  place_is = length-map (take i fs) view ∙ length-take-le i fs (omega arith);
+  least = no_fault (views (take i fs)) rs h;
+}
+
+pub one_more_read : (fs : List Form) (i : ℕ) (f : Form) (rs : List Claim) (r : Claim) → i < length fs
+    → f ≡ get_or fs i f
+    → Denotes (views (take i fs)) rs → claim_in (view f) ≡ Some (seen r)
+    → Denotes (views (take (i + 1) fs)) (rs ++ r ∷ [])
+one_more_read fs i f rs r lt is h own =
+    let more = ap views (take_more fs i f lt ∙ ap (λ (x : Form). take i fs ++ x ∷ []) (sym is))
+    ∙ map-append view (take i fs) (f ∷ []) in
+    ap (map claim_in) more ∙ map-append claim_in (views (take i fs)) (view f ∷ [])
+    ∙ ap (λ xs. xs ++ claim_in (view f) ∷ []) h
+    ∙ ap (λ v. map (λ b. Some (seen b)) rs ++ v ∷ []) own
+    ∙ sym (map-append (λ b. Some (seen b)) rs (r ∷ []))

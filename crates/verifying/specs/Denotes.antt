@@ -1,0 +1,78 @@
+-- The claims that the forms of a text denote.
+use Rattle.std.specs.Prelude.{◌≡◌, ℕ, Bool, false, ◌&&◌, ◌||◌, not, nat_eq, nat_le, nat_lt}
+use Rattle.std.specs.Prelude.{List, map, codes}
+use Rattle.std.specs.Prelude.{Option, Some, None, option_map, is_some, if◌then◌else◌}
+use Rattle.std.specs.List.{list_all, starts_with}
+use Rattle.edn_reader.specs.Datum.{Datum, atom, string, dictionary}
+use Rattle.edn_fields.specs.Fields.{value_at}
+use Rattle.certificate.specs.Denotes.{Reading, certificate_of, reading_of}
+use Rattle.refutation.specs.Denotes.{ReasonSeen, reason_in}
+use Rattle.refutation.specs.Denotes as reasons
+use Rattle.verifying.specs.declared.claim.Claim.{Claim}
+use Rattle.verifying.specs.declared.claim.Claim.TheVariants as claim
+
+-- ---- what a claim says, apart from how it is in memory
+
+-- an order of an object's operations, or a reason why there is none, maybe with a sentence
+pub data ClaimSeen : Type 0 where
+  order : Reading → ClaimSeen
+  reason : ReasonSeen → Option (List ℕ) → ClaimSeen
+
+abbrev pub seen : Claim → ClaimSeen
+seen (claim.Order c) = order (reading_of c)
+seen (claim.Reason r note) = reason (reasons.seen r) (option_map (λ v. v.items) note)
+
+abbrev pub object_of : Claim → ℕ
+object_of (claim.Order c) = c.object
+object_of (claim.Reason r _) = r.object
+
+-- ---- forms
+
+abbrev pub names_order : Datum → Bool
+names_order (dictionary es) = is_some (value_at (codes "order") es)
+names_order other = false
+
+-- a character of ASCII, and no control character
+abbrev pub is_printed : ℕ → Bool
+is_printed byte = nat_le 32 byte && nat_lt byte 127
+
+-- whether a text begins as the line of a verdict does
+abbrev pub begins_like_a_verdict : List ℕ → Bool
+begins_like_a_verdict s =
+    starts_with nat_eq s (codes "yes:")
+    || starts_with nat_eq s (codes "no:")
+    || starts_with nat_eq s (codes "malformed ")
+    || starts_with nat_eq s (codes "out of memory")
+
+-- whether a text begins as a line of an answer does, after the mark of a comment or without one
+abbrev pub begins_like_a_line : List ℕ → Bool
+begins_like_a_line s =
+    begins_like_a_verdict s
+    || starts_with nat_eq s (codes "object ")
+    || starts_with nat_eq s (codes "event")
+    || starts_with nat_eq s (codes "{")
+    || starts_with nat_eq s (codes " ")
+
+-- a sentence: printed characters that cannot be taken for a line that is proved
+abbrev pub is_sentence : List ℕ → Bool
+is_sentence s = list_all (λ b. is_printed b) s && not (begins_like_a_line s)
+
+-- any other value is no sentence
+abbrev pub note_in : Option Datum → Option (List ℕ)
+note_in (Some (atom (string s))) = if is_sentence s then Some s else None
+note_in other = None
+
+abbrev pub note_of : Datum → Option (List ℕ)
+note_of (dictionary es) = note_in (value_at (codes "note") es)
+note_of other = None
+
+-- The claim that a form is: with an :order a certificate, and without one a reason. Other keys are
+-- ignored.
+abbrev pub claim_in : Datum → Option ClaimSeen
+claim_in d =
+    if names_order d then option_map order (certificate_of d)
+    else option_map (λ r. reason r (note_of d)) (reason_in d)
+
+-- The forms are these claims, one by one and in order.
+abbrev pub Denotes : List Datum → List Claim → Type 0
+Denotes ds cs = map claim_in ds ≡ map (λ c. Some (seen c)) cs

@@ -1,0 +1,34 @@
+-- What can be wrong with the forms of a text of claims, and which fault of it is the first.
+use Rattle.std.specs.Prelude.{◌≡◌, ℕ, List, ◌∷◌, ◌++◌, length, None, true, false}
+use Rattle.edn_reader.specs.Datum.{Datum}
+use Rattle.edn_fields.specs.FirstFaults.{AreFaultless, IsFirstFaultBy}
+use Rattle.verifying.specs.Denotes.{claim_in, names_order}
+use Rattle.verifying.specs.declared.fault.ClaimFaultKind.{ClaimFaultKind}
+use Rattle.verifying.specs.declared.fault.ClaimFaultKind.TheVariants.{NotACertificate, NotAReason}
+use Rattle.verifying.specs.declared.fault.ClaimFaultKind.TheVariants.{NoMemory}
+use Rattle.verifying.specs.declared.fault.ClaimFault.{ClaimFault}
+
+-- no two kinds of fault are of one form; this is an order of them
+abbrev pub rank_of : ClaimFaultKind → ℕ
+rank_of NotACertificate = 1
+rank_of NotAReason = 2
+rank_of NoMemory = 3
+
+-- what is wrong with a form
+abbrev pub IsFault : List Datum → Datum → ClaimFaultKind → Type 0
+IsFault earlier d NotACertificate = (names_order d ≡ true) × (claim_in d ≡ None)
+IsFault earlier d NotAReason = (names_order d ≡ false) × (claim_in d ≡ None)
+IsFault earlier d NoMemory = ⊥
+
+-- the first fault: that of the first form that is no claim
+abbrev pub IsFirstFault : List Datum → ClaimFault → Type 0
+IsFirstFault ds fault = IsFirstFaultBy IsFault rank_of ds fault.form fault.kind
+
+-- nothing is wrong with the forms before this place, and there is one at it
+pub record IsSoundBefore (ds : List Datum) (place : ℕ) : Type 0 where
+  pub earlier : List Datum
+  pub form : Datum
+  pub later : List Datum
+  pub split : ds ≡ earlier ++ form ∷ later
+  pub place_is : length earlier ≡ place
+  pub least : AreFaultless IsFault earlier

@@ -1,3 +1,0 @@
-pub mod Workloads
-pub mod Drawing
-pub use Rattle.model.specs.Objects
