@@ -1,21 +1,44 @@
 #!/bin/sh
-# Runs a command of fcbench. judge, find and draw are commands of the tools, which are ordinary Rust. Every other command is one of the
-# proved verifier. ./install puts this file into bin, and the two programs into libexec/fcbench; FCBENCH and FCBENCH_TOOLS name others.
+# Runs a command of fcbench. judge, find, draw and import are commands of the tools, which are ordinary Rust. Every other command is one of the
+# proved verifier. ./install puts this file into bin, and the two programs into libexec/fcbench, where an installed copy runs them, whatever
+# the environment says. Where they are not there, FCBENCH and FCBENCH_TOOLS name them: ./fcbench sets both.
 own=$(dirname "$(readlink -f "$0")")/../libexec/fcbench
-export FCBENCH="${FCBENCH:-$own/fcbench}"
-tools=${FCBENCH_TOOLS:-$own/fcbench-tools}
+if [ -x "$own/fcbench" ]; then
+  FCBENCH=$own/fcbench FCBENCH_TOOLS=$own/fcbench-tools
+fi
+export FCBENCH
+tools=$FCBENCH_TOOLS
 
 case ${1:-} in
-  judge | find | draw) exec "$tools" "$@" ;;
+  judge | find | draw | import) exec "$tools" "$@" ;;
   help)
     case ${2:-} in
-      judge | find | draw) exec "$tools" "$2" --help ;;
+      judge | find | draw | import) exec "$tools" "$2" --help ;;
     esac ;;
 esac
+all_commands() {
+  "$tools" --help || exit
+  echo
+  "$FCBENCH" --help
+}
+# The command of the tools that an unknown word may stand for. The verifier looks for its own.
+case ${1:-} in
+  ju[dg]*e | jduge | jugd*) near=judge ;;
+  fi[nd]* | fnid) near=find ;;
+  dr[aw]* | darw) near=draw ;;
+  im[pot]* | ipmort) near=import ;;
+  *) near=${1:-} ;;
+esac
+if [ "$near" != "${1:-}" ]; then
+  echo "fcbench: did you mean $near?" >&2
+fi
 case $#-${1:-} in
   1-help | 1--h | 1---help)
-    "$FCBENCH" --help || exit
-    echo
-    exec "$tools" --help ;;
+    all_commands
+    exit ;;
+  0-)
+    echo 'error: a command is missing' >&2
+    all_commands >&2
+    exit 64 ;;
 esac
 exec "$FCBENCH" "$@"

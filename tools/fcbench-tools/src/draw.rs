@@ -1,13 +1,14 @@
 //! The command that draws: the answer of the proved program on a page.
 
+use crate::answer::{Answer, answer_of};
 use crate::command_line::Draw;
-use crate::find::{history_in, read, say_failures, write_evidence};
-use crate::judge::answered;
+use crate::find::{bytes_of, read_with, say_failures, write_evidence};
+use crate::import::names_in;
 use crate::program::{path_for_both, proved, put_out, say, verifier};
 use crate::status::Status;
-use finder::{Decision, History, Options, decide};
-use pages::{Drawn, Fault, Verdict, Which, malformed_page, memory_page, orders_in};
-use std::io::Read;
+use ::import::{Names, told};
+use finder::{Decision, History, Options, decide, read_history};
+use pages::{Asides, Drawn, Fault, Verdict, Which, Words, malformed_page, memory_page, orders_in};
 use std::panic::{AssertUnwindSafe, catch_unwind};
 use std::process::{ChildStdin, Command, Stdio};
 
@@ -27,9 +28,7 @@ fn said_by(mut program: Command, give: impl FnOnce(ChildStdin)) -> Result<Said, 
     if let Some(input) = child.stdin.take() {
         give(input);
     }
-    let mut lines = Vec::new();
-    let read = child.stdout.take().map_or(Ok(0), |mut output| output.read_to_end(&mut lines));
-    let status = answered(read.and_then(|_| child.wait()))?;
+    let Answer { status, lines } = answer_of(&mut child)?;
     let lines = lines.strip_suffix(b"\n").unwrap_or(&lines);
     Ok(Said { status, lines: String::from_utf8_lossy(lines).into_owned() })
 }
@@ -57,7 +56,7 @@ impl<'a> Text<'a> {
     fn read(path: &'a str) -> Result<Text<'a>, Status> {
         let name = path.rsplit('/').next().unwrap_or(path);
         let path = path_for_both(path)?;
-        let bytes = read(&path)?;
+        let bytes = read_with(&path, bytes_of)?;
         Ok(Text { name, path, bytes })
     }
 }
@@ -67,6 +66,7 @@ struct Drawing<'a> {
     command: &'a Draw,
     history: Text<'a>,
     certificates: Option<Text<'a>>,
+    names: Option<Names>,
     read: Option<History>,
     decisions: Vec<Decision>,
 }
@@ -75,8 +75,14 @@ impl<'a> Drawing<'a> {
     fn new(command: &'a Draw) -> Result<Drawing<'a>, Status> {
         let history = Text::read(&command.history)?;
         let certificates = command.certificates.as_deref().map(Text::read).transpose()?;
-        let read = history_in(&history.bytes);
-        Ok(Drawing { command, history, certificates, read, decisions: Vec::new() })
+        let names = command.names.as_deref().map(names_in).transpose()?;
+        let read = read_history(&history.bytes);
+        if let (Some(object), Some(read)) = (command.options.object, &read)
+            && read.objects.iter().all(|it| it.object != object)
+        {
+            say(format_args!("warning: --object {object}: the history has no such object"));
+        }
+        Ok(Drawing { command, history, certificates, names, read, decisions: Vec::new() })
     }
 
     /// Judges the history by what the finder finds, or checks it by the certificates.
@@ -102,6 +108,20 @@ impl<'a> Drawing<'a> {
         Some(malformed_page(text.name, &text.bytes, fault, lines))
     }
 
+    /// The lines of the answer, in names if they are told so.
+    fn told(&self, lines: &str) -> String {
+        self.names.as_ref().map_or_else(|| lines.to_owned(), |names| told(names, lines))
+    }
+
+    /// What is drawn. A table of names numbers maps as the history that was imported.
+    fn options(&self) -> pages::Options {
+        let before = self.names.as_ref().map_or(0, |names| names.before);
+        let of_text = |number: u32| number.saturating_add(before);
+        let options = self.command.options;
+        let (from, to) = (options.from.map(of_text), options.to.map(of_text));
+        pages::Options { from, to, ..options }
+    }
+
     /// The page on what was said. `None`: it does not fit the texts.
     fn page(&self, lines: &str) -> Option<String> {
         let name = self.history.name;
@@ -113,7 +133,11 @@ impl<'a> Drawing<'a> {
         }
         let history = self.read.as_ref()?;
         let certificates = self.certificates.as_ref().map(|text| text.name);
-        let drawn = Drawn { history, name, certificates, lines, options: self.command.options };
+        let asides = Asides::read(&self.history.bytes, history);
+        let words = Words::new(self.names.as_ref(), &asides);
+        let told = self.told(lines);
+        let (lines, options) = (told.trim_end(), self.options());
+        let drawn = Drawn { history, name, certificates, lines, options, words };
         let orders = self.certificates.as_ref().map(|text| orders_in(&text.bytes));
         match (verdict, orders) {
             (Verdict::Yes, None) => Some(drawn.judged_page(&self.decisions, &[])),
@@ -127,7 +151,7 @@ impl<'a> Drawing<'a> {
     }
 }
 
-/// Judges a history, or checks it by certificates, and puts out a page on the answer. The status is
+/// Judges a history, or checks it by certificates, and prints a page on the answer. The status is
 /// that of the answer.
 pub fn draw(command: &Draw) -> Status {
     drawn(command).unwrap_or_else(|status| status)
@@ -136,7 +160,7 @@ pub fn draw(command: &Draw) -> Status {
 fn drawn(command: &Draw) -> Result<Status, Status> {
     let mut drawing = Drawing::new(command)?;
     let Said { status, lines } = drawing.ask()?;
-    if status.0 > Status::OPEN.0 {
+    if !status.is_answer() {
         return Err(status);
     }
     let Some(page) = drawing.page(&lines) else {

@@ -1,30 +1,36 @@
 //! The command that writes evidence.
 
 use crate::command_line::Find;
-use crate::program::say;
+use crate::limit::{Limit, Progress};
+use crate::program::{note, output_failed, say};
 use crate::status::Status;
-use finder::{Decision, Evidence, History, Options, decide, read_history};
+use finder::{
+    Decision, Evidence, Figures, History, LONGEST, Options, decide_each, read_history_from,
+    warnings,
+};
 use std::fs::File;
 use std::io::{self, BufWriter, Read, Write};
+use std::sync::mpsc::{RecvTimeoutError, channel};
+use std::thread::Builder;
+use std::time::Duration;
 
-/// The longest text that is read.
-const LONGEST: u64 = 268_435_456;
+/// How often it is looked whether the limit is over.
+const BETWEEN_LOOKS: Duration = Duration::from_millis(10);
 
-/// The bytes of a file, or why there are none. Of one that is too long it is one byte more than the
-/// longest.
-pub fn read(path: &str) -> Result<Vec<u8>, Status> {
-    let mut text = Vec::new();
-    let bytes = File::open(path).and_then(|file| file.take(LONGEST + 1).read_to_end(&mut text));
-    bytes.map_err(|error| {
+/// The result of reading a file, or why there is none. The file - is standard input.
+pub fn read_with<T>(path: &str, read: impl FnOnce(File) -> io::Result<T>) -> Result<T, Status> {
+    let file = if path == "-" { "/dev/stdin" } else { path };
+    File::open(file).and_then(read).map_err(|error| {
         say(format_args!("cannot read {path}: {error}"));
         Status::UNREADABLE
-    })?;
-    Ok(text)
+    })
 }
 
-/// The history that a text spells, unless the text is too long.
-pub fn history_in(text: &[u8]) -> Option<History> {
-    read_history(text).filter(|_| text.len() as u64 <= LONGEST)
+/// The bytes of a file, to one more than a text may have.
+pub fn bytes_of(file: File) -> io::Result<Vec<u8>> {
+    let mut bytes = Vec::new();
+    file.take(LONGEST + 1).read_to_end(&mut bytes)?;
+    Ok(bytes)
 }
 
 /// Writes a line for each decision.
@@ -34,24 +40,55 @@ pub fn write_evidence(decisions: &[Decision], out: impl Write) -> io::Result<()>
     out.flush()
 }
 
+/// The decisions that are there at the limit, in rising object number. The threads that go on end with
+/// the program.
+fn decisions_by(limit: Limit, history: History, command: &Find) -> Vec<Decision> {
+    let all = history.objects.len();
+    let options = Options { steps: command.steps, workers: command.workers };
+    let (sender, decided) = channel();
+    let work = move || decide_each(&history, options, |decision| drop(sender.send(decision)));
+    if let Err(error) = Builder::new().spawn(work) {
+        say(format_args!("no thread can be started: {error}"));
+    }
+    let mut progress = Progress::new(limit, all, command.shows_progress);
+    let mut decisions = Vec::with_capacity(all);
+    while !limit.is_over() {
+        match decided.recv_timeout(BETWEEN_LOOKS) {
+            Ok(decision) => decisions.push(decision),
+            Err(RecvTimeoutError::Timeout) => {}
+            Err(RecvTimeoutError::Disconnected) => break,
+        }
+        progress.tell_in_time(decisions.len());
+    }
+    decisions.extend(decided.try_iter());
+    progress.tell_at_the_end(decisions.len());
+    decisions.sort_unstable_by_key(|decision| decision.object);
+    decisions
+}
+
 /// Writes evidence for a history to standard output.
 pub fn find(command: &Find) -> Status {
-    let text = match read(&command.history) {
-        Ok(text) => text,
+    let limit = Limit::begin(command.seconds);
+    let history = match read_with(&command.history, |file| read_history_from(file, command.workers))
+    {
+        Ok(history) => history,
         Err(status) => return status,
     };
-    let Some(history) = history_in(&text) else {
+    let Some(history) = history else {
         let path = &command.history;
-        say(format_args!("malformed history: fcbench check {path} /dev/null says where"));
+        say(format_args!("malformed history: fcbench judge {path} says what is wrong"));
         return Status::MALFORMED;
     };
-    let options = Options { steps: command.steps, workers: command.workers };
-    let decisions = decide(&history, options);
-    if let Err(error) = write_evidence(&decisions, io::stdout().lock()) {
-        say(format_args!("the output failed: {error}"));
-        return Status::UNREADABLE;
+    if command.summarizes {
+        note(format_args!("; {}", Figures::of(&history)));
+        warnings(&history).iter().for_each(|it| note(format_args!("; warning: {it}")));
     }
-    status_of(&decisions)
+    let all = history.objects.len();
+    let decisions = decisions_by(limit, history, command);
+    match write_evidence(&decisions, io::stdout().lock()) {
+        Ok(()) => status_of(&decisions, all),
+        Err(error) => output_failed(error),
+    }
 }
 
 /// Says for which objects the search for evidence failed. Whether there are some.
@@ -61,10 +98,12 @@ pub fn say_failures(decisions: &[Decision]) -> bool {
     failures.map(|it| say(format_args!("the finder failed on object {}", it.object))).count() > 0
 }
 
-fn status_of(decisions: &[Decision]) -> Status {
+/// How a search of `all` objects ends, of which these are done.
+fn status_of(decisions: &[Decision], all: usize) -> Status {
+    let is_order = |it: &Decision| matches!(it.evidence, Evidence::Order(_));
     if say_failures(decisions) {
         Status::FAILED
-    } else if decisions.iter().all(|it| matches!(it.evidence, Evidence::Order(_))) {
+    } else if decisions.len() == all && decisions.iter().all(is_order) {
         Status::YES
     } else {
         Status::OPEN
@@ -79,8 +118,15 @@ mod tests {
     fn a_search_that_failed_is_status_70() {
         let found = |evidence| Decision { object: 1, evidence };
         let order = || found(Evidence::Order(Vec::new()));
-        assert_eq!(status_of(&[]), Status::YES);
-        assert_eq!(status_of(&[order()]), Status::YES);
-        assert_eq!(status_of(&[order(), found(Evidence::Open)]), Status::FAILED);
+        assert_eq!(status_of(&[], 0), Status::YES);
+        assert_eq!(status_of(&[order()], 1), Status::YES);
+        assert_eq!(status_of(&[order(), found(Evidence::Open)], 2), Status::FAILED);
+    }
+
+    #[test]
+    fn an_object_that_was_not_reached_is_status_3() {
+        let order = Decision { object: 1, evidence: Evidence::Order(Vec::new()) };
+        assert_eq!(status_of(&[], 1), Status::OPEN);
+        assert_eq!(status_of(&[order], 2), Status::OPEN);
     }
 }

@@ -1,123 +1,193 @@
 //! The command that judges. The finder and the proved program are two processes, joined by a pipe.
-//! The proved program reads the history while the finder works, writes the answer, and gives the
+//! The proved program reads the history while the finder works, and gives the answer and the
 //! status. Whatever becomes of the finder, no more follows from it than from the evidence that came.
 
+use crate::answer::{Answer, answer_of};
 use crate::command_line::{Find, Judge};
-use crate::program::{path_for_both, say, verifier};
+use crate::find::{bytes_of, read_with};
+use crate::finder_process::{Finder, finder};
+use crate::import::names_in;
+use crate::limit::Limit;
+use crate::program::{output_failed, path_for_both, put_out, say, verifier};
+use crate::signals::spare;
 use crate::status::Status;
 use crate::terminal::copy_shortened;
-use std::env;
-use std::io::{self, BufReader, IsTerminal};
-use std::path::PathBuf;
-use std::process::{Child, Command, ExitStatus, Stdio};
-use std::thread;
-use std::time::Duration;
+use ::import::{Names, told};
+use finder::read_history;
+use pages::{Fault, Verdict, fault_lines};
+use std::fmt::Write as _;
+use std::fs::{self, File};
+use std::io::{self, IsTerminal, Read, Write};
+use std::process::{Command, Stdio};
 
-/// How often it is looked whether the finder has ended, when the answer is there.
-const LOOKS: u32 = 100;
-const BETWEEN_LOOKS: Duration = Duration::from_millis(1);
-
-/// The finder of evidence: the program that the environment variable FCBENCH_FINDER names, or else
-/// this one. What it finds is checked, so any program may be named. It is started with the words
-/// `find HISTORY --workers N [--steps N]`, and writes evidence to its standard output. It is waited
-/// for until it closes that.
-fn finder(command: &Find) -> io::Result<Command> {
-    let named = env::var_os("FCBENCH_FINDER").map(PathBuf::from);
-    let mut finder = Command::new(named.map_or_else(env::current_exe, Ok)?);
-    finder.args(["find", &command.history, "--workers", &command.workers.to_string()]);
-    if let Some(steps) = command.steps {
-        finder.args(["--steps", &steps.to_string()]);
-    }
-    // What is wrong with a history, the proved program says.
-    finder.stdin(Stdio::null()).stderr(Stdio::null());
-    Ok(finder)
+/// How the lines of an answer are printed.
+struct Lines<'a> {
+    /// The names in which they are told.
+    names: Option<&'a Names>,
+    /// Whether a part has at most 200 operations, as on a terminal.
+    is_shortened: bool,
 }
 
-/// Whether a finder ended as one that wrote all it found.
-fn has_found(ended: ExitStatus) -> bool {
-    let statuses = [Status::YES, Status::MALFORMED, Status::OPEN, Status::UNREADABLE];
-    Status::of(ended).is_some_and(|status| statuses.contains(&status))
-}
-
-/// The status of the proved program, as it ended. One that a signal ended answers nothing.
-pub fn answered(ended: io::Result<ExitStatus>) -> Result<Status, Status> {
-    match ended.map(|ended| (ended, Status::of(ended))) {
-        Ok((_, Some(status))) => Ok(status),
-        Ok((ended, None)) => {
-            say(format_args!("the proved program did not end by itself: {ended}"));
-            Err(Status::OPEN)
+impl Lines<'_> {
+    /// Writes an answer to standard output.
+    fn write(&self, answer: &[u8]) -> io::Result<()> {
+        let named = self.names.map(|names| told(names, &String::from_utf8_lossy(answer)));
+        let lines = named.as_deref().map_or(answer, str::as_bytes);
+        let mut out = io::stdout().lock();
+        match self.is_shortened {
+            true => copy_shortened(lines, &mut out)?,
+            false => out.write_all(lines)?,
         }
-        Err(error) => {
-            say(format_args!("the proved program was lost: {error}"));
-            Err(Status::OPEN)
-        }
+        out.flush()
     }
 }
 
-/// How a finder ended, where it did so by itself: its output may be closed a moment before it ends.
-fn end_of(finder: &mut Child) -> Option<ExitStatus> {
-    (0..LOOKS).find_map(|look| {
-        if look > 0 {
-            thread::sleep(BETWEEN_LOOKS);
-        }
-        finder.try_wait().ok().flatten()
-    })
+/// The answer to a judgement, if there is one, and what the finder said of the history.
+struct Judged {
+    answer: Result<Answer, Status>,
+    summary: String,
 }
 
-/// Ends a finder that still works when the answer is there, and says so if it failed before that.
-fn end_finder(mut finder: Child) {
-    match end_of(&mut finder) {
-        Some(ended) if has_found(ended) => {}
-        Some(ended) => {
-            say(format_args!("the finder failed, so the evidence is not complete: {ended}"));
-        }
-        None => {
-            let _ = finder.kill();
-            let _ = finder.wait();
-        }
-    }
-}
-
-/// Runs the two programs, the finder's output being the verifier's input. The answer is shortened
-/// if the verifier's output is a pipe.
-fn run(mut verifier: Command, finder: io::Result<Command>) -> Status {
-    let mut verifier = match verifier.stdin(Stdio::piped()).spawn() {
+/// Runs the two programs, the finder's output being the verifier's input. SIGTERM stops the finder
+/// alone, as the limit does: the verifier then judges by what came.
+fn run(mut verifier: Command, finder: io::Result<Command>, limit: Limit) -> Judged {
+    let verifier = spare(&mut verifier).stdin(Stdio::piped()).stdout(Stdio::piped()).spawn();
+    let mut verifier = match verifier {
         Ok(verifier) => verifier,
         Err(error) => {
             say(format_args!("the proved program cannot be started: {error}"));
-            return Status::FAILED;
+            return Judged { answer: Err(Status::FAILED), summary: String::new() };
         }
     };
     let evidence = verifier.stdin.take().map_or_else(Stdio::null, Stdio::from);
     // The command has the pipe, which must be closed here, or the evidence never ends.
-    let finder = finder.and_then(|mut finder| finder.stdout(evidence).spawn());
+    let finder = finder.and_then(|mut finder| Finder::start(finder.stdout(evidence), limit));
     if let Err(error) = &finder {
         say(format_args!("the finder cannot be started, so there is no evidence: {error}"));
     }
-    let copied = verifier
-        .stdout
-        .take()
-        .map_or(Ok(()), |answer| copy_shortened(BufReader::new(answer), io::stdout().lock()));
-    let status = answered(verifier.wait()).unwrap_or_else(|status| status);
-    let status = copied.map_or(Status::UNREADABLE, |()| status);
-    if let Ok(finder) = finder {
-        end_finder(finder);
+    let answer = answer_of(&mut verifier);
+    Judged { answer, summary: finder.map(Finder::end).unwrap_or_default() }
+}
+
+/// Whether a warning is told: that hardly any operations overlap only of a yes, which then says little; and of puts that
+/// tell nothing only where it is no yes, since a right store may get a no by them.
+fn warns(warning: &str, is_yes: bool) -> bool {
+    match is_yes {
+        true => !warning.contains("every :put "),
+        false => !warning.contains(" overlap"),
     }
-    status
+}
+
+/// Tells the summary of a history, if it is asked for, and what is suspicious in it in any case. On a terminal the
+/// summary is told too.
+fn summarize(summary: &str, is_yes: bool, is_printed: bool) -> Result<(), Status> {
+    let lines = || summary.lines().filter_map(|line| line.strip_prefix("; "));
+    if is_printed {
+        return put_out(&lines().map(|line| format!("; {line}\n")).collect::<String>());
+    }
+    let is_shown = io::stderr().is_terminal();
+    let is_told = |line: &&str| match line.starts_with("warning: ") {
+        true => warns(line, is_yes),
+        false => is_shown,
+    };
+    lines().filter(is_told).for_each(|line| say(format_args!("{line}")));
+    Ok(())
+}
+
+/// The longest malformed text of which it is tried whether it can be imported.
+const LONGEST_IMPORTED: usize = 1 << 24;
+
+/// The options by which a text that is malformed can be imported and judged, if it can.
+fn options_of_import(text: &[u8]) -> Option<&'static str> {
+    let text = std::str::from_utf8(text).ok().filter(|text| text.len() <= LONGEST_IMPORTED)?;
+    let is_judged = |is_independent| {
+        let options = ::import::Options { is_independent, ..::import::Options::default() };
+        let made = ::import::import(text, &options);
+        made.is_ok_and(|made| read_history(made.text.as_bytes()).is_some())
+    };
+    [(false, ""), (true, " --independent")].into_iter().find(|it| is_judged(it.0)).map(|it| it.1)
+}
+
+/// A path as a word of a shell.
+fn quoted(path: &str) -> String {
+    let is_plain = |it: char| it.is_alphanumeric() || "/._-+=:,@%".contains(it);
+    match path.chars().all(is_plain) {
+        true => path.to_owned(),
+        false => format!("'{}'", path.replace('\'', "'\\''")),
+    }
+}
+
+/// Reads the beginning of a file or folder. Where that fails, it is said why: the proved program says only that it does. What else a path
+/// may name is not read, since what is read of it may be missing then.
+fn try_to_read(history: &str) -> Result<(), Status> {
+    let is_other = fs::metadata(history).is_ok_and(|it| !it.is_file() && !it.is_dir());
+    if is_other {
+        return Ok(());
+    }
+    read_with(history, |mut file| file.read(&mut [0])).map(drop)
+}
+
+/// Says what to do where the steps of a search did not suffice.
+fn advise(lines: &[u8]) {
+    let is_out_of_steps = |line: &[u8]| {
+        line.starts_with(b"; object ")
+            && String::from_utf8_lossy(line).contains(": out of steps after ")
+    };
+    if lines.split(|it| *it == b'\n').any(is_out_of_steps) {
+        say(format_args!(
+            "out of steps: --steps N lets the search take longer; docs/tutorial.md says what else helps, at \"If the status is 3\""
+        ));
+    }
+}
+
+/// What is wrong with a malformed history: the event, the key, the value, and what is expected; and
+/// whether it can be imported.
+fn explanation(history: &str, fault: Fault) -> Option<String> {
+    if fault.is_of_length() {
+        return fault_lines(&[], fault);
+    }
+    let text = File::open(history).and_then(bytes_of).ok()?;
+    let mut lines = fault_lines(&text, fault)?;
+    if let Some(options) = options_of_import(&text) {
+        let history = quoted(history);
+        let _ = writeln!(
+            lines,
+            "; it can be imported: fcbench import --names names.edn{options} {history} > judged.edn && \
+             fcbench judge --names names.edn judged.edn"
+        );
+    }
+    Some(lines)
+}
+
+/// Explains a malformed history, of which these are the lines of the proved program.
+fn explain(history: &str, lines: &[u8]) -> Result<(), Status> {
+    let first = String::from_utf8_lossy(lines.split(|it| *it == b'\n').next().unwrap_or_default());
+    let Some(Verdict::Malformed(fault)) = Verdict::read(&first) else {
+        return Ok(());
+    };
+    explanation(history, fault).map_or(Ok(()), |lines| put_out(&lines))
+}
+
+/// The judgement, with the status of the proved program, or that of what went wrong.
+fn judged(command: &Judge) -> Result<Status, Status> {
+    let limit = Limit::begin(command.find.seconds);
+    let history = path_for_both(&command.find.history)?;
+    try_to_read(&history)?;
+    let names = command.names.as_deref().map(names_in).transpose()?;
+    let find = Find { history, ..command.find.clone() };
+    let Judged { answer, summary } = run(verifier(&find.history, find.steps), finder(&find), limit);
+    let Answer { status, lines } = answer?;
+    let is_shortened = io::stdout().is_terminal() && !command.shows_all;
+    Lines { names: names.as_ref(), is_shortened }.write(&lines).map_err(output_failed)?;
+    summarize(&summary, status == Status::YES, find.summarizes)?;
+    advise(&lines);
+    explain(&find.history, &lines)?;
+    Ok(status)
 }
 
 /// Judges a history: looks for evidence, and answers what the proved program makes of it.
 pub fn judge(command: &Judge) -> Status {
-    let history = match path_for_both(&command.find.history) {
-        Ok(history) => history,
-        Err(status) => return status,
-    };
-    let find = Find { history, ..command.find.clone() };
-    let mut verifier = verifier(&find.history, find.steps);
-    if io::stdout().is_terminal() && !command.shows_all {
-        verifier.stdout(Stdio::piped());
-    }
-    run(verifier, finder(&find))
+    judged(command).unwrap_or_else(|status| status)
 }
 
 #[cfg(test)]
@@ -135,8 +205,22 @@ mod tests {
         shell("test \"$(head -c 100)\" = '{:object 0, :order [1 0 4]}' || exit 3")
     }
 
+    fn run_of(verifier: Command, finder: io::Result<Command>, seconds: Option<u64>) -> Status {
+        let answer = run(verifier, finder, Limit::begin(seconds)).answer;
+        answer.map_or_else(|status| status, |answer| answer.status)
+    }
+
     fn judged(finder: &str) -> u8 {
-        run(verifier(), Ok(shell(finder))).0
+        run_of(verifier(), Ok(shell(finder)), None).0
+    }
+
+    #[test]
+    fn a_path_is_one_word_of_a_shell() {
+        for (path, word) in
+            [("a/b-1.edn", "a/b-1.edn"), ("a b.edn", "'a b.edn'"), ("it's", "'it'\\''s'")]
+        {
+            assert_eq!(quoted(path), word);
+        }
     }
 
     #[test]
@@ -167,28 +251,55 @@ mod tests {
     #[test]
     fn a_finder_that_never_ends_is_ended() {
         let verifier = shell("head -n 1 > /dev/null; exit 3");
-        assert_eq!(run(verifier, Ok(shell("echo 1; exec sleep 1000"))), Status::OPEN);
+        let finder = Ok(shell("echo 1; exec sleep 1000"));
+        assert_eq!(run_of(verifier, finder, None), Status::OPEN);
+    }
+
+    #[test]
+    fn a_finder_is_stopped_at_the_limit() {
+        let order = "echo '{:object 0, :order [1 0 4]}'";
+        let finder = |script: String| Ok(shell(&script));
+        let endless = format!("{order}; exec sleep 1000");
+        assert_eq!(run_of(verifier(), finder(endless), Some(1)), Status::YES);
+        let late = format!("trap \"{order}; exit 3\" TERM; while :; do sleep 0.1; done");
+        assert_eq!(run_of(verifier(), finder(late), Some(1)), Status::YES);
+        let deaf = format!("{order}; trap '' TERM; while :; do sleep 0.1; done");
+        assert_eq!(run_of(verifier(), finder(deaf), Some(1)), Status::YES);
     }
 
     #[test]
     fn a_finder_that_cannot_be_started_gives_no_evidence() {
-        assert_eq!(run(verifier(), Ok(Command::new("/not/there"))), Status::OPEN);
-        assert_eq!(run(verifier(), Err(io::Error::other("lost"))), Status::OPEN);
+        for finder in [Ok(Command::new("/not/there")), Err(io::Error::other("lost"))] {
+            assert_eq!(run_of(verifier(), finder, None), Status::OPEN);
+        }
     }
 
     #[test]
     fn a_verifier_that_is_killed_answers_nothing() {
         let finder = || Ok(shell("echo '{:object 0, :order [1 0 4]}'"));
-        assert_eq!(run(shell("cat > /dev/null; kill -9 $$"), finder()), Status::OPEN);
-        assert_eq!(run(shell("kill -9 $$"), finder()), Status::OPEN);
-        assert_eq!(run(Command::new("/not/there"), finder()), Status::FAILED);
+        for verifier in ["cat > /dev/null; kill -9 $$", "kill -9 $$"] {
+            assert_eq!(run_of(shell(verifier), finder(), None), Status::OPEN);
+        }
+        let missing = Command::new("/not/there");
+        assert_eq!(run_of(missing, finder(), None), Status::FAILED);
     }
 
     #[test]
-    fn the_status_is_that_of_the_verifier() {
+    fn the_status_is_that_of_the_verifier_and_lines_are_those_of_an_answer() {
         for status in [0, 1, 2, 3, 4, 64] {
-            let verifier = shell(&format!("exit {status}"));
-            assert_eq!(run(verifier, Ok(shell("cat /dev/zero"))), Status(status));
+            let verifier = shell(&format!("echo yes; exit {status}"));
+            let judged = run(verifier, Ok(shell("cat /dev/zero")), Limit::begin(None));
+            let answer = judged.answer.unwrap_or_else(|status| panic!("{status:?}"));
+            assert_eq!(answer.status, Status(status));
+            let lines = if status < 4 { &b"yes\n"[..] } else { b"" };
+            assert_eq!(answer.lines, lines, "{status}");
         }
+    }
+
+    #[test]
+    fn a_verifier_that_is_killed_after_its_lines_has_no_answer() {
+        let verifier = shell("echo yes: 3 operations, 1 objects; kill -9 $$");
+        let judged = run(verifier, Ok(shell("")), Limit::begin(None));
+        assert_eq!(judged.answer.err(), Some(Status::OPEN));
     }
 }

@@ -6,17 +6,23 @@
 //!   environment variable FCBENCH_FINDER can name another finder.
 //! - `draw HISTORY` puts the answer on a page of HTML; `draw HISTORY CERTIFICATES` that of
 //!   `fcbench check`.
+//! - `import HISTORY` makes a text that these commands read of a history that another tool wrote.
 
+mod answer;
 mod command_line;
 mod draw;
 mod find;
+mod finder_process;
+mod import;
 mod judge;
+mod limit;
 mod program;
+mod signals;
 mod status;
 mod terminal;
 
 use command_line::Command;
-use program::{put_out, say};
+use program::{note, put_out, say};
 use status::Status;
 use std::env;
 use std::ffi::OsString;
@@ -32,9 +38,10 @@ fn main() -> ExitCode {
         Ok(Command::Find(command)) => find::find(&command),
         Ok(Command::Judge(command)) => judge::judge(&command),
         Ok(Command::Draw(command)) => draw::draw(&command),
-        Ok(Command::Help(text)) => put_out(text).map_or_else(|status| status, |()| Status::YES),
-        Err(help) => {
-            eprint!("{help}");
+        Ok(Command::Import(command)) => import::import(&command),
+        Ok(Command::Help(text)) => put_out(&text).map_or_else(|status| status, |()| Status::YES),
+        Err(refused) => {
+            note(format_args!("{refused}"));
             Status::USAGE
         }
     };

@@ -36,11 +36,11 @@ pub fn verifier(history: &str, steps: Option<u64>) -> Command {
 }
 
 /// The path by which both programs can read a history: that of its file, where it is named by a
-/// number of an open file, as /dev/stdin is. A pipe is refused, since only one could read it.
+/// number of an open file, as /dev/stdin is. A pipe, and - for standard input, are refused, since only one could read it.
 pub fn path_for_both(history: &str) -> Result<String, Status> {
     let kind = fs::metadata(history).map(|it| it.file_type());
-    if kind.is_ok_and(|kind| kind.is_fifo() || kind.is_socket()) {
-        say(format_args!("cannot read {history}: it is read twice, so it must be a file"));
+    if history == "-" || kind.is_ok_and(|kind| kind.is_fifo() || kind.is_socket()) {
+        say(format_args!("cannot read {history}: it is read twice, so write it to a file"));
         return Err(Status::UNREADABLE);
     }
     if history.starts_with('-') {
@@ -52,16 +52,24 @@ pub fn path_for_both(history: &str) -> Result<String, Status> {
     Ok(path.and_then(|path| path.into_os_string().into_string().ok()).unwrap_or(history.into()))
 }
 
+/// Says that the output failed. The status of that.
+pub fn output_failed(error: io::Error) -> Status {
+    say(format_args!("the output failed: {error}"));
+    Status::UNREADABLE
+}
+
 /// Writes a text to standard output, or says why not.
 pub fn put_out(text: &str) -> Result<(), Status> {
     let mut out = io::stdout().lock();
-    out.write_all(text.as_bytes()).and_then(|()| out.flush()).map_err(|error| {
-        say(format_args!("the output failed: {error}"));
-        Status::UNREADABLE
-    })
+    out.write_all(text.as_bytes()).and_then(|()| out.flush()).map_err(output_failed)
+}
+
+/// Writes a line to standard error. If that fails, the command goes on without it.
+pub fn note(line: std::fmt::Arguments<'_>) {
+    let _ = writeln!(io::stderr(), "{line}");
 }
 
 /// Says on standard error what went wrong.
 pub fn say(what: std::fmt::Arguments<'_>) {
-    eprintln!("fcbench: {what}");
+    note(format_args!("fcbench: {what}"));
 }

@@ -3,7 +3,7 @@
 use std::process::{ExitCode, ExitStatus};
 
 /// How a program ends.
-#[derive(Clone, Copy, Debug, PartialEq, Eq)]
+#[derive(Clone, Copy, Debug, Default, PartialEq, Eq)]
 pub struct Status(pub u8);
 
 impl Status {
@@ -20,6 +20,11 @@ impl Status {
     /// The proved program could not be started, or there is no page on its answer; or the finder
     /// failed.
     pub const FAILED: Status = Status(70);
+
+    /// Whether a command that ends so has printed an answer: yes, no, malformed, or open.
+    pub fn is_answer(self) -> bool {
+        self.0 <= Status::OPEN.0
+    }
 
     /// That of a program that ended by itself. `None`: a signal ended it.
     pub fn of(ended: ExitStatus) -> Option<Status> {

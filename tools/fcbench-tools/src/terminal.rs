@@ -1,22 +1,36 @@
 //! What of an answer is shown on a terminal: of a part of many operations the first ones, and how
-//! many follow.
+//! many follow; of a long reason the beginning, and how long it is.
 
 use std::io::{self, BufRead, Write};
 
 /// How many operations of an object are shown.
 const MOST_OPERATIONS: usize = 200;
 
+/// How many bytes of a line are shown.
+const LONGEST_LINE: usize = 2_000;
+
 /// Whether a line says an operation of a part.
 fn is_operation(line: &[u8]) -> bool {
-    line.starts_with(b"; map ") || line.starts_with(b"; maps ")
+    line.starts_with(b"; event ") || line.starts_with(b"; events ")
 }
 
 /// Says how many operations were left out, if there were some.
 fn say_left_out(count: usize, out: &mut impl Write) -> io::Result<()> {
     match count.saturating_sub(MOST_OPERATIONS) {
         0 => Ok(()),
+        1 => writeln!(out, "; and 1 more operation, which --all shows"),
         left_out => writeln!(out, "; and {left_out} more operations, which --all shows"),
     }
+}
+
+/// Copies a line, or its beginning if it is a reason that is too long.
+fn copy_line(line: &[u8], out: &mut impl Write) -> io::Result<()> {
+    if !line.starts_with(b"; {") || line.len() <= LONGEST_LINE {
+        return out.write_all(line);
+    }
+    // A reason has characters of ASCII alone.
+    out.write_all(&line[..LONGEST_LINE])?;
+    writeln!(out, " ..\n; a reason of {} characters, which --all shows", line.len() - 1)
 }
 
 /// Copies the lines of an answer, without the operations of an object that are too many.
@@ -32,7 +46,7 @@ pub fn copy_shortened(lines: impl BufRead, mut out: impl Write) -> io::Result<()
             count = 0;
         }
         if count <= MOST_OPERATIONS {
-            out.write_all(&line)?;
+            copy_line(&line, &mut out)?;
         }
     }
     say_left_out(count, &mut out)?;
@@ -50,7 +64,7 @@ mod tests {
     }
 
     fn part(count: usize) -> String {
-        (0..count).map(|number| format!("; map {number}: pending\n")).collect()
+        (0..count).map(|number| format!("; event {number}: pending\n")).collect()
     }
 
     #[test]
@@ -60,13 +74,26 @@ mod tests {
     }
 
     #[test]
+    fn of_a_long_reason_the_beginning_is_shown() {
+        let short = format!("; {{{}}}\n", "1".repeat(1_995));
+        assert_eq!(shortened(&short), short);
+        let long = format!("; {{{}}}\n", "1".repeat(75_000));
+        let wanted =
+            format!("{} ..\n; a reason of 75004 characters, which --all shows\n", &long[..2_000]);
+        assert_eq!(shortened(&long), wanted);
+        let sentence = format!("; {}\n", "a".repeat(3_000));
+        assert_eq!(shortened(&sentence), sentence);
+    }
+
+    #[test]
     fn of_a_large_part_the_first_operations_are_shown() {
-        let text = format!("; a\n{}; b\n; maps 1 and 2: x\n", part(203));
+        let text = format!("; a\n{}; b\n; events 1 and 2: x\n", part(203));
         let wanted = format!(
-            "; a\n{}; and 3 more operations, which --all shows\n; b\n; maps 1 and 2: x\n",
+            "; a\n{}; and 3 more operations, which --all shows\n; b\n; events 1 and 2: x\n",
             part(200)
         );
         assert_eq!(shortened(&text), wanted);
-        assert_eq!(shortened(&part(201)).lines().count(), 201);
+        let wanted = format!("{}; and 1 more operation, which --all shows\n", part(200));
+        assert_eq!(shortened(&part(201)), wanted);
     }
 }

@@ -28,7 +28,8 @@ fn an_object_without_an_order_is_status_3() {
     assert_eq!(output.status.code(), Some(3));
     let lines = "{:object 0, :cuts [{:keep [3 5], :numbers [0 1 4 8]} {:until 7}], \
                  :search {:first :return, :steps 10000}, \
-                 :note \"value 5 was extracted while the smaller value 3 was surely in the heap\"}\n";
+                 :note \"value 5 was extracted while the smaller value 3 was definitely in the heap; \
+                 event 6 is the first that leaves no order\"}\n";
     assert_eq!(String::from_utf8_lossy(&output.stdout), lines);
 }
 

@@ -62,7 +62,9 @@ fn judge_answers_what_the_proved_program_answers() {
     let judged = |name| said(&run(&program, &["judge", &example(name)]));
     let yes = "yes: 3 operations, 1 objects\nqueue: 1 objects, 3 operations\n";
     assert_eq!(judged("overlapping.history.edn"), (0, yes.into(), String::new()));
-    let malformed = "malformed history: H8 at map 2\n";
+    let malformed = "malformed history: H8 at map 2\n\
+                     ; event 2, line 3: event 1 is the :info of process 0, which has no events after it: its thread goes on as another process\n\
+                     ; event 2: {:process 0, :type :invoke, :f :enqueue, :value 2}\n";
     assert_eq!(judged("after_info.history.edn"), (2, malformed.into(), String::new()));
     let (status, lines, errors) = judged("postgres_queue.history.edn");
     assert_eq!((status, errors.as_str()), (1, ""));
@@ -96,6 +98,25 @@ fn a_proved_program_that_is_killed_is_status_3() {
         let (status, lines, errors) = said(&run(&program, &[word, &example("queue.history.edn")]));
         assert_eq!((status, lines.as_str()), (3, ""), "{word}");
         assert!(errors.contains("did not end by itself"), "{errors}");
+    }
+}
+
+#[test]
+fn lines_without_their_status_are_not_handed_on() {
+    let says = "#!/bin/sh\ncat > /dev/null\necho 'yes: 2 operations, 1 objects'\n";
+    let history = example("queue.history.edn");
+    for (name, ends, wanted) in [
+        ("killed_late", "kill -9 $$", 3),
+        ("aborts", "kill -ABRT $$", 3),
+        ("unreadable_late", "exit 4", 4),
+        ("no_verifier", "exit 70", 70),
+        ("other", "exit 101", 101),
+    ] {
+        let program = script(name, &format!("{says}{ends}\n"));
+        for word in ["judge", "draw"] {
+            let (status, lines, _) = said(&run(&program, &[word, &history]));
+            assert_eq!((status, lines.as_str()), (wanted, ""), "{name}: {word}");
+        }
     }
 }
 
@@ -146,7 +167,7 @@ fn a_history_that_is_a_pipe_is_status_4() {
         drop(child.stdin.take());
         let (status, _, errors) = said(&child.wait_with_output().expect("an output"));
         assert_eq!(status, 4, "{word}");
-        assert!(errors.contains("must be a file"), "{errors}");
+        assert!(errors.contains("it is read twice, so write it to a file"), "{errors}");
     }
 }
 

@@ -1,6 +1,7 @@
 //! The decision on each object.
 
 use crate::evidence::{Decision, Evidence};
+use crate::first::earlier;
 use crate::history::{History, ObjectHistory};
 use crate::orders::{Quick, open_keys, order_by_contents, quick_order};
 use crate::reasons::{Search, find_by_pairs, find_by_patterns, find_on, reason_of_all};
@@ -88,7 +89,7 @@ fn decide_object(history: &ObjectHistory, steps: Option<u64>) -> Evidence {
 }
 
 /// What a search of all operations finds: an order, or a reason; nothing where it runs out of steps.
-fn by_search(history: &ObjectHistory, by: Search) -> Option<Evidence> {
+pub(crate) fn by_search(history: &ObjectHistory, by: Search) -> Option<Evidence> {
     let mut searched = search(history, by.first, by.steps);
     match std::mem::replace(&mut searched.outcome, Outcome::Impossible) {
         Outcome::Order(order) => Some(Evidence::Order(order)),
@@ -97,22 +98,28 @@ fn by_search(history: &ObjectHistory, by: Search) -> Option<Evidence> {
     }
 }
 
+/// The evidence for an object, one of this many, with a reason of an earlier event if one is as small.
+fn decide_early(history: &ObjectHistory, steps: Option<u64>, objects: usize) -> Evidence {
+    match decide_object(history, steps) {
+        Evidence::Reason(reason) => Evidence::Reason(earlier(history, reason, objects)),
+        evidence => evidence,
+    }
+}
+
 /// A fault in the search for evidence leaves the object open, and the others decided.
-fn decide_or_leave(history: &ObjectHistory, steps: Option<u64>) -> Decision {
-    let evidence = catch_unwind(AssertUnwindSafe(|| decide_object(history, steps)));
+fn decide_or_leave(history: &ObjectHistory, steps: Option<u64>, objects: usize) -> Decision {
+    let evidence = catch_unwind(AssertUnwindSafe(|| decide_early(history, steps, objects)));
     Decision { object: history.object, evidence: evidence.unwrap_or(Evidence::Open) }
 }
 
-/// Looks for evidence for each object of a history, in rising object number. The answers are the
-/// same for any number of workers.
-pub fn decide(history: &History, options: Options) -> Vec<Decision> {
+/// Looks for evidence for each object of a history. The decisions are taken as they come, in any
+/// order of the objects; they are the same for any number of workers.
+pub fn decide_each(history: &History, options: Options, take: impl Fn(Decision) + Sync) {
     let objects = &history.objects;
     let next = AtomicUsize::new(0);
-    let decisions = Mutex::new(Vec::with_capacity(objects.len()));
     let work = || {
         while let Some(object) = objects.get(next.fetch_add(1, Ordering::Relaxed)) {
-            let decision = decide_or_leave(object, options.steps);
-            decisions.lock().unwrap_or_else(PoisonError::into_inner).push(decision);
+            take(decide_or_leave(object, options.steps, objects.len()));
         }
     };
     let workers = options.workers.min(objects.len());
@@ -121,6 +128,14 @@ pub fn decide(history: &History, options: Options) -> Vec<Decision> {
     } else {
         thread::scope(|scope| (0..workers).for_each(|_| drop(scope.spawn(work))));
     }
+}
+
+/// The decisions in rising object number.
+pub fn decide(history: &History, options: Options) -> Vec<Decision> {
+    let decisions = Mutex::new(Vec::with_capacity(history.objects.len()));
+    decide_each(history, options, |decision| {
+        decisions.lock().unwrap_or_else(PoisonError::into_inner).push(decision);
+    });
     let mut decisions = decisions.into_inner().unwrap_or_else(PoisonError::into_inner);
     decisions.sort_unstable_by_key(|decision| decision.object);
     decisions
@@ -130,18 +145,39 @@ pub fn decide(history: &History, options: Options) -> Vec<Decision> {
 mod tests {
     use super::*;
     use crate::content::Content;
+    use crate::cuts::{Cut, part_by};
     use crate::history::Invocation;
     use crate::model::Kind;
     use crate::small::{Random, has_order};
 
-    /// Whether the object has a valid order, which the answer on it must fit.
-    fn has_order_as_found(history: &ObjectHistory) -> bool {
+    fn has_some_order(history: &ObjectHistory) -> bool {
         let calls = history.ops.iter().filter(|o| !o.has_failed());
         let calls: Vec<Invocation> = calls.copied().collect();
-        let has_order = has_order(&calls, &Content::empty(history.kind));
-        match decide_object(history, None) {
+        has_order(&calls, &Content::empty(history.kind))
+    }
+
+    /// The first return by which there is no order, by trial of all orders.
+    fn first_without_order(history: &ObjectHistory) -> Option<u32> {
+        let mut returns: Vec<u32> = history.ops.iter().filter_map(|o| o.returned()).collect();
+        returns.sort_unstable();
+        returns.into_iter().find(|at| {
+            let beginning = part_by(history, &[Cut::Until(at + 1)]);
+            !has_some_order(&beginning.expect("a part"))
+        })
+    }
+
+    /// Whether the object has a valid order, which the answer on it must fit, and the first event
+    /// that it names.
+    fn has_order_as_found(history: &ObjectHistory) -> bool {
+        let has_order = has_some_order(history);
+        match decide_early(history, None, 1) {
             Evidence::Order(_) => assert!(has_order, "{history:?}"),
-            Evidence::Reason(_) => assert!(!has_order, "{history:?}"),
+            Evidence::Reason(reason) => {
+                assert!(!has_order, "{history:?}");
+                let said = reason.sentence.first.expect("a first event");
+                let first = first_without_order(history).expect("an event");
+                assert!((said.least..=said.most).contains(&first), "{first}: {said}: {history:?}");
+            }
             evidence => panic!("{evidence:?}: {history:?}"),
         }
         has_order

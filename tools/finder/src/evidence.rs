@@ -42,8 +42,10 @@ struct Spaced<I>(I);
 impl<I: Clone + IntoIterator<Item: Display>> Display for Spaced<I> {
     fn fmt(&self, f: &mut Formatter<'_>) -> fmt::Result {
         for (place, element) in self.0.clone().into_iter().enumerate() {
-            let space = if place == 0 { "" } else { " " };
-            write!(f, "{space}{element}")?;
+            if place > 0 {
+                f.write_str(" ")?;
+            }
+            element.fmt(f)?;
         }
         Ok(())
     }

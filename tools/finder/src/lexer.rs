@@ -64,6 +64,11 @@ impl<'a> Lexer<'a> {
         Lexer { text, at: 0 }
     }
 
+    /// Where the last token ends.
+    pub fn at(&self) -> usize {
+        self.at
+    }
+
     /// The place of the first byte from `from` on for which this holds, or else the text's length.
     fn next_place(&self, from: usize, holds: impl Fn(u8) -> bool) -> usize {
         let found = self.text[from..].iter().position(|byte| holds(*byte));

@@ -18,8 +18,11 @@ mod content;
 mod cuts;
 mod decide;
 mod evidence;
+mod figures;
+mod first;
 mod history;
 mod lexer;
+mod maps;
 mod model;
 mod orders;
 mod reader;
@@ -31,13 +34,18 @@ mod small;
 mod splitmix;
 mod timeline;
 mod trees;
+mod usual;
 
 pub use cuts::{Count, Counted, Cut, Values, part_by};
-pub use decide::{Options, decide};
+pub use decide::{Options, decide, decide_each};
 pub use evidence::{Decision, Evidence};
+pub use figures::{Figures, warnings};
 pub use history::{End, History, Invocation, Nemesis, ObjectHistory, Run};
 pub use lexer::{Lexer, Token, TokenKind, ends_word};
 pub use model::{Kind, Op, Reply, Value};
-pub use reader::read_history;
-pub use reasons::{FoundReason, Lost, LostValue, Pattern, Search, Sentence, Shown};
+pub use reader::{LONGEST, read_history, read_history_from};
+pub use reasons::{
+    Beginning, Facts, FirstEvent, FoundReason, Lost, LostValue, Pattern, Search, Sentence, Shown,
+    Undone,
+};
 pub use search::First;

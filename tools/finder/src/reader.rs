@@ -1,191 +1,35 @@
-//! One pass from the bytes of a history to the operations of its objects. It is lenient on the EDN:
-//! it looks at no character past ASCII, and not for repeated keys. Which fault a text has is for
-//! the proved program to say.
+//! One pass from the bytes of a history to the operations of its objects. A file is read in pieces,
+//! so that its text is never in memory as a whole. Threads find the maps of the next pieces while
+//! one thread adds those of the pieces before to the history.
 
 use crate::history::{End, History, Invocation, Nemesis, ObjectHistory, Run};
-use crate::lexer::{Lexer, Token, TokenKind};
-use crate::model::{Kind, Op, Value};
+use crate::maps::{Event, EventType, Map, each_map, is_blank};
+use crate::model::{Kind, Op};
 use crate::splitmix::NumberTable;
-
-/// How many brackets may be open at once.
-const MOST_OPEN: usize = 16;
+use std::collections::VecDeque;
+use std::io::{self, Read};
+use std::mem;
+use std::sync::Arc;
+use std::thread::{self, Builder as Thread, Scope, ScopedJoinHandle};
 
 /// How many maps a history has at most.
 const MOST_MAPS: u32 = 1_000_000;
 
-/// The greatest number of an object.
-const LAST_OBJECT: i64 = 65_535;
+/// The longest text that is read.
+pub const LONGEST: u64 = 268_435_456;
 
-/// What matters of an element.
-#[derive(Clone, Copy)]
-enum Element<'a> {
-    Plain(Value),
-    Keyword(&'a [u8]),
-    Other,
-}
-
-/// What is left of the text.
-struct Reader<'a> {
-    text: &'a [u8],
-    tokens: Lexer<'a>,
-}
-
-impl<'a> Reader<'a> {
-    /// The element that begins with this token, where this many more brackets may be open. `None`:
-    /// there is none.
-    fn element(&mut self, token: Token, depth: usize) -> Option<Element<'a>> {
-        match token.kind {
-            TokenKind::Text => Some(Element::Other),
-            TokenKind::OpenVector => self.vector(depth.checked_sub(1)?),
-            TokenKind::OpenMap => {
-                self.map(depth.checked_sub(1)?, |_, _| ())?;
-                Some(Element::Other)
-            }
-            TokenKind::Word => match token.of(self.text) {
-                [b':', name @ ..] => Some(Element::Keyword(name)),
-                b"nil" => Some(Element::Plain(Value::Nil)),
-                b"false" => Some(Element::Plain(Value::False)),
-                b"true" => Some(Element::Other),
-                word => Some(Element::Plain(Value::Int(integer(word)?))),
-            },
-            TokenKind::OpenText | TokenKind::CloseVector | TokenKind::CloseMap => None,
-        }
-    }
-
-    /// The rest of a vector.
-    fn vector(&mut self, depth: usize) -> Option<Element<'a>> {
-        let mut first = [None; 2];
-        let mut count = 0;
-        loop {
-            let token = self.tokens.next()?;
-            if token.kind == TokenKind::CloseVector {
-                break;
-            }
-            let element = self.element(token, depth)?;
-            if let (Some(slot), Element::Plain(Value::Int(v))) = (first.get_mut(count), element) {
-                *slot = Some(v);
-            }
-            count += 1;
-        }
-        Some(match first {
-            [Some(a), Some(b)] if count == 2 => Element::Plain(Value::Pair(a, b)),
-            _ => Element::Other,
-        })
-    }
-
-    /// Reads the rest of a map, and hands over its keys and values.
-    fn map(&mut self, depth: usize, mut on: impl FnMut(&'a [u8], Element<'a>)) -> Option<()> {
-        loop {
-            let token = self.tokens.next()?;
-            if token.kind == TokenKind::CloseMap {
-                return Some(());
-            }
-            let Element::Keyword(key) = self.element(token, 0)? else {
-                return None;
-            };
-            let value = self.tokens.next()?;
-            on(key, self.element(value, depth)?);
-        }
-    }
-}
-
-/// The integer that a token spells.
-fn integer(token: &[u8]) -> Option<i64> {
-    let (is_negative, digits) = match token {
-        [b'-', digits @ ..] => (true, digits),
-        [b'+', digits @ ..] => (false, digits),
-        digits => (false, digits),
-    };
-    if digits.is_empty() {
-        return None;
-    }
-    // The least integer has no opposite, so the number is taken as a negative one.
-    let opposite = digits.iter().try_fold(0_i64, |number, byte| {
-        let digit = byte.is_ascii_digit().then(|| i64::from(byte - b'0'))?;
-        number.checked_mul(10)?.checked_sub(digit)
-    })?;
-    if is_negative { Some(opposite) } else { opposite.checked_neg() }
-}
-
-/// The values of the keys of a map that matter.
-#[derive(Default)]
-struct Fields<'a> {
-    process: Option<Element<'a>>,
-    of_type: Option<Element<'a>>,
-    function: Option<Element<'a>>,
-    value: Option<Element<'a>>,
-    object: Option<Element<'a>>,
-}
-
-/// A map of a client.
-struct Event<'a> {
-    process: i64,
-    of_type: &'a [u8],
-    function: &'a [u8],
-    /// None where it is no value of an operation.
-    value: Option<Value>,
-    object: u32,
-}
-
-impl<'a> Fields<'a> {
-    /// Those of the map that begins with this token.
-    fn read(reader: &mut Reader<'a>, first: Token) -> Option<Fields<'a>> {
-        if first.kind != TokenKind::OpenMap {
-            return None;
-        }
-        let mut fields = Fields::default();
-        reader.map(MOST_OPEN - 1, |key, value| {
-            let field = match key {
-                b"process" => &mut fields.process,
-                b"type" => &mut fields.of_type,
-                b"f" => &mut fields.function,
-                b"value" => &mut fields.value,
-                b"object" => &mut fields.object,
-                _ => return,
-            };
-            *field = Some(value);
-        })?;
-        Some(fields)
-    }
-
-    fn nemesis(&self, number: u32, process: &[u8]) -> Nemesis {
-        let function = match self.function {
-            Some(Element::Keyword(name)) => name,
-            _ => b"",
-        };
-        let text = |name| String::from_utf8_lossy(name).into_owned();
-        Nemesis { number, process: text(process), function: text(function) }
-    }
-
-    fn event(&self, process: i64) -> Option<Event<'a>> {
-        let object = match self.object {
-            None => 0,
-            Some(Element::Plain(Value::Int(object))) if object <= LAST_OBJECT => object,
-            _ => return None,
-        };
-        let (Some(Element::Keyword(of_type)), Some(Element::Keyword(function))) =
-            (self.of_type, self.function)
-        else {
-            return None;
-        };
-        let value = match self.value {
-            None => Some(Value::Nil),
-            Some(Element::Plain(value)) => Some(value),
-            Some(_) => None,
-        };
-        Some(Event { process, of_type, function, value, object: u32::try_from(object).ok()? })
-    }
-}
+/// How many bytes of a file are read at once.
+const PIECE: u64 = 1 << 19;
 
 /// What a process does.
-enum Process<'a> {
+#[derive(Clone, Copy)]
+enum Process {
     /// Its operation is outstanding: the object's place, and the operation's among those of the
     /// object and among all.
     Calls {
         object: usize,
         place: usize,
         run: usize,
-        function: &'a [u8],
     },
     Idle,
     /// After `:info`.
@@ -194,17 +38,35 @@ enum Process<'a> {
 
 /// The objects that were named so far, and what each process does.
 #[derive(Default)]
-struct Builder<'a> {
+struct Builder {
+    maps: u32,
     objects: Vec<ObjectHistory>,
     places: NumberTable<u32, usize>,
     runs: Vec<Run>,
     nemeses: Vec<Nemesis>,
-    processes: NumberTable<i64, Process<'a>>,
+    processes: NumberTable<i64, Process>,
 }
 
-impl<'a> Builder<'a> {
-    fn invoke(&mut self, number: u32, event: &Event<'a>) -> Option<()> {
-        let op = Op::named(event.function, event.value?)?;
+impl Builder {
+    /// Notes the next map. `None`: the history can't have it.
+    fn add(&mut self, map: Map) -> Option<()> {
+        if self.maps == MOST_MAPS {
+            return None;
+        }
+        match map {
+            Map::OfNemesis { process, function } => {
+                self.nemeses.push(Nemesis { number: self.maps, process, function });
+            }
+            Map::OfClient(event) if event.of_type == EventType::Invoke => self.invoke(&event)?,
+            Map::OfClient(event) => self.complete(&event)?,
+        }
+        self.maps += 1;
+        Some(())
+    }
+
+    fn invoke(&mut self, event: &Event) -> Option<()> {
+        let number = self.maps;
+        let op = Op::new(event.function, event.value?)?;
         let object = self.place(event.object, op.kind());
         let history = &mut self.objects[object];
         let process = self.processes.entry(event.process).or_insert(Process::Idle);
@@ -215,7 +77,7 @@ impl<'a> Builder<'a> {
         history.ops.push(Invocation { number, op, end: End::Pending });
         let run = self.runs.len();
         self.runs.push(Run { number, process: event.process as u64, completed: None });
-        *process = Process::Calls { object, place, run, function: event.function };
+        *process = Process::Calls { object, place, run };
         Some(())
     }
 
@@ -226,56 +88,193 @@ impl<'a> Builder<'a> {
         })
     }
 
-    fn complete(&mut self, at: u32, event: &Event<'a>) -> Option<()> {
+    fn complete(&mut self, event: &Event) -> Option<()> {
+        let at = self.maps;
         let process = self.processes.get_mut(&event.process)?;
-        let Process::Calls { object, place, run, function } = *process else {
+        let Process::Calls { object, place, run } = *process else {
             return None;
         };
         let history = &mut self.objects[object];
-        if event.function != function || event.object != history.object {
+        let call = &mut history.ops[place];
+        if event.function != call.op.function() || event.object != history.object {
             return None;
         }
-        let call = &mut history.ops[place];
         (*process, call.end) = match event.of_type {
-            b"ok" => {
+            EventType::Ok => {
                 let reply = call.op.reply(event.value?)?;
                 (Process::Idle, End::Returned { at, reply })
             }
-            b"fail" => (Process::Idle, End::Failed),
-            b"info" => (Process::Closed, End::Pending),
-            _ => return None,
+            EventType::Fail => (Process::Idle, End::Failed),
+            EventType::Info => (Process::Closed, End::Pending),
+            EventType::Invoke => return None,
         };
         self.runs[run].completed = Some(at);
         Some(())
+    }
+
+    fn history(self) -> History {
+        let Builder { maps, mut objects, runs, nemeses, .. } = self;
+        objects.sort_unstable_by_key(|history| history.object);
+        History { objects, runs, nemeses, maps }
     }
 }
 
 /// Reads a history: the operations of each object that some invocation of a client names. `None`:
 /// the text is no history.
 pub fn read_history(text: &[u8]) -> Option<History> {
-    let mut reader = Reader { text, tokens: Lexer::new(text) };
-    let mut builder = Builder::default();
-    let mut maps = 0;
-    while let Some(token) = reader.tokens.next() {
-        let fields = Fields::read(&mut reader, token)?;
-        if maps == MOST_MAPS {
-            return None;
-        }
-        match fields.process? {
-            Element::Keyword(process) => builder.nemeses.push(fields.nemesis(maps, process)),
-            Element::Plain(Value::Int(process)) if process >= 0 => {
-                let event = fields.event(process)?;
-                if event.of_type == b"invoke" {
-                    builder.invoke(maps, &event)?;
-                } else {
-                    builder.complete(maps, &event)?;
-                }
-            }
-            _ => return None,
-        }
-        maps += 1;
+    if text.len() as u64 > LONGEST {
+        return None;
     }
-    let Builder { mut objects, runs, nemeses, .. } = builder;
-    objects.sort_unstable_by_key(|history| history.object);
-    Some(History { objects, runs, nemeses, maps })
+    let mut builder = Builder::default();
+    let taken = each_map(text, |map| builder.add(map))?;
+    is_blank(&text[taken..]).then(|| builder.history())
+}
+
+/// The pieces of a text that a source gives. Each ends with a line, where the source gives lines.
+struct Pieces<S> {
+    source: S,
+    /// How many bytes were read.
+    length: u64,
+    /// The beginning of a line, which the next piece ends.
+    rest: Vec<u8>,
+}
+
+impl<S: Read> Pieces<S> {
+    fn of(source: S) -> Pieces<S> {
+        Pieces { source, length: 0, rest: Vec::new() }
+    }
+
+    /// The next piece. `None`: there is none.
+    fn next(&mut self) -> io::Result<Option<Vec<u8>>> {
+        let mut piece = mem::take(&mut self.rest);
+        let read = self.source.by_ref().take(PIECE).read_to_end(&mut piece)?;
+        self.length += read as u64;
+        let is_last = (read as u64) < PIECE;
+        if !is_last && let Some(at) = piece.iter().rposition(|byte| *byte == b'\n') {
+            self.rest = piece.split_off(at + 1);
+        }
+        Ok((!piece.is_empty()).then_some(piece))
+    }
+}
+
+/// The maps of a piece, if it begins between two maps.
+struct Found {
+    maps: Vec<Map>,
+    /// How many bytes they take. `None`: a history can't have what follows them.
+    taken: Option<usize>,
+}
+
+impl Found {
+    fn of(piece: &[u8]) -> Found {
+        let mut maps = Vec::new();
+        let taken = each_map(piece, |map| {
+            maps.push(map);
+            Some(())
+        });
+        Found { maps, taken }
+    }
+}
+
+/// A piece whose maps are found here, or by a thread.
+enum Finding<'s> {
+    Here,
+    There(ScopedJoinHandle<'s, Found>),
+}
+
+impl<'s> Finding<'s> {
+    /// Begins with a piece in a thread, where one is to be had.
+    fn begin(scope: &'s Scope<'s, '_>, piece: &Arc<Vec<u8>>) -> Finding<'s> {
+        let own = Arc::clone(piece);
+        let begun = Thread::new().spawn_scoped(scope, move || Found::of(&own));
+        begun.map_or(Finding::Here, Finding::There)
+    }
+
+    /// The maps of this piece. A thread that failed has found none.
+    fn end(self, piece: &[u8]) -> Found {
+        let found = match self {
+            Finding::Here => None,
+            Finding::There(thread) => thread.join().ok(),
+        };
+        found.unwrap_or_else(|| Found::of(piece))
+    }
+}
+
+/// A history of which some pieces were read.
+#[derive(Default)]
+struct Reading {
+    builder: Builder,
+    /// What was read and has no whole map yet.
+    rest: Vec<u8>,
+    /// How long the rest was when no map was found in it.
+    tried: usize,
+}
+
+impl Reading {
+    /// Adds the maps of a piece. Where a map or a comment began before the piece, they are found
+    /// anew together with what is left of the pieces before. `None`: it is no history.
+    fn add(&mut self, piece: &[u8], found: Found) -> Option<()> {
+        if !self.rest.is_empty() {
+            self.rest.extend_from_slice(piece);
+            return self.add_rest();
+        }
+        found.maps.into_iter().try_for_each(|map| self.builder.add(map))?;
+        self.rest.extend_from_slice(&piece[found.taken?..]);
+        self.leave_out_blanks();
+        Some(())
+    }
+
+    /// Adds the maps at the front of the rest. If there was none, then only when it is twice as long.
+    fn add_rest(&mut self) -> Option<()> {
+        if self.rest.len() < 2 * self.tried {
+            return Some(());
+        }
+        let taken = each_map(&self.rest, |map| self.builder.add(map))?;
+        self.rest.drain(..taken);
+        self.tried = if taken == 0 { self.rest.len() } else { 0 };
+        self.leave_out_blanks();
+        Some(())
+    }
+
+    /// Forgets lines without a map, so that the next piece begins between two maps.
+    fn leave_out_blanks(&mut self) {
+        if self.rest.ends_with(b"\n") && is_blank(&self.rest) {
+            self.rest.clear();
+        }
+    }
+
+    /// The history, if all was read.
+    fn end(mut self) -> Option<History> {
+        self.tried = 0;
+        self.add_rest()?;
+        is_blank(&self.rest).then(|| self.builder.history())
+    }
+}
+
+/// The same for the text that a source gives, by this many threads.
+pub fn read_history_from(source: impl Read, workers: usize) -> io::Result<Option<History>> {
+    let (mut pieces, mut reading) = (Pieces::of(source), Reading::default());
+    thread::scope(|scope| {
+        let mut ahead = VecDeque::new();
+        loop {
+            while ahead.len() < workers
+                && let Some(piece) = pieces.next()?
+            {
+                let piece = Arc::new(piece);
+                let finding = match workers {
+                    1 => Finding::Here,
+                    _ => Finding::begin(scope, &piece),
+                };
+                ahead.push_back((piece, finding));
+            }
+            if pieces.length > LONGEST {
+                return Ok(None);
+            }
+            let Some((piece, finding)) = ahead.pop_front() else {
+                return Ok(reading.end());
+            };
+            if reading.add(&piece, finding.end(&piece)).is_none() {
+                return Ok(None);
+            }
+        }
+    })
 }

@@ -2,6 +2,9 @@
 
 use crate::history::Invocation;
 use crate::model::{Op, Reply};
+use std::cmp::Reverse;
+use std::collections::BinaryHeap;
+use std::collections::binary_heap::PeekMut;
 
 /// The end of a call that has not returned: it is after every moment of the object's events.
 pub const PENDING: u32 = u32::MAX - 1;
@@ -55,25 +58,32 @@ impl Call {
 }
 
 /// An invocation or a return.
-#[derive(Clone, Copy, PartialEq, Eq, PartialOrd, Ord)]
+#[derive(Clone, Copy)]
 pub struct Moment {
-    /// When it is: its number in the history, or its own place among the moments.
-    at: u32,
     /// The place of its call.
     pub call: usize,
     pub returns: bool,
 }
 
-/// The invocations and returns of these calls, in the order in which they come.
+/// The invocations and returns of these calls, in the order in which they come. The calls come in
+/// the order of their invocations.
 pub fn moments_of<'a>(calls: impl Iterator<Item = &'a Call>) -> Vec<Moment> {
-    let mut moments = Vec::new();
+    let mut moments = Vec::with_capacity(2 * calls.size_hint().0);
+    // those that run, the first to return first
+    let mut running: BinaryHeap<Reverse<(u32, usize)>> = BinaryHeap::new();
+    let returns = |Reverse((_, call))| Moment { call, returns: true };
     for (place, call) in calls.enumerate() {
-        moments.push(Moment { at: call.begin, call: place, returns: false });
+        while let Some(next) = running.peek_mut()
+            && next.0.0 < call.begin
+        {
+            moments.push(returns(PeekMut::pop(next)));
+        }
+        moments.push(Moment { call: place, returns: false });
         if !call.is_pending() {
-            moments.push(Moment { at: call.end, call: place, returns: true });
+            running.push(Reverse((call.end, place)));
         }
     }
-    moments.sort_unstable();
+    moments.extend(running.into_sorted_vec().into_iter().rev().map(returns));
     moments
 }
 
@@ -81,8 +91,7 @@ pub fn moments_of<'a>(calls: impl Iterator<Item = &'a Call>) -> Vec<Moment> {
 pub struct Timeline {
     /// In the order of their invocations.
     pub calls: Vec<Call>,
-    /// The number of moments.
-    pub end: u32,
+    pub moments: Vec<Moment>,
 }
 
 impl Timeline {
@@ -101,6 +110,11 @@ impl Timeline {
             let call = &mut calls[moment.call];
             *(if moment.returns { &mut call.end } else { &mut call.begin }) = at;
         }
-        Timeline { end: moments.len() as u32, calls }
+        Timeline { calls, moments }
+    }
+
+    /// The number of moments.
+    pub fn end(&self) -> u32 {
+        self.moments.len() as u32
     }
 }

@@ -45,7 +45,8 @@ fn a_count_is_in_the_line() {
     let text = history_of(&[(0, "push", "1", "1"), (0, "pop", "nil", "1"), (0, "pop", "nil", "1")]);
     let lines = "{:object 0, :cuts [{:keep [1], :numbers [0 2 4]} {:until 6}], \
                  :count {:value 1, :from 0}, \
-                 :note \"value 1 was pushed once and popped twice\"}\n";
+                 :note \"value 1 was pushed once and popped twice; \
+                 event 5 is the first that leaves no order\"}\n";
     assert_eq!(lines_of(&text), lines);
 }
 
@@ -55,7 +56,8 @@ fn a_search_is_in_the_line() {
         history_of(&[(0, "write", "1", "1"), (0, "write", "2", "2"), (0, "read", "nil", "1")]);
     let lines = lines_of(&text);
     let end = "], :search {:first :return, :steps 10000}, \
-               :note \"value 1 was read after another content had replaced it\"}\n";
+               :note \"value 1 was read after another content had replaced it; \
+               event 5 is the first that leaves no order\"}\n";
     assert!(lines.ends_with(end), "{lines}");
 }
 
@@ -70,8 +72,9 @@ fn what_was_lost_is_in_the_line() {
     text += &history_of(&[(3, "dequeue", "nil", "nil")]);
     let lines = "{:object 0, :cuts [{:keep [1 2 3], :numbers [0 2 4 6 7 8]} {:until 10}], \
                  :count {:ahead 8}, \
-                 :note \"3 values were in the queue before map 8 found nothing, and at most 2 of \
-                 them can have been dequeued by then: values 1, 2 and 3 (never dequeued)\"}\n";
+                 :note \"3 values were in the queue before event 8 found nothing, and at most 2 of \
+                 them can have been dequeued by then: values 1, 2 and 3 (never dequeued); \
+                 event 9 is the first that leaves no order\"}\n";
     assert_eq!(lines_of(&text), lines);
 }
 
@@ -153,8 +156,8 @@ fn each_count_has_its_form() {
 #[test]
 fn a_sentence_names_the_key() {
     let pattern = Pattern::TakenTooOften { value: 8, taken: 3, set: 1 };
-    let sentence = Sentence { kind: Kind::Map, key: Some(2), pattern };
-    let text = "key 2: value 8 was taken away 3 times and by then put once";
+    let sentence = Sentence::of_pattern(Kind::Map, Some(2), pattern);
+    let text = "key 2: value 8 was replaced or removed 3 times and by then put once";
     assert_eq!(sentence.to_string(), text);
     let shown = Shown::ByCount(Count { counted: Counted::Value(8), from: 0 });
     let reason = FoundReason { cuts: Vec::new(), shown, sentence };

@@ -1,6 +1,6 @@
 //! Which texts are histories.
 
-use finder::read_history;
+use finder::{read_history, read_history_from};
 
 fn is_history(text: &str) -> bool {
     read_history(text.as_bytes()).is_some()
@@ -66,4 +66,58 @@ fn at_most_a_million_maps_are_read() {
     let map = "{:process :n}";
     assert!(is_history(&map.repeat(1_000_000)));
     assert!(!is_history(&map.repeat(1_000_001)));
+}
+
+/// A text of many operations, so that it is read in several pieces, with this between two maps.
+fn long_text(between: &str) -> String {
+    let event = |number: u32, of_type: &str| {
+        format!("{{:process {}, :type :{of_type}, :f :push, :value {number}}}", number % 7)
+    };
+    (0..16_000)
+        .map(|number| {
+            [event(number, "invoke"), event(number, "ok")].map(|it| it + between).concat()
+        })
+        .collect()
+}
+
+/// What is read of a text from a source, by this many threads.
+fn read_by(text: &str, workers: usize) -> String {
+    let read = read_history_from(text.as_bytes(), workers).expect("a source that does not fail");
+    format!("{read:?}")
+}
+
+#[test]
+fn reads_the_same_by_any_number_of_threads() {
+    let lines = long_text("\n");
+    let cut_in_a_string = lines.replacen("7}", "7, :error \"\n{:process 0\"}", 9);
+    let cut_in_a_map = lines.replace(", :type", ",\n :type");
+    let with_comments = long_text(" ; {:process 0}\n; }\n\n");
+    let with_a_nemesis = format!("{{:process :nemesis, :type :info, :f :kill}}\n{lines}");
+    let long_map = format!("{{:process :n, :a [{}]}}\n{lines}", "1\n".repeat(1 << 20));
+    let in_one_line = long_text(" ");
+    let without_an_end = &lines[..lines.len() - 5];
+    let twice = format!("{lines}{lines}{{:process 0, :type :ok, :f :push, :value 1}}\n");
+    for text in [
+        "",
+        "\n; nothing",
+        &lines,
+        &cut_in_a_string,
+        &cut_in_a_map,
+        &with_comments,
+        &with_a_nemesis,
+        &long_map,
+        &in_one_line,
+        without_an_end,
+        &twice,
+    ] {
+        let whole = format!("{:?}", read_history(text.as_bytes()));
+        for workers in [1, 2, 4] {
+            assert!(read_by(text, workers) == whole, "{workers}: {}", &text[..text.len().min(90)]);
+        }
+    }
+    assert!(read_history(with_comments.as_bytes()).is_some());
+    assert!(read_history(in_one_line.as_bytes()).is_some());
+    assert!(read_history(long_map.as_bytes()).is_some());
+    assert!(read_history(without_an_end.as_bytes()).is_none());
+    assert!(read_history(twice.as_bytes()).is_none());
 }

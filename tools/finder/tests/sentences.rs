@@ -1,9 +1,9 @@
 //! The sentence of each pattern.
 
-use finder::{Counted, Kind, Lost, LostValue, Pattern, Sentence};
+use finder::{Counted, Facts, FirstEvent, Kind, Lost, LostValue, Pattern, Sentence, Undone};
 
 fn sentence(kind: Kind, pattern: Pattern) -> String {
-    Sentence { kind, key: None, pattern }.to_string()
+    Sentence::of_pattern(kind, None, pattern).to_string()
 }
 
 #[test]
@@ -15,22 +15,22 @@ fn each_pattern_has_its_sentence() {
         (
             Kind::Register,
             Pattern::TakenTooOften { value: 7, taken: 2, set: 1 },
-            "value 7 was taken away 2 times and by then written once",
+            "value 7 was replaced by :cas 2 times and by then written once",
         ),
         (
             Kind::Stack,
             Pattern::SurelyNotEmpty { number: 9 },
-            "the stack was surely not empty when map 9 found nothing",
+            "the stack was definitely not empty when event 9 found nothing",
         ),
         (
             Kind::Heap,
             Pattern::UnderSmaller { taken: 7, smaller: 3 },
-            "value 7 was extracted while the smaller value 3 was surely in the heap",
+            "value 7 was extracted while the smaller value 3 was definitely in the heap",
         ),
         (
             Kind::Heap,
             Pattern::UnderSmallerOnes(7),
-            "value 7 was extracted while some smaller value was surely in the heap",
+            "value 7 was extracted while some smaller value was definitely in the heap",
         ),
         (
             Kind::Stack,
@@ -66,17 +66,18 @@ fn each_pattern_has_its_sentence() {
         (
             Kind::Register,
             Pattern::RefusedUnderItsValue { value: 7, number: 9 },
-            "value 7 was surely there when the swap of map 9, which expects it, was refused",
+            "value 7 was definitely there when the :cas of event 9, which expects it, was refused",
         ),
         (
             Kind::Register,
             Pattern::CountExceeded(Counted::Value(7)),
-            "value 7 was taken away more often than it can have been there",
+            "value 7 was replaced by :cas more often than it can have been there",
         ),
+        (Kind::Map, Pattern::TakenTwice(7), "value 7 was put once and replaced or removed twice"),
         (
             Kind::Map,
             Pattern::CountExceeded(Counted::NoEntry(5)),
-            "it was found without a value more often than it can have been without one",
+            "nil was seen more often than the key can have been without a value",
         ),
         (
             Kind::Mutex,
@@ -88,22 +89,90 @@ fn each_pattern_has_its_sentence() {
             Pattern::CountExceeded(Counted::Free),
             "the lock was acquired more often than it can have been free",
         ),
-        (Kind::Queue, Pattern::General, "these operations have no valid order"),
+        (Kind::Queue, Pattern::General, "the following operations have no valid order"),
     ];
     for (kind, pattern, text) in sentences {
         assert_eq!(sentence(kind, pattern), text);
     }
 }
 
-/// What was lost: what map 9 found, how many other removals can have taken, and the values, each
+#[test]
+fn facts_beside_a_pattern_are_said() {
+    let said = |kind, pattern, facts| {
+        Sentence { facts, ..Sentence::of_pattern(kind, None, pattern) }.to_string()
+    };
+    let undone = |count, were_refused| Facts {
+        undone: Some(Undone { first: 12, count, were_refused }),
+        ..Facts::default()
+    };
+    let never = || Pattern::NeverSet(7);
+    for (kind, facts, wanted) in [
+        (
+            Kind::Register,
+            undone(1, false),
+            "value 7 was read and only written by event 12, which failed",
+        ),
+        (
+            Kind::Queue,
+            undone(1, false),
+            "value 7 was dequeued and only enqueued by event 12, which failed",
+        ),
+        (
+            Kind::Map,
+            undone(3, false),
+            "value 7 was seen and only put by 3 operations that failed, the first of them event 12",
+        ),
+        (
+            Kind::Register,
+            undone(1, true),
+            "value 7 was read and only written by the :cas of event 12, which was refused",
+        ),
+        (
+            Kind::Register,
+            undone(2, true),
+            "value 7 was read and only written by 2 :cas that were refused, the first of them event 12",
+        ),
+    ] {
+        assert_eq!(said(kind, never(), facts), wanted);
+    }
+    let swap = Facts { is_by_swap: true, undone: None };
+    for (pattern, wanted) in [
+        (never(), "value 7 was expected by an accepted :cas and never written"),
+        (Pattern::TooEarly(7), "value 7 was expected by an accepted :cas before it was written"),
+        (
+            Pattern::Stale(Some(7)),
+            "value 7 was expected by an accepted :cas after another content had replaced it",
+        ),
+    ] {
+        assert_eq!(said(Kind::Register, pattern, swap), wanted);
+    }
+}
+
+/// What was lost: what event 9 found, how many other removals can have taken, and the values, each
 /// with how often it was put in and the maps that took it later.
 fn lost(found: Option<i64>, most: usize, values: &[(i64, usize, &[u32])]) -> Pattern {
     let values = values.iter().map(|(value, times, later)| LostValue {
         value: *value,
         times: *times,
         later: later.to_vec(),
+        is_repeated: false,
     });
     Pattern::Lost(Lost { number: 9, found, most, values: values.collect() })
+}
+
+/// The same, where an equal value was taken too.
+fn lost_again(most: usize, values: &[(i64, usize, &[u32])]) -> Pattern {
+    let Pattern::Lost(mut lost) = lost(None, most, values) else { unreachable!() };
+    lost.values.iter_mut().for_each(|value| value.is_repeated = true);
+    Pattern::Lost(lost)
+}
+
+#[test]
+fn the_first_event_is_named() {
+    let said = |least, most| FirstEvent { least, most }.to_string();
+    assert_eq!(said(31, 31), "event 31 is the first that leaves no order");
+    let range = "the first event that leaves no order is one from event 20 to event 31";
+    assert_eq!(said(20, 31), range);
 }
 
 #[test]
@@ -112,39 +181,45 @@ fn what_was_lost_is_named() {
         (
             Kind::Queue,
             lost(None, 0, &[(7, 1, &[])]),
-            "the queue was surely not empty when map 9 found nothing: value 7 was in it \
+            "the queue was definitely not empty when event 9 found nothing: value 7 was in it \
              (never dequeued)",
+        ),
+        (
+            Kind::Queue,
+            lost_again(0, &[(7, 1, &[])]),
+            "the queue was definitely not empty when event 9 found nothing: value 7 was in it \
+             (not dequeued after that)",
         ),
         (
             Kind::Stack,
             lost(None, 0, &[(7, 1, &[30])]),
-            "the stack was surely not empty when map 9 found nothing: value 7 was in it \
-             (popped later, by map 30)",
+            "the stack was definitely not empty when event 9 found nothing: value 7 was in it \
+             (popped later, by event 30)",
         ),
         (
             Kind::Stack,
             lost(None, 1, &[(7, 1, &[]), (8, 1, &[])]),
-            "2 values were in the stack before map 9 found nothing, and at most 1 of them can have \
+            "2 values were in the stack before event 9 found nothing, and at most 1 of them can have \
              been popped by then: values 7 and 8 (never popped)",
         ),
         (
             Kind::Heap,
             lost(Some(20), 2, &[(7, 1, &[]), (8, 3, &[30, 40]), (9, 2, &[50, 60])]),
-            "6 values were in the heap and less than value 20 before map 9 extracted it, and at \
+            "6 values were in the heap and less than value 20 before event 9 extracted it, and at \
              most 2 of them can have been extracted by then: value 7 (never extracted), \
-             value 8, 3 times (extracted later, by maps 30 and 40, the rest never), \
-             value 9, 2 times (extracted later, by maps 50 and 60)",
+             value 8, 3 times (extracted later, by events 30 and 40, the rest never), \
+             value 9, 2 times (extracted later, by events 50 and 60)",
         ),
         (
             Kind::Queue,
             lost(Some(20), 0, &[(7, 1, &[])]),
-            "1 value was enqueued before value 20, which map 9 dequeued, and it cannot have \
+            "1 value was enqueued before value 20, which event 9 dequeued, and it cannot have \
              been dequeued by then: value 7 (never dequeued)",
         ),
         (
             Kind::Stack,
             lost(Some(20), 1, &[(7, 1, &[]), (8, 1, &[])]),
-            "2 values were pushed on value 20, which map 9 popped, and at most 1 of them can have \
+            "2 values were pushed on value 20, which event 9 popped, and at most 1 of them can have \
              been popped by then: values 7 and 8 (never popped)",
         ),
     ];

@@ -1,17 +1,20 @@
 //! The page of a history that was judged, or checked by certificates.
 
-use crate::drawing::{Part, Subject, draw_impossible, draw_refused, draw_uncertified, draw_valid};
+use crate::drawing::{
+    Part, Subject, draw_impossible, draw_open, draw_refused, draw_uncertified, draw_valid,
+};
 use crate::elements::{elements_in, value_in};
 use crate::figures::count_text;
 use crate::page::{Answer, ObjectRow, Page, html_of};
 use crate::timeline::{ObjectDrawing, Span, Spans, spans};
 use crate::verdict::{self, OrderFault, Refusal};
-use finder::{Cut, Decision, End, Evidence, History, ObjectHistory, Pattern, part_by};
+use crate::words::Words;
+use finder::{Cut, Decision, End, Evidence, History, ObjectHistory, Pattern, Sentence, part_by};
 use std::borrow::Cow;
 
 /// The most operations that a page of several objects draws. With the longest numbers and values one
-/// takes some 2,000 bytes, so such a page has less than a megabyte.
-const BUDGET: usize = 460;
+/// takes some 2,200 bytes, so such a page has less than a megabyte.
+const BUDGET: usize = 440;
 
 /// What of a history is drawn.
 #[derive(Clone, Copy, Debug, Default, PartialEq, Eq)]
@@ -24,7 +27,7 @@ pub struct Options {
 }
 
 /// A history with the names of its file and of its certificates' file, the lines that were said of
-/// it, and what of it is drawn.
+/// it, what of it is drawn, and the words in which that is told.
 #[derive(Clone, Copy)]
 pub struct Drawn<'a> {
     pub history: &'a History,
@@ -32,6 +35,7 @@ pub struct Drawn<'a> {
     pub certificates: Option<&'a str>,
     pub lines: &'a str,
     pub options: Options,
+    pub words: Words<'a>,
 }
 
 /// An order of an object's operations, which may be any.
@@ -84,13 +88,14 @@ struct Parts {
 
 /// The row of the object with this answer.
 fn row_of(object: &ObjectHistory, answer: &'static str, is_faulty: bool) -> ObjectRow {
-    let count = |holds: fn(End) -> bool| object.ops.iter().filter(|op| holds(op.end)).count();
+    let count = |end: End| object.ops.iter().filter(|op| op.end == end).count();
+    let failed = count(End::Failed);
     ObjectRow {
         object: object.object,
         kind: object.kind,
-        operations: count(|end| end != End::Failed),
-        pending: count(|end| end == End::Pending),
-        failed: count(|end| end == End::Failed),
+        operations: object.ops.len() - failed,
+        pending: count(End::Pending),
+        failed,
         answer,
         is_faulty,
     }
@@ -112,15 +117,14 @@ fn not_drawn_sentence(rows: &[ObjectRow], drawings: &[ObjectDrawing]) -> Option<
     let mut left_out = rows.iter().filter(|row| !is_drawn(row));
     let first = left_out.next()?.object;
     let mut sentence = match left_out.count() {
-        0 => spans![Span::Aside("Not drawn: "), Span::Aside("object "), first],
+        0 => spans![Span::Aside("Not drawn: "), Span::Aside("object "), Span::Object(first)],
         more => spans![Span::Aside("Not drawn: "), more + 1, Span::Aside(" objects")],
     };
     sentence.extend(spans![
         Span::Aside(". "),
-        Span::Command("--object "),
-        first,
+        Span::OnlyObject(first),
         Span::Aside(" draws object "),
-        first,
+        Span::Object(first),
         Span::Aside(".")
     ]);
     Some(sentence)
@@ -152,6 +156,15 @@ fn coda() -> Spans {
     ]
 }
 
+/// The sentence after that there is no certificate.
+fn uncertified_coda() -> Spans {
+    spans![
+        Span::Aside("This says nothing of the history. "),
+        Span::Command("fcbench judge HISTORY"),
+        Span::Aside(" looks for an order.")
+    ]
+}
+
 /// The sentence on an object that has a certificate and is not in the history.
 fn strange_sentence(object: u32) -> Spans {
     spans![
@@ -166,7 +179,7 @@ fn strange_sentence(object: u32) -> Spans {
 fn open_sentence(object: u32, answer: &'static str) -> Spans {
     spans![
         "No order was found for object ",
-        object,
+        Span::Object(object),
         ", and none was excluded: ",
         answer,
         ". So the history is not decided."
@@ -237,7 +250,7 @@ impl verdict::Answer {
 }
 
 /// The part of an object's history that a reason names; without one, all of it.
-fn part_of<'a>(object: &'a ObjectHistory, cuts: &[Cut], pattern: &'a Pattern) -> Part<'a> {
+fn part_of<'a>(object: &'a ObjectHistory, cuts: &[Cut], sentence: &'a Sentence) -> Part<'a> {
     let part = match part_by(object, cuts) {
         Some(part) => Cow::Owned(part),
         None => Cow::Borrowed(object),
@@ -250,7 +263,7 @@ fn part_of<'a>(object: &'a ObjectHistory, cuts: &[Cut], pattern: &'a Pattern) ->
         Cut::Cell { other, .. } => Some(*other),
         _ => None,
     });
-    Part { part, from, other, pattern }
+    Part { part, from, other, sentence }
 }
 
 impl<'a> Drawn<'a> {
@@ -258,8 +271,15 @@ impl<'a> Drawn<'a> {
         self.history.objects.iter().find(|object| object.object == number)
     }
 
-    fn subject(&self, object: &'a ObjectHistory) -> Subject<'a> {
-        Subject { history: self.history, object, options: self.options }
+    /// An object that is drawn, alone on its page or not.
+    fn subject(&self, object: &'a ObjectHistory, has_room: bool) -> Subject<'a> {
+        Subject {
+            history: self.history,
+            object,
+            options: self.options,
+            words: self.words,
+            has_room,
+        }
     }
 
     /// Which texts the page is of, and what is in the history.
@@ -297,6 +317,7 @@ impl<'a> Drawn<'a> {
             drawings: &drawings,
             place: None,
             quoted: "",
+            words: self.words,
         })
     }
 
@@ -311,7 +332,8 @@ impl<'a> Drawn<'a> {
             let Some(order) = order_of(orders, object.object) else {
                 continue;
             };
-            let drawing = draw_valid(&self.subject(object), Some(order));
+            let is_alone = self.history.objects.len() == 1 || self.options.object.is_some();
+            let drawing = draw_valid(&self.subject(object, is_alone), Some(order));
             drawn += drawing.extent.drawn.max(1);
             if drawings.is_empty() || drawn <= BUDGET {
                 drawings.push(drawing);
@@ -337,14 +359,19 @@ impl<'a> Drawn<'a> {
     fn refused_page(&self, orders: &[Order], refusal: &Refusal) -> String {
         let shown = self.options.object.unwrap_or(refusal.object());
         let object = self.object(shown);
-        let drawing = object.map(|object| refusal.drawing(&self.subject(object), orders));
+        let drawing = object.map(|object| refusal.drawing(&self.subject(object, true), orders));
+        let answer = match refusal {
+            Refusal::NoCertificate { .. } => Answer::NoOrder,
+            _ => Answer::No,
+        };
         self.page(Parts {
-            answer: Answer::No,
+            answer,
             word: format!("no {}", refusal.code()),
             rows: self.history.objects.iter().map(|object| refusal.row(object)).collect(),
             drawings: drawing.into_iter().collect(),
             sentences: vec![match refusal {
                 Refusal::StrangeObject { object } => strange_sentence(*object),
+                Refusal::NoCertificate { .. } => uncertified_coda(),
                 _ => coda(),
             }],
         })
@@ -357,19 +384,20 @@ impl<'a> Drawn<'a> {
         answer: Option<verdict::Answer>,
         decision: Option<&Decision>,
     ) -> ObjectDrawing {
-        let subject = self.subject(object);
+        let subject = self.subject(object, true);
         match (answer, decision.map(|decision| &decision.evidence)) {
             (Some(verdict::Answer::Impossible), Some(Evidence::Reason(reason))) => {
-                draw_impossible(&subject, &part_of(object, &reason.cuts, &reason.sentence.pattern))
+                draw_impossible(&subject, &part_of(object, &reason.cuts, &reason.sentence))
             }
             (Some(verdict::Answer::Impossible), _) => {
-                draw_impossible(&subject, &part_of(object, &[], &Pattern::General))
+                let sentence = Sentence::of_pattern(object.kind, None, Pattern::General);
+                draw_impossible(&subject, &part_of(object, &[], &sentence))
             }
             (None, _) => {
                 let order = decision.and_then(found_order);
                 draw_valid(&subject, order.as_ref().map(|order| order.entries.as_slice()))
             }
-            (Some(_), _) => draw_valid(&subject, None),
+            (Some(answer), _) => draw_open(&subject, open_sentence(object.object, answer.word())),
         }
     }
 
@@ -392,6 +420,7 @@ impl<'a> Drawn<'a> {
             .map(|object| self.decided_drawing(object, answer_of(shown), decision));
         let (answer, word, sentences) = match worst {
             verdict::Answer::Impossible => (Answer::Impossible, "impossible", Vec::new()),
+            _ if shown == faulty => (Answer::Open, "open", Vec::new()),
             answer => (Answer::Open, "open", vec![open_sentence(faulty, answer.word())]),
         };
         self.page(Parts {

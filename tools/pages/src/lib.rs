@@ -2,6 +2,7 @@
 //! which has no script and loads nothing. Nothing here is trusted: what a page shows was judged by
 //! the proved program.
 
+mod asides;
 mod contents;
 mod drawing;
 mod elements;
@@ -11,9 +12,12 @@ mod history;
 mod page;
 mod timeline;
 mod verdict;
+mod words;
 
-pub use faults::{malformed_page, memory_page};
+pub use asides::Asides;
+pub use faults::{fault_lines, malformed_page, memory_page};
 pub use history::{Drawn, Options, Order, orders_in};
 pub use verdict::{
     Answer, Fault, FormFaultKind, MapFaultKind, OrderFault, Refusal, TextFaultKind, Verdict, Which,
 };
+pub use words::Words;

@@ -83,6 +83,13 @@ pub enum Fault {
     Form { kind: FormFaultKind, form: usize },
 }
 
+impl Fault {
+    /// Whether a text is too long, so that nothing in it is at fault.
+    pub fn is_of_length(&self) -> bool {
+        matches!(self, Fault::Text { kind: TextFaultKind::TooLong, .. })
+    }
+}
+
 /// What is wrong with an order of an object's operations.
 #[derive(Clone, Copy, Debug, PartialEq, Eq)]
 pub enum OrderFault {
@@ -352,10 +359,10 @@ mod tests {
             })
         );
         assert_eq!(
-            read("; object 0: out of steps after 10\n; object 2: impossible\n; maps 1 and 2"),
+            read("; object 0: out of steps after 10\n; object 2: impossible\n; events 1 and 2"),
             Verdict::Judged(vec![(0, Answer::OutOfSteps), (2, Answer::Impossible)])
         );
         assert_eq!(Verdict::read("no: C8"), None);
-        assert_eq!(Verdict::read("; maps 1"), None);
+        assert_eq!(Verdict::read("; events 1"), None);
     }
 }

@@ -33,6 +33,7 @@ fn judged(name: &str) -> String {
         certificates: None,
         lines: &lines,
         options: Default::default(),
+        words: Default::default(),
     };
     match verdict {
         Verdict::Yes => drawn.judged_page(&decisions, &[]),
@@ -51,6 +52,7 @@ fn checked(name: &str) -> String {
         certificates: Some(&certificates),
         lines: &lines,
         options: Default::default(),
+        words: Default::default(),
     };
     let orders = orders_in(read(&certificates).as_bytes());
     match Verdict::read(&lines).expect("a verdict") {
@@ -80,7 +82,14 @@ fn draws_what_is_asked_for() {
     let page = |options| {
         let lines = "yes: 4 operations, 2 objects";
         let (name, certificates) = ("a<b.edn", None);
-        let drawn = Drawn { history: &history, name, certificates, lines, options };
+        let drawn = Drawn {
+            history: &history,
+            name,
+            certificates,
+            lines,
+            options,
+            words: Default::default(),
+        };
         drawn.judged_page(&decisions, &[])
     };
     let all = page(pages::Options::default());
@@ -102,6 +111,7 @@ fn an_object_that_is_not_decided_is_open() {
         certificates: None,
         lines: "; object 0: out of steps after 1",
         options: Default::default(),
+        words: Default::default(),
     };
     for (answer, words) in [
         (Answer::OutOfSteps, ": out of steps. So the history is not decided."),

@@ -49,9 +49,9 @@ fn marks_a_map_and_the_one_that_it_clashes_with() {
     let page = page(HISTORY, "malformed history: H5 at map 2");
     let maps: Vec<&str> = HISTORY.lines().collect();
     assert_eq!(marks(&page), [maps[2], maps[0]]);
-    assert!(page.contains("Map 2 invokes an operation of process 0, and "));
-    assert!(page.contains("<g class=\"cross\"><title>map 2: H5</title>"));
-    assert!(page.contains("<title>nemesis kill, map 1</title>"));
+    assert!(page.contains("Event 2 invokes an operation of process 0, and "));
+    assert!(page.contains("<g class=\"cross\"><title>event 2: H5</title>"));
+    assert!(page.contains("<title>nemesis kill, event 1</title>"));
 }
 
 #[test]

@@ -1,10 +1,10 @@
-//! What surely was ahead of what a removal found: each of these values was taken out before it, and
-//! only some removals can have done that. It needs no search, and no difference between values.
+//! What definitely was ahead of what a removal found: each of these values was taken out before it,
+//! and only some removals can have done that. It needs no search, and no difference between values.
 //!
-//! A removal that found nothing has all values ahead of it that surely were in before. One of a heap
-//! has the lesser values, one of a queue those that were put in before its value, one of a stack
-//! those that were pushed on it. In each valid order a put that counts is before the removal, and so
-//! is a removal of what it put in.
+//! A removal that found nothing has all values ahead of it that definitely were in before. One of a
+//! heap has the lesser values, one of a queue those that were put in before its value, one of a
+//! stack those that were pushed on it. In each valid order a put that counts is before the removal,
+//! and so is a removal of what it put in.
 
 use crate::history::{Invocation, ObjectHistory};
 use crate::model::{Op, Reply};
@@ -52,7 +52,7 @@ impl Ahead {
         }
     }
 
-    /// Whether an operation is a put that surely was ahead.
+    /// Whether an operation is a put that definitely was ahead.
     pub fn is_ahead(&self, o: &Invocation) -> bool {
         o.number >= self.from
             && o.returned().is_some_and(|at| at < self.before)
@@ -68,8 +68,8 @@ impl Ahead {
     }
 }
 
-/// Whether more puts surely were ahead of what the removal of this number found than other removals
-/// can have been before it. Then no order is valid.
+/// Whether more puts definitely were ahead of what the removal of this number found than other
+/// removals can have been before it. Then no order is valid.
 pub fn is_blocked(history: &ObjectHistory, number: u32, from: u32) -> bool {
     Ahead::of(history, number, from).is_some_and(|ahead| {
         let puts = history.ops.iter().filter(|o| ahead.is_ahead(o)).count();

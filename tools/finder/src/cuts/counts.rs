@@ -1,5 +1,5 @@
 //! Counts: a content that was taken away more often than it can have been there, or values that
-//! surely were ahead of what a removal found. They need no search.
+//! definitely were ahead of what a removal found. They need no search.
 
 use super::ahead::is_blocked;
 use crate::history::{Invocation, ObjectHistory};
@@ -18,7 +18,8 @@ pub enum Counted {
     Held,
     /// A mutex that is free.
     Free,
-    /// What surely was ahead of what the removal of this number found, in a queue, stack or heap.
+    /// What definitely was ahead of what the removal of this number found, in a queue, stack or
+    /// heap.
     Ahead(u32),
 }
 

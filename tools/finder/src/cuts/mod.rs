@@ -47,8 +47,8 @@ pub enum Cut {
     From(u32),
     /// What was invoked before this number, pending where it had not returned by then.
     Until(u32),
-    /// All except what was done with this value before this number, where it surely was not in the
-    /// queue, stack or heap.
+    /// All except what was done with this value before this number, where it definitely was not in
+    /// the queue, stack or heap.
     Without { value: i64, before: u32 },
     /// The operations with these numbers, which keep these values, or at a map these keys.
     Keep { values: Values, numbers: BTreeSet<u32> },
@@ -160,7 +160,7 @@ mod tests {
     }
 
     #[test]
-    fn a_value_is_left_out_only_if_it_surely_was_not_in() {
+    fn a_value_is_left_out_only_if_it_definitely_was_not_in() {
         let without = |before| numbers_of(part_by(&queue(), &[Cut::Without { value: 1, before }]));
         assert_eq!(without(5), None);
         assert_eq!(without(6), Some(vec![2, 3]));

@@ -10,11 +10,16 @@ enum Rank {
     FindsNone,
 }
 
+/// A call that is lined up: the number of calls that find nothing before it, its gap, its rank, and
+/// its number.
+type Step = (usize, u32, Rank, u32);
+
 /// The calls that are lined up, each in the first gap that those before it leave.
 #[derive(Default)]
 pub struct Line {
-    /// The number of calls that find nothing before each call, its gap and rank, and its number.
-    steps: Vec<(usize, u32, Rank, u32)>,
+    puts: Vec<Step>,
+    takes: Vec<Step>,
+    empties: Vec<Step>,
     phase: usize,
     /// The gap of the last call that finds nothing, and 0 where there is none.
     from: u32,
@@ -25,12 +30,12 @@ pub struct Line {
 impl Line {
     pub fn put(&mut self, call: &Span) {
         self.put_at = call.begin.max(self.from).max(self.put_at);
-        self.steps.push((self.phase, self.put_at, Rank::Put, call.number));
+        self.puts.push((self.phase, self.put_at, Rank::Put, call.number));
     }
 
     pub fn take(&mut self, call: &Span) {
         self.take_at = call.begin.max(self.put_at).max(self.take_at);
-        self.steps.push((self.phase, self.take_at, Rank::Take, call.number));
+        self.takes.push((self.phase, self.take_at, Rank::Take, call.number));
     }
 
     /// A call finds nothing, in the first gap that those before it leave.
@@ -41,14 +46,16 @@ impl Line {
 
     /// A call finds nothing in this gap.
     pub fn find_none_in(&mut self, gap: u32, number: u32) {
-        self.steps.push((self.phase, gap, Rank::FindsNone, number));
+        self.empties.push((self.phase, gap, Rank::FindsNone, number));
         self.from = gap;
         self.phase += 1;
     }
 
     /// The numbers of the calls in their order.
-    pub fn order(mut self) -> Vec<u32> {
-        self.steps.sort_by_key(|(phase, gap, rank, _)| (*phase, *gap, *rank));
-        self.steps.into_iter().map(|(_, _, _, number)| number).collect()
+    pub fn order(self) -> Vec<u32> {
+        // Each list is in order, so they are merged.
+        let mut steps = [self.puts, self.takes, self.empties].concat();
+        steps.sort_by_key(|(phase, gap, rank, _)| (*phase, *gap, *rank));
+        steps.into_iter().map(|(_, _, _, number)| number).collect()
     }
 }

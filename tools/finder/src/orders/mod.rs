@@ -62,6 +62,11 @@ pub fn quick_order(history: &ObjectHistory) -> Quick {
     }
 }
 
+/// Whether the quick methods take long: those of a stack in which values repeat try many pairs.
+pub fn is_slow(history: &ObjectHistory) -> bool {
+    history.kind == Kind::Stack && Touches::of(&Timeline::of(&history.ops).calls).repeat()
+}
+
 /// An order of the calls of a queue, stack or heap that may be valid.
 fn values_order(
     history: &ObjectHistory,

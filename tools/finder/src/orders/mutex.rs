@@ -3,7 +3,7 @@
 //! releases, so nothing better can be chosen.
 
 use crate::model::Op;
-use crate::timeline::{Timeline, moments_of};
+use crate::timeline::Timeline;
 use std::collections::BTreeSet;
 
 /// An order of the calls that may be valid.
@@ -13,7 +13,7 @@ pub fn mutex_order(timeline: &Timeline) -> Option<Vec<u32>> {
     let mut releases = BTreeSet::new();
     let mut held = false;
     let mut order = Vec::new();
-    for moment in moments_of(timeline.calls.iter()) {
+    for moment in &timeline.moments {
         let call = &timeline.calls[moment.call];
         let acquires_it = call.op == Op::Acquire;
         let (own, others) = match acquires_it {

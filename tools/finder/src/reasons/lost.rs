@@ -19,6 +19,8 @@ pub struct LostValue {
     pub times: usize,
     /// The numbers of as many removals of it as there are, that were invoked later.
     pub later: Vec<u32>,
+    /// Whether an equal value was taken too.
+    pub is_repeated: bool,
 }
 
 /// What a removal did not find.
@@ -34,8 +36,8 @@ pub struct Lost {
 }
 
 impl Lost {
-    /// What the removal of this number did not find, where puts count from a number on, by a part of
-    /// the history that shows it. `None`: the part shows nothing of that kind.
+    /// What the removal of this number did not find, where puts count from a number on, by a part
+    /// of the history that shows it. `None`: the part shows nothing of that kind.
     pub fn of(
         history: &ObjectHistory,
         part: &ObjectHistory,
@@ -59,14 +61,15 @@ impl Lost {
         let values = surplus.into_iter().filter(|(_, surplus)| *surplus > 0);
         let values = values.map(|(value, times)| {
             let times = times.unsigned_abs();
-            LostValue { value, times, later: ahead.later(history, value, times) }
+            let is_repeated = history.ops.iter().any(|o| o.takes() == Some(value));
+            LostValue { value, times, later: ahead.later(history, value, times), is_repeated }
         });
         let lost = Lost { number, found: ahead.found, most, values: values.collect() };
         (lost.count() > most).then_some(lost)
     }
 
     /// What is lost in the part of a reason by a count, or of one in which a removal finds nothing
-    /// while a single value surely is in.
+    /// while a single value definitely is in.
     pub fn by(history: &ObjectHistory, part: &ObjectHistory, reason: &Reason) -> Option<Lost> {
         match (reason.count.map(|count| (count.counted, count.from)), &part.ops[..]) {
             (Some((Counted::Ahead(number), from)), _) => Lost::of(history, part, number, from),
@@ -87,14 +90,16 @@ impl Lost {
     fn place(&self, kind: Kind) -> String {
         let (word, number) = (kind.word(), self.number);
         match (self.found, kind) {
-            (None, _) => format!("in the {word} before map {number} found nothing"),
+            (None, _) => format!("in the {word} before event {number} found nothing"),
             (Some(found), Kind::Heap) => {
-                format!("in the heap and less than value {found} before map {number} extracted it")
+                format!(
+                    "in the heap and less than value {found} before event {number} extracted it"
+                )
             }
             (Some(found), Kind::Queue) => {
-                format!("enqueued before value {found}, which map {number} dequeued")
+                format!("enqueued before value {found}, which event {number} dequeued")
             }
-            (Some(found), _) => format!("pushed on value {found}, which map {number} popped"),
+            (Some(found), _) => format!("pushed on value {found}, which event {number} popped"),
         }
     }
 
@@ -104,7 +109,8 @@ impl Lost {
             (self.found, self.most, &self.values[..])
         {
             let (word, number, fate) = (kind.word(), self.number, lost.fate(kind));
-            let find = format!("the {word} was surely not empty when map {number} found nothing");
+            let find =
+                format!("the {word} was definitely not empty when event {number} found nothing");
             return format!("{find}: {lost} was in it ({fate})");
         }
         let were = if self.count() == 1 { "value was" } else { "values were" };
@@ -121,7 +127,8 @@ impl Lost {
     /// The values, each with what became of it; those together that were never taken.
     fn named(&self, kind: Kind) -> String {
         let values = self.values.iter().take(MOST_NAMED);
-        let is_together = |lost: &&LostValue| lost.later.is_empty() && lost.times == 1;
+        let is_together =
+            |lost: &&LostValue| lost.later.is_empty() && lost.times == 1 && !lost.is_repeated;
         let (never, others): (Vec<_>, Vec<_>) = values.partition(is_together);
         let names: Vec<String> = never.iter().map(|lost| lost.value.to_string()).collect();
         let word = if names.len() == 1 { "value" } else { "values" };
@@ -140,13 +147,14 @@ impl LostValue {
         let seen = kind.seen();
         let numbers = self.later.iter().take(MOST_NAMED).map(u32::to_string);
         let numbers: Vec<String> = numbers.collect();
-        let maps = match numbers.len() {
+        let events = match numbers.len() {
+            0 if self.is_repeated => return format!("not {seen} after that"),
             0 => return format!("never {seen}"),
-            1 => "map",
-            _ => "maps",
+            1 => "event",
+            _ => "events",
         };
         let rest = if self.later.len() < self.times { ", the rest never" } else { "" };
-        format!("{seen} later, by {maps} {}{rest}", listed(&numbers))
+        format!("{seen} later, by {events} {}{rest}", listed(&numbers))
     }
 }
 
@@ -160,8 +168,8 @@ impl Display for LostValue {
 }
 
 impl Ahead {
-    /// The numbers of the first removals of a value that were invoked after the removal returned, at
-    /// most this many.
+    /// The numbers of the first removals of a value that were invoked after the removal returned,
+    /// at most this many.
     fn later(&self, history: &ObjectHistory, value: i64, most: usize) -> Vec<u32> {
         let later = history.ops.iter().filter(|o| o.number > self.at && o.takes() == Some(value));
         later.take(most).map(|o| o.number).collect()

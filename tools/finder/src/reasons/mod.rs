@@ -5,6 +5,7 @@
 
 mod cells;
 mod containers;
+mod facts;
 mod lost;
 mod narrow;
 mod pattern;
@@ -15,8 +16,9 @@ mod shrink;
 mod value_pairs;
 mod wholes;
 
+pub use facts::{Facts, Undone};
 pub use lost::{Lost, LostValue};
-pub use pattern::{Pattern, Sentence};
+pub use pattern::{Beginning, FirstEvent, Pattern, Sentence};
 pub use reason::{FoundReason, Reason, Refuted, Search, Shown};
 
 use crate::cuts::{Cut, Values};
@@ -41,18 +43,31 @@ fn found(
     by: Search,
 ) -> Option<FoundReason> {
     let narrower = narrowed(history, &proposal.reason.cuts, &refuted, by);
-    let (Proposal { reason, pattern, key }, part) = match narrower {
+    let (proposal, part) = match narrower {
         Some((narrower, part)) => {
             let key = narrower.key.or(proposal.key);
             (Proposal { key, ..narrower }, part)
         }
         None => (proposal, refuted.part?),
     };
-    let lost = Lost::by(history, &part, &reason);
+    Some(as_found(history, proposal, &part, by))
+}
+
+/// The proposal, which was shown by this part.
+fn as_found(
+    history: &ObjectHistory,
+    proposal: Proposal,
+    part: &ObjectHistory,
+    by: Search,
+) -> FoundReason {
+    let Proposal { reason, pattern, key } = proposal;
+    let lost = Lost::by(history, part, &reason);
     let pattern = lost.map_or(pattern, Pattern::Lost);
     let shown = reason.count.map_or(Shown::BySearch(by), Shown::ByCount);
-    let sentence = Sentence { kind: history.kind, key, pattern };
-    Some(FoundReason { cuts: reason.cuts, shown, sentence })
+    let beginning = Beginning::of(history, &reason.cuts, part);
+    let facts = Facts::of(history, part, key, &pattern);
+    let sentence = Sentence { kind: history.kind, key, pattern, facts, beginning, first: None };
+    FoundReason { cuts: reason.cuts, shown, sentence }
 }
 
 /// How a part is searched in the end.
@@ -83,6 +98,18 @@ pub fn find_by_patterns(
 ) -> Option<FoundReason> {
     let proposal = propose::propose(history, open_key, steps)?;
     confirm(history, proposal, by_return(steps))
+}
+
+/// The same, where reasons are made smaller by at most `budget` steps in all.
+pub fn find_within(
+    history: &ObjectHistory,
+    open_key: Option<i64>,
+    steps: u64,
+    budget: u64,
+) -> Option<FoundReason> {
+    let proposal = propose::propose_within(history, open_key, steps, budget)?;
+    let part = proposal.reason.shown(history, by_return(steps))?;
+    Some(as_found(history, proposal, &part, by_return(steps)))
 }
 
 /// The same in what was done with two values of a queue, stack or heap in which values repeat.

@@ -126,7 +126,7 @@ pub fn narrowed(
     let mut narrowing = Narrowing::new(part, by, searched);
     let window = narrowing.window()?;
     let small = part_by(part, &window)?;
-    let found = propose_within(&small, STEPS_OF_A_PART, narrowing.left);
+    let found = propose_within(&small, None, STEPS_OF_A_PART, narrowing.left);
     let is_smaller = |reason: Reason| {
         let smaller = reason.shown(history, by)?;
         (smaller.ops.len() < part.ops.len()).then_some((reason, smaller))

@@ -1,8 +1,9 @@
 //! Patterns: what is wrong in a history, and the sentence that says it.
 
-use super::Lost;
-use crate::cuts::Counted;
-use crate::model::Kind;
+use super::{Facts, Lost, Undone};
+use crate::cuts::{Counted, Cut};
+use crate::history::{Invocation, ObjectHistory};
+use crate::model::{Kind, Op, Reply};
 use std::fmt::{self, Display, Formatter};
 
 /// A fact about an object's whole history that no valid order allows. At a map the values are those
@@ -19,11 +20,13 @@ pub enum Pattern {
     /// When `taken` operations that take the value have returned, fewer are invoked that put it in,
     /// or set it.
     TakenTooOften { value: i64, taken: usize, set: usize },
-    /// The operation finds nothing, and at each moment of it some value surely is in the object.
+    /// The operation finds nothing, and at each moment of it some value definitely is in the
+    /// object.
     SurelyNotEmpty { number: u32 },
-    /// The value is extracted from a heap while a smaller one surely is in it.
+    /// The value is extracted from a heap while a smaller one definitely is in it.
     UnderSmaller { taken: i64, smaller: i64 },
-    /// The value is extracted from a heap while at each moment some smaller one surely is in it.
+    /// The value is extracted from a heap while at each moment some smaller one definitely is in
+    /// it.
     UnderSmallerOnes(i64),
     /// The first value is put in before the second one. A queue gives the second before the first,
     /// a stack the first before the second, which was pushed on it.
@@ -39,11 +42,12 @@ pub enum Pattern {
     Stale(Option<i64>),
     /// Each of two values, which are set once, is seen before the other one is.
     EachBeforeTheOther(i64, i64),
-    /// A swap is refused while the value that it expects surely is there.
+    /// A swap is refused while the value that it expects definitely is there.
     RefusedUnderItsValue { value: i64, number: u32 },
     /// A content is taken away in a time more often than it can have been there.
     CountExceeded(Counted),
-    /// More values surely were ahead of what a removal found than can have been taken out before.
+    /// More values definitely were ahead of what a removal found than can have been taken out
+    /// before.
     Lost(Lost),
     /// No pattern: a part was found that has no valid order.
     General,
@@ -77,7 +81,8 @@ impl Kind {
     /// What is done to one that is not there any more after the operation.
     fn taken(self) -> &'static str {
         match self {
-            Kind::Register | Kind::Map => "taken away",
+            Kind::Register => "replaced by :cas",
+            Kind::Map => "replaced or removed",
             _ => self.seen(),
         }
     }
@@ -95,12 +100,81 @@ impl Display for Times {
     }
 }
 
-/// What a pattern says of an object of this kind; at a map, of this key.
+/// The operation at which a part begins, of which the part has nothing since it left the object
+/// empty, or free: what was before it does not count.
+#[derive(Clone, Copy, Debug, PartialEq, Eq)]
+pub struct Beginning {
+    /// The number of its invocation.
+    pub number: u32,
+    op: Op,
+    reply: Reply,
+}
+
+impl Beginning {
+    /// That of the part that these cuts leave of a history.
+    pub(super) fn of(
+        history: &ObjectHistory,
+        cuts: &[Cut],
+        part: &ObjectHistory,
+    ) -> Option<Beginning> {
+        let number = cuts.iter().rev().find_map(|cut| match cut {
+            Cut::From(number) => Some(*number),
+            _ => None,
+        })?;
+        let place = |ops: &[Invocation]| ops.binary_search_by_key(&number, |o| o.number).ok();
+        let own = &history.ops[place(&history.ops)?];
+        let (op, reply) = (own.op, own.reply()?);
+        let leaves_nothing = match op {
+            Op::Release | Op::Del(_) => true,
+            op => op.puts().is_none() && reply == Reply::Value(None) && op != Op::Acquire,
+        };
+        let is_left_out = leaves_nothing && place(&part.ops).is_none();
+        is_left_out.then_some(Beginning { number, op, reply })
+    }
+}
+
+impl Display for Beginning {
+    fn fmt(&self, f: &mut Formatter<'_>) -> fmt::Result {
+        let did = match (self.op, self.reply) {
+            (Op::Release, _) => "released the lock",
+            (Op::Del(_), Reply::Value(Some(_))) => "took the value away",
+            _ => "found nothing",
+        };
+        write!(f, "before that, event {} {did}", self.number)
+    }
+}
+
+/// The first event by which there is no valid order: it is one from the least to the most.
+#[derive(Clone, Copy, Debug, PartialEq, Eq)]
+pub struct FirstEvent {
+    pub least: u32,
+    pub most: u32,
+}
+
+impl Display for FirstEvent {
+    fn fmt(&self, f: &mut Formatter<'_>) -> fmt::Result {
+        let FirstEvent { least, most } = self;
+        match least == most {
+            true => write!(f, "event {most} is the first that leaves no order"),
+            false => write!(
+                f,
+                "the first event that leaves no order is one from event {least} to event {most}"
+            ),
+        }
+    }
+}
+
+/// What a pattern says of an object of this kind; at a map, of this key; what is said beside it;
+/// where the part begins that shows it; and what is the first event by which there is no order, if
+/// that was looked for.
 #[derive(Clone, Debug, PartialEq, Eq)]
 pub struct Sentence {
     pub kind: Kind,
     pub key: Option<i64>,
     pub pattern: Pattern,
+    pub facts: Facts,
+    pub beginning: Option<Beginning>,
+    pub first: Option<FirstEvent>,
 }
 
 impl Display for Sentence {
@@ -108,13 +182,44 @@ impl Display for Sentence {
         if let Some(key) = self.key {
             write!(f, "key {key}: ")?;
         }
+        self.say_pattern(f)?;
+        self.beginning.map_or(Ok(()), |beginning| write!(f, "; {beginning}"))?;
+        self.first.map_or(Ok(()), |first| write!(f, "; {first}"))
+    }
+}
+
+/// Those that alone would have put the value in.
+impl Display for Undone {
+    fn fmt(&self, f: &mut Formatter<'_>) -> fmt::Result {
+        let Undone { first, count, were_refused } = *self;
+        match (count, were_refused) {
+            (1, false) => write!(f, "event {first}, which failed"),
+            (1, true) => write!(f, "the :cas of event {first}, which was refused"),
+            (_, false) => {
+                write!(f, "{count} operations that failed, the first of them event {first}")
+            }
+            (_, true) => {
+                write!(f, "{count} :cas that were refused, the first of them event {first}")
+            }
+        }
+    }
+}
+
+impl Sentence {
+    /// What a pattern says of an object of this kind, and nothing more.
+    pub fn of_pattern(kind: Kind, key: Option<i64>, pattern: Pattern) -> Sentence {
+        let facts = Facts::default();
+        Sentence { kind, key, pattern, facts, beginning: None, first: None }
+    }
+
+    fn say_pattern(&self, f: &mut Formatter<'_>) -> fmt::Result {
         let (put, seen, word) = (self.kind.put(), self.kind.seen(), self.kind.word());
-        if let Some((value, fate)) = self.pattern.of_value(self.kind) {
+        if let Some((value, fate)) = self.pattern.of_value(self.kind, self.facts) {
             return write!(f, "value {value} was {fate}");
         }
         match self.pattern {
             Pattern::SurelyNotEmpty { number } => {
-                write!(f, "the {word} was surely not empty when map {number} found nothing")
+                write!(f, "the {word} was definitely not empty when event {number} found nothing")
             }
             Pattern::EachBeforeTheOther(one, other) => {
                 write!(f, "each of the values {one} and {other} was {seen} before the other, ")?;
@@ -124,38 +229,64 @@ impl Display for Sentence {
             Pattern::Stale(None) => {
                 write!(f, "nil was {seen} after another content had replaced it")
             }
-            Pattern::CountExceeded(Counted::NoEntry(_)) => f.write_str(
-                "it was found without a value more often than it can have been without one",
-            ),
+            Pattern::CountExceeded(Counted::NoEntry(_)) => {
+                f.write_str("nil was seen more often than the key can have been without a value")
+            }
             Pattern::CountExceeded(Counted::Held) => {
                 f.write_str("the lock was released more often than it can have been held")
             }
             Pattern::CountExceeded(Counted::Free) => {
                 f.write_str("the lock was acquired more often than it can have been free")
             }
-            _ => f.write_str("these operations have no valid order"),
+            _ => f.write_str("the following operations have no valid order"),
         }
     }
 }
 
 impl Pattern {
-    /// The value that the pattern is about, and what it says of it; none where it is about no value.
-    fn of_value(&self, kind: Kind) -> Option<(i64, String)> {
-        let (put, seen, taken) = (kind.put(), kind.seen(), kind.taken());
+    /// The pattern of a beginning of a history as one of the whole, of which it says how often
+    /// something was done.
+    pub(super) fn of_whole(self, history: &ObjectHistory) -> Pattern {
+        let puts = |value: i64| history.ops.iter().filter(|o| o.puts() == Some(value)).count();
+        match self {
+            Pattern::NeverSet(value) if puts(value) > 0 => Pattern::TooEarly(value),
+            Pattern::TakenTwice(value) if puts(value) > 1 => {
+                Pattern::TakenTooOften { value, taken: 2, set: 1 }
+            }
+            Pattern::NeverSet(_) | Pattern::EachBeforeTheOther(..)
+                if !history.kind.is_container() =>
+            {
+                Pattern::General
+            }
+            pattern => pattern,
+        }
+    }
+
+    /// The value that the pattern is about, and what it says of it; none where it is about no
+    /// value.
+    fn of_value(&self, kind: Kind, facts: Facts) -> Option<(i64, String)> {
+        let (put, taken) = (kind.put(), kind.taken());
+        let seen = if facts.is_by_swap { "expected by an accepted :cas" } else { kind.seen() };
         Some(match *self {
-            Pattern::NeverSet(value) => (value, format!("{seen} and never {put}")),
+            Pattern::NeverSet(value) => match facts.undone {
+                Some(undone) => (value, format!("{seen} and only {put} by {undone}")),
+                None => (value, format!("{seen} and never {put}")),
+            },
             Pattern::TooEarly(value) => (value, format!("{seen} before it was {put}")),
             Pattern::TakenTwice(value) => (value, format!("{put} once and {taken} twice")),
             Pattern::TakenTooOften { value, taken: times, set } => {
                 let (times, set) = (Times(times), Times(set));
                 (value, format!("{taken} {times} and by then {put} {set}"))
             }
+            Pattern::Stale(value) if kind == Kind::Map => {
+                (value?, format!("{seen} after it had been replaced or removed"))
+            }
             Pattern::Stale(value) => {
                 (value?, format!("{seen} after another content had replaced it"))
             }
             Pattern::RefusedUnderItsValue { value, number } => {
-                let swap = format!("the swap of map {number}, which expects it");
-                (value, format!("surely there when {swap}, was refused"))
+                let swap = format!("the :cas of event {number}, which expects it");
+                (value, format!("definitely there when {swap}, was refused"))
             }
             Pattern::CountExceeded(Counted::Value(value) | Counted::Entry { value, .. }) => {
                 (value, format!("{taken} more often than it can have been there"))
@@ -169,11 +300,11 @@ impl Pattern {
         let (put, seen, word) = (kind.put(), kind.seen(), kind.word());
         Some(match *self {
             Pattern::UnderSmaller { taken: value, smaller } => {
-                let smaller = format!("the smaller value {smaller} was surely in the {word}");
+                let smaller = format!("the smaller value {smaller} was definitely in the {word}");
                 (value, format!("{seen} while {smaller}"))
             }
             Pattern::UnderSmallerOnes(value) => {
-                (value, format!("{seen} while some smaller value was surely in the {word}"))
+                (value, format!("{seen} while some smaller value was definitely in the {word}"))
             }
             Pattern::WrongOrder { first, second } if kind == Kind::Stack => {
                 (first, format!("popped before value {second}, which was pushed on it"))
@@ -191,5 +322,41 @@ impl Pattern {
             }
             _ => return None,
         })
+    }
+}
+
+#[cfg(test)]
+mod tests {
+    use super::*;
+    use crate::cuts::part_by;
+    use crate::read_history;
+
+    /// What is said of where the part begins that these cuts leave of one process's calls.
+    fn beginning_of(calls: &[(&str, &str, &str)], cuts: &[Cut]) -> Option<String> {
+        let events = calls.iter().map(|(function, argument, reply)| {
+            let head = format!("{{:process 0, :f :{function}");
+            format!("{head}, :type :invoke, :value {argument}}}{head}, :type :ok, :value {reply}}}")
+        });
+        let history = read_history(events.collect::<String>().as_bytes()).expect("a history");
+        let history = &history.objects[0];
+        let part = part_by(history, cuts).expect("a part");
+        Beginning::of(history, cuts, &part).map(|beginning| beginning.to_string())
+    }
+
+    #[test]
+    fn what_left_nothing_is_named() {
+        let queue = [("enqueue", "1", "1"), ("dequeue", "nil", "1"), ("dequeue", "nil", "nil")];
+        let said = beginning_of(&queue, &[Cut::From(4)]);
+        assert_eq!(said.as_deref(), Some("before that, event 4 found nothing"));
+        assert_eq!(beginning_of(&queue, &[Cut::Until(6)]), None);
+        let lock = [("acquire", "nil", "nil"), ("release", "nil", "nil")];
+        let said = beginning_of(&lock, &[Cut::From(2), Cut::Until(4)]);
+        assert_eq!(said.as_deref(), Some("before that, event 2 released the lock"));
+        assert_eq!(beginning_of(&lock, &[Cut::From(0)]), None);
+        let map = [("put", "[5 1]", "nil"), ("del", "5", "1"), ("get", "5", "nil")];
+        let said = beginning_of(&map, &[Cut::From(2)]);
+        assert_eq!(said.as_deref(), Some("before that, event 2 took the value away"));
+        let said = beginning_of(&map, &[Cut::From(4)]);
+        assert_eq!(said.as_deref(), Some("before that, event 4 found nothing"));
     }
 }

@@ -29,7 +29,7 @@ impl Candidate {
 pub enum Element {
     Value(i64),
     /// A value of a queue, stack or heap, without what was done with it before this number, where
-    /// it surely was not in.
+    /// it definitely was not in.
     Since(i64, u32),
     Operation(u32),
 }

@@ -243,14 +243,17 @@ impl Proposer<'_> {
 /// where it has no reason that is small enough. The search for an order of one part takes at most
 /// this many steps.
 pub fn propose(history: &ObjectHistory, open_key: Option<i64>, steps: u64) -> Option<Proposal> {
-    let budget = Cell::new(u64::MAX);
-    Proposer { history, steps, budget }.propose(open_key)
+    propose_within(history, open_key, steps, u64::MAX)
 }
 
-/// The same of a part in which a plan is made smaller by as many steps in all.
-pub fn propose_within(part: &ObjectHistory, steps: u64, budget: u64) -> Option<Proposal> {
-    let proposer = Proposer { history: part, steps, budget: Cell::new(budget) };
-    proposer.propose(None)
+/// The same, where plans are made smaller by at most `budget` steps in all.
+pub fn propose_within(
+    history: &ObjectHistory,
+    open_key: Option<i64>,
+    steps: u64,
+    budget: u64,
+) -> Option<Proposal> {
+    Proposer { history, steps, budget: Cell::new(budget) }.propose(open_key)
 }
 
 /// The same of what was done with two values of a queue, stack or heap in which values repeat.

@@ -1,6 +1,6 @@
 //! Reasons, and their check.
 
-use super::Sentence;
+use super::{Facts, FirstEvent, Lost, Pattern, Sentence};
 use crate::cuts::{Count, Cut, is_exceeded, part_by};
 use crate::history::ObjectHistory;
 use crate::search::{First, Outcome, Searched, search};
@@ -56,6 +56,16 @@ pub enum Shown {
     BySearch(Search),
 }
 
+impl Shown {
+    /// The count, and how a part is searched where there is none.
+    fn parts(self) -> (Option<Count>, Search) {
+        match self {
+            Shown::ByCount(count) => (Some(count), Search { first: First::Return, steps: 0 }),
+            Shown::BySearch(search) => (None, search),
+        }
+    }
+}
+
 /// A reason that was checked, and a sentence that says what is wrong.
 #[derive(Clone, Debug)]
 pub struct FoundReason {
@@ -63,4 +73,42 @@ pub struct FoundReason {
     pub shown: Shown,
     /// It is a guess: the pattern that led to the reason.
     pub sentence: Sentence,
+}
+
+impl FoundReason {
+    /// How many operations its part has.
+    pub fn size(&self, history: &ObjectHistory) -> usize {
+        part_by(history, &self.cuts).map_or(0, |part| part.ops.len())
+    }
+
+    /// The number before which all its operations were invoked.
+    pub fn until(&self) -> u32 {
+        let untils = self.cuts.iter().filter_map(|cut| match cut {
+            Cut::Until(number) => Some(*number),
+            _ => None,
+        });
+        untils.min().unwrap_or(u32::MAX)
+    }
+
+    /// The same reason, which is of what was invoked before this number, as one of the whole history,
+    /// if it is one.
+    pub fn in_whole(self, history: &ObjectHistory, until: u32) -> Option<FoundReason> {
+        let FoundReason { mut cuts, shown, sentence } = self;
+        if cuts.last() == Some(&Cut::Until(until)) {
+            cuts.pop();
+        }
+        cuts.insert(0, Cut::Until(until));
+        let (count, by) = shown.parts();
+        let reason = Reason { cuts, count };
+        let part = reason.shown(history, by)?;
+        let lost = Lost::by(history, &part, &reason).map(Pattern::Lost);
+        let pattern = lost.unwrap_or_else(|| sentence.pattern.of_whole(history));
+        let facts = Facts::of(history, &part, sentence.key, &pattern);
+        let sentence = Sentence { pattern, facts, ..sentence };
+        Some(FoundReason { cuts: reason.cuts, shown, sentence })
+    }
+
+    pub fn with_first(self, first: FirstEvent) -> FoundReason {
+        FoundReason { sentence: Sentence { first: Some(first), ..self.sentence }, ..self }
+    }
 }

@@ -1,7 +1,7 @@
 //! The puts and removals of one value, paired as they come.
 //!
 //! A removal takes a value whose put has returned. Where there is none it waits for the next put
-//! that returns, and takes one that runs when it returns itself. So the value surely is in the
+//! that returns, and takes one that runs when it returns itself. So the value definitely is in the
 //! object in few gaps.
 
 use super::{Gaps, Removals, Residence, Touch, pair_by_begins};

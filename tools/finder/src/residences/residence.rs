@@ -16,14 +16,14 @@ pub struct Residence {
 }
 
 impl Residence {
-    /// The first gap in which the value surely is in the object, if it surely is in any: the put
-    /// has returned, or the removal has.
-    pub fn surely_from(&self) -> u32 {
+    /// The first gap in which the value definitely is in the object, if it definitely is in any:
+    /// the put has returned, or the removal has.
+    pub fn definitely_from(&self) -> u32 {
         self.put.end.min(self.taken_by())
     }
 
     /// The first gap in which it may be gone.
-    pub fn surely_to(&self) -> u32 {
+    pub fn definitely_to(&self) -> u32 {
         self.taken_from().max(self.put.begin)
     }
 
@@ -67,7 +67,7 @@ pub fn pair_by_begins(touches: &[Touch]) -> Option<Vec<Residence>> {
     pair(touches, |touch| touch.call.begin)
 }
 
-/// The same, each put that returns with the removal that begins: so each value is surely in the
+/// The same, each put that returns with the removal that begins: so each value is definitely in the
 /// object only while more of its puts have returned than removals have begun.
 pub fn pair_by_counts(touches: &[Touch]) -> Option<Vec<Residence>> {
     pair(touches, |touch| if touch.takes { touch.call.begin } else { touch.call.end })

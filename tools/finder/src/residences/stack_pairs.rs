@@ -1,8 +1,8 @@
 //! The pushes and pops of a stack, paired as they come.
 //!
 //! A pop takes its value when it returns: of those whose push has returned the last that can be on
-//! top, or else one whose push runs. A value can be on top where each that surely is above it can
-//! be popped by a pop that runs, and these then are.
+//! top, or else one whose push runs. A value can be on top where each that definitely is above it
+//! can be popped by a pop that runs, and these then are.
 
 use super::{NEVER, Residence, Sure, Touch, Touches};
 use crate::timeline::Span;
@@ -46,7 +46,7 @@ enum Event {
 }
 
 /// What happens, in the order in which it does. A call that finds nothing does so at the first gap
-/// in which the fewest values surely are in the stack.
+/// in which the fewest values definitely are in the stack.
 fn events_of(touches: &Touches, end: u32) -> Vec<Event> {
     // a gap is after the moment of the same number
     let mut events = Vec::new();
@@ -116,7 +116,7 @@ impl<'a> Contents<'a> {
         (NEVER - self.touches[put].call.begin, put)
     }
 
-    /// The pushes of the values that surely are above this one when the pop begins. `None`: not
+    /// The pushes of the values that definitely are above this one when the pop begins. `None`: not
     /// each of them can be popped by a pop that runs, or by one of `others` pending pops.
     fn above(&self, put: usize, take: usize, mut others: usize) -> Option<Vec<usize>> {
         let (put, take) = (&self.touches[put], &self.touches[take]);

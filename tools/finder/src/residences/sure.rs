@@ -1,5 +1,5 @@
-//! How many values surely are in a queue or stack at each gap, whichever removals take them: of a
-//! value as many as more of its puts have returned than removals have begun.
+//! How many values definitely are in a queue or stack at each gap, whichever removals take them: of
+//! a value as many as more of its puts have returned than removals have begun.
 
 use super::Touch;
 use super::residence::pair_by_counts;
@@ -10,31 +10,35 @@ pub struct Sure {
     counts: Least,
 }
 
+/// In how many of these ranges of gaps each gap is, up to the last.
+pub fn counts_of(ranges: impl Iterator<Item = (u32, u32)>, last: u32) -> Vec<i64> {
+    let mut numbers = vec![0; last as usize + 1];
+    let mut add = |gap: u32, change: i64| {
+        if let Some(number) = numbers.get_mut(gap as usize) {
+            *number += change;
+        }
+    };
+    for (from, to) in ranges.filter(|(from, to)| from < to) {
+        add(from, 1);
+        add(to, -1);
+    }
+    let mut count = 0;
+    for number in &mut numbers {
+        count += *number;
+        *number = count;
+    }
+    numbers
+}
+
 impl Sure {
     /// `None`: a value is taken more often than it is put in.
     pub fn new(known: &[Touch], end: u32) -> Option<Sure> {
-        let mut numbers = vec![0; end as usize + 1];
-        let mut add = |place: u32, change: i64| {
-            if let Some(number) = numbers.get_mut(place as usize) {
-                *number += change;
-            }
-        };
-        for residence in &pair_by_counts(known)? {
-            let (from, to) = (residence.put.end, residence.taken_from());
-            if from < to {
-                add(from, 1);
-                add(to, -1);
-            }
-        }
-        let mut count = 0;
-        for number in &mut numbers {
-            count += *number;
-            *number = count;
-        }
-        Some(Sure { counts: Least::of(&numbers) })
+        let residences = pair_by_counts(known)?;
+        let ranges = residences.iter().map(|it| (it.put.end, it.taken_from()));
+        Some(Sure { counts: Least::of(&counts_of(ranges, end)) })
     }
 
-    /// The first gap `from <= gap < to` in which the fewest values surely are in the object.
+    /// The first gap `from <= gap < to` in which the fewest values definitely are in the object.
     pub fn fewest(&self, from: u32, to: u32) -> Option<u32> {
         let (from, to) = (from as usize, to as usize);
         let fewest = self.counts.least(from, to);

@@ -25,16 +25,20 @@ pub struct Touches {
 impl Touches {
     pub fn of(calls: &[Call]) -> Touches {
         let mut touches = Touches::default();
+        let mut taken = Vec::new();
         for call in calls {
             let span = call.span();
             match call.op.role(call.reply) {
                 Role::Puts(value) => touches.known.push(Touch { value, takes: false, call: span }),
-                Role::Takes(value) => touches.known.push(Touch { value, takes: true, call: span }),
+                Role::Takes(value) => taken.push(Touch { value, takes: true, call: span }),
                 Role::FindsNone => touches.empties.push(span),
                 Role::Unknown => touches.unknown.push(span),
             }
         }
-        touches.known.sort_unstable_by_key(|touch| (touch.value, touch.takes, touch.call.begin));
+        touches.known.append(&mut taken);
+        // The calls come in the order of their begins, which stays that of equal ones. Values are
+        // often put in rising order: then these are sorted.
+        touches.known.sort_by_key(|touch| (touch.value, touch.takes));
         touches
     }
 

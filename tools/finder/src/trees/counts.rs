@@ -1,13 +1,19 @@
 //! How often places are covered: the first of a range that is not.
 
+/// A part of the places.
+#[derive(Clone, Copy, Default)]
+struct Node {
+    /// The least count in it, without what was added to parts that hold it.
+    least: i64,
+    /// What was added to the part as a whole.
+    added: i64,
+}
+
 /// How often each place is covered.
 pub struct Counts {
     width: usize,
-    /// For each part of a binary tree the least count in it, without what was added to parts that
-    /// hold it.
-    least: Vec<i64>,
-    /// What was added to the part as a whole.
-    added: Vec<i64>,
+    /// For each part of a binary tree.
+    nodes: Vec<Node>,
 }
 
 /// Part of the tree: a node, and which leaves are below it.
@@ -40,12 +46,14 @@ impl Counts {
     /// The places, each covered as often as this list says.
     pub fn of(numbers: &[i64]) -> Counts {
         let width = numbers.len().next_power_of_two();
-        let mut least = vec![0; 2 * width];
-        least[width..width + numbers.len()].copy_from_slice(numbers);
-        for node in (1..width).rev() {
-            least[node] = least[2 * node].min(least[2 * node + 1]);
+        let mut nodes = vec![Node::default(); 2 * width];
+        for (node, number) in nodes[width..].iter_mut().zip(numbers) {
+            node.least = *number;
         }
-        Counts { width, least, added: vec![0; 2 * width] }
+        for node in (1..width).rev() {
+            nodes[node].least = nodes[2 * node].least.min(nodes[2 * node + 1].least);
+        }
+        Counts { width, nodes }
     }
 
     fn root(&self) -> Part {
@@ -63,14 +71,15 @@ impl Counts {
             return;
         }
         if part.is_inside(from, to) {
-            self.least[node] += change;
-            self.added[node] += change;
+            self.nodes[node].least += change;
+            self.nodes[node].added += change;
             return;
         }
         for half in part.halves() {
             self.add_in(half, from, to, change);
         }
-        self.least[node] = self.least[2 * node].min(self.least[2 * node + 1]) + self.added[node];
+        let least = self.nodes[2 * node].least.min(self.nodes[2 * node + 1].least);
+        self.nodes[node].least = least + self.nodes[node].added;
     }
 
     /// The first place in a range that is not covered.
@@ -79,13 +88,13 @@ impl Counts {
     }
 
     fn free_in(&self, part: Part, from: usize, to: usize, above: i64) -> Option<usize> {
-        if part.is_apart(from, to) || self.least[part.node] + above > 0 {
+        if part.is_apart(from, to) || self.nodes[part.node].least + above > 0 {
             return None;
         }
         if part.width == 1 {
             return Some(part.from);
         }
-        let above = above + self.added[part.node];
+        let above = above + self.nodes[part.node].added;
         let [left, right] = part.halves();
         self.free_in(left, from, to, above).or_else(|| self.free_in(right, from, to, above))
     }

@@ -32,7 +32,10 @@ impl Least {
         self.nodes[node] = number;
         while node > 1 {
             node /= 2;
-            self.nodes[node] = self.nodes[2 * node].min(self.nodes[2 * node + 1]);
+            let least = self.nodes[2 * node].min(self.nodes[2 * node + 1]);
+            if std::mem::replace(&mut self.nodes[node], least) == least {
+                return;
+            }
         }
     }
 

@@ -3,6 +3,7 @@
 use super::content::{Content, Item, put_by, value_reply};
 use crate::figures::{CHARACTER, SMALL_CHARACTER, characters, count_text, digits};
 use crate::timeline::{BoxKind, ContentBox, Operation};
+use crate::words::Words;
 use finder::Reply;
 use std::collections::BTreeMap;
 use std::ops::Range;
@@ -26,15 +27,27 @@ fn is_near(place: usize, length: usize, is_stack: bool) -> bool {
 }
 
 /// Boxes in the making, from left to right.
-struct Boxes {
+struct Boxes<'a> {
+    words: Words<'a>,
     boxes: Vec<ContentBox>,
     x: u32,
 }
 
-impl Boxes {
+impl Boxes<'_> {
+    /// Adds the box of values and keys.
+    fn add_values(
+        &mut self,
+        kind: BoxKind,
+        text: String,
+        under: [&'static str; 2],
+        by: Option<u32>,
+    ) {
+        self.add(kind, self.words.values(text), under, by);
+    }
+
     fn add(&mut self, kind: BoxKind, text: String, under: [&'static str; 2], by: Option<u32>) {
         let own = characters(&text) * CHARACTER + 16;
-        let by_words = by.map_or(0, |number| digits(u64::from(number)) + 3);
+        let by_words = by.map_or(0, |number| digits(u64::from(number)) + 8);
         let words = under.map(characters).into_iter().fold(by_words, u32::max);
         let width = own.max(words * SMALL_CHARACTER + 6);
         let x = self.x + if kind == BoxKind::Absent { 26 } else { 0 };
@@ -74,7 +87,7 @@ impl Boxes {
                 (false, true) => (BoxKind::Returned, "returned"),
                 (false, false) => (BoxKind::Plain, ""),
             };
-            self.add(kind, item.value.to_string(), [under, ""], Some(item.by));
+            self.add_values(kind, item.value.to_string(), [under, ""], Some(item.by));
         }
         self.gap(skipped);
         is_found
@@ -104,7 +117,7 @@ impl Boxes {
     }
 
     fn absent(&mut self, reply: Reply, under: [&'static str; 2]) {
-        self.add(BoxKind::Absent, reply.value().to_string(), under, None);
+        self.add_values(BoxKind::Absent, reply.value().to_string(), under, None);
     }
 
     /// The entries of a map; where there are many only the one of the key.
@@ -114,18 +127,18 @@ impl Boxes {
             if is_own || items.len() <= FEW {
                 let (kind, under) =
                     if is_own { (BoxKind::Gives, "gives") } else { (BoxKind::Plain, "") };
-                self.add(kind, format!("{own} {}", item.value), [under, ""], Some(item.by));
+                self.add_values(kind, format!("{own} {}", item.value), [under, ""], Some(item.by));
             }
         }
         if let Some(key) = key.filter(|key| !items.contains_key(key)) {
-            self.add(BoxKind::Gives, format!("{key} nothing"), ["gives nil", ""], None);
+            self.add_values(BoxKind::Gives, format!("{key} nothing"), ["gives nil", ""], None);
         }
     }
 }
 
 /// The boxes of what the object contains where this operation is refused.
-pub fn boxes_of(content: &Content, operation: &Operation) -> Vec<ContentBox> {
-    let mut boxes = Boxes { boxes: Vec::new(), x: 2 };
+pub fn boxes_of(content: &Content, operation: &Operation, words: Words) -> Vec<ContentBox> {
+    let mut boxes = Boxes { words, boxes: Vec::new(), x: 2 };
     let reply = operation.reply().unwrap_or(Reply::Value(None));
     match content {
         Content::Queue(_) | Content::Heap(_) | Content::Stack(_) => {
@@ -133,7 +146,7 @@ pub fn boxes_of(content: &Content, operation: &Operation) -> Vec<ContentBox> {
         }
         Content::Register(item) => {
             let text = value_reply(*item).value().to_string();
-            boxes.add(BoxKind::Gives, text, ["contains", ""], item.map(|item| item.by));
+            boxes.add_values(BoxKind::Gives, text, ["contains", ""], item.map(|item| item.by));
             boxes.absent(reply, ["returned", ""]);
         }
         Content::Map(items) => {

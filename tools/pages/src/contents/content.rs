@@ -1,8 +1,10 @@
 //! What an object contains, and which operation put it there.
 
 use crate::figures::count_text;
+use crate::words::Words;
 use finder::{Kind, Op, Reply};
 use std::collections::{BTreeMap, BTreeSet, VecDeque};
+use std::fmt::Write;
 
 /// A value, and the number of the operation that put it there.
 #[derive(Clone, Copy, PartialEq, Eq, PartialOrd, Ord)]
@@ -12,6 +14,7 @@ pub struct Item {
 }
 
 /// What an object of each kind contains.
+#[derive(Clone)]
 pub enum Content {
     /// First to last.
     Queue(VecDeque<Item>),
@@ -162,13 +165,13 @@ impl Content {
     }
 
     /// The content as text. Of a long one it tells the beginning and the end.
-    pub fn text(&self) -> String {
+    pub fn text(&self, words: &Words) -> String {
         match self {
-            Content::Queue(items) => list_text(items.len(), items.iter(), 8),
-            Content::Stack(items) => list_text(items.len(), items.iter(), 2),
-            Content::Heap(items) => list_text(items.len(), items.iter(), 8),
-            Content::Register(item) => value_reply(*item).value().to_string(),
-            Content::Map(items) => map_text(items),
+            Content::Queue(items) => list_text(items.len(), items.iter(), 8, words),
+            Content::Stack(items) => list_text(items.len(), items.iter(), 2, words),
+            Content::Heap(items) => list_text(items.len(), items.iter(), 8, words),
+            Content::Register(item) => words.values(value_reply(*item).value().to_string()),
+            Content::Map(items) => map_text(items, words),
             Content::Mutex { holder: Some(_), .. } => "held".into(),
             Content::Mutex { holder: None, .. } => "free".into(),
         }
@@ -180,8 +183,13 @@ const FEW: usize = 11;
 const SHOWN: usize = 10;
 
 /// The values with a space between them.
-fn spaced<'a>(items: impl Iterator<Item = &'a Item>) -> String {
-    items.map(|item| item.value.to_string()).collect::<Vec<_>>().join(" ")
+fn spaced<'a>(items: impl Iterator<Item = &'a Item>, words: &Words) -> String {
+    let mut text = String::new();
+    for item in items {
+        let space = if text.is_empty() { "" } else { " " };
+        let _ = write!(text, "{space}{}", item.value);
+    }
+    words.values(text)
 }
 
 /// The list of these items in brackets. Of a long one `first` are shown from its beginning.
@@ -189,21 +197,22 @@ fn list_text<'a>(
     length: usize,
     items: impl Iterator<Item = &'a Item> + Clone,
     first: usize,
+    words: &Words,
 ) -> String {
     if length <= FEW {
-        return format!("[{}]", spaced(items));
+        return format!("[{}]", spaced(items, words));
     }
     let (beginning, end) = (items.clone().take(first), items.skip(length + first - SHOWN));
     let more = count_text(length - SHOWN);
-    format!("[{} … {more} more … {}]", spaced(beginning), spaced(end))
+    format!("[{} … {more} more … {}]", spaced(beginning, words), spaced(end, words))
 }
 
 /// The most keys that the text of a map has.
 const MOST_KEYS: usize = 6;
 
 /// A map in braces, of many keys the first ones.
-fn map_text(items: &BTreeMap<i64, Item>) -> String {
-    let entry = |(key, item): (&i64, &Item)| format!("{key} {}", item.value);
+fn map_text(items: &BTreeMap<i64, Item>, words: &Words) -> String {
+    let entry = |(key, item): (&i64, &Item)| words.values(format!("{key} {}", item.value));
     let mut entries: Vec<String> = items.iter().take(MOST_KEYS).map(entry).collect();
     if items.len() > MOST_KEYS {
         entries.push(format!("… {} more", count_text(items.len() - MOST_KEYS)));

@@ -3,6 +3,7 @@
 use super::content::Content;
 use crate::figures::Placed;
 use crate::timeline::{Entry, Operation, Row, operation_at};
+use crate::words::Words;
 use finder::Kind;
 use std::collections::BTreeSet;
 
@@ -17,52 +18,78 @@ const ROWS: usize = 400;
 const SHORT: usize = 60;
 
 /// What the walk has come to.
-pub struct Walk {
+pub struct Walk<'a> {
     pub content: Content,
     pub points: Vec<Placed>,
     pub rows: Vec<Row>,
+    words: Words<'a>,
     anchor: u32,
 }
 
-impl Walk {
-    /// Takes in an entry that is valid, and is drawn or not. The content, where it is shown.
-    fn take(
-        &mut self,
-        rank: usize,
-        operation: Operation,
-        is_drawn: bool,
-        is_shown: bool,
-    ) -> Option<String> {
+impl Walk<'_> {
+    /// Passes an entry that is valid.
+    fn pass(&mut self, operation: &Operation) {
         self.content.apply(operation.number(), operation.op());
         self.anchor = self.anchor.max(operation.number());
-        if is_drawn {
-            self.place(rank, operation, false);
-        }
-        is_shown.then(|| self.content.text())
     }
 
-    /// Draws an entry.
-    fn place(&mut self, rank: usize, operation: Operation, is_refused: bool) {
+    /// Takes in an entry that is valid and shown, and is drawn or not. The content after it.
+    fn take(&mut self, rank: usize, operation: &Operation, is_drawn: bool) -> String {
+        self.pass(operation);
+        let content = self.content.text(&self.words);
+        if is_drawn {
+            self.place(rank, *operation, false, content.clone());
+        }
+        content
+    }
+
+    /// Draws an entry, with what the object contains there.
+    fn place(&mut self, rank: usize, operation: Operation, is_refused: bool, content: String) {
         self.points.push(Placed {
             rank: u32::try_from(rank).unwrap_or(u32::MAX),
             operation,
             anchor: self.anchor.max(operation.number()),
             is_refused,
-            content: self.content.text(),
+            content,
         });
     }
 }
 
 /// Which entries of an order are walked along, drawn and shown.
 struct Route<'a> {
+    operations: &'a [Operation],
+    /// Of each number the place after that of its operation, or 0 if it is of none.
+    places: Vec<u32>,
     order: &'a [i64],
     /// The place of the entry that is refused.
     refused: Option<usize>,
-    /// The numbers of the operations that are drawn.
-    drawn: &'a BTreeSet<u32>,
+    /// Of each number whether its operation is drawn, up to the greatest that is.
+    drawn: Vec<bool>,
 }
 
-impl Route<'_> {
+/// Of each number up to the greatest whether it is one of these.
+fn marks_of(numbers: &BTreeSet<u32>) -> Vec<bool> {
+    let mut marks = vec![false; numbers.last().map_or(0, |last| *last as usize + 1)];
+    numbers.iter().for_each(|number| marks[*number as usize] = true);
+    marks
+}
+
+/// Of each number up to that of the last operation the place after that of its operation, or 0.
+fn places_of(operations: &[Operation]) -> Vec<u32> {
+    let mut places = vec![0; operations.last().map_or(0, |last| last.number() as usize + 1)];
+    for (operation, place) in operations.iter().zip(1..) {
+        places[operation.number() as usize] = place;
+    }
+    places
+}
+
+impl<'a> Route<'a> {
+    /// The operation with this number.
+    fn operation(&self, number: i64) -> Option<&'a Operation> {
+        let place = *self.places.get(usize::try_from(number).ok()?)?;
+        self.operations.get((place as usize).checked_sub(1)?)
+    }
+
     /// Whether there are few entries, up to the fault or in all.
     fn is_short(&self) -> bool {
         self.refused.map_or(self.order.len(), |place| place + 1) <= SHORT
@@ -81,7 +108,7 @@ impl Route<'_> {
 
     /// Whether the number is that of an operation that is drawn.
     fn draws(&self, number: i64) -> bool {
-        u32::try_from(number).is_ok_and(|number| self.drawn.contains(&number))
+        usize::try_from(number).is_ok_and(|number| self.drawn.get(number) == Some(&true))
     }
 
     /// Whether the entry has a row, where it is drawn or not.
@@ -93,34 +120,38 @@ impl Route<'_> {
 
 /// Walks along the order up to its fault. Without a fault, a long order is walked along up to the
 /// last entry that is drawn, if some are.
-pub fn walk_along(
+pub fn walk_along<'a>(
     operations: &[Operation],
     kind: Kind,
     order: &[i64],
     refused: Option<usize>,
     drawn: &BTreeSet<u32>,
-) -> Walk {
+    words: Words<'a>,
+) -> Walk<'a> {
     let content = Content::empty(kind);
-    let mut walk = Walk { content, points: Vec::new(), rows: Vec::new(), anchor: 0 };
-    let route = Route { order, refused, drawn };
+    let mut walk = Walk { content, points: Vec::new(), rows: Vec::new(), words, anchor: 0 };
+    let places = places_of(operations);
+    let route = Route { operations, places, order, refused, drawn: marks_of(drawn) };
     for (place, number) in order.iter().enumerate().take(route.reach()) {
-        let operation = operation_at(operations, *number);
+        let operation = route.operation(*number);
         let is_drawn = operation.is_some() && route.draws(*number);
-        let is_shown = route.shows(place, is_drawn);
+        if !route.shows(place, is_drawn) {
+            operation.into_iter().for_each(|operation| walk.pass(operation));
+            continue;
+        }
         let is_refused = refused == Some(place);
         let rank = place + 1;
         let content = match operation {
             Some(operation) if is_refused => {
-                walk.place(rank, operation, true);
+                walk.place(rank, *operation, true, walk.content.text(&walk.words));
                 None
             }
-            Some(operation) => walk.take(rank, operation, is_drawn, is_shown),
+            Some(operation) => Some(walk.take(rank, operation, is_drawn)),
             None => None,
         };
-        if is_shown {
-            let entry = if is_refused { Entry::Refused } else { Entry::Valid };
-            walk.rows.push(Row::Entry { rank, number: *number, operation, content, entry });
-        }
+        let entry = if is_refused { Entry::Refused } else { Entry::Valid };
+        let operation = operation.copied();
+        walk.rows.push(Row::Entry { rank, number: *number, operation, content, entry });
     }
     walk
 }

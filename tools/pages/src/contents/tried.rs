@@ -2,6 +2,7 @@
 
 use super::content::{Content, value_reply};
 use crate::timeline::{Attempt, Failure, Operation, Tried, operation_at};
+use crate::words::Words;
 use finder::{Invocation, Kind, Op, Reply};
 use std::collections::HashSet;
 
@@ -25,6 +26,9 @@ struct Trying<'a> {
     part: &'a [Invocation],
     operations: &'a [Operation],
     kind: Kind,
+    /// The operation before them all, if there is one.
+    first: Option<Operation>,
+    words: Words<'a>,
     ways: Vec<Way>,
     /// Which operations were placed, and with which values in the object.
     reached: HashSet<(u64, Vec<i64>)>,
@@ -70,7 +74,7 @@ impl Trying<'_> {
     fn content_text(&self, content: &Content) -> String {
         match content {
             Content::Register(Some(item)) if Some(item.value) == self.tried.other => "other".into(),
-            _ => content.text(),
+            _ => content.text(&self.words),
         }
     }
 
@@ -107,7 +111,8 @@ impl Trying<'_> {
             self.tried.more += 1;
             return;
         }
-        let before = way.before.iter().map(|place| self.as_recorded(*place)).collect();
+        let before = way.before.iter().map(|place| self.as_recorded(*place));
+        let before = self.first.into_iter().chain(before).collect();
         let content = self.content_text(content);
         self.tried.attempts.push(Attempt { before, content, next, failure });
     }
@@ -141,18 +146,39 @@ impl Trying<'_> {
     }
 }
 
+/// The same ways, and, for a part of a mutex, before them the content before the part with which its
+/// first operation is not possible.
+pub fn with_other_content(mut tried: Tried, kind: Kind, first: Option<Operation>) -> Tried {
+    let Some(next) = first.filter(|_| kind == Kind::Mutex && !tried.attempts.is_empty()) else {
+        return tried;
+    };
+    if tried.attempts.len() == ROWS {
+        tried.attempts.pop();
+        tried.more += 1;
+    }
+    let content = if next.op() == Op::Acquire { "held" } else { "free" }.into();
+    let failure = Failure::NotPossible;
+    tried.attempts.insert(0, Attempt { before: Vec::new(), content, next, failure });
+    tried
+}
+
 /// Tries the orders of the part's operations: each that no other precedes is tried next, in rising
 /// number. What was reached before, and a pending operation that changes nothing, is not followed.
+/// An operation that is not in the part may come first, which left the object empty, or free.
 pub fn try_orders(
     operations: &[Operation],
     kind: Kind,
     part: &[Invocation],
+    first: Option<Operation>,
     other: Option<i64>,
+    words: Words,
 ) -> Tried {
     let mut trying = Trying {
         part,
         operations,
         kind,
+        first,
+        words,
         ways: Vec::new(),
         reached: HashSet::new(),
         tried: Tried { attempts: Vec::new(), more: 0, is_complete: false, last: None, other },

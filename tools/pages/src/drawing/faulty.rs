@@ -4,6 +4,7 @@
 use crate::drawing::objects::focus_events;
 use crate::figures::{FaultyMap, Moment, Scene, Stretch, choose, figure_of, moments_of, narrow};
 use crate::timeline::{Figure, Mark, Operation, operations_of};
+use crate::words::Words;
 use finder::History;
 use std::collections::BTreeMap;
 
@@ -72,6 +73,7 @@ pub fn draw_up_to(faulty: &Faulty) -> FaultyDrawing {
         maps: faulty.map.number + 1,
         names_objects: faulty.history.objects.len() > 1,
         without_lane: &without.operations,
+        words: Words::default(),
         faulty: Some(faulty.map),
     });
     FaultyDrawing {

@@ -6,4 +6,6 @@ mod reasons;
 mod refusals;
 
 pub use faulty::{Faulty, FaultyDrawing, draw_up_to};
-pub use objects::{Part, Subject, draw_impossible, draw_refused, draw_uncertified, draw_valid};
+pub use objects::{
+    Part, Subject, draw_impossible, draw_open, draw_refused, draw_uncertified, draw_valid,
+};

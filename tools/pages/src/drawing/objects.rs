@@ -1,23 +1,33 @@
 //! The drawing of an object: sentences, figures, and the table of an order.
 
-use super::reasons::Reason;
+use super::reasons::{Reason, one_of};
 use super::refusals::{Alone, Explanation, Refused};
-use crate::contents::{boxes_of, rows_of, try_orders, walk_along};
+use crate::contents::{
+    boxes_of, longest_order, rows_of, try_orders, walk_along, with_other_content,
+};
 use crate::figures::{
     Moment, Placed, Scene, Stretch, WithoutLane, choose, drawn_places, figure_of, narrow, near_to,
+    strip_of,
 };
 use crate::history::Options;
 use crate::timeline::{
-    ContentBox, Extent, Figure, Mark, ObjectDrawing, Operation, Row, Spans, State, operation_at,
-    operations_of, spans,
+    ContentBox, DrawnStretch, Extent, Figure, Mark, ObjectDrawing, Operation, Row, Span, Spans,
+    State, operation_at, operations_of, spans,
 };
 use crate::verdict::OrderFault;
-use finder::{History, Invocation, Kind, ObjectHistory, Pattern};
+use crate::words::Words;
+use finder::{FirstEvent, History, Invocation, ObjectHistory, Sentence};
 use std::borrow::Cow;
 use std::collections::{BTreeMap, BTreeSet};
 
 /// An object with at most as many events is drawn whole.
 const WHOLE: usize = 160;
+
+/// How many operations another stretch has, how many there are at most, and how many operations a
+/// page of them draws.
+const STRETCH: usize = 40;
+const STRETCHES: usize = 4;
+const MOST_DRAWN: usize = 400;
 
 /// The most operations that are drawn alone.
 const MOST_ALONE: usize = 200;
@@ -28,6 +38,9 @@ pub struct Subject<'a> {
     pub history: &'a History,
     pub object: &'a ObjectHistory,
     pub options: Options,
+    pub words: Words<'a>,
+    /// Whether the page has room for more stretches of it.
+    pub has_room: bool,
 }
 
 impl Subject<'_> {
@@ -52,6 +65,11 @@ fn drawn_numbers(operations: &[Operation], moments: &[Moment]) -> BTreeSet<u32> 
     drawn.map(|operation| operation.number()).collect()
 }
 
+/// How many of the operations did not fail.
+fn live_count(operations: &[Operation]) -> usize {
+    operations.iter().filter(|it| it.state() != State::Failed).count()
+}
+
 /// The window of a figure, and the focus alone, which is drawn whatever the window is.
 struct Window {
     moments: Vec<Moment>,
@@ -63,25 +81,27 @@ struct Window {
 
 /// The window of a figure, and the focus alone. Events are listed near to them; of the others they
 /// need only that there are some.
-fn window_of(operations: &[Operation], focus: &BTreeMap<u32, Mark>, subject: &Subject) -> Window {
+fn window_of(
+    operations: &[Operation],
+    focus: &BTreeMap<u32, Mark>,
+    subject: &Subject,
+    stretch: Stretch,
+) -> Window {
     let nemeses = &subject.history.nemeses;
     let events = focus_events(operations, focus);
-    let near = near_to(operations, &events, subject.stretch());
+    let near = near_to(operations, &events, stretch);
     let mut moments = near.moments(operations, nemeses);
-    choose(&mut moments, &events, subject.stretch(), WHOLE);
+    choose(&mut moments, &events, stretch, WHOLE);
     let numbers = focus.keys().copied().collect();
     let mut zoomed = Vec::new();
     if !focus.is_empty() {
         zoomed = focus_moments(operations, &moments, focus);
-        let without = narrow(operations, &mut zoomed, &numbers);
-        near.add_holes(operations, nemeses, &without, &mut zoomed);
+        narrow(operations, &mut zoomed, &numbers);
     }
     let without = narrow(operations, &mut moments, &numbers);
-    near.add_holes(operations, nemeses, &without, &mut moments);
     let drawn = drawn_numbers(operations, &moments);
     let extent = Extent {
         operations: operations.len(),
-        live: operations.iter().filter(|it| it.state() != State::Failed).count(),
         drawn: drawn.len(),
         without_lane: without.operations.len(),
         processes: without.processes,
@@ -115,7 +135,35 @@ impl Explanation {
     /// Whether the figure of the window dims what the sentence does not speak of.
     fn dims_others(&self, window: &Window) -> bool {
         let is_small = window.drawn.len() <= self.focus.len() + 1;
-        matches!(self.alone, Alone::Always) || !self.focus.is_empty() && !is_small
+        match self.alone {
+            Alone::Always => true,
+            Alone::Never => false,
+            Alone::Above(_) => !self.focus.is_empty() && !is_small,
+        }
+    }
+}
+
+/// What the figure of a window is laid out from, without the points of an order.
+fn scene_of<'a>(
+    operations: &'a [Operation],
+    subject: &'a Subject,
+    window: &'a Window,
+    explanation: &'a Explanation,
+) -> Scene<'a> {
+    Scene {
+        operations,
+        moments: &window.moments,
+        nemeses: &subject.history.nemeses,
+        points: &[],
+        focus: &explanation.focus,
+        arrows: &explanation.arrows,
+        is_zoom: false,
+        dims: explanation.dims_others(window),
+        maps: subject.history.maps,
+        names_objects: false,
+        without_lane: &window.without.operations,
+        words: subject.words,
+        faulty: None,
     }
 }
 
@@ -128,20 +176,9 @@ fn figures(
     points: &[Placed],
     explanation: &Explanation,
 ) -> (Option<Figure>, Figure) {
-    let whole = Scene {
-        operations,
-        moments: &window.moments,
-        nemeses: &subject.history.nemeses,
-        points,
-        focus: &explanation.focus,
-        arrows: &explanation.arrows,
-        is_zoom: false,
-        dims: explanation.dims_others(window),
-        maps: subject.history.maps,
-        names_objects: false,
-        without_lane: &window.without.operations,
-        faulty: None,
-    };
+    let whole = scene_of(operations, subject, window, explanation);
+    let points = points_in(points, window);
+    let whole = Scene { points: &points, ..whole };
     if !explanation.is_alone(window) {
         return (None, figure_of(&whole));
     }
@@ -153,10 +190,77 @@ fn figures(
     (Some(figure_of(&zoom)), figure_of(&surroundings))
 }
 
+/// The points of the operations that the window draws, and of one that is refused.
+fn points_in(points: &[Placed], window: &Window) -> Vec<Placed> {
+    let is_drawn =
+        |point: &&Placed| point.is_refused || window.drawn.contains(&point.operation.number());
+    points.iter().filter(is_drawn).cloned().collect()
+}
+
+/// From which operation on each other stretch is drawn: from before the first event that leaves no
+/// order, and then from places that are evenly apart.
+fn starts_of(operations: &[Operation], first: Option<u32>) -> Vec<usize> {
+    let before = |number: u32| {
+        operations.partition_point(|it| it.number() <= number).saturating_sub(STRETCH / 2)
+    };
+    let even = (0..STRETCHES).map(|part| part * operations.len() / STRETCHES);
+    let last = operations.len().saturating_sub(STRETCH);
+    first.map(before).into_iter().chain(even).chain([last]).collect()
+}
+
+/// Other windows of the object, apart from the first one and from each other, while there is room.
+fn other_windows(
+    operations: &[Operation],
+    subject: &Subject,
+    window: &Window,
+    first: Option<u32>,
+) -> Vec<(Stretch, Window)> {
+    let mut others: Vec<(Stretch, Window)> = Vec::new();
+    let is_all = window.drawn.len() == operations.len() || window.drawn.is_empty();
+    if is_all || !subject.has_room || subject.stretch().is_given() {
+        return others;
+    }
+    let mut drawn = window.drawn.clone();
+    for start in starts_of(operations, first) {
+        let from = operations.get(start).map(Operation::number);
+        let to = operations.get(start + STRETCH).map_or(subject.history.maps, Operation::number);
+        let stretch = Stretch { from, to: Some(to) };
+        let other = window_of(operations, &BTreeMap::new(), subject, stretch);
+        let is_apart = other.drawn.is_disjoint(&drawn) && !other.drawn.is_empty();
+        if is_apart && drawn.len() + other.drawn.len() <= MOST_DRAWN {
+            drawn.extend(&other.drawn);
+            others.push((stretch, other));
+        }
+    }
+    others.sort_by_key(|(stretch, _)| stretch.from);
+    others
+}
+
+/// The figures of other windows.
+fn stretches(
+    operations: &[Operation],
+    subject: &Subject,
+    others: &[(Stretch, Window)],
+    points: &[Placed],
+    explanation: &Explanation,
+) -> Vec<DrawnStretch> {
+    let drawn = |(stretch, window): &(Stretch, Window)| {
+        let scene = Scene {
+            arrows: &[],
+            dims: false,
+            ..scene_of(operations, subject, window, explanation)
+        };
+        let figure = figure_of(&Scene { points: &points_in(points, window), ..scene });
+        let to = stretch.to.unwrap_or(subject.history.maps);
+        DrawnStretch { from: stretch.from.unwrap_or(0), to, figure, extent: window.extent }
+    };
+    others.iter().map(drawn).collect()
+}
+
 /// The points and the rows of an order, if there is one.
 fn points_and_rows(
     operations: &[Operation],
-    kind: Kind,
+    subject: &Subject,
     order: Option<&[i64]>,
     refused: Option<usize>,
     drawn: &BTreeSet<u32>,
@@ -164,7 +268,8 @@ fn points_and_rows(
     let Some(order) = order else {
         return (Vec::new(), Vec::new());
     };
-    let walk = walk_along(operations, kind, order, refused, drawn);
+    let kind = subject.object.kind;
+    let walk = walk_along(operations, kind, order, refused, drawn, subject.words);
     (walk.points, rows_of(operations, order, refused, walk.rows))
 }
 
@@ -173,10 +278,11 @@ fn boxes_before(
     operations: &[Operation],
     order: Option<&[i64]>,
     explanation: &Explanation,
+    words: Words,
 ) -> Option<Vec<ContentBox>> {
     let number = order?.get(explanation.refused?)?;
     let operation = operation_at(operations, *number)?;
-    Some(boxes_of(explanation.content.as_ref()?, &operation))
+    Some(boxes_of(explanation.content.as_ref()?, &operation, words))
 }
 
 /// The drawing of an object with this order, if there is one, and with its sentences.
@@ -187,25 +293,37 @@ fn draw(
     explanation: Explanation,
 ) -> ObjectDrawing {
     let kind = subject.object.kind;
-    let window = window_of(operations, &explanation.focus, subject);
+    let window = window_of(operations, &explanation.focus, subject, subject.stretch());
+    let others = other_windows(operations, subject, &window, explanation.first);
+    let drawn = others.iter().fold(window.drawn.clone(), |all, (_, other)| &all | &other.drawn);
     let refused = explanation.refused;
-    let (points, rows) = points_and_rows(operations, kind, order, refused, &window.drawn);
+    let (points, rows) = points_and_rows(operations, subject, order, refused, &drawn);
     let (zoom, figure) = figures(operations, subject, &window, &points, &explanation);
-    let boxes = boxes_before(operations, order, &explanation).unwrap_or_default();
+    let stretches = stretches(operations, subject, &others, &points, &explanation);
+    let boxes = boxes_before(operations, order, &explanation, subject.words).unwrap_or_default();
+    let is_all = window.drawn.len() == operations.len();
+    let strip = (!is_all && !window.drawn.is_empty()).then(|| {
+        let (history, events) = (subject.history, focus_events(operations, &explanation.focus));
+        strip_of(operations, &window.moments, &history.nemeses, &events, history.maps, &stretches)
+    });
     let Explanation { sentence, because, content, .. } = explanation;
     ObjectDrawing {
         object: subject.object.object,
         kind,
         sentences: if sentence.is_empty() { Vec::new() } else { vec![sentence] },
         because,
-        content: content.map(|content| content.text()),
+        content: content.map(|content| content.text(&subject.words)),
         boxes,
         zoom,
         figure,
+        stretches,
         extent: window.extent,
+        strip,
+        is_open: false,
         rows,
         tried: None,
         reason: 0,
+        live: 0,
         from: None,
         outside: Vec::new(),
     }
@@ -214,6 +332,50 @@ fn draw(
 /// The drawing of an object with an order that is valid, if one is given.
 pub fn draw_valid(subject: &Subject, order: Option<&[i64]>) -> ObjectDrawing {
     draw(subject, &subject.operations(), order, Explanation::new(None, Alone::Never))
+}
+
+/// The sentences on the longest order that was found, of this many operations, and on what comes next.
+fn longest_sentence(found: usize, all: usize, next: &[Operation]) -> Spans {
+    let mut said =
+        spans!["The longest order that was found for this page has ", found, " of ", all];
+    said.extend(spans![if all == 1 { " operation. " } else { " operations. " }]);
+    if next.is_empty() {
+        said.extend(spans!["It has each operation that returned, but the judge did not find it."]);
+        return said;
+    }
+    said.extend(spans!["After it comes "]);
+    said.extend(one_of(next));
+    said.extend(spans![if next.len() == 1 {
+        ", which does not fit."
+    } else {
+        ", and none of them fits."
+    }]);
+    said
+}
+
+/// That more steps may decide it.
+fn steps_sentence() -> Spans {
+    spans![
+        Span::Command("--steps N"),
+        Span::Aside(" lets the last search of an object go further.")
+    ]
+}
+
+/// The drawing of an object that stays open, as this sentence says, with the longest order that a short search finds.
+pub fn draw_open(subject: &Subject, open: Spans) -> ObjectDrawing {
+    let operations = subject.operations();
+    let longest = longest_order(&operations, subject.object.kind);
+    let order: Vec<i64> = longest.order.iter().map(|it| i64::from(it.number())).collect();
+    let mut text = Explanation::new(None, Alone::Never);
+    for operation in &longest.next {
+        text.mark(*operation, Mark::Named);
+    }
+    let sentence = longest_sentence(order.len(), live_count(&operations), &longest.next);
+    ObjectDrawing {
+        sentences: vec![open, sentence, steps_sentence()],
+        is_open: true,
+        ..draw(subject, &operations, Some(&order), text)
+    }
 }
 
 /// The drawing of an object that has no certificate.
@@ -243,8 +405,8 @@ pub struct Part<'a> {
     pub from: Option<u32>,
     /// The value that stands for all that it does not keep, if one does.
     pub other: Option<i64>,
-    /// What led to it.
-    pub pattern: &'a Pattern,
+    /// What the finder says of it.
+    pub sentence: &'a Sentence,
 }
 
 impl Part<'_> {
@@ -253,11 +415,17 @@ impl Part<'_> {
         self.part.ops.iter().filter(|op| !op.has_failed()).copied().collect()
     }
 
+    /// The operation from which on it is a part, if it is not one from the beginning.
+    fn begins_at(&self, operations: &[Operation]) -> Option<Operation> {
+        operation_at(operations, i64::from(self.from?))
+    }
+
     /// These operations of the part, as the history has them, and the one from which on it is a
     /// part.
     fn recorded(&self, operations: &[Operation], live: &[Invocation]) -> Vec<Operation> {
         let first = self.from.filter(|from| invocation_in(live, *from).is_none());
-        let numbers = first.into_iter().chain(live.iter().map(|invocation| invocation.number));
+        let own = live.iter().map(|invocation| invocation.number);
+        let numbers = first.into_iter().chain(own);
         numbers.filter_map(|number| operation_at(operations, i64::from(number))).collect()
     }
 }
@@ -291,11 +459,27 @@ fn arrows_in(operations: &[Operation]) -> Vec<(Operation, Operation)> {
 fn impossible_sentence(object: &ObjectHistory) -> Spans {
     spans![
         "No order of the operations of object ",
-        object.object,
+        Span::Object(object.object),
         ", a ",
         object.kind,
         ", is valid. So the history is not linearizable."
     ]
+}
+
+/// The text with a capital at its beginning.
+fn capitalized(text: &str) -> String {
+    let mut rest = text.chars();
+    rest.next().into_iter().flat_map(char::to_uppercase).chain(rest).collect()
+}
+
+/// The first event by which there is no order, as far as it is known.
+fn first_sentence(first: FirstEvent) -> Spans {
+    let FirstEvent { least, most } = first;
+    if least == most {
+        return spans!["Event ", most, " is the first that leaves no order."];
+    }
+    let one = "The first event that leaves no order is one from event ";
+    spans![one, least, " to event ", most, ". They were not all tried."]
 }
 
 /// The drawing of an object of which no order is valid, for no order of this part is: the operations
@@ -304,25 +488,38 @@ pub fn draw_impossible(subject: &Subject, part: &Part) -> ObjectDrawing {
     let operations = subject.operations();
     let live = part.live();
     let recorded = part.recorded(&operations, &live);
-    let tried = try_orders(&operations, part.part.kind, &live, part.other);
+    let first = part.sentence.beginning;
+    let first = first.and_then(|first| operation_at(&operations, i64::from(first.number)));
+    let tried = try_orders(&operations, part.part.kind, &live, first, part.other, subject.words);
     let reason = Reason {
         kind: subject.object.kind,
         operations: &operations,
         part: &recorded,
         from: part.from,
-        pattern: part.pattern,
+        sentence: part.sentence,
     };
     let sentence = reason.sentence(&tried);
     let mut text = Explanation::new(None, Alone::Always);
     for operation in &recorded {
         text.mark(*operation, Mark::Fault);
     }
+    for span in &sentence {
+        if let Span::Operation(operation) = span {
+            text.mark(*operation, Mark::Named);
+        }
+    }
     text.arrows = arrows_in(&recorded);
+    text.first = part.sentence.first.map(|first| first.most);
     ObjectDrawing {
-        sentences: vec![impossible_sentence(subject.object), sentence],
+        sentences: [impossible_sentence(subject.object), sentence]
+            .into_iter()
+            .chain(part.sentence.first.map(first_sentence))
+            .collect(),
+        content: reason.said().map(|said| capitalized(&subject.words.sentence(said))),
         outside: outside_of(&recorded, &live),
-        tried: Some(tried),
+        tried: Some(with_other_content(tried, subject.object.kind, part.begins_at(&operations))),
         reason: recorded.len(),
+        live: live_count(&operations),
         from: part.from,
         ..draw(subject, &operations, None, text)
     }

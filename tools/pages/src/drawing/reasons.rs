@@ -3,8 +3,8 @@
 //! operations of the object; else the general one is said.
 
 use crate::contents::{puts, takes, value_put};
-use crate::timeline::{Operation, Role, Spans, State, Tried, spans};
-use finder::{Counted, Kind, Lost, Op, Pattern, Reply};
+use crate::timeline::{Operation, Role, Span, Spans, State, Tried, spans};
+use finder::{Counted, Kind, Lost, Op, Pattern, Reply, Sentence};
 
 /// The operations of an object, and those of a part of which no order is valid. Where the part
 /// begins, if not at the beginning, and the pattern that led to it.
@@ -14,7 +14,7 @@ pub struct Reason<'a> {
     pub operations: &'a [Operation],
     pub part: &'a [Operation],
     pub from: Option<u32>,
-    pub pattern: &'a Pattern,
+    pub sentence: &'a Sentence,
 }
 
 /// How many operations are named one by one at most.
@@ -47,6 +47,11 @@ fn taken_words(kind: Kind) -> &'static str {
 
 /// The operations, with `and` before the last; where there are many, how many there are.
 fn named(operations: &[Operation]) -> Spans {
+    listed(operations, " and ")
+}
+
+/// The operations, with this word before the last.
+fn listed(operations: &[Operation], last: &'static str) -> Spans {
     if operations.len() > MOST_NAMED {
         return spans!["these ", operations.len(), " operations"];
     }
@@ -54,11 +59,16 @@ fn named(operations: &[Operation]) -> Spans {
     for (place, operation) in operations.iter().enumerate() {
         if place > 0 {
             let is_last = place + 1 == operations.len();
-            spans.extend(spans![if is_last { " and " } else { ", " }]);
+            spans.extend(spans![if is_last { last } else { ", " }]);
         }
         spans.extend(spans![*operation]);
     }
     spans
+}
+
+/// One of the operations, with `or` before the last; where there are many, how many there are.
+pub fn one_of(operations: &[Operation]) -> Spans {
+    listed(operations, " or ")
 }
 
 /// How often, as `twice`, and by which operations where these are few.
@@ -187,7 +197,7 @@ impl Reason<'_> {
                 *taker,
                 " returned ",
                 value,
-                " at map ",
+                " at event ",
                 at,
                 ", and no ",
                 put_name(self.kind),
@@ -214,14 +224,14 @@ impl Reason<'_> {
             put_name(self.kind),
             " of ",
             value,
-            " was invoked before map ",
+            " was invoked before event ",
             until,
             "."
         ]);
         Some(sentence)
     }
 
-    /// A taking finds nothing while a value is surely there.
+    /// A taking finds nothing while a value is definitely there.
     fn not_empty(&self) -> Option<Spans> {
         let [putter, taker] = self.part else {
             return None;
@@ -237,9 +247,9 @@ impl Reason<'_> {
                 self.kind,
                 " empty. But ",
                 *putter,
-                " had returned before (map ",
+                " had returned before (event ",
                 at,
-                "), and nothing that was invoked before map ",
+                "), and nothing that was invoked before event ",
                 end,
                 " took ",
                 value,
@@ -305,7 +315,7 @@ impl Reason<'_> {
         }
         let mut sentence = spans![
             first,
-            " returned (map ",
+            " returned (event ",
             at,
             ") before ",
             second,
@@ -317,7 +327,7 @@ impl Reason<'_> {
             *taker,
             " took ",
             w,
-            " out, and nothing invoked before map ",
+            " out, and nothing invoked before event ",
             end,
             " took ",
             v
@@ -363,9 +373,9 @@ impl Reason<'_> {
         let mut sentence = spans![*later, returned, value, ". But ", *earlier];
         sentence.extend(left_words(earlier, left));
         sentence.extend(spans![
-            " and returned (map ",
+            " and returned (event ",
             at,
-            ") before that began, and nothing else that ran in between (maps ",
+            ") before that began, and nothing else that ran in between (events ",
             earlier.number(),
             " to ",
             end,
@@ -388,9 +398,9 @@ impl Reason<'_> {
             return None;
         }
         Some(spans![
-            "Between map ",
+            "Between event ",
             from,
-            " and map ",
+            " and event ",
             to,
             " the mutex was released twice, by ",
             *first,
@@ -402,8 +412,12 @@ impl Reason<'_> {
 
     /// The sentence of the pattern, where its facts hold.
     fn of_pattern(&self) -> Option<Spans> {
-        match self.pattern {
+        match &self.sentence.pattern {
             Pattern::Lost(lost) => self.not_empty().or_else(|| self.lost(lost)),
+            // Where an operation failed that would have put the value in, the finder's sentence says so.
+            Pattern::NeverSet(_) | Pattern::TooEarly(_) if self.sentence.facts.undone.is_some() => {
+                None
+            }
             Pattern::NeverSet(_) | Pattern::TooEarly(_) => self.never_put(),
             Pattern::SurelyNotEmpty { .. } => self.not_empty(),
             Pattern::Stale(_) => self.out_of_date(),
@@ -453,7 +467,7 @@ impl Reason<'_> {
         let is_other = |it: &&Operation| last.is_none_or(|last| last.number() != it.number());
         let others: Vec<Operation> = self.part.iter().filter(is_other).copied().collect();
         let mut sentence = match self.from {
-            Some(from) => spans!["Whatever the ", self.kind, " contained before map ", from],
+            Some(from) => spans!["Whatever the ", self.kind, " contained before event ", from],
             None => Vec::new(),
         };
         sentence.extend(self.order(&others));
@@ -461,8 +475,17 @@ impl Reason<'_> {
         sentence
     }
 
-    /// The sentence: that of the pattern, or the general one.
+    /// What the finder says of the pattern, if it says more than the general sentence.
+    pub fn said(&self) -> Option<String> {
+        let pattern = Sentence { beginning: None, first: None, ..self.sentence.clone() };
+        (pattern.pattern != Pattern::General).then(|| pattern.to_string())
+    }
+
+    /// The sentence: that of the pattern, or the finder's and the general one.
     pub fn sentence(&self, tried: &Tried) -> Spans {
-        self.of_pattern().unwrap_or_else(|| self.general(tried))
+        self.of_pattern().unwrap_or_else(|| {
+            let said = self.said().map(|_| spans![Span::Quoted, ". "]);
+            said.into_iter().flatten().chain(self.general(tried)).collect()
+        })
     }
 }

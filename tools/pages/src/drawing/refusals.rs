@@ -4,6 +4,7 @@
 use crate::contents::{Content, puts, walk_along, wanted};
 use crate::timeline::{Mark, Operation, Span, Spans, operation_at, spans};
 use crate::verdict::OrderFault;
+use crate::words::Words;
 use finder::{History, Kind, ObjectHistory, Op, Reply};
 use std::collections::{BTreeMap, BTreeSet};
 
@@ -40,6 +41,8 @@ pub struct Explanation {
     pub alone: Alone,
     /// What the object contains before the refused entry, where that tells why.
     pub content: Option<Content>,
+    /// The first event that leaves no order.
+    pub first: Option<u32>,
 }
 
 impl Explanation {
@@ -52,6 +55,7 @@ impl Explanation {
             arrows: Vec::new(),
             alone,
             content: None,
+            first: None,
         }
     }
 
@@ -65,7 +69,15 @@ impl Explanation {
         };
         let certificate = Span::Certificate(object);
         let none = " has no certificate. The history has ";
-        text.say(spans!["Object ", object, none, operations, needs_one, certificate, "."]);
+        text.say(spans![
+            "Object ",
+            Span::Object(object),
+            none,
+            operations,
+            needs_one,
+            certificate,
+            "."
+        ]);
         text
     }
 
@@ -114,26 +126,26 @@ impl Refused<'_> {
         let maps = self.history.maps;
         let map = match u32::try_from(number) {
             Ok(map) if map < maps => map,
-            _ => return spans!["it names no map of the history: there are ", maps as usize],
+            _ => return spans!["it names no event of the history, which has ", maps as usize],
         };
         if let Some(object) = object_of(self.history, map) {
             return self.why_operation(map, object.object);
         }
         match self.history.runs.iter().find(|run| run.completed == Some(map)) {
             Some(run) => {
-                spans!["map ", map, " is the completion of operation ", run.number]
+                spans!["event ", map, " is the completion of operation ", Span::Event(run.number)]
             }
-            None => spans!["map ", map, " is of the nemesis"],
+            None => spans!["event ", map, " is of the nemesis"],
         }
     }
 
     /// The same where the number is that of an operation on this object.
     fn why_operation(&self, number: u32, object: u32) -> Spans {
         if object != self.object {
-            return spans!["it is an operation on object ", object];
+            return spans!["it is an operation on object ", Span::Object(object)];
         }
         match self.operation(number).and_then(|operation| operation.ended) {
-            Some(ended) => spans!["it failed at map ", ended, ", so it did not happen"],
+            Some(ended) => spans!["it failed at event ", ended, ", so it did not happen"],
             None => spans!["it did not happen"],
         }
     }
@@ -142,7 +154,8 @@ impl Refused<'_> {
         let place = place_in(self.order, number);
         let mut text = Explanation::new(place, Alone::Never);
         let rank = Span::rank(place.unwrap_or(0));
-        text.say(spans!["Entry ", rank, " of the order for object ", self.object, " is "]);
+        let object = Span::Object(self.object);
+        text.say(spans!["Entry ", rank, " of the order for object ", object, " is "]);
         match operation_at(self.operations, number) {
             Some(operation) => text.say_operation(operation, Mark::Fault),
             None => text.say(spans![Span::Entry(number)]),
@@ -163,7 +176,7 @@ impl Refused<'_> {
         text.say_operation(operation, Mark::Fault);
         text.say(spans![
             " stands twice in the order for object ",
-            self.object,
+            Span::Object(self.object),
             ", as entry ",
             Span::rank(first),
             " and again as entry ",
@@ -183,16 +196,17 @@ impl Refused<'_> {
         text.say_operation(late, Mark::Fault);
         text.say(spans![
             ". But ",
-            late.number(),
-            " returned at map ",
+            Span::Event(late.number()),
+            " returned at event ",
             at,
             ", before ",
-            invoked,
-            " was invoked at map ",
+            Span::Event(invoked),
+            " was invoked at event ",
             invoked,
             ". An operation that returned before another began must stand before it."
         ]);
-        text.because = spans!["returned at map ", at, ", before ", invoked, " was invoked"];
+        text.because =
+            spans!["returned at event ", at, ", before ", Span::Event(invoked), " was invoked"];
         text.arrows.push((late, early));
         text
     }
@@ -201,10 +215,10 @@ impl Refused<'_> {
         let mut text = Explanation::new(None, Alone::Never);
         text.say_operation(operation, Mark::LeftOut);
         text.say(spans![
-            " returned at map ",
+            " returned at event ",
             at,
             ", so it happened. But the order for object ",
-            self.object,
+            Span::Object(self.object),
             " leaves it out."
         ]);
         text
@@ -214,7 +228,14 @@ impl Refused<'_> {
     fn as_entry(&self, operation: Operation) -> (Explanation, Content) {
         let place = place_of(self.order, &operation).unwrap_or(0);
         let before = &self.order[..place];
-        let walk = walk_along(self.operations, self.kind, before, None, &BTreeSet::new());
+        let walk = walk_along(
+            self.operations,
+            self.kind,
+            before,
+            None,
+            &BTreeSet::new(),
+            Words::default(),
+        );
         let mut text = Explanation::new(Some(place), ZOOM);
         text.say(spans!["As entry ", Span::rank(place), " of the order, "]);
         text.say_operation(operation, Mark::Fault);
@@ -293,9 +314,9 @@ impl Refused<'_> {
         };
         let Some(source) = self.last_putter(operation, value, end) else {
             let none = if puts(operation, operation.op().key(), value) {
-                " No other operation that was invoked before map "
+                " No other operation that was invoked before event "
             } else {
-                " No operation that was invoked before map "
+                " No operation that was invoked before event "
             };
             return text.say(spans![none, end, " put ", value, "."]);
         };
@@ -346,7 +367,7 @@ impl Refused<'_> {
     /// The general sentence, which states no fact of the history.
     fn general(&self, refused: Option<usize>) -> Explanation {
         let mut text = Explanation::new(refused, Alone::Never);
-        text.say(spans!["The order for object ", self.object, " is not valid."]);
+        text.say(spans!["The order for object ", Span::Object(self.object), " is not valid."]);
         text.because = spans!["refused"];
         text
     }

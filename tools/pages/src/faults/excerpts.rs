@@ -116,15 +116,17 @@ fn marked_line(text: &[u8], line: Place, place: Place, missing: &'static str) ->
     let most = beginning(text, place.from + MARKED);
     let to = place.to.min(line.to).min(most);
     let from = beginning(text, line.from.max(place.from.saturating_sub(BESIDE_MARK)));
-    let end = line.to.min(beginning(text, to + BESIDE_MARK));
+    let is_cut = to < place.to.min(line.to);
+    let end = if is_cut { to } else { line.to.min(beginning(text, to + BESIDE_MARK)) };
     let shown = |from, to| visible(Place { from, to }.of(text));
     MarkedLine {
         number: line_of(text, line.from),
         is_cut_before: from > line.from,
         before: shown(from, place.from),
         marked: shown(place.from, to),
+        is_mark_cut: is_cut,
         after: shown(to, end),
-        is_cut_after: end < line.to,
+        is_cut_after: !is_cut && end < line.to,
         missing,
     }
 }

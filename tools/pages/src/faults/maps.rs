@@ -17,9 +17,9 @@ fn general(kind: MapFaultKind) -> &'static str {
              kind."
         }
         MapFaultKind::UnknownFunction => " names a function that is none of the fourteen.",
-        MapFaultKind::BadValue => " has not the shape that its :f asks for.",
+        MapFaultKind::BadValue => " does not fit its :f: it must be what that takes, or returns.",
         MapFaultKind::MixedKinds => {
-            " calls a function of another kind than the earlier maps of its object."
+            " calls a function of another kind than the earlier events on its object."
         }
         MapFaultKind::Busy => {
             " invokes an operation of a process whose operation is still outstanding."
@@ -96,13 +96,13 @@ impl<'a> Map<'a> {
         let mut sentence = spans!["The text can be read, but it is no history. "];
         match self.clash(earlier) {
             Some(clash) => {
-                sentence.extend(spans!["Map ", self.number as u64]);
+                sentence.extend(spans!["Event ", self.number as u64]);
                 sentence.extend(clash);
             }
             None => {
                 let is_of_value = self.kind == MapFaultKind::BadValue;
-                let map = if is_of_value { "The :value of map " } else { "Map " };
-                sentence.extend(spans![map, self.number as u64, general(self.kind)]);
+                let event = if is_of_value { "The :value of event " } else { "Event " };
+                sentence.extend(spans![event, self.number as u64, general(self.kind)]);
             }
         }
         sentence
@@ -149,11 +149,11 @@ fn clash_words(fault: MapFaultKind, process: u64, earlier: &Earlier) -> Spans {
         MapFaultKind::AfterInfo => spans![
             " is of process ",
             process,
-            ", which the :info at map ",
+            ", which the :info at event ",
             number,
             " closed: ",
             operation,
-            " may have happened or not, so the process goes on under another number."
+            " may have happened or not, so what it does next must be of another process."
         ],
         // Of other kinds than these and mixed ones there is no earlier map.
         _ => spans![
@@ -169,10 +169,10 @@ fn clash_words(fault: MapFaultKind, process: u64, earlier: &Earlier) -> Spans {
 /// What the earlier map is to the faulty one.
 fn caption_of(kind: MapFaultKind) -> &'static str {
     match kind {
-        MapFaultKind::MixedKinds => "The object’s first map, ",
-        MapFaultKind::Busy => "The operation that is outstanding, map ",
-        MapFaultKind::Mismatch => "What the process invoked, map ",
-        _ => "The :info that closed the process, map ",
+        MapFaultKind::MixedKinds => "The object’s first event, ",
+        MapFaultKind::Busy => "The operation that is outstanding, event ",
+        MapFaultKind::Mismatch => "What the process invoked, event ",
+        _ => "The :info that closed the process, event ",
     }
 }
 

@@ -2,6 +2,7 @@
 
 mod excerpts;
 mod forms;
+mod lines;
 mod maps;
 mod texts;
 
@@ -9,7 +10,9 @@ use crate::drawing::FaultyDrawing;
 use crate::page::{Answer, Excerpt, Page, Place, html_of};
 use crate::timeline::{Spans, spans};
 use crate::verdict::Fault;
+use crate::words::Words;
 use forms::explain_form;
+pub use lines::fault_lines;
 use maps::explain_map;
 use texts::{FaultyBytes, explain_text};
 
@@ -54,6 +57,7 @@ pub fn malformed_page(name: &str, text: &[u8], fault: Fault, lines: &str) -> Str
         drawings: &[],
         place: Some(&Place { excerpts: &explained.excerpts, before: explained.before.as_ref() }),
         quoted: &explained.quoted,
+        words: Words::default(),
     })
 }
 
@@ -69,5 +73,6 @@ pub fn memory_page(name: &str, lines: &str) -> String {
         drawings: &[],
         place: None,
         quoted: "",
+        words: Words::default(),
     })
 }

@@ -24,7 +24,7 @@ fn words_at(kind: TextFaultKind) -> (&'static str, Option<&'static str>) {
     match kind {
         TextFaultKind::BadToken => (
             " stands ",
-            Some(", which is no keyword, no integer, no escape, or a bracket that closes nothing."),
+            Some(", which is no keyword, integer or escape, and closes no bracket that is open."),
         ),
         TextFaultKind::NumberRange => (" stands ", Some(", an integer outside of 64 bits.")),
         TextFaultKind::DuplicateKey => {

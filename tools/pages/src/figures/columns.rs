@@ -1,10 +1,7 @@
 //! The columns of a figure, from left to right: events, gaps, points, and room for arrows.
 
-use super::labels::{characters, fit};
 use super::moments::Moment;
-use super::numbers::{
-    ARROW_ROOM, EVENT_WIDTH, LABEL_LENGTH, event_width, gap_width, nemesis_width, point_width,
-};
+use super::numbers::{ARROW_ROOM, event_width, gap_width, point_width};
 use super::scene::{Placed, Scene};
 use super::window::drawn_places;
 use std::ops::Range;
@@ -92,16 +89,9 @@ impl Columns<'_> {
 
     fn add_event(&mut self, moment: Moment) {
         let what = What::Event(moment);
-        match self.scene.nemesis(moment.number) {
-            Some(nemesis) => {
-                let width = nemesis_width(characters(&fit(&nemesis.function, LABEL_LENGTH)));
-                self.columns.push(Column { what, width, middle: EVENT_WIDTH / 2 });
-            }
-            None => {
-                let has_room = self.scene.is_zoom || self.scene.is_faulty(&moment);
-                self.add_even(what, event_width(moment.number, has_room));
-            }
-        }
+        let has_room = self.scene.is_zoom || self.scene.is_faulty(&moment);
+        let characters = if has_room { self.scene.tick_length(moment.number) } else { 0 };
+        self.add_even(what, event_width(characters));
         if self.scene.has_arrow_from(moment.number) {
             self.add_even(What::Room, ARROW_ROOM);
         }

@@ -1,6 +1,8 @@
 //! Labels: an operation as text.
 
+use super::numbers::SHORTEST_CUT;
 use crate::timeline::{Operation, State};
+use crate::words::Words;
 use finder::{Op, Reply, Value};
 
 /// The count with its digits in groups of three, and a space between two groups.
@@ -28,7 +30,7 @@ fn told_reply(operation: &Operation) -> Option<Value> {
 
 /// The operation as text: its name, its argument unless that is nil, and what it returned where
 /// that is not its argument; a question mark where it is pending.
-pub fn label(operation: &Operation) -> String {
+pub fn label(operation: &Operation, words: &Words) -> String {
     let op = operation.op();
     let mut text = String::from(op.name());
     if op.argument() != Value::Nil {
@@ -40,7 +42,7 @@ pub fn label(operation: &Operation) -> String {
     if let Some(reply) = told_reply(operation) {
         text += &format!(" → {reply}");
     }
-    text
+    words.values(text)
 }
 
 /// The text, or where it has more characters than these, its beginning and three dots; nothing
@@ -55,7 +57,38 @@ pub fn fit(text: &str, most: usize) -> String {
     text.chars().take(most - 1).chain(['…']).collect()
 }
 
+/// The same of an operation's label, of which the middle is left out, so that both its name and the
+/// end of its reply stay; nothing where what is left of it cannot be read.
+pub fn fit_label(text: &str, most: usize) -> String {
+    let length = text.chars().count();
+    if length <= most {
+        return text.into();
+    }
+    if most < SHORTEST_CUT {
+        return String::new();
+    }
+    let (head, tail) = (most / 2, most - most / 2 - 1);
+    text.chars().take(head).chain(['…']).chain(text.chars().skip(length - tail)).collect()
+}
+
 /// How many characters a label has.
 pub fn characters(text: &str) -> u32 {
     u32::try_from(text.chars().count()).unwrap_or(u32::MAX)
+}
+
+#[cfg(test)]
+mod tests {
+    use super::fit_label;
+
+    #[test]
+    fn a_long_label_keeps_its_name_and_its_reply() {
+        let label = "get 9223372036854775804 → -9223372036854775807";
+        let cut = fit_label(label, 20);
+        assert!(cut.starts_with("get 92") && cut.ends_with("4775807"), "{cut}");
+        assert_eq!(cut.chars().count(), 20);
+        assert_eq!(fit_label("read → 1", 20), "read → 1");
+        assert_eq!(fit_label("read → 12", 6), "rea…12");
+        assert_eq!(fit_label("read → 12", 5), "");
+        assert_eq!(fit_label("read", 5), "read");
+    }
 }

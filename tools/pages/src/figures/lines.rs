@@ -1,16 +1,18 @@
 //! The lines of a figure.
 
 use super::columns::{What, columns_of};
-use super::labels::{characters, fit};
+use super::labels::{characters, fit, fit_label};
+use super::nemeses::{bands_of, marks_of};
 use super::numbers::{
-    CHARACTER, HEIGHT, HEIGHT_WITH_POINTS, LANE_GAP, NEMESIS_HEIGHT, SMALL, TOP, digits, names_room,
+    CHARACTER, HEIGHT, HEIGHT_WITH_POINTS, LANE_GAP, LANE_LENGTH, NEMESIS_HEIGHT, SMALL,
+    TIME_HEIGHT, TOP, names_room,
 };
 use super::placing::{Layout, place};
 use super::scene::Scene;
 use super::segments::{Segment, segments_of, shown_operations};
-use super::ticks::{gaps_of, nemeses_of, ticks_of};
+use super::ticks::{end_of_times, gaps_of, ticks_of};
 use crate::timeline::{
-    Arrow, Bar, Cross, Figure, Lane, Line, NemesisMark, Operation, Point, sound_points,
+    Arrow, Band, Bar, Cross, Figure, Lane, Line, NemesisMark, Operation, Point, sound_points,
 };
 use std::collections::{BTreeMap, BTreeSet};
 
@@ -20,8 +22,12 @@ struct Sheet<'a> {
     layout: &'a Layout,
     line: usize,
     segments: Vec<Segment>,
+    /// The numbers of the operations that have bars, in any line.
+    shown: BTreeSet<u32>,
     nemeses: Vec<NemesisMark>,
-    /// The top of the lanes.
+    bands: Vec<Band>,
+    /// The top of the row of the nemesis, and of the lanes.
+    nemesis_top: u32,
     top: u32,
     tops: BTreeMap<u64, u32>,
     height: u32,
@@ -48,12 +54,28 @@ impl<'a> Sheet<'a> {
         let height = if scene.points.is_empty() { HEIGHT } else { HEIGHT_WITH_POINTS };
         let segments: Vec<Segment> =
             all.iter().filter(|segment| segment.line == line).copied().collect();
+        let shown = all.iter().map(|segment| segment.operation.number()).collect();
         let processes = processes_of(scene, layout, line, &segments);
-        let nemeses = nemeses_of(scene, layout, line);
-        let top = if nemeses.is_empty() { TOP } else { TOP + NEMESIS_HEIGHT };
+        let nemeses = marks_of(scene, layout, line);
+        let bands = bands_of(scene, layout, line);
+        let nemesis_top = if scene.words.has_times() { TOP + TIME_HEIGHT } else { TOP };
+        let has_nemesis = !nemeses.is_empty() || !bands.is_empty();
+        let top = nemesis_top + if has_nemesis { NEMESIS_HEIGHT } else { 0 };
         let lane_tops = (top + 4..).step_by((height + LANE_GAP) as usize);
         let tops = processes.into_iter().zip(lane_tops).collect();
-        Sheet { scene, layout, line, segments, nemeses, top, tops, height }
+        Sheet {
+            scene,
+            layout,
+            line,
+            segments,
+            shown,
+            nemeses,
+            bands,
+            nemesis_top,
+            top,
+            tops,
+            height,
+        }
     }
 
     fn top_of(&self, process: u64) -> u32 {
@@ -85,26 +107,23 @@ impl<'a> Sheet<'a> {
             height: self.height,
             open_left: segment.open_left,
             open_right: segment.open_right,
-            label: fit(&self.scene.label(&operation), room as usize),
+            label: fit_label(&self.scene.label(&operation), room as usize),
             mark: self.scene.mark(&operation),
             is_first: segment.is_first,
             info: info.map(|spot| spot.x + left),
         }
     }
 
-    /// The bars, by lanes and then from left to right.
+    /// The bars, in the order in which their operations began, as they are read out.
     fn bars(&self) -> Vec<Bar> {
         let mut bars: Vec<Bar> = self.segments.iter().map(|segment| self.bar(segment)).collect();
-        bars.sort_by_key(|bar| (bar.top, bar.from));
+        bars.sort_by_key(|bar| bar.operation.number());
         bars
     }
 
     /// Where a refused point is joined to its bar, if it is beyond the end of it.
     fn tether(&self, number: u32, x: u32) -> Option<u32> {
         let left = self.layout.left;
-        if self.scene.dims {
-            return None;
-        }
         match self.segments.iter().find(|segment| segment.operation.number() == number) {
             Some(segment) => (x > segment.to).then_some(segment.to + left),
             None => Some(left),
@@ -117,13 +136,18 @@ impl<'a> Sheet<'a> {
                 return None;
             };
             let placed = &self.scene.points[*place];
+            let tether = self.tether(placed.operation.number(), x).filter(|_| placed.is_refused);
+            // What is joined to its bar is below the lane, and so on no other bar.
+            let down = self.height - if tether.is_some() { 0 } else { 9 };
             Some(Point {
                 rank: placed.rank,
                 operation: placed.operation,
                 x: x + self.layout.left,
-                y: self.top_of(placed.operation.process) + self.height - 9,
+                y: self.top_of(placed.operation.process)
+                    + down
+                    + tether.map_or(0, |_| LANE_GAP / 2),
                 is_refused: placed.is_refused,
-                tether: self.tether(placed.operation.number(), x),
+                tether,
                 content: placed.content.clone(),
             })
         };
@@ -162,12 +186,13 @@ impl<'a> Sheet<'a> {
     fn into_line(self) -> Line {
         let bars = self.bars();
         let points = sound_points(&bars, self.points());
-        let gaps = gaps_of(self.layout, self.line);
+        let gaps = gaps_of(self.scene, self.layout, self.line, &self.shown);
         let ticks = ticks_of(self.scene, self.layout, self.line, &gaps);
         let arrows = self.scene.arrows.iter();
         let arrows = arrows.filter_map(|(earlier, later)| self.arrow(*earlier, *later)).collect();
         let cross = self.cross();
         let width = self.layout.end_of(self.line) + self.layout.left + 8;
+        let width = width.max(end_of_times(&ticks));
         let lanes = self.lanes();
         Line {
             left: self.layout.left,
@@ -176,7 +201,9 @@ impl<'a> Sheet<'a> {
             lanes,
             gaps,
             ticks,
+            nemesis_top: self.nemesis_top,
             nemeses: self.nemeses,
+            bands: self.bands,
             bars,
             points,
             arrows,
@@ -195,8 +222,9 @@ pub fn figure_of(scene: &Scene) -> Figure {
     let mut layout = place(scene, &columns_of(scene));
     let (operations, left_out) = shown_operations(scene, &layout);
     let processes = operations.iter().map(|operation| operation.process);
-    let longest = processes.chain(scene.faulty_process()).max().unwrap_or(0);
-    layout.left = names_room(digits(longest));
+    let names = processes.chain(scene.faulty_process()).map(|it| scene.words.lane(it));
+    let longest = names.map(|name| characters(&fit(&name, LANE_LENGTH))).max().unwrap_or(0);
+    layout.left = names_room(longest);
     let segments = segments_of(scene, &layout, &operations);
     let sheet = |line| Sheet::new(scene, &layout, line, &segments).into_line();
     let lines: Vec<Line> = (0..layout.ends.len()).map(sheet).collect();

@@ -1,9 +1,9 @@
-//! The events of a large object that a figure may need: those near to what it draws, and of the rest
-//! one in each hole between them.
+//! The events of a large object that a figure may need: those near to what it draws, and some more on
+//! each side, which show that there is a hole.
 
 use super::moments::{Moment, moments_at, moments_of};
 use super::numbers::{FIRST, MOST};
-use super::window::{MOST_BEFORE, Stretch, WithoutLane};
+use super::window::{MOST_BEFORE, Stretch};
 use crate::timeline::Operation;
 use finder::Nemesis;
 use std::ops::Range;
@@ -77,50 +77,21 @@ impl Near {
         self.numbers.iter().any(|numbers| numbers.contains(&number))
     }
 
-    /// The hole that has the number: how many of the numbers are before it; none where it is near.
-    fn hole_of(&self, number: u32) -> Option<usize> {
-        let before = self.numbers.iter().filter(|numbers| numbers.end <= number).count();
-        (!self.has(number)).then_some(before)
-    }
-
     /// The events that are listed, in rising number; none is drawn.
     pub fn moments(&self, operations: &[Operation], nemeses: &[Nemesis]) -> Vec<Moment> {
         if self.has_all {
             return moments_of(operations, nemeses);
         }
+        let begin = self.numbers.first().map_or(0, |numbers| numbers.start);
         let end = self.numbers.last().map_or(0, |numbers| numbers.end);
-        let begun = operations.iter().enumerate().take_while(|(_, it)| it.number() < end);
-        let of_operations = begun.flat_map(|(place, operation)| moments_at(place, operation));
+        let begun = &operations[..operations.partition_point(|it| it.number() < end)];
+        let is_late = |it: &Operation| it.ended.unwrap_or(it.number()) >= begin;
+        let late = begun.iter().enumerate().filter(|(_, operation)| is_late(operation));
+        let of_operations = late.flat_map(|(place, operation)| moments_at(place, operation));
         let of_nemeses = nemeses.iter().map(|nemesis| Moment::new(nemesis.number, None, false));
         let all = of_operations.chain(of_nemeses);
         let mut moments: Vec<Moment> = all.filter(|moment| self.has(moment.number)).collect();
         moments.sort_unstable_by_key(|moment| moment.number);
         moments
-    }
-
-    /// Lists an event of each hole that has one, of those that are kept where some processes have no
-    /// lane. Where each has one, the margins of what may be drawn show that there is a hole.
-    pub fn add_holes(
-        &self,
-        operations: &[Operation],
-        nemeses: &[Nemesis],
-        without: &WithoutLane,
-        moments: &mut Vec<Moment>,
-    ) {
-        if self.has_all || without.processes == 0 {
-            return;
-        }
-        let mut holes: Vec<Option<Moment>> = vec![None; self.numbers.len() + 1];
-        let with_lane = operations.iter().enumerate();
-        let with_lane = with_lane.filter(|(_, it)| without.lanes.contains(&it.process));
-        let of_operations = with_lane.flat_map(|(place, operation)| moments_at(place, operation));
-        let of_nemeses = nemeses.iter().map(|nemesis| Moment::new(nemesis.number, None, false));
-        for moment in of_operations.chain(of_nemeses) {
-            if let Some(hole) = self.hole_of(moment.number) {
-                holes[hole].get_or_insert(moment);
-            }
-        }
-        moments.extend(holes.into_iter().flatten());
-        moments.sort_unstable_by_key(|moment| moment.number);
     }
 }

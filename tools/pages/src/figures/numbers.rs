@@ -2,9 +2,11 @@
 
 /// The widest line.
 pub const WIDEST: u32 = 920;
-/// The room for the names of the lanes, where no process has more than `NAME_DIGITS` digits.
+/// The room for the names of the lanes, where none has more than `NAME_LENGTH` characters.
 pub const LEFT: u32 = 56;
-const NAME_DIGITS: u32 = 6;
+const NAME_LENGTH: u32 = 7;
+/// The characters of the longest name of a lane.
+pub const LANE_LENGTH: usize = 20;
 /// The room for a character of a label, and of a small one.
 pub const CHARACTER: u32 = 7;
 pub const SMALL_CHARACTER: u32 = 6;
@@ -22,10 +24,13 @@ pub const LANE_GAP: u32 = 8;
 pub const TOP: u32 = 22;
 /// A figure that is no wider is drawn at one and a half.
 pub const SMALL: u32 = 560;
+/// The height of the row of times.
+pub const TIME_HEIGHT: u32 = 12;
 /// The height of the row of a nemesis.
 pub const NEMESIS_HEIGHT: u32 = 16;
-/// The characters of the longest label.
+/// The characters of the longest label, and of the shortest one of which the middle is left out.
 pub const LABEL_LENGTH: usize = 32;
+pub const SHORTEST_CUT: usize = 6;
 /// Of a large object the first `FIRST` events are drawn, or those around the focus, and at most
 /// `MOST`.
 pub const FIRST: usize = 160;
@@ -38,9 +43,9 @@ pub fn digits(number: u64) -> u32 {
     number.checked_ilog10().unwrap_or(0) + 1
 }
 
-/// The room for the names of lanes of which the longest process has n digits.
-pub fn names_room(digits: u32) -> u32 {
-    LEFT + digits.saturating_sub(NAME_DIGITS) * CHARACTER
+/// The room for the names of lanes of which the longest has n characters.
+pub fn names_room(characters: u32) -> u32 {
+    LEFT + characters.saturating_sub(NAME_LENGTH) * CHARACTER
 }
 
 /// The room for a label of n characters.
@@ -65,15 +70,7 @@ pub fn point_width(rank: u32) -> u32 {
     point_room(rank) + 6
 }
 
-/// The width of the column of a nemesis whose label has n characters.
-pub fn nemesis_width(characters: u32) -> u32 {
-    characters * SMALL_CHARACTER + EVENT_WIDTH + 8
-}
-
-/// The width of the column of an event, with room for its number or not.
-pub fn event_width(number: u32, has_room: bool) -> u32 {
-    if !has_room {
-        return EVENT_WIDTH;
-    }
-    EVENT_WIDTH.max(digits(u64::from(number)) * SMALL_CHARACTER + 8)
+/// The width of the column of an event, with room for so many characters.
+pub fn event_width(characters: u32) -> u32 {
+    EVENT_WIDTH.max(characters * SMALL_CHARACTER + 8)
 }

@@ -3,7 +3,7 @@
 use super::columns::{Column, What};
 use super::numbers::{LEFT, WIDEST};
 use super::scene::Scene;
-use crate::timeline::Operation;
+use crate::timeline::{Operation, operation_at};
 use std::collections::BTreeMap;
 
 /// The middle of a column, from the end of the lanes' names, and its line.
@@ -110,25 +110,69 @@ impl Layout {
         }
     }
 
-    /// Whether it is the invocation of a focus operation whose label would not fit, in the right
-    /// half of a line.
-    fn is_early(&self, scene: &Scene, column: &Column, left: u32) -> bool {
-        let What::Event(moment) = &column.what else {
+    /// Whether the first of the columns is the invocation of a focus operation that is to begin a
+    /// new line: its label would not fit, in the right half of this one, or it would be broken here,
+    /// and not there, alone or with those that begin before it ends.
+    fn is_early(&self, scene: &Scene, columns: &[Column], left: u32) -> bool {
+        let Some(operation) = focus_invoked(scene, &columns[0]) else {
             return false;
         };
-        scene.operation(moment).is_some_and(|operation| {
-            moment.is_invocation
-                && scene.is_focus(&operation)
-                && left > WIDEST / 2
-                && left + self.room(&operation) > WIDEST
-        })
+        let is_cut = left > WIDEST / 2 && left + self.room(&operation) > WIDEST;
+        let is_better = |end: &u32| {
+            !self.is_whole(scene, columns, *end, (self.line, left))
+                && self.is_whole(scene, columns, *end, (self.line + 1, 0))
+        };
+        let is_broken = || ends_of(scene, &operation).is_some_and(|it| it.iter().any(is_better));
+        is_cut || !self.has_open_focus(scene, &operation) && is_broken()
     }
 
-    /// Puts the column into this line, or into a new one.
-    fn put(&mut self, scene: &Scene, column: &Column) {
+    /// Whether a focus operation that began before this one has not ended then.
+    fn has_open_focus(&self, scene: &Scene, operation: &Operation) -> bool {
+        let before = scene.focus.range(..operation.number());
+        let mut before = before.filter_map(|(number, _)| {
+            operation_at(scene.operations, i64::from(*number)).filter(|it| self.has_begun(it))
+        });
+        before.any(|it| it.closed().is_some_and(|end| end > operation.number()))
+    }
+
+    fn has_begun(&self, operation: &Operation) -> bool {
+        self.event(operation.number()).is_some_and(|spot| spot.line == self.line)
+    }
+
+    /// Whether the columns up to this event have room in a line, where the first of them begins so
+    /// far from its left end.
+    fn is_whole(&self, scene: &Scene, columns: &[Column], end: u32, place: (usize, u32)) -> bool {
+        let (line, mut x) = place;
+        let mut begun: BTreeMap<u32, u32> = BTreeMap::new();
+        for column in columns {
+            let mut left = x;
+            if let What::Event(moment) = &column.what
+                && let Some(operation) = scene.operation(moment)
+            {
+                let number = operation.number();
+                if moment.is_invocation {
+                    begun.insert(number, left + column.middle);
+                } else {
+                    let before = self.event(number).filter(|spot| spot.line == line);
+                    let begin = begun.get(&number).copied().or(before.map(|spot| spot.x));
+                    let label_end = begin.map_or(0, |begin| begin + self.room(&operation));
+                    left = left.max(label_end.saturating_sub(column.width / 2));
+                }
+            }
+            x = left + column.width;
+            if x > WIDEST || has(column, end) {
+                return x <= WIDEST;
+            }
+        }
+        false
+    }
+
+    /// Puts the first of the columns into this line, or into a new one.
+    fn put(&mut self, scene: &Scene, columns: &[Column]) {
+        let column = &columns[0];
         let mut left = self.left_of(scene, column);
         let is_wide = left + column.width > WIDEST;
-        if !self.is_new && (is_wide || self.is_early(scene, column, left)) {
+        if !self.is_new && (is_wide || self.is_early(scene, columns, left)) {
             self.line += 1;
             left = 0;
         }
@@ -161,16 +205,43 @@ impl Layout {
     }
 }
 
-/// Puts the columns into lines. A last gap that does not fit is dropped.
+/// The focus operation that is invoked in the column.
+fn focus_invoked(scene: &Scene, column: &Column) -> Option<Operation> {
+    match &column.what {
+        What::Event(moment) if moment.is_invocation => scene.operation(moment),
+        _ => None,
+    }
+    .filter(|operation| scene.is_focus(operation))
+}
+
+/// Where a focus operation ends, with those that begin before it ends and so on, and alone; none
+/// where it is pending.
+fn ends_of(scene: &Scene, operation: &Operation) -> Option<[u32; 2]> {
+    let alone = operation.closed()?;
+    let mut last = alone;
+    for number in scene.focus.range(operation.number() + 1..).map(|(number, _)| *number) {
+        if number > last {
+            break;
+        }
+        let later = operation_at(scene.operations, i64::from(number));
+        last = last.max(later.and_then(|later| later.closed()).unwrap_or(last));
+    }
+    Some([last, alone])
+}
+
+/// Whether the column has this event, or is the gap that has it.
+fn has(column: &Column, event: u32) -> bool {
+    match &column.what {
+        What::Event(moment) => moment.number == event,
+        What::Gap(hole) => hole.contains(&event),
+        _ => false,
+    }
+}
+
+/// Puts the columns into lines.
 pub fn place(scene: &Scene, columns: &[Column]) -> Layout {
     let mut layout = Layout::new(scene);
-    for (k, column) in columns.iter().enumerate() {
-        let is_last_gap = k + 1 == columns.len() && matches!(column.what, What::Gap(_));
-        let is_wide = layout.x + column.width > WIDEST;
-        if !is_last_gap || !is_wide || layout.is_new {
-            layout.put(scene, column);
-        }
-    }
+    (0..columns.len()).for_each(|first| layout.put(scene, &columns[first..]));
     if !layout.is_new {
         layout.ends = vec![WIDEST; layout.line];
         layout.ends.push(layout.last_end(scene));

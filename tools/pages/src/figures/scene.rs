@@ -1,9 +1,10 @@
 //! What a figure is laid out from.
 
-use super::labels::{characters, fit, label};
+use super::labels::{characters, fit_label, label};
 use super::moments::Moment;
-use super::numbers::{LABEL_LENGTH, label_room};
+use super::numbers::{LABEL_LENGTH, digits, label_room};
 use crate::timeline::{Mark, Operation};
+use crate::words::Words;
 use finder::Nemesis;
 use std::collections::{BTreeMap, BTreeSet};
 
@@ -41,6 +42,7 @@ pub struct Scene<'a> {
     pub names_objects: bool,
     /// Those of the window whose processes have no lane, by their numbers.
     pub without_lane: &'a BTreeSet<u32>,
+    pub words: Words<'a>,
     /// The map that is faulty, after all that is drawn.
     pub faulty: Option<FaultyMap<'a>>,
 }
@@ -86,6 +88,12 @@ impl Scene<'_> {
         self.faulty_process() == Some(operation.process)
     }
 
+    /// The characters of the longer one of an event's number and its time.
+    pub fn tick_length(&self, number: u32) -> u32 {
+        let time = self.words.time(number).map_or(0, |time| characters(&time));
+        digits(u64::from(number)).max(time)
+    }
+
     pub fn is_focus(&self, operation: &Operation) -> bool {
         self.focus.contains_key(&operation.number())
     }
@@ -99,11 +107,11 @@ impl Scene<'_> {
     /// The label of an operation, no longer than the longest. Where operations of several objects
     /// are drawn, it ends with the object.
     pub fn label(&self, operation: &Operation) -> String {
-        let mut text = label(operation);
+        let mut text = label(operation, &self.words);
         if self.names_objects {
             text += &format!(" @{}", operation.object);
         }
-        fit(&text, LABEL_LENGTH)
+        fit_label(&text, LABEL_LENGTH)
     }
 
     /// The room that the label needs.

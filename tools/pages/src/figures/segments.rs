@@ -28,19 +28,48 @@ struct BarEnd {
     is_open: bool,
 }
 
-/// The end of a bar at the event with this number: at its spot, in the middle of the gap that has
+/// How far a bar that goes on into a gap ends before the middle of it, or begins after that: so that
+/// one that ends there and one that begins there do not look like one.
+const FROM_MIDDLE: u32 = 4;
+
+/// Which end of a bar.
+#[derive(Clone, Copy)]
+enum Side {
+    Left,
+    Right,
+}
+
+/// The end of a bar at the event with this number: at its spot, beside the middle of the gap that has
 /// it, or at the beginning or the end of all lines.
-fn end_at(layout: &Layout, number: u32) -> BarEnd {
+fn end_at(layout: &Layout, number: u32, side: Side) -> BarEnd {
     if let Some(spot) = layout.event(number) {
         return BarEnd { line: spot.line, x: spot.x, is_open: false };
     }
     let is_before = layout.events.first_key_value().is_some_and(|(first, _)| number < *first);
     let (line, x) = match layout.gap(number) {
-        Some(spot) => (spot.line, spot.x),
+        Some(spot) => match side {
+            Side::Left => (spot.line, spot.x + FROM_MIDDLE),
+            Side::Right => (spot.line, spot.x.saturating_sub(FROM_MIDDLE)),
+        },
         None if is_before => (0, 0),
         None => (layout.last_line(), layout.end_of(layout.last_line())),
     };
     BarEnd { line, x, is_open: true }
+}
+
+/// The part in a line of the stretch from one event to another, or to the end; none where it is not in the line, or no wider than a gap.
+pub fn stretch_between(
+    layout: &Layout,
+    from: u32,
+    to: Option<u32>,
+    line: usize,
+) -> Option<(u32, u32)> {
+    let begin = end_at(layout, from, Side::Left);
+    let end = end_at(layout, to.unwrap_or(u32::MAX), Side::Right);
+    let is_here = begin.line <= line && line <= end.line;
+    let left = if begin.line == line { begin.x } else { 0 };
+    let right = if end.line == line { end.x } else { layout.end_of(line) };
+    (is_here && left < right).then_some((left, right))
 }
 
 /// The last line that has an event or a point of a pending operation, from this line on.
@@ -57,7 +86,7 @@ fn last_line_of(scene: &Scene, layout: &Layout, operation: &Operation, first: us
 
 fn right_end(scene: &Scene, layout: &Layout, operation: &Operation, left: BarEnd) -> BarEnd {
     if let Some(number) = operation.closed() {
-        return end_at(layout, number);
+        return end_at(layout, number, Side::Right);
     }
     let line = last_line_of(scene, layout, operation, left.line);
     let x = pending_end(scene, layout, operation, left.line, line);
@@ -89,10 +118,15 @@ fn stretches(moments: &[Moment]) -> Vec<u32> {
     (0..moments.len()).filter(begins).map(|place| moments[place].number).collect()
 }
 
-/// Whether the operation is open where some stretch begins.
-fn is_through(operation: &Operation, starts: &[u32]) -> bool {
-    let closed = operation.closed().unwrap_or(u32::MAX);
-    starts.iter().any(|start| operation.number() < *start && *start < closed)
+/// The operations that are open where some stretch begins.
+fn through<'a>(operations: &'a [Operation], starts: &[u32]) -> impl Iterator<Item = &'a Operation> {
+    let first = starts.first().copied().unwrap_or(u32::MAX);
+    let last = starts.last().copied().unwrap_or(0);
+    let begun = &operations[..operations.partition_point(|it| it.number() < last)];
+    begun.iter().filter(move |operation| {
+        let open = operation.number() + 1..operation.closed().unwrap_or(u32::MAX);
+        open.end > first && starts.iter().any(|start| open.contains(start))
+    })
 }
 
 /// The operations that have a bar: those with a drawn event, and those that are open where a stretch
@@ -107,12 +141,11 @@ pub fn shown_operations(scene: &Scene, layout: &Layout) -> (Vec<Operation>, usiz
     }
     let starts = stretches(scene.moments);
     let mut processes: BTreeSet<u64> = shown.iter().map(|operation| operation.process).collect();
-    let is_only_through = |operation: &&Operation| {
-        is_through(operation, &starts)
-            && !layout.rooms.contains_key(&operation.number())
+    let is_outside = |operation: &&Operation| {
+        !layout.rooms.contains_key(&operation.number())
             && !scene.without_lane.contains(&operation.number())
     };
-    for operation in scene.operations.iter().filter(is_only_through) {
+    for operation in through(scene.operations, &starts).filter(is_outside) {
         let has_lane = processes.contains(&operation.process) || processes.len() < LANES;
         if operation.state() != State::Pending && has_lane && shown.len() < MOST {
             shown.push(*operation);
@@ -126,7 +159,7 @@ pub fn shown_operations(scene: &Scene, layout: &Layout) -> (Vec<Operation>, usiz
 
 /// The parts of the bar of an operation.
 fn segments_at(scene: &Scene, layout: &Layout, operation: Operation) -> Vec<Segment> {
-    let left = end_at(layout, operation.number());
+    let left = end_at(layout, operation.number(), Side::Left);
     let right = right_end(scene, layout, &operation, left);
     let segment = |line| {
         let (is_first, is_last) = (line == left.line, line == right.line);

@@ -148,15 +148,13 @@ fn lanes_of(nearest: &BTreeMap<u64, Nearness>) -> BTreeSet<u64> {
 pub struct WithoutLane {
     pub operations: BTreeSet<u32>,
     pub processes: usize,
-    /// The processes that have a lane, if some have none.
-    pub lanes: BTreeSet<u64>,
 }
 
 /// Keeps at most as many processes as there are lanes, those nearest to the focus, and says what of
 /// the window that leaves out.
 pub fn narrow(
     operations: &[Operation],
-    moments: &mut Vec<Moment>,
+    moments: &mut [Moment],
     focus: &BTreeSet<u32>,
 ) -> WithoutLane {
     let nearest = processes(operations, moments, focus);
@@ -169,6 +167,8 @@ pub fn narrow(
     };
     let drawn = moments.iter().filter(|moment| moment.is_drawn);
     let left_out_numbers = drawn.filter_map(left_out).map(|operation| operation.number()).collect();
-    moments.retain(|moment| left_out(moment).is_none());
-    WithoutLane { operations: left_out_numbers, processes, lanes }
+    for moment in moments.iter_mut() {
+        moment.is_drawn &= left_out(moment).is_none();
+    }
+    WithoutLane { operations: left_out_numbers, processes }
 }

@@ -4,6 +4,7 @@ use super::figures::{path, text_at};
 use super::html::{Html, html};
 use crate::figures::label;
 use crate::timeline::{Bar, Mark, Operation, Role, State};
+use crate::words::Words;
 
 fn role_class(operation: &Operation) -> &'static str {
     match operation.role() {
@@ -35,15 +36,23 @@ fn mark_class(mark: Mark) -> &'static str {
 }
 
 /// What became of the operation.
-fn became(operation: &Operation) -> Html {
+fn became(operation: &Operation, words: &Words) -> Html {
+    let event = |at: Option<u32>| at.map(|at| words.event(at));
     match (operation.state(), operation.ended) {
-        (State::Done, at) => html!["returned at map ", at],
-        (State::Failed, at) => html!["failed at map ", at, ": it did not happen"],
+        (State::Done, at) => html!["returned at event ", event(at)],
+        (State::Failed, at) => html!["failed at event ", event(at), ": it did not happen"],
         (State::Pending, Some(at)) => {
-            html!["pending: info at map ", at, ", it may have happened or not"]
+            html!["pending: info at event ", words.event(at), ", it may have happened or not"]
         }
         (State::Pending, None) => html!["pending: it has no completion"],
     }
+}
+
+/// When it was invoked, and completed, where the history tells times.
+fn times(operation: &Operation, words: &Words) -> Option<Html> {
+    let begin = words.exact_time(operation.number())?;
+    let end = operation.ended.and_then(|ended| words.exact_time(ended));
+    Some(html!["\nfrom ", begin, end.map(|end| html![" to ", end])])
 }
 
 impl Bar {
@@ -51,19 +60,20 @@ impl Bar {
         self.top + self.height
     }
 
-    fn title(&self) -> Html {
+    fn title(&self, words: &Words) -> Html {
         let operation = &self.operation;
         html![
             "<title>",
-            label(operation),
-            "\nmap ",
-            operation.number(),
+            label(operation, words),
+            "\nevent ",
+            words.event(operation.number()),
             ", process ",
-            operation.process,
+            words.process(operation.process),
             ", object ",
             operation.object,
             "\n",
-            became(operation),
+            became(operation, words),
+            times(operation, words),
             "</title>"
         ]
     }
@@ -105,9 +115,9 @@ impl Bar {
         html![label, is_left_out.then(|| text_at("tag", x, y + 28, html!["left out"]))]
     }
 
-    /// The bar of an operation, or its part in a line. It has the name of the operation where it is
-    /// to be found by it.
-    pub fn html(&self, is_named: bool) -> Html {
+    /// The bar of an operation, or its part in a line, which is a link to the row of its point, or
+    /// else to itself. It has the name of the operation where it is to be found by it.
+    pub fn html(&self, is_named: bool, rank: Option<u32>, words: &Words) -> Html {
         let number = self.operation.number();
         let classes = html![
             role_class(&self.operation),
@@ -123,7 +133,8 @@ impl Bar {
             "\"",
             is_named.then(|| html![" id=\"o", number, "\""]),
             ">",
-            self.title(),
+            self.title(words),
+            self.link(rank, words),
             "<rect class=\"fill\" x=\"",
             self.from,
             "\" y=\"",
@@ -136,7 +147,18 @@ impl Bar {
             self.edge(),
             self.pending(),
             self.text(),
-            "</g>"
+            "</a></g>"
         ]
+    }
+
+    /// The beginning of a link, which a screen reader names by the operation.
+    fn link(&self, rank: Option<u32>, words: &Words) -> Html {
+        let (operation, number) = (&self.operation, self.operation.number());
+        let place = match rank {
+            Some(rank) => html!["r", operation.object, "-", rank],
+            None => html!["o", number],
+        };
+        let name = html![label(operation, words), ", #", words.event(number)];
+        html!["<a href=\"#", place, "\" aria-label=\"", name, "\">"]
     }
 }

@@ -1,9 +1,10 @@
 //! What an object contains, as boxes.
 
-use super::figures::{scaled, text_at};
+use super::figures::{large_class, scaled, text_at};
 use super::html::{Html, html};
 use crate::figures::SMALL;
 use crate::timeline::{BoxKind, ContentBox, ObjectDrawing};
+use crate::words::Words;
 use finder::Kind;
 
 fn box_class(kind: BoxKind) -> &'static str {
@@ -28,16 +29,16 @@ fn left_end(kind: Kind) -> &'static str {
 
 impl ContentBox {
     /// What is said under it.
-    fn words_under(&self, middle: u32) -> Html {
+    fn words_under(&self, middle: u32, names: &Words) -> Html {
         let words = self.under.iter().filter(|words| !words.is_empty()).map(|words| html![*words]);
-        let words = words.chain(self.by.map(|by| html!["by ", by]));
+        let words = words.chain(self.by.map(|by| html!["put by #", names.event(by)]));
         words
             .zip(0..)
             .map(|(words, line)| text_at("under", middle, line * 12 + 44, words))
             .collect()
     }
 
-    fn html(&self) -> Html {
+    fn html(&self, names: &Words) -> Html {
         let middle = self.x + self.width / 2;
         let is_absent = self.kind == BoxKind::Absent;
         html![
@@ -53,14 +54,14 @@ impl ContentBox {
             "\" y=\"19\">",
             self.text,
             "</text>",
-            self.words_under(middle),
+            self.words_under(middle, names),
             "</g>"
         ]
     }
 }
 
 /// What the object contains before the entry that is refused, which has this rank.
-pub fn content_figure(drawing: &ObjectDrawing, rank: usize) -> Option<Html> {
+pub fn content_figure(drawing: &ObjectDrawing, rank: usize, words: &Words) -> Option<Html> {
     let last = drawing.boxes.last()?;
     let width = last.x + last.width + 4;
     let (kind, end) = (drawing.kind.word(), left_end(drawing.kind));
@@ -68,7 +69,9 @@ pub fn content_figure(drawing: &ObjectDrawing, rank: usize) -> Option<Html> {
     Some(html![
         "<figure id=\"content\"><figcaption>",
         caption,
-        "</figcaption><div class=\"scroll\"><svg class=\"content\" viewBox=\"0 0 ",
+        "</figcaption><div class=\"scroll",
+        large_class(width <= SMALL),
+        "\"><svg class=\"content\" viewBox=\"0 0 ",
         width,
         " 62\" width=\"",
         scaled(width, width <= SMALL),
@@ -77,7 +80,7 @@ pub fn content_figure(drawing: &ObjectDrawing, rank: usize) -> Option<Html> {
         "\" role=\"group\" aria-label=\"",
         caption,
         "\">",
-        drawing.boxes.iter().map(ContentBox::html).collect::<Html>(),
+        drawing.boxes.iter().map(|it| it.html(words)).collect::<Html>(),
         "</svg></div></figure>\n"
     ])
 }

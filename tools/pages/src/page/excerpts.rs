@@ -20,6 +20,8 @@ pub struct MarkedLine {
     pub is_cut_before: bool,
     pub before: String,
     pub marked: String,
+    /// Whether only the beginning of what is marked is there.
+    pub is_mark_cut: bool,
     pub after: String,
     pub is_cut_after: bool,
     pub missing: &'static str,
@@ -50,7 +52,7 @@ impl MarkedLine {
         let mark = if self.marked.is_empty() {
             html!["<mark class=\"end\">", self.missing, "</mark>"]
         } else {
-            html!["<mark>", self.marked, "</mark>"]
+            html!["<mark>", self.marked, self.is_mark_cut.then_some("…"), "</mark>"]
         };
         html![
             "<tr class=\"at\"><th>",
@@ -90,6 +92,7 @@ fn before(drawing: &FaultyDrawing, shown: &Shown) -> Html {
         title: html!["The history up to the fault"],
         because: Html::default(),
         named: Shown::default(),
+        words: shown.words,
     };
     let extent = Extent {
         without_lane: drawing.without_lane,

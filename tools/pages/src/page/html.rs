@@ -1,5 +1,10 @@
 //! Markup. What is written into it beside the words of this program is escaped.
 
+use std::fmt::Write;
+
+/// The room that a piece of markup has from the beginning: most have no more.
+const ROOM: usize = 160;
+
 /// A piece of markup. It is made by `html!` alone.
 #[derive(Clone, Debug, Default)]
 pub struct Html(String);
@@ -24,7 +29,7 @@ macro_rules! html {
     (@ $html:ident,) => {};
     ($($part:tt)*) => {{
         #[allow(unused_mut)]
-        let mut html = $crate::page::html::Html::default();
+        let mut html = $crate::page::html::Html::new();
         html!(@ html, $($part)*);
         html
     }};
@@ -32,6 +37,11 @@ macro_rules! html {
 pub(crate) use html;
 
 impl Html {
+    /// A piece to which the parts of `html!` are added.
+    pub fn new() -> Html {
+        Html(String::with_capacity(ROOM))
+    }
+
     /// Adds markup as it is. It is for the literals of `html!`, and for the sheet of styles.
     pub fn add_markup(&mut self, markup: &'static str) {
         self.0.push_str(markup);
@@ -57,15 +67,18 @@ impl Part for Html {
 /// Text, which is escaped for elements and for the values of attributes.
 impl Part for str {
     fn add_to(&self, html: &mut Html) {
-        for character in self.chars() {
-            match character {
-                '&' => html.0.push_str("&amp;"),
-                '<' => html.0.push_str("&lt;"),
-                '>' => html.0.push_str("&gt;"),
-                '"' => html.0.push_str("&quot;"),
-                _ => html.0.push(character),
-            }
+        let mut rest = self;
+        while let Some(at) = rest.find(['&', '<', '>', '"']) {
+            html.0.push_str(&rest[..at]);
+            html.0.push_str(match rest.as_bytes()[at] {
+                b'&' => "&amp;",
+                b'<' => "&lt;",
+                b'>' => "&gt;",
+                _ => "&quot;",
+            });
+            rest = &rest[at + 1..];
         }
+        html.0.push_str(rest);
     }
 }
 
@@ -93,7 +106,7 @@ macro_rules! numbers_are_parts {
     ($($number:ty),*) => {
         $(impl Part for $number {
             fn add_to(&self, html: &mut Html) {
-                html.0.push_str(&self.to_string());
+                let _ = write!(html.0, "{self}");
             }
         })*
     };

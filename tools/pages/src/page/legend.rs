@@ -4,6 +4,7 @@ use super::Page;
 use super::figures::path;
 use super::html::{Html, html};
 use crate::timeline::{Bar, Figure, Line, Mark, Role, State};
+use finder::Op;
 use std::collections::BTreeSet;
 
 /// A sign of the figures, in the order of the legend.
@@ -11,6 +12,8 @@ use std::collections::BTreeSet;
 enum Sign {
     Put,
     Take,
+    Acquire,
+    Release,
     Read,
     Swap,
     Pending,
@@ -24,6 +27,7 @@ enum Sign {
     Refused,
     Arrow,
     Nemesis,
+    Band,
     Gap,
 }
 
@@ -69,8 +73,8 @@ fn point(x: u32, y: u32, text_x: u32, text_y: u32, rank: u32) -> Html {
 impl Sign {
     fn class(self) -> &'static str {
         match self {
-            Sign::Put => "op put done",
-            Sign::Take => "op take done",
+            Sign::Put | Sign::Acquire => "op put done",
+            Sign::Take | Sign::Release => "op take done",
             Sign::Read | Sign::Open => "op read done",
             Sign::Swap => "op swap done",
             Sign::Pending => "op read pending",
@@ -81,6 +85,7 @@ impl Sign {
             Sign::Refused => "pt bad",
             Sign::Arrow => "before",
             Sign::Nemesis => "nem",
+            Sign::Band => "band",
             Sign::Gap => "gap",
         }
     }
@@ -89,6 +94,8 @@ impl Sign {
         match self {
             Sign::Put => "puts in or sets",
             Sign::Take => "takes out",
+            Sign::Acquire => "acquires",
+            Sign::Release => "releases",
             Sign::Read => "reads",
             Sign::Swap => "compares and sets",
             Sign::Pending => "pending: open at the right, it may have happened or not",
@@ -99,6 +106,7 @@ impl Sign {
             Sign::Refused => "the entry that is refused",
             Sign::Arrow => "returned before the other was invoked",
             Sign::Nemesis => "a map of the nemesis",
+            Sign::Band => "what the nemesis began, until it ended that",
             Sign::Gap => "maps that are left out",
         }
     }
@@ -107,7 +115,9 @@ impl Sign {
         let closed = || path("edge", html!["M1 2H33V16H1Z"]);
         let open = || path("edge", html!["M33 2H1V16H33"]);
         match self {
-            Sign::Put | Sign::Take | Sign::Read | Sign::Swap => bar(closed()),
+            Sign::Put | Sign::Take | Sign::Acquire | Sign::Release | Sign::Read | Sign::Swap => {
+                bar(closed())
+            }
             Sign::Pending => bar(html![open(), path("more", html!["M28 5L32 9L28 13"])]),
             Sign::Failed => bar(html!["<text x=\"4\" y=\"13\">f 1</text>", closed()]),
             Sign::Open => bar(open()),
@@ -120,7 +130,7 @@ impl Sign {
                 html![path("line", html!["M2 9H26"]), path("head", html!["M33 9l-8 -4v8Z"])]
             }
             Sign::Nemesis => path("dia", html!["M17 4l5 5l-5 5l-5 -5Z"]),
-            Sign::Gap => html![rectangle("fill", 2, 0, 30, 18), "/>"],
+            Sign::Band | Sign::Gap => html![rectangle("fill", 2, 0, 30, 18), "/>"],
         }
     }
 
@@ -140,11 +150,13 @@ impl Sign {
 
 impl Bar {
     fn signs(&self) -> impl Iterator<Item = Sign> {
-        let role = match self.operation.role() {
-            Role::Put => Sign::Put,
-            Role::Take => Sign::Take,
-            Role::Read => Sign::Read,
-            Role::Swap => Sign::Swap,
+        let role = match (self.operation.op(), self.operation.role()) {
+            (Op::Acquire, _) => Sign::Acquire,
+            (Op::Release, _) => Sign::Release,
+            (_, Role::Put) => Sign::Put,
+            (_, Role::Take) => Sign::Take,
+            (_, Role::Read) => Sign::Read,
+            (_, Role::Swap) => Sign::Swap,
         };
         let state = match self.operation.state() {
             State::Done => None,
@@ -158,7 +170,9 @@ impl Bar {
             Mark::Fault | Mark::LeftOut => Some(Sign::Fault),
             Mark::Giver | Mark::Source | Mark::Named => Some(Sign::Named),
         };
-        let some = [Some(role), state, goes_on.then_some(Sign::Open), mark];
+        // The others of a figure have no colour.
+        let role = (self.mark != Mark::Dim).then_some(role);
+        let some = [role, state, goes_on.then_some(Sign::Open), mark];
         some.into_iter().flatten()
     }
 }
@@ -171,6 +185,7 @@ impl Line {
         let others = [
             (!self.arrows.is_empty()).then_some(Sign::Arrow),
             (!self.nemeses.is_empty()).then_some(Sign::Nemesis),
+            (!self.bands.is_empty()).then_some(Sign::Band),
             (!self.gaps.is_empty()).then_some(Sign::Gap),
         ];
         self.bars.iter().flat_map(Bar::signs).chain(points).chain(others.into_iter().flatten())
@@ -195,7 +210,7 @@ pub fn legend(page: &Page) -> Option<Html> {
         html![
             "<details class=\"legend\" open=\"\"><summary>How to read the picture</summary><ul>",
             list,
-            "</ul><p>Numbers above are places of maps in the text. They are in order and ",
+            "</ul><p>Numbers above are those of events in the text. They are in order and ",
             "no time is meant: a bar is as long as its label needs. Point at a ",
             "bar or a point to read more; a point leads to its row in the table, ",
             "an operation in the text leads to its bar.</p></details>"

@@ -9,6 +9,7 @@ mod legend;
 mod points;
 mod sections;
 mod sentences;
+mod strip;
 mod style;
 mod tables;
 
@@ -16,6 +17,7 @@ pub use excerpts::{Excerpt, MarkedLine, Place, TextLine};
 
 use crate::figures::count_text;
 use crate::timeline::{Figure, ObjectDrawing, Spans};
+use crate::words::Words;
 use finder::Kind;
 use html::{Html, html};
 use legend::legend;
@@ -28,7 +30,10 @@ use tables::object_table;
 #[derive(Clone, Copy, PartialEq, Eq)]
 pub enum Answer {
     Yes,
+    /// An order is refused.
     No,
+    /// An object has no order.
+    NoOrder,
     Impossible,
     Open,
     /// A text is malformed.
@@ -63,6 +68,7 @@ pub struct Page<'a> {
     pub drawings: &'a [ObjectDrawing],
     pub place: Option<&'a Place<'a>>,
     pub quoted: &'a str,
+    pub words: Words<'a>,
 }
 
 /// The most lines of the verdict on a page, and the most bytes of one that is not cut.
@@ -74,7 +80,7 @@ impl Answer {
     fn class(self) -> &'static str {
         match self {
             Answer::Yes => "yes",
-            Answer::No => "no",
+            Answer::No | Answer::NoOrder => "no",
             Answer::Impossible => "impossible",
             Answer::Open => "open",
             Answer::Malformed => "malformed",
@@ -85,8 +91,9 @@ impl Answer {
     fn word(self) -> &'static str {
         match self {
             Answer::Yes => "Yes",
-            Answer::No => "No",
-            Answer::Impossible => "Impossible",
+            Answer::No => "Order refused",
+            Answer::NoOrder => "Order missing",
+            Answer::Impossible => "Not linearizable",
             Answer::Open => "Open",
             Answer::Malformed => "Malformed",
             Answer::NoMemory => "Out of memory",
@@ -96,7 +103,7 @@ impl Answer {
     fn sign(self) -> &'static str {
         match self {
             Answer::Yes => "✓",
-            Answer::No | Answer::Impossible | Answer::Malformed => "✕",
+            Answer::No | Answer::NoOrder | Answer::Impossible | Answer::Malformed => "✕",
             Answer::Open | Answer::NoMemory => "?",
         }
     }
@@ -129,6 +136,24 @@ fn verdict(lines: &str) -> Html {
     html!["<pre class=\"verdict\">", first, next, more, "</pre>"]
 }
 
+/// What the last of the lines of a reason is, and *counted as* in the others.
+fn reason_note(lines: &str) -> Option<Html> {
+    let shown = || lines.split('\n').take(MOST_LINES);
+    if !shown().any(|line| line.starts_with("; {:object ")) {
+        return None;
+    }
+    let is_counted = shown().any(|line| line.contains(", counted as "));
+    let counted = is_counted.then_some(
+        " What follows “counted as” is all that it uses of the operation; the value there may stand for any other.",
+    );
+    Some(html![
+        "<p class=\"note\">The line with <code>{:object</code> is the reason, for a program: ",
+        "<code>fcbench refute</code> checks it.",
+        counted,
+        "</p>"
+    ])
+}
+
 impl Page<'_> {
     /// The figures of the page.
     fn figures(&self) -> impl Iterator<Item = &Figure> {
@@ -137,8 +162,8 @@ impl Page<'_> {
         drawings.chain(before.map(|drawing| &drawing.figure))
     }
 
-    fn shown(&self) -> Shown {
-        let mut shown = Shown::default();
+    fn shown(&self) -> Shown<'_> {
+        let mut shown = Shown::new(self.words);
         self.figures().for_each(|figure| shown.add(figure));
         shown
     }
@@ -163,10 +188,12 @@ impl Page<'_> {
     fn place_name(&self) -> Option<&'static str> {
         match (self.answer, self.drawings) {
             (Answer::Yes | Answer::NoMemory, _) => None,
-            (Answer::Malformed, _) | (Answer::No, []) => Some("fault"),
+            (Answer::Malformed, _) | (Answer::No | Answer::NoOrder, []) => Some("fault"),
             (_, []) => None,
             (_, [drawing, ..]) if drawing.tried.is_some() => Some("reason"),
-            (Answer::No, [drawing, ..]) if !drawing.sentences.is_empty() => Some("fault"),
+            (Answer::No | Answer::NoOrder, [drawing, ..]) if !drawing.sentences.is_empty() => {
+                Some("fault")
+            }
             _ => Some("object"),
         }
     }
@@ -198,12 +225,14 @@ impl Page<'_> {
             "</p>",
             self.sentences(shown),
             verdict(self.lines),
+            reason_note(self.lines),
             "</header>"
         ]
     }
 
     fn sections(&self, shown: &Shown) -> Html {
-        let is_strange = self.drawings.is_empty() && self.answer == Answer::No;
+        let is_no = matches!(self.answer, Answer::No | Answer::NoOrder);
+        let is_strange = self.drawings.is_empty() && is_no;
         let has_table = self.objects.len() > 1 || is_strange;
         // The heading of a reason has a name of its own.
         let name = self.place_name().filter(|name| *name != "reason");

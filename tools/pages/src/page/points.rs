@@ -4,34 +4,41 @@ use super::figures::path;
 use super::html::{Html, html};
 use crate::figures::{label, point_room};
 use crate::timeline::Point;
+use crate::words::Words;
 
-/// The line that joins the points.
-fn thread(points: &[Point]) -> Option<Html> {
+/// The line that joins each point to the next one of the order, where that is in the line.
+pub fn thread(points: &[Point]) -> Option<Html> {
     let (first, rest) = points.split_first().filter(|(_, rest)| !rest.is_empty())?;
-    let rest: Html = rest.iter().map(|point| html!["L", point.x, " ", point.y]).collect();
+    let mut last = first.rank;
+    let to = |point: &Point| {
+        let is_next = std::mem::replace(&mut last, point.rank) + 1 == point.rank;
+        html![if is_next { "L" } else { "M" }, point.x, " ", point.y]
+    };
+    let rest: Html = rest.iter().map(to).collect();
     Some(path("thread", html!["M", first.x, " ", first.y, rest]))
 }
 
 impl Point {
     fn tether(&self) -> Option<Html> {
-        let end = self.tether.filter(|_| self.is_refused)?;
+        let end = self.tether?;
         Some(path("tether", html!["M", end, " ", self.y, "H", self.x]))
     }
 
     /// What it says when it is pointed at.
-    fn title(&self, because: &Html) -> Html {
+    fn title(&self, because: &Html, words: &Words) -> Html {
         let operation = &self.operation;
         let about = if self.is_refused {
             html!["\n", because, "\ncontent before: "]
         } else {
-            let process = operation.process;
-            html!["\nmap ", operation.number(), ", process ", process, "\ncontent after: "]
+            let (number, process) = (operation.number(), operation.process);
+            let (event, process) = (words.event(number), words.process(process));
+            html!["\nevent ", event, ", process ", process, "\ncontent after: "]
         };
-        html!["<title>", self.rank, ": ", label(operation), about, self.content, "</title>"]
+        html!["<title>", self.rank, ": ", label(operation, words), about, self.content, "</title>"]
     }
 
     /// The point, which leads to its row.
-    fn html(&self, object: u32, because: &Html) -> Html {
+    fn html(&self, object: u32, because: &Html, words: &Words) -> Html {
         let (width, x, y) = (point_room(self.rank), self.x, self.y);
         let half = width / 2;
         let cross = self
@@ -48,10 +55,14 @@ impl Point {
             self.rank,
             "\" data-op=\"",
             self.operation.number(),
-            "\" aria-label=\"entry ",
+            "\" aria-label=\"",
+            label(&self.operation, words),
+            ", #",
+            words.event(self.operation.number()),
+            ", entry ",
             self.rank,
             "\">",
-            self.title(because),
+            self.title(because, words),
             "<rect x=\"",
             x.saturating_sub(half),
             "\" y=\"",
@@ -72,10 +83,9 @@ impl Point {
 }
 
 /// The points of an order of this object, of which one may be refused, because of this.
-pub fn points(object: u32, points: &[Point], because: &Html) -> Html {
+pub fn points(object: u32, points: &[Point], because: &Html, words: &Words) -> Html {
     html![
-        thread(points),
         points.iter().filter_map(Point::tether).collect::<Html>(),
-        points.iter().map(|point| point.html(object, because)).collect::<Html>()
+        points.iter().map(|point| point.html(object, because, words)).collect::<Html>()
     ]
 }

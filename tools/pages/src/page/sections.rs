@@ -8,7 +8,8 @@ use super::sentences::Shown;
 use super::tables::{is_narrow, order_table, tried_table};
 use crate::figures::count_text;
 use crate::timeline::{
-    Entry, Extent, Figure, Line, ObjectDrawing, Operation, Row, Span, Spans, Tried, spans,
+    DrawnStretch, Entry, Extent, Figure, Line, ObjectDrawing, Operation, Row, Span, Spans, Tried,
+    spans,
 };
 
 /// How many operations a note names one by one at most.
@@ -40,6 +41,9 @@ fn caption(answer: Answer, drawing: &ObjectDrawing, is_first: bool) -> &'static 
         "In its surroundings."
     } else if !is_first {
         "As above."
+    } else if has_points && answer == Answer::Open {
+        "Bars run from invocation to return. The numbered points are the longest order that was \
+         found for this page."
     } else if has_points && answer != Answer::No {
         "Bars run from invocation to return. The numbered points are the order: each lies on its \
          bar, and ranks rise from left to right."
@@ -107,13 +111,17 @@ fn reason_caption(drawing: &ObjectDrawing, figure: &Figure) -> Spans {
     let (all, shown) = (drawing.reason, Shown::in_figure(figure).count());
     let operations = plural(all, " operation of ", " operations of ");
     let these = plural(all, ": it has no place in any order", ": these alone have no valid order");
-    let mut said = spans![all, operations, drawing.extent.live, these];
+    let mut said = spans![all, operations, drawing.live, these];
     if let Some(from) = drawing.from {
-        said.extend(spans![", whatever the ", drawing.kind, " contained before map ", from]);
+        said.extend(spans![", whatever the ", drawing.kind, " contained before event ", from]);
     }
     said.extend(spans!["."]);
     if shown < all {
         said.extend(spans![" Drawn: ", shown, " of them."]);
+    }
+    if shown > all {
+        let others = plural(shown - all, " other operation", " other operations");
+        said.extend(spans![" Drawn with ", shown - all, others, " that the sentence names."]);
     }
     if some_line(figure, |line| !line.arrows.is_empty()) {
         let arrows = " Arrows: returned before the other was invoked, so it stands before it.";
@@ -143,7 +151,7 @@ fn outside(operations: &[Operation], shown: &Shown) -> Option<Html> {
 pub struct ObjectSection<'a> {
     pub answer: Answer,
     pub drawing: &'a ObjectDrawing,
-    pub shown: &'a Shown,
+    pub shown: &'a Shown<'a>,
     /// Whether it is the first one.
     pub is_first: bool,
     /// The name of its heading, if it has one.
@@ -152,9 +160,10 @@ pub struct ObjectSection<'a> {
 
 impl ObjectSection<'_> {
     /// A figure of the object, where these operations have their names before.
-    fn lines(&self, figure: &Figure, title: Html, named: Shown) -> Html {
+    fn lines(&self, figure: &Figure, title: Html, named: Shown<'_>) -> Html {
         let because = self.shown.spans(&self.drawing.because, "");
-        Drawing { figure, object: self.drawing.object, title, because, named }.html()
+        let words = self.shown.words;
+        Drawing { figure, object: self.drawing.object, title, because, named, words }.html()
     }
 
     /// The operations that are drawn alone.
@@ -188,7 +197,7 @@ impl ObjectSection<'_> {
     fn whole_figure(&self) -> Html {
         let ObjectDrawing { object, kind, zoom, figure, extent, .. } = self.drawing;
         let named = zoom.as_ref().map(Shown::in_figure).unwrap_or_default();
-        let title = html!["Object ", *object, ", a ", kind.word()];
+        let title = html!["Object ", self.shown.words.name_of(*object), ", a ", kind.word()];
         html![
             "<figure id=\"fig",
             *object,
@@ -207,9 +216,42 @@ impl ObjectSection<'_> {
         if self.drawing.tried.is_some() {
             return figure;
         }
-        let class = if is_narrow(self.drawing) { "beside" } else { "under" };
+        let class = if is_narrow(self.drawing, &self.shown.words) { "beside" } else { "under" };
         let order = (!self.drawing.rows.is_empty()).then(|| order_table(self.drawing, self.shown));
         html!["<div class=\"", class, "\">", figure, order, "</div>"]
+    }
+
+    /// Other stretches of the history, each to be opened.
+    fn stretches(&self) -> Html {
+        let mut named = self.drawing.zoom.as_ref().map(Shown::in_figure).unwrap_or_default();
+        named.add(&self.drawing.figure);
+        let stretches = (1..).zip(&self.drawing.stretches);
+        stretches.map(|(place, stretch)| self.stretch(place, stretch, &mut named)).collect()
+    }
+
+    /// A stretch, where these operations have their names before.
+    fn stretch(&self, place: usize, stretch: &DrawnStretch, named: &mut Shown) -> Html {
+        let object = self.drawing.object;
+        let words = self.shown.words;
+        let title = html!["Object ", words.name_of(object), ", stretch ", place];
+        let before = std::mem::take(named);
+        named.add_all(&before);
+        let lines = self.lines(&stretch.figure, title, before);
+        named.add(&stretch.figure);
+        html![
+            "<details class=\"stretch\" id=\"s",
+            object,
+            "-",
+            place,
+            "\"><summary>Maps ",
+            words.event(stretch.from),
+            " to ",
+            words.event(stretch.to.saturating_sub(1)),
+            "</summary><figure>",
+            lines,
+            note(&stretch.extent, &stretch.figure, self.shown),
+            "</figure></details>\n"
+        ]
     }
 
     pub fn html(&self) -> Html {
@@ -222,15 +264,19 @@ impl ObjectSection<'_> {
             }
             (None, _) => (None, None),
         };
+        let named = self.shown.words.object(drawing.object);
+        let which = named.map(|name| html![", which is ", name]);
         html![
             why,
             "<section id=\"object-",
             drawing.object,
             "\">",
-            heading(self.name, html!["Object ", drawing.object, ": ", drawing.kind.word()]),
+            heading(self.name, html!["Object ", drawing.object, which, ": ", drawing.kind.word()]),
             zoom,
-            content_figure(drawing, refused_rank(drawing)),
+            content_figure(drawing, refused_rank(drawing), &self.shown.words),
+            drawing.strip.as_ref().map(|strip| strip.html(drawing.object)),
             self.figure_and_order(),
+            self.stretches(),
             "</section>\n"
         ]
     }

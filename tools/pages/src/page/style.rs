@@ -4,8 +4,9 @@ use super::html::{Html, html};
 use crate::timeline::ObjectDrawing;
 use std::collections::BTreeSet;
 
-/// The most points that light their rows.
-const MOST_LIT: usize = 600;
+/// On a page of more points none lights its row: a browser looks at each of these rules whenever the
+/// mouse moves, and takes seconds to read the page.
+const MOST_LIT: usize = 100;
 
 /// The points of a page: operation, object and rank.
 fn points_of(drawings: &[ObjectDrawing]) -> BTreeSet<(u32, u32, u32)> {
@@ -39,6 +40,7 @@ fn light((operation, object, rank): &(u32, u32, u32)) -> Html {
 pub fn style(drawings: &[ObjectDrawing]) -> Html {
     let mut sheet = Html::default();
     sheet.add_markup(include_str!("sheet.css"));
-    let lit: Html = points_of(drawings).iter().take(MOST_LIT).map(light).collect();
+    let points = points_of(drawings);
+    let lit = (points.len() <= MOST_LIT).then(|| points.iter().map(light).collect::<Html>());
     html!["<style>", sheet, lit, "</style>"]
 }

@@ -5,6 +5,7 @@ use super::sentences::{Shown, code};
 use super::{Answer, ObjectRow, Page};
 use crate::figures::{count_text, digits, label};
 use crate::timeline::{Attempt, Entry, Failure, ObjectDrawing, Row, Span, Tried};
+use crate::words::Words;
 use finder::{Kind, Reply};
 
 /// The characters of the longest row of a table that is beside its figure.
@@ -43,9 +44,9 @@ impl Table<'_> {
             self.name,
             "\" class=\"",
             self.class,
-            "\"><caption>",
+            "\"><caption><span>",
             self.title,
-            "</caption><thead><tr>",
+            "</span></caption><thead><tr>",
             self.heads.iter().map(head).collect::<Html>(),
             "</tr></thead><tbody>",
             rows,
@@ -102,10 +103,15 @@ fn entry_row(
 
 /// The table of the order.
 pub fn order_table(drawing: &ObjectDrawing, shown: &Shown) -> Html {
+    let object = shown.words.name_of(drawing.object);
     let table = Table {
         class: "order",
         name: html!["t", drawing.object],
-        title: html!["The order of object ", drawing.object],
+        title: if drawing.is_open {
+            html!["The longest order that was found of object ", object]
+        } else {
+            html!["The order of object ", object]
+        },
         heads: &["rank", "operation", content_title(drawing.kind)],
     };
     let row = |row: &Row| match row {
@@ -127,10 +133,12 @@ fn characters(text: &str) -> usize {
 }
 
 /// The characters of why the entry is refused.
-fn because_length(drawing: &ObjectDrawing) -> usize {
+fn because_length(drawing: &ObjectDrawing, words: &Words) -> usize {
     let length = |span: &Span| match span {
         Span::Text(text) => characters(text),
         Span::Number(number) => digits(*number) as usize,
+        Span::Object(object) => characters(&words.name_of(*object)),
+        Span::Event(number) => digits(u64::from(*number)) as usize + 1,
         Span::Value(value) => characters(&value.to_string()),
         _ => 0,
     };
@@ -138,21 +146,21 @@ fn because_length(drawing: &ObjectDrawing) -> usize {
 }
 
 /// The characters of a row of an order.
-fn row_length(drawing: &ObjectDrawing, row: &Row) -> usize {
+fn row_length(drawing: &ObjectDrawing, row: &Row, words: &Words) -> usize {
     let Row::Entry { rank, operation, content, entry, .. } = row else {
         return 0;
     };
     let operation = operation.as_ref().map_or(0, |operation| {
-        characters(&label(operation)) + digits(u64::from(operation.number())) as usize + 1
+        characters(&label(operation, words)) + digits(u64::from(operation.number())) as usize + 1
     });
     let content = content.as_ref().map_or(0, |content| characters(content));
-    let because = if *entry == Entry::Refused { because_length(drawing) } else { 0 };
+    let because = if *entry == Entry::Refused { because_length(drawing, words) } else { 0 };
     digits(*rank as u64) as usize + operation + content + because
 }
 
 /// Whether each row of the order is short enough for the table to be beside its figure.
-pub fn is_narrow(drawing: &ObjectDrawing) -> bool {
-    drawing.rows.iter().all(|row| row_length(drawing, row) <= BESIDE)
+pub fn is_narrow(drawing: &ObjectDrawing, words: &Words) -> bool {
+    drawing.rows.iter().all(|row| row_length(drawing, row, words) <= BESIDE)
 }
 
 /// The title of the table of the orders that were tried.
@@ -162,13 +170,14 @@ fn tried_title(tried: &Tried) -> Html {
         html!["Ways to begin"]
     } else if ways == 1 {
         html![
-            "Every order breaks. There is one way to begin, up to the operation that does not fit"
+            "Every order breaks. There is one way to begin, up to equal content, and up to the operation that does not fit"
         ]
     } else {
+        let all = if ways == 2 { html!["Both"] } else { html!["All ", ways] };
         html![
-            "Every order breaks. All ",
-            ways,
-            " ways to begin, each up to the operation that does not fit"
+            "Every order breaks. ",
+            all,
+            " ways to begin, up to equal content, each up to the operation that does not fit"
         ]
     };
     let other = tried.other.map(|_| ". “other” is any value that the reason does not keep");
@@ -177,18 +186,19 @@ fn tried_title(tried: &Tried) -> Html {
 
 impl Tried {
     /// What an object gives, or that it is any value that the part does not keep.
-    fn reply(&self, reply: Reply) -> Html {
+    fn reply(&self, reply: Reply, words: &Words) -> Html {
         match reply {
             Reply::Value(Some(value)) if Some(value) == self.other => html!["other"],
-            _ => html![reply.value().to_string()],
+            _ => html![words.values(reply.value().to_string())],
         }
     }
 
-    fn failure(&self, failure: Failure) -> Html {
+    fn failure(&self, failure: Failure, words: &Words) -> Html {
         match failure {
             Failure::NotPossible => html!["is not possible"],
             Failure::Gives(gives, returned) => {
-                html!["gives ", self.reply(gives), ", returned ", returned.value().to_string()]
+                let returned = words.values(returned.value().to_string());
+                html!["gives ", self.reply(gives, words), ", returned ", returned]
             }
         }
     }
@@ -200,7 +210,7 @@ impl Tried {
             cell(shown.operations(&attempt.before)),
             cell(code(&attempt.content)),
             cell(shown.operation(&attempt.next)),
-            cell(self.failure(attempt.failure)),
+            cell(self.failure(attempt.failure, &shown.words)),
             "</tr>\n"
         ]
     }
@@ -222,12 +232,9 @@ pub fn tried_table(tried: &Tried, shown: &Shown) -> Html {
 
 fn object_row(page: &Page, row: &ObjectRow) -> Html {
     let is_drawn = page.drawings.iter().any(|drawing| drawing.object == row.object);
-    let object = row.object;
-    let name = if is_drawn {
-        html!["<a href=\"#object-", object, "\">object ", object, "</a>"]
-    } else {
-        html!["object ", object]
-    };
+    let name = html!["object ", page.words.name_of(row.object)];
+    let name =
+        if is_drawn { html!["<a href=\"#object-", row.object, "\">", name, "</a>"] } else { name };
     let is_bad = row.is_faulty && page.answer != Answer::Open;
     html![
         "<tr",

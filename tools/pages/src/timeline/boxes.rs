@@ -19,7 +19,7 @@ pub struct ContentBox {
     pub kind: BoxKind,
     pub text: String,
     pub under: [&'static str; 2],
-    /// The operation that put it there.
+    /// The operation that put it there, or that holds a mutex.
     pub by: Option<u32>,
     pub x: u32,
     pub width: u32,

@@ -42,14 +42,15 @@ pub struct Bar {
     pub info: Option<u32>,
 }
 
-/// An event: the number of its map, and whether the number has room.
-#[derive(Clone, Copy)]
+/// An event: the number of its map, and its time if it has one.
 pub struct Tick {
     pub number: u32,
     pub x: u32,
+    /// Whether the number and the time have room.
     pub is_shown: bool,
     /// Whether the sentence speaks of it.
     pub is_focus: bool,
+    pub time: Option<String>,
 }
 
 /// Maps that are left out, around a middle.
@@ -58,16 +59,23 @@ pub struct Gap {
     pub x: u32,
     pub width: u32,
     pub count: u32,
+    /// How many operations of the object were invoked there and have no bar.
+    pub operations: usize,
 }
 
 /// A map of a nemesis.
 pub struct NemesisMark {
-    pub number: u32,
     pub x: u32,
-    pub process: String,
-    pub function: String,
-    /// As much of its function as has room.
+    pub title: String,
+    /// As much of what it does as has room.
     pub label: String,
+}
+
+/// The part in a line of the time from where a nemesis began something to where it ended that.
+pub struct Band {
+    pub from: u32,
+    pub to: u32,
+    pub title: String,
 }
 
 #[derive(Clone, Copy)]
@@ -106,7 +114,10 @@ pub struct Line {
     pub lanes: Vec<Lane>,
     pub gaps: Vec<Gap>,
     pub ticks: Vec<Tick>,
+    /// The top of the row of the nemesis.
+    pub nemesis_top: u32,
     pub nemeses: Vec<NemesisMark>,
+    pub bands: Vec<Band>,
     pub bars: Vec<Bar>,
     pub points: Vec<Point>,
     pub arrows: Vec<Arrow>,

@@ -7,8 +7,12 @@ use finder::{Kind, Reply, Value};
 #[derive(Clone, Copy)]
 pub enum Span {
     Text(&'static str),
-    /// The number of a map, an object or an entry.
+    /// The number of a map or an entry.
     Number(u64),
+    /// An object, by its name if it has one, and else by its number.
+    Object(u32),
+    /// An operation, by the number of its invocation alone.
+    Event(u32),
     /// The number of an entry of an order, which may be any.
     Entry(i64),
     /// How many.
@@ -24,6 +28,8 @@ pub enum Span {
     /// A certificate of this object, as an example.
     Certificate(u32),
     Command(&'static str),
+    /// The option by which only this object is drawn.
+    OnlyObject(u32),
     /// In small letters.
     Aside(&'static str),
 }

@@ -23,13 +23,14 @@ struct Placed {
     number: u32,
 }
 
-/// The calls that are placed, and the gaps in which no value surely is in the heap.
+/// The calls that are placed, and the gaps in which no value definitely is in the heap.
 pub struct Placing {
     gaps: Gaps,
     placed: Vec<Placed>,
     /// What has no gap.
     pub shortages: Vec<Shortage>,
-    /// The gaps in which the values surely are in the heap, if pending extracts may change them.
+    /// The gaps in which the values definitely are in the heap, if pending extracts may change
+    /// them.
     pub covers: Vec<Cover>,
     keeps_covers: bool,
     /// The number of moments.
@@ -90,7 +91,7 @@ impl Placing {
         let Some(take) = residence.take else {
             return self.place_insert(residence, latest, Phase::Inserts);
         };
-        let from = residence.surely_to();
+        let from = residence.definitely_to();
         let gap = self.gaps.first_free(from);
         if gap >= take.end {
             self.shortages.push(Shortage { below: Some(value), from, to: take.end });
@@ -111,7 +112,7 @@ impl Placing {
             self.place(residence);
         }
         for residence in residences {
-            let to = residence.surely_to().min(self.end);
+            let to = residence.definitely_to().min(self.end);
             if self.keeps_covers && residence.put.end < to {
                 self.covers.push(Cover::of(residence, to));
             }

@@ -1,5 +1,5 @@
 //! What is to be done where an extract of a heap, or a call that finds nothing, has no gap: lesser
-//! values surely are in the heap in each of its time. One of them, by a pending extract, can be
+//! values definitely are in the heap in each of its time. One of them, by a pending extract, can be
 //! gone earlier. In which gap that is to be is chosen here, and the values are placed anew.
 
 use crate::residences::Residence;
@@ -45,7 +45,7 @@ impl Shortage {
     }
 }
 
-/// The gaps `from <= gap < to`, in which a value surely is in the heap.
+/// The gaps `from <= gap < to`, in which a value definitely is in the heap.
 pub struct Cover {
     value: i64,
     from: u32,

@@ -19,7 +19,7 @@ pub struct Empties {
 }
 
 impl Empties {
-    /// Each call in the first gap in which the fewest values surely are in the queue. `None`: a
+    /// Each call in the first gap in which the fewest values definitely are in the queue. `None`: a
     /// value is taken more often than it is put in, or a call has no gap.
     pub fn new(touches: &Touches, end: u32) -> Option<Empties> {
         let sure = Sure::new(&touches.known, end)?;

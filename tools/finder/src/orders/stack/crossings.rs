@@ -1,7 +1,7 @@
 //! Other pairs for the equal values of a stack, where those that were chosen do not fit.
 //!
-//! Two values cross where the lower one surely is popped before the upper one, though the upper one
-//! was pushed before that. Where equal values change their pops fewer may cross.
+//! Two values cross where the lower one definitely is popped before the upper one, though the upper
+//! one was pushed before that. Where equal values change their pops fewer may cross.
 
 use crate::residences::Residence;
 use crate::timeline::PENDING;
@@ -17,7 +17,7 @@ const MOST_CHANGES: usize = 200;
 struct Stay {
     /// When its push begins.
     begin: u32,
-    /// The gaps in which it surely is in the stack, if there are any.
+    /// The gaps in which it definitely is in the stack, if there are any.
     from: u32,
     to: u32,
     /// When its pop has returned.
@@ -28,8 +28,8 @@ impl Stay {
     fn of(residence: &Residence) -> Stay {
         Stay {
             begin: residence.put.begin,
-            from: residence.surely_from(),
-            to: residence.surely_to().min(PENDING),
+            from: residence.definitely_from(),
+            to: residence.definitely_to().min(PENDING),
             end: residence.taken_by(),
         }
     }
@@ -38,7 +38,7 @@ impl Stay {
         self.from <= self.to
     }
 
-    /// Whether it is put below the other, and surely is popped before it.
+    /// Whether it is put below the other, and definitely is popped before it.
     fn ends_below(&self, upper: &Stay) -> bool {
         self.from <= upper.begin && upper.from <= self.to && self.end <= upper.to
     }
@@ -48,7 +48,7 @@ impl Stay {
     }
 }
 
-/// A value, by its place, that surely is in the stack for a while.
+/// A value, by its place, that definitely is in the stack for a while.
 struct Member {
     place: usize,
     stay: Stay,

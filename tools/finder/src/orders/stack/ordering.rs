@@ -1,7 +1,7 @@
-//! The values that surely are in the stack for a while, ordered as far as that can be done.
+//! The values that definitely are in the stack for a while, ordered as far as that can be done.
 
 use super::turns::{Step, Turn};
-use crate::residences::{Gaps, Residence};
+use crate::residences::{Gaps, Residence, counts_of};
 use crate::timeline::Span;
 use crate::trees::{ABSENT, Counts, Least};
 
@@ -15,16 +15,16 @@ enum Task {
     FindsNone(Span, u32),
 }
 
-/// The values, by the gap from which on they surely are in the stack, and what is left of them.
+/// The values, by the gap from which on they definitely are in the stack, and what is left of them.
 struct Values {
     residences: Vec<Residence>,
     /// The number of moments.
     end: u32,
     /// The places of values that are left.
     left: Gaps,
-    /// How many values surely are in the stack at each gap.
+    /// How many values definitely are in the stack at each gap.
     cover: Counts,
-    /// For each value that is left the gap up to which it surely is in the stack, negated.
+    /// For each value that is left the gap up to which it definitely is in the stack, negated.
     last: Least,
     /// When it can be put, for values that are not known to be possible below the others, and when
     /// taken, negated.
@@ -38,21 +38,19 @@ struct Values {
 }
 
 impl Values {
-    /// The values, which come in rising order of the gap from which on they surely are in the
+    /// The values, which come in rising order of the gap from which on they definitely are in the
     /// stack.
     fn new(residences: Vec<Residence>, end: u32) -> Values {
-        let mut cover = Counts::of(&vec![0; end as usize + 1]);
-        for residence in &residences {
-            let to = residence.surely_to().min(end);
-            cover.add(residence.surely_from() as usize, to as usize, 1);
-        }
+        let definitely =
+            residences.iter().map(|it| (it.definitely_from(), it.definitely_to().min(end)));
+        let cover = Counts::of(&counts_of(definitely, end));
         let least = |number: &dyn Fn(&Residence) -> i64| {
             Least::of(&residences.iter().map(number).collect::<Vec<_>>())
         };
         Values {
             left: Gaps::new(residences.len() as u32),
             cover,
-            last: least(&|residence| -i64::from(residence.surely_to().min(end))),
+            last: least(&|residence| -i64::from(residence.definitely_to().min(end))),
             lowest_put: least(&|residence| i64::from(residence.put.begin)),
             lowest_take: least(&|residence| -i64::from(residence.taken_by())),
             lowest: least(&|_| ABSENT),
@@ -83,8 +81,8 @@ impl Values {
     /// Takes a value out.
     fn remove(&mut self, place: usize) {
         let residence = self.residences[place];
-        let to = residence.surely_to().min(self.end);
-        self.cover.add(residence.surely_from() as usize, to as usize, -1);
+        let to = residence.definitely_to().min(self.end);
+        self.cover.add(residence.definitely_from() as usize, to as usize, -1);
         for numbers in
             [&mut self.lowest_put, &mut self.lowest_take, &mut self.lowest, &mut self.last]
         {
@@ -93,9 +91,9 @@ impl Values {
         self.left.cover(place as u32, place as u32 + 1);
     }
 
-    /// The place from which on the values surely are in the stack after this gap.
+    /// The place from which on the values definitely are in the stack after this gap.
     fn behind(&self, gap: u32) -> usize {
-        self.residences.partition_point(|residence| residence.surely_from() <= gap)
+        self.residences.partition_point(|residence| residence.definitely_from() <= gap)
     }
 
     /// The places of a range that are left.
@@ -186,7 +184,7 @@ impl Ordering {
         if next >= to {
             return;
         }
-        let first = self.values.residences[next].surely_from();
+        let first = self.values.residences[next].definitely_from();
         let last = -self.values.last.least(from, to);
         let gap = self.values.cover.first_free(first as usize, last.max(0) as usize);
         let Some(gap) = gap else {

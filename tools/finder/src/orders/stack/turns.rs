@@ -31,14 +31,14 @@ impl Turn {
     }
 }
 
-/// The values apart: those that surely are in the stack for a while, and the others, each in rising
-/// order of their gaps.
+/// The values apart: those that definitely are in the stack for a while, and the others, each in
+/// rising order of their gaps.
 pub fn by_length(residences: &[Residence]) -> (Vec<Residence>, Vec<Residence>) {
     let all = residences.iter().copied();
     let (mut short, mut long): (Vec<Residence>, Vec<Residence>) =
-        all.partition(|residence| residence.surely_from() > residence.surely_to());
-    long.sort_unstable_by_key(Residence::surely_from);
-    short.sort_unstable_by_key(Residence::surely_to);
+        all.partition(|residence| residence.definitely_from() > residence.definitely_to());
+    long.sort_unstable_by_key(Residence::definitely_from);
+    short.sort_unstable_by_key(Residence::definitely_to);
     (long, short)
 }
 
@@ -50,7 +50,7 @@ pub fn merge_turns(turns: &[Turn], short: &[Residence]) -> Vec<u32> {
     let mut gap = 0;
     for turn in turns {
         gap = turn.first_gap(gap);
-        while let Some(residence) = short.next_if(|residence| residence.surely_to() < gap) {
+        while let Some(residence) = short.next_if(|residence| residence.definitely_to() < gap) {
             order.push(residence.put.number);
             order.extend(residence.take.map(|take| take.number));
         }

@@ -1,4 +1,4 @@
-//! Swaps of a register that are refused while the value that they expect surely is there.
+//! Swaps of a register that are refused while the value that they expect definitely is there.
 
 use super::MOST;
 use super::scene::Scene;
@@ -117,7 +117,7 @@ fn candidate_of(
     Some(scene.candidate(Pattern::RefusedUnderItsValue { value, number }, plan, 2))
 }
 
-/// The swaps that are refused while the value that they expect surely is there.
+/// The swaps that are refused while the value that they expect definitely is there.
 pub fn refusals(scene: &Scene) -> Vec<Candidate> {
     let accesses = &scene.cell.accesses;
     if !accesses.iter().any(|access| matches!(access.need, Need::IsNot(_))) {

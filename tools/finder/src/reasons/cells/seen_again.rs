@@ -1,5 +1,5 @@
-//! Values that are seen more often, each time after they surely were taken away, than they can have
-//! been set.
+//! Values that are seen more often, each time after they definitely were taken away, than they can
+//! have been set.
 
 use super::MOST;
 use super::deadlines::Deadlines;

@@ -1,6 +1,6 @@
-//! Two values of a cell that are set once each, and each of which surely is there before the other
-//! one is: the zones of Gibbons and Korach, "Testing Shared Memories", SIAM Journal on Computing
-//! 26, 1997.
+//! Two values of a cell that are set once each, and each of which definitely is there before the
+//! other one is: the zones of Gibbons and Korach, "Testing Shared Memories", SIAM Journal on
+//! Computing 26, 1997.
 
 use super::MOST;
 use super::greatest::{Greatest, Item};
@@ -113,7 +113,7 @@ fn candidate_of(scene: &Scene, zones: &[Zone], contents: [usize; 2]) -> Option<C
     Some(scene.candidate(pattern, plan, 6))
 }
 
-/// The values of which each surely is there before another one is, and after it.
+/// The values of which each definitely is there before another one is, and after it.
 pub fn crossing_zones(scene: &Scene) -> Vec<Candidate> {
     let zones = zones_of(scene);
     let stays = stays_of(scene, &zones);

@@ -1,7 +1,7 @@
-//! Removals whose finds show that values were lost: more of them surely were ahead of what a
+//! Removals whose finds show that values were lost: more of them definitely were ahead of what a
 //! removal found than other removals can have taken out before it. It is what a store leaves that
-//! was killed while removals had not returned: any of these may have taken one of the values, but no
-//! two of them. That each value passes through the object is Henzinger, Sezgin and Vafeiadis,
+//! was killed while removals had not returned: any of these may have taken one of the values, but
+//! no two of them. That each value passes through the object is Henzinger, Sezgin and Vafeiadis,
 //! "Aspect-Oriented Linearizability Proofs", CONCUR 2013; here pending removals are counted, and
 //! values may repeat.
 //!
@@ -63,8 +63,8 @@ impl Question<'_> {
     }
 }
 
-/// A put that returned, and the number at which the removal was invoked that is its pair; that of no
-/// removal where there is none.
+/// A put that returned, and the number at which the removal was invoked that is its pair; that of
+/// no removal where there is none.
 struct Pair {
     key: i64,
     returned: u32,
@@ -317,8 +317,8 @@ impl Asking<'_> {
         })
     }
 
-    /// The value of the run that the removal found, and how many of its calls are kept, and how many
-    /// of its puts are left over.
+    /// The value of the run that the removal found, and how many of its calls are kept, and how
+    /// many of its puts are left over.
     fn own_share(&self, question: &Question) -> Option<Share> {
         let place = question.run?;
         let places = self.runs.places_of(self.runs.runs[place].value);
@@ -355,30 +355,73 @@ impl Asking<'_> {
         shares
     }
 
-    /// The candidate of a question: as few values as show it.
-    fn candidate(&self, question: &Question) -> Option<Candidate> {
+    /// What is kept of the value that the removal found.
+    fn kept_of_own(&self, question: &Question) -> Kept {
         let own = self.own_share(question);
-        let mut left = own.as_ref().map_or(0, |own| own.left);
-        let mut calls = own.as_ref().map_or(1, |own| own.calls);
-        let mut elements: Vec<Element> = own.map(|own| own.element).into_iter().collect();
-        let mut surplus = 0;
-        for share in self.shares(question) {
-            elements.push(share.element);
-            left += share.left;
-            calls += share.calls;
-            surplus += share.surplus;
-            let pending = left.min(question.pending);
-            if surplus > question.others + pending {
-                return Some(candidate_of(question, elements, calls + pending));
-            }
-        }
-        None
+        own.map_or(Kept { calls: 1, ..Kept::default() }, |own| Kept::default().with(&own))
+    }
+
+    /// The candidate of a question: as few values as show it, or a single one whose calls are
+    /// fewer.
+    fn candidate(&self, question: &Question) -> Option<Candidate> {
+        let shares = self.shares(question);
+        let own = self.kept_of_own(question);
+        let mut kept = own.clone();
+        let together = shares.iter().find_map(|share| {
+            kept = std::mem::take(&mut kept).with(share);
+            kept.shows(question).then(|| kept.clone())
+        })?;
+        let single = shares.iter().min_by_key(|share| match own.shows_with(share, question) {
+            true => share.calls,
+            false => usize::MAX,
+        })?;
+        let alone = own.with(single);
+        let is_lighter = alone.shows(question) && alone.calls < together.calls;
+        Some(candidate_of(question, if is_lighter { alone } else { together }))
     }
 }
 
-/// The candidate that keeps these elements.
-fn candidate_of(question: &Question, mut elements: Vec<Element>, weight: usize) -> Candidate {
-    let number = question.call.number;
+/// The values that a candidate keeps.
+#[derive(Clone, Default)]
+struct Kept {
+    elements: Vec<Element>,
+    /// How many of the puts that count are not taken.
+    surplus: usize,
+    /// How many more puts than removals the whole history has.
+    left: usize,
+    calls: usize,
+}
+
+impl Kept {
+    fn with(mut self, share: &Share) -> Kept {
+        self.elements.push(share.element);
+        self.surplus += share.surplus;
+        self.left += share.left;
+        self.calls += share.calls;
+        self
+    }
+
+    /// How many pending removals are kept.
+    fn pending(&self, question: &Question) -> usize {
+        self.left.min(question.pending)
+    }
+
+    /// Whether more puts count than other removals can have taken.
+    fn shows(&self, question: &Question) -> bool {
+        self.surplus > question.others + self.pending(question)
+    }
+
+    /// The same with a share.
+    fn shows_with(&self, share: &Share, question: &Question) -> bool {
+        let pending = (self.left + share.left).min(question.pending);
+        self.surplus + share.surplus > question.others + pending
+    }
+}
+
+/// The candidate that keeps these values.
+fn candidate_of(question: &Question, kept: Kept) -> Candidate {
+    let (number, weight) = (question.call.number, kept.calls + kept.pending(question));
+    let mut elements = kept.elements;
     if question.run.is_none() {
         elements.push(Element::Operation(number));
     }
@@ -388,7 +431,7 @@ fn candidate_of(question: &Question, mut elements: Vec<Element>, weight: usize) 
     Candidate::without_key(Pattern::General, plan, weight)
 }
 
-/// The removals ahead of whose finds more values surely were than can have been taken out, the
+/// The removals ahead of whose finds more values definitely were than can have been taken out, the
 /// fewest operations first.
 pub fn ahead(kind: Kind, runs: &Runs) -> Vec<Candidate> {
     let asking = Asking::new(kind, runs);

@@ -1,5 +1,5 @@
 //! Extracts of a heap under smaller values: at each moment at which the value can have been taken a
-//! smaller one surely is in.
+//! smaller one definitely is in.
 
 use super::chains::{plan_of_runs, values_of};
 use super::intervals::Interval;
@@ -14,7 +14,7 @@ const MOST: usize = 4;
 /// The most extracts that are looked at for the smallest reasons.
 const MOST_FOUND: usize = 1000;
 
-/// An extract, and the runs of which some value surely is in at each moment, with its own.
+/// An extract, and the runs of which some value definitely is in at each moment, with its own.
 struct Covered<'a> {
     weight: usize,
     value: i64,
@@ -23,7 +23,8 @@ struct Covered<'a> {
 }
 
 /// The runs of smaller values of which at each moment from this one to the end of the call a value
-/// surely is in, after the call's own run. `None`: there is a moment of which that is not known.
+/// definitely is in, after the call's own run. `None`: there is a moment of which that is not
+/// known.
 fn chain_over(cover: &Marks, own: usize, from: u32, end: u32) -> Option<Vec<usize>> {
     let mut chain = vec![own];
     let mut at = from;
@@ -70,7 +71,7 @@ fn find_covered<'a>(runs: &'a Runs, intervals: &[Interval]) -> Vec<Covered<'a>> 
     found
 }
 
-/// The extracts of a heap while at each moment some smaller value surely is in.
+/// The extracts of a heap while at each moment some smaller value definitely is in.
 pub fn extracts(runs: &Runs, intervals: &[Interval]) -> Vec<Candidate> {
     let covered = find_covered(runs, intervals).into_iter().take(MOST);
     let candidates = covered.map(|Covered { weight, value: taken, call, chain }| {

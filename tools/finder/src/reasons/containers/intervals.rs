@@ -1,5 +1,5 @@
-//! Times in which a value surely is in a queue, stack or heap, and calls that find nothing though
-//! at each moment of theirs some value surely is in.
+//! Times in which a value definitely is in a queue, stack or heap, and calls that find nothing
+//! though at each moment of theirs some value definitely is in.
 
 use super::chains::plan_of_runs;
 use super::runs::{Run, Runs};
@@ -13,7 +13,7 @@ const MOST: usize = 4;
 /// The most values that are chained in all.
 const MOST_LINKS: usize = 4_000_000;
 
-/// From one moment to another a value of a run surely is in.
+/// From one moment to another a value of a run definitely is in.
 #[derive(Clone, Copy)]
 pub struct Interval {
     pub from: u32,
@@ -49,9 +49,9 @@ impl Counts {
         } += 1;
     }
 
-    /// How many surely are in, if some are. Where as many removals as puts have begun nothing is
-    /// known.
-    fn surely_in(&self) -> usize {
+    /// How many definitely are in, if some are. Where as many removals as puts have begun nothing
+    /// is known.
+    fn definitely_in(&self) -> usize {
         if self.leaving >= self.begun {
             return 0;
         }
@@ -75,8 +75,8 @@ fn steps_of(runs: &Runs, run: &Run) -> Vec<(u32, Step)> {
     steps
 }
 
-/// The moment up to which this many values of a run surely are in, of which nothing is known before
-/// this moment: pending removals can take those that no other call takes.
+/// The moment up to which this many values of a run definitely are in, of which nothing is known
+/// before this moment: pending removals can take those that no other call takes.
 fn known_until(runs: &Runs, run: &Run, many: usize, until: u32) -> u32 {
     if many + runs.removals(run).len() > run.put_count() {
         return until;
@@ -84,7 +84,7 @@ fn known_until(runs: &Runs, run: &Run, many: usize, until: u32) -> u32 {
     runs.pending.get(many - 1).map_or(until, |call| call.begin.min(until))
 }
 
-/// The times in which values surely are in, by runs.
+/// The times in which values definitely are in, by runs.
 pub fn intervals_of(runs: &Runs) -> Vec<Interval> {
     let mut intervals: Vec<Interval> = Vec::new();
     for (place, run) in runs.runs.iter().enumerate() {
@@ -92,7 +92,7 @@ pub fn intervals_of(runs: &Runs) -> Vec<Interval> {
         let mut counts = Counts::default();
         for (k, (from, step)) in steps.iter().enumerate() {
             counts.note(*step);
-            let many = counts.surely_in();
+            let many = counts.definitely_in();
             if many == 0 {
                 continue;
             }
@@ -126,7 +126,7 @@ fn reach_of(intervals: &[Interval], end: u32) -> Vec<Mark> {
     reach
 }
 
-/// The runs of which at each moment of the call a value surely is in, each as long as can be.
+/// The runs of which at each moment of the call a value definitely is in, each as long as can be.
 /// `None`: there is a moment of which that is not known.
 fn chain_over(reach: &[Mark], call: &Call, links: &mut usize) -> Option<Vec<usize>> {
     let mut chain = Vec::new();
@@ -140,7 +140,7 @@ fn chain_over(reach: &[Mark], call: &Call, links: &mut usize) -> Option<Vec<usiz
     Some(chain)
 }
 
-/// The calls that find nothing while at each moment some value surely is in, the fewest values
+/// The calls that find nothing while at each moment some value definitely is in, the fewest values
 /// first.
 pub fn empties(runs: &Runs, intervals: &[Interval]) -> Vec<Candidate> {
     if runs.empties.is_empty() {

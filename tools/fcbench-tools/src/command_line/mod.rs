@@ -1,0 +1,316 @@
+//! The words of the command line.
+
+mod syntax;
+mod words;
+
+use std::num::NonZero;
+use std::thread;
+use syntax::{COMMANDS, Commands, Syntax};
+pub use words::Refused;
+use words::{Fault, Words};
+
+/// Which history evidence is looked for, by how many threads, the most steps of the last search for each
+/// object and the most seconds, if they are given, whether progress is told, and whether the history is
+/// summarized.
+#[derive(Clone, Debug, PartialEq, Eq)]
+pub struct Find {
+    pub history: String,
+    pub workers: usize,
+    pub steps: Option<u64>,
+    pub seconds: Option<u64>,
+    pub shows_progress: bool,
+    pub summarizes: bool,
+}
+
+/// What is drawn.
+#[derive(Clone, Debug, PartialEq, Eq)]
+pub struct Draw {
+    pub history: String,
+    pub certificates: Option<String>,
+    pub names: Option<String>,
+    pub steps: Option<u64>,
+    pub options: pages::Options,
+}
+
+/// Which history is judged, whether all operations of a part are shown, on a terminal too, and the file
+/// of a table of names, if the answer is told in names.
+#[derive(Clone, Debug, PartialEq, Eq)]
+pub struct Judge {
+    pub find: Find,
+    pub shows_all: bool,
+    pub names: Option<String>,
+}
+
+/// What is imported, and the file to which the table of names is written, if one is asked for.
+#[derive(Clone, Debug, PartialEq, Eq)]
+pub struct Import {
+    pub history: String,
+    pub names: Option<String>,
+    pub options: import::Options,
+}
+
+/// What the command line asks for.
+#[derive(Clone, Debug, PartialEq, Eq)]
+pub enum Command {
+    Find(Find),
+    Judge(Judge),
+    Draw(Draw),
+    Import(Import),
+    /// What the words mean.
+    Help(String),
+}
+
+const MOST_WORKERS: usize = 16;
+const MOST_STEPS: u64 = 1_000_000_000;
+const MOST_SECONDS: u64 = 1_000_000;
+
+fn one_for_each_processor() -> usize {
+    thread::available_parallelism().map_or(1, NonZero::get).min(MOST_WORKERS)
+}
+
+fn find_of(mut words: Words) -> Result<Find, Fault> {
+    let workers = words.take_number("--workers", 1, MOST_WORKERS as u64)?;
+    Ok(Find {
+        workers: workers.map_or_else(one_for_each_processor, |number| number as usize),
+        steps: words.take_number("--steps", 0, MOST_STEPS)?,
+        seconds: words.take_number("--seconds", 1, MOST_SECONDS)?,
+        shows_progress: words.take_flag("--progress"),
+        summarizes: words.take_flag("--summary"),
+        history: words.files()?.0,
+    })
+}
+
+fn judge_of(mut words: Words) -> Result<Judge, Fault> {
+    let shows_all = words.take_flag("--all");
+    let names = words.take_value("--names");
+    Ok(Judge { find: find_of(words)?, shows_all, names })
+}
+
+fn import_of(mut words: Words) -> Result<Import, Fault> {
+    let options = import::Options {
+        is_independent: words.take_flag("--independent"),
+        replies: match words.take_form("--fail-is-reply")? {
+            Some(Some(errors)) => import::Replies::of(errors),
+            Some(None) => import::Replies::usual(),
+            None => import::Replies::default(),
+        },
+        checks_owners: words.take_flag("--check-owners"),
+        initial: words.take_form("--initial")?.flatten(),
+    };
+    let names = words.take_value("--names");
+    Ok(Import { history: words.files()?.0, names, options })
+}
+
+fn draw_of(mut words: Words) -> Result<Draw, Fault> {
+    let mut number = |option| {
+        let number = words.take_number(option, 0, u64::from(u32::MAX))?;
+        Ok(number.map(|number| number as u32))
+    };
+    let options = pages::Options {
+        object: number("--object")?,
+        from: number("--from")?,
+        to: number("--to")?,
+    };
+    if let (Some(from), Some(to)) = (options.from, options.to)
+        && from > to
+    {
+        return Err(Fault::NoEvents { from, to });
+    }
+    let steps = words.take_number("--steps", 0, MOST_STEPS)?;
+    let names = words.take_value("--names");
+    let (history, certificates) = words.files()?;
+    Ok(Draw { history, certificates, names, steps, options })
+}
+
+/// What a command asks for with these words.
+fn command_of(command: &'static Syntax, words: &[String]) -> Result<Command, Fault> {
+    let mut options = words.iter().take_while(|word| *word != "--");
+    if options.any(|word| word == "--help" || word == "-h") {
+        return Ok(Command::Help(command.to_string()));
+    }
+    let words = Words::sort(command, words.iter().cloned())?;
+    match command.name {
+        "find" => find_of(words).map(Command::Find),
+        "judge" => judge_of(words).map(Command::Judge),
+        "import" => import_of(words).map(Command::Import),
+        _ => draw_of(words).map(Command::Draw),
+    }
+}
+
+impl Command {
+    /// Reads the words after the program's name.
+    pub fn parse(words: impl IntoIterator<Item = String>) -> Result<Command, Refused> {
+        let words: Vec<String> = words.into_iter().collect();
+        let unknown = |fault| Refused { fault, command: None };
+        let (name, words) = words.split_first().ok_or(unknown(Fault::NoCommand))?;
+        if name == "--help" || name == "-h" {
+            return Ok(Command::Help(Commands.to_string()));
+        }
+        let command = COMMANDS.into_iter().find(|it| it.name == name);
+        let command = command.ok_or_else(|| unknown(Fault::NoSuchCommand(name.clone())))?;
+        command_of(command, words).map_err(|fault| Refused { fault, command: Some(command) })
+    }
+}
+
+#[cfg(test)]
+mod tests {
+    use super::*;
+
+    fn parsed(line: &str) -> Option<Command> {
+        Command::parse(line.split_whitespace().map(String::from)).ok()
+    }
+
+    #[test]
+    fn reads_the_command_line() {
+        let find = Find {
+            history: "h.edn".into(),
+            workers: one_for_each_processor(),
+            steps: None,
+            seconds: None,
+            shows_progress: false,
+            summarizes: false,
+        };
+        assert_eq!(parsed("find h.edn"), Some(Command::Find(find.clone())));
+        let find = Find { workers: 4, steps: Some(0), ..find };
+        let judge = Judge { find: find.clone(), shows_all: false, names: None };
+        for line in [
+            "judge --steps 0 h.edn --workers 4",
+            "judge --steps=0 --workers +4 h.edn",
+            "judge h.edn --workers=4 --steps 0",
+            "judge --workers 4 --steps=0 -- h.edn",
+        ] {
+            assert_eq!(parsed(line), Some(Command::Judge(judge.clone())), "{line}");
+        }
+        let find = Find { seconds: Some(60), ..find };
+        let judge = Judge { find: find.clone(), shows_all: true, names: Some("n.edn".into()) };
+        let line = "judge --steps 0 --all h.edn --workers 4 --names=n.edn --seconds 60";
+        assert_eq!(parsed(line), Some(Command::Judge(judge)));
+        let find =
+            Find { history: "-h.edn".into(), shows_progress: true, summarizes: true, ..find };
+        let line = "find --summary --workers 4 --progress --seconds=60 --steps 0 -- -h.edn";
+        assert_eq!(parsed(line), Some(Command::Find(find)));
+        assert!(matches!(parsed("find -"), Some(Command::Find(find)) if find.history == "-"));
+        let draw = Draw {
+            history: "h.edn".into(),
+            certificates: Some("c.edn".into()),
+            names: Some("n.edn".into()),
+            steps: None,
+            options: pages::Options { object: Some(3), from: None, to: Some(9) },
+        };
+        assert_eq!(
+            parsed("draw h.edn --to 9 c.edn --names n.edn --object 3"),
+            Some(Command::Draw(draw))
+        );
+        let import = Import {
+            history: "h.edn".into(),
+            names: Some("n.edn".into()),
+            options: import::Options {
+                is_independent: true,
+                replies: import::Replies::usual(),
+                checks_owners: true,
+                initial: import::form_of("0"),
+            },
+        };
+        let line =
+            "import --independent --names n.edn --initial 0 h.edn --fail-is-reply --check-owners";
+        assert_eq!(parsed(line), Some(Command::Import(import)));
+    }
+
+    #[test]
+    fn helps() {
+        let is_help = |line: &str, first: &str| match parsed(line) {
+            Some(Command::Help(text)) => text.starts_with(first),
+            _ => false,
+        };
+        assert!(is_help("--help", "the commands of fcbench"));
+        assert!(is_help("judge --help", "decides whether a history is linearizable"));
+        assert!(is_help("find -h", "writes evidence"));
+        assert!(is_help("draw h.edn --help", "judges a history, or checks it"));
+        assert!(is_help("import --other --help", "rewrites a history from a Jepsen store"));
+    }
+
+    /// Command lines, and what is said of them.
+    const REFUSED: [(&str, &str); 42] = [
+        ("", "a command is missing"),
+        ("other h.edn", "'other' is no command"),
+        ("-- judge h.edn", "'--' is no command"),
+        ("find", "<HISTORY> is missing"),
+        ("find --workers 2", "<HISTORY> is missing"),
+        ("find a b", "'b' is one word too many: find takes <HISTORY>"),
+        ("find -- a --steps", "'--steps' is one word too many: find takes <HISTORY>"),
+        ("find a --workers", "--workers needs a value, <N>"),
+        ("find a --workers 0", "--workers takes a number from 1 to 16, and not '0'"),
+        ("find a --workers 17", "--workers takes a number from 1 to 16, and not '17'"),
+        ("find a --workers=", "--workers takes a number from 1 to 16, and not ''"),
+        ("find a --steps x", "--steps takes a number from 0 to 1000000000, and not 'x'"),
+        ("find a --steps -1", "--steps takes a number from 0 to 1000000000, and not '-1'"),
+        (
+            "find a --steps 1000000001",
+            "--steps takes a number from 0 to 1000000000, and not '1000000001'",
+        ),
+        ("find a --steps 1 --steps 2", "--steps is given twice"),
+        ("find a --other 1", "find has no option '--other'; a file of this name comes after --"),
+        ("find -e.edn", "find has no option '-e.edn'; a file of this name comes after --"),
+        ("find a --all", "find has no option '--all'; a file of this name comes after --"),
+        ("judge --json h", "judge has no option '--json'; a file of this name comes after --"),
+        ("judge --json=1 h", "judge has no option '--json'; a file of this name comes after --"),
+        ("judge a --all --all", "--all is given twice"),
+        ("judge a --all=yes", "--all takes no value"),
+        ("draw a --all", "draw has no option '--all'; a file of this name comes after --"),
+        (
+            "judge a --object 1",
+            "judge has no option '--object'; a file of this name comes after --",
+        ),
+        ("draw", "<HISTORY> is missing"),
+        ("draw a b c", "'c' is one word too many: draw takes <HISTORY> [CERTIFICATES]"),
+        (
+            "draw a --workers 2",
+            "draw has no option '--workers'; a file of this name comes after --",
+        ),
+        (
+            "draw a --from 4294967296",
+            "--from takes a number from 0 to 4294967295, and not '4294967296'",
+        ),
+        ("draw a --to 2 --from 5", "--from 5 is after --to 2, so no event is drawn"),
+        ("import", "<HISTORY> is missing"),
+        ("import a b", "'b' is one word too many: import takes <HISTORY>"),
+        ("import a --all", "import has no option '--all'; a file of this name comes after --"),
+        ("import a --initial [", "--initial takes one form of EDN, and not '['"),
+        ("import a --initial=", "--initial takes one form of EDN, and not ''"),
+        ("import a --fail-is-reply=#{", "--fail-is-reply takes one form of EDN, and not '#{'"),
+        ("import a --independent --independent", "--independent is given twice"),
+        ("judge a --names", "--names needs a value, <FILE>"),
+        ("find a --names b", "find has no option '--names'; a file of this name comes after --"),
+        ("judge a --seconds 0", "--seconds takes a number from 1 to 1000000, and not '0'"),
+        (
+            "find a --seconds 1000001",
+            "--seconds takes a number from 1 to 1000000, and not '1000001'",
+        ),
+        (
+            "draw a --seconds 1",
+            "draw has no option '--seconds'; a file of this name comes after --",
+        ),
+        (
+            "judge a --progress",
+            "judge has no option '--progress'; a file of this name comes after --",
+        ),
+    ];
+
+    #[test]
+    fn says_what_is_wrong_with_other_command_lines() {
+        for (line, said) in REFUSED {
+            let words = line.split_whitespace().map(String::from);
+            let refused = Command::parse(words).expect_err(line).to_string();
+            let lines: Vec<&str> = refused.lines().collect();
+            assert_eq!(lines[0], format!("error: {said}"), "{line}");
+            assert!(lines[2].starts_with("Usage: fcbench "), "{line}: {refused}");
+        }
+    }
+
+    #[test]
+    fn a_word_of_several_lines_is_told_in_one() {
+        let words = ["judge".to_owned(), "--a\nb".to_owned()];
+        let refused = Command::parse(words).expect_err("no option").to_string();
+        assert!(refused.starts_with("error: judge has no option '--a\\nb'; "), "{refused}");
+    }
+}

@@ -1,0 +1,221 @@
+//! What each command takes, and its help, which is made of that.
+
+use std::fmt::{self, Display, Formatter};
+
+/// What follows an option.
+#[derive(Clone, Copy, Debug, PartialEq, Eq)]
+pub enum Value {
+    Nothing,
+    /// A value: the next word, or what is after `=`.
+    Needed(&'static str),
+    /// What is after `=`, if it is there.
+    AfterEquals(&'static str),
+}
+
+/// An option, and what help says of it.
+#[derive(Debug)]
+pub struct OptionOf {
+    pub name: &'static str,
+    pub value: Value,
+    about: &'static str,
+}
+
+impl OptionOf {
+    const fn flag(name: &'static str, about: &'static str) -> OptionOf {
+        OptionOf { name, value: Value::Nothing, about }
+    }
+
+    const fn valued(name: &'static str, value: &'static str, about: &'static str) -> OptionOf {
+        OptionOf { name, value: Value::Needed(value), about }
+    }
+}
+
+/// The option with its value.
+impl Display for OptionOf {
+    fn fmt(&self, f: &mut Formatter<'_>) -> fmt::Result {
+        f.write_str(self.name)?;
+        match self.value {
+            Value::Nothing => Ok(()),
+            Value::Needed(value) => write!(f, " <{value}>"),
+            Value::AfterEquals(value) => write!(f, "[=<{value}>]"),
+        }
+    }
+}
+
+/// A command: what it does, the files that it needs, one that it may be given too, and its options.
+#[derive(Debug)]
+pub struct Syntax {
+    pub name: &'static str,
+    pub about: &'static str,
+    pub file: &'static str,
+    pub other_file: Option<&'static str>,
+    pub options: &'static [&'static OptionOf],
+}
+
+impl Syntax {
+    /// Its files, as help names them.
+    pub fn files(&self) -> String {
+        let other = self.other_file.map(|it| format!(" [{it}]")).unwrap_or_default();
+        format!("<{}>{other}", self.file)
+    }
+
+    pub fn usage(&self) -> String {
+        format!("Usage: fcbench {} [OPTIONS] {}", self.name, self.files())
+    }
+
+    /// Its option of this name.
+    pub fn option(&self, name: &str) -> Option<&'static OptionOf> {
+        self.options.iter().find(|it| it.name == name).copied()
+    }
+}
+
+/// The help.
+impl Display for Syntax {
+    fn fmt(&self, f: &mut Formatter<'_>) -> fmt::Result {
+        let help = "-h, --help";
+        let names = self.options.iter().map(|it| it.to_string().len() + 4);
+        let width = names.fold(help.len(), usize::max);
+        writeln!(f, "{}\n\n{}\n\nOptions:", self.about, self.usage())?;
+        for option in self.options {
+            let about = option.about.replace('\n', &format!("\n{:width$}    ", ""));
+            writeln!(f, "  {:width$}  {about}", format!("    {option}"))?;
+        }
+        writeln!(f, "  {help:width$}  Print help")
+    }
+}
+
+const STEPS: OptionOf = OptionOf::valued(
+    "--steps",
+    "N",
+    "the most steps of the last search of an object, 0 to 1000000000 (default 1000000, or 100 for each operation if that is more)",
+);
+const WORKERS: OptionOf = OptionOf::valued(
+    "--workers",
+    "N",
+    "how many threads look for evidence, 1 to 16 (default: one for each processor)",
+);
+
+pub const JUDGE: Syntax = Syntax {
+    name: "judge",
+    about: "decides whether a history is linearizable: looks for evidence, which the proved verifier checks",
+    file: "HISTORY",
+    other_file: None,
+    options: &[
+        &OptionOf::flag(
+            "--all",
+            "show all operations of a part on a terminal, and not 200 at most",
+        ),
+        &OptionOf::valued(
+            "--names",
+            "FILE",
+            "print the answer with the names of this table, which import wrote",
+        ),
+        &OptionOf::valued(
+            "--seconds",
+            "N",
+            "stop looking for evidence after N seconds, 1 to 1000000, and answer what was found by then, as at SIGTERM.\n\
+             The answer comes when the verifier has read the history and checked that: mostly a second later",
+        ),
+        &OptionOf::flag(
+            "--summary",
+            "print how much the operations overlap, and what is suspicious in the history",
+        ),
+        &STEPS,
+        &WORKERS,
+    ],
+};
+
+pub const FIND: Syntax = Syntax {
+    name: "find",
+    about: "writes evidence for a history: an order, a reason or a search for each object",
+    file: "HISTORY",
+    other_file: None,
+    options: &[
+        &OptionOf::flag(
+            "--progress",
+            "print on standard error how many objects are done, after 2, 4, 8 seconds, and so on",
+        ),
+        &OptionOf::valued(
+            "--seconds",
+            "N",
+            "stop after N seconds, 1 to 1000000, and write what was found by then, as at SIGTERM",
+        ),
+        &OptionOf::flag(
+            "--summary",
+            "print on standard error how much the operations overlap, and what is suspicious in the history",
+        ),
+        &STEPS,
+        &WORKERS,
+    ],
+};
+
+pub const DRAW: Syntax = Syntax {
+    name: "draw",
+    about: "judges a history, or checks it by certificates, and writes the answer as a page of HTML",
+    file: "HISTORY",
+    other_file: Some("CERTIFICATES"),
+    options: &[
+        &OptionOf::valued("--object", "N", "draw this object alone"),
+        &OptionOf::valued("--from", "N", "draw the events from this one on"),
+        &OptionOf::valued("--to", "N", "draw the events before this one"),
+        &OptionOf::valued(
+            "--names",
+            "FILE",
+            "draw the page with the names of this table, which import wrote: then --from and --to\n\
+             count the events as the page does",
+        ),
+        &OptionOf::valued("--steps", "N", "as for judge"),
+    ],
+};
+
+pub const IMPORT: Syntax = Syntax {
+    name: "import",
+    about: "rewrites a history from a Jepsen store, or from JSON, as a text that the other commands read",
+    file: "HISTORY",
+    other_file: None,
+    options: &[
+        &OptionOf::valued(
+            "--names",
+            "FILE",
+            "write a table of the names that became numbers to this file",
+        ),
+        &OptionOf::flag(
+            "--independent",
+            "values are tuples [key value] of jepsen.independent (default: where they cannot be anything else)",
+        ),
+        &OptionOf {
+            name: "--fail-is-reply",
+            value: Value::AfterEquals("ERRORS"),
+            about: "a :fail whose :error is one of these is a reply of nil, and of a :cas one of false:\n\
+                    one error, as :drained, or a set, as '#{:drained \"no job\"}' (default: :empty and :not-found).\n\
+                    nil stands for no :error, except of :read and :get",
+        },
+        &OptionOf::flag(
+            "--check-owners",
+            "the owner that a client releases must be the one that it acquired (default: owners are ignored)",
+        ),
+        &OptionOf::valued(
+            "--initial",
+            "VALUE",
+            "what each register contains at first, or a map of objects or keys with their values: '{:x 0, :y 5}'",
+        ),
+    ],
+};
+
+/// The commands.
+pub const COMMANDS: [&Syntax; 4] = [&JUDGE, &FIND, &DRAW, &IMPORT];
+
+/// The help on all commands.
+pub struct Commands;
+
+impl Commands {
+    pub const USAGE: &str = "Usage: fcbench <COMMAND>";
+}
+
+impl Display for Commands {
+    fn fmt(&self, f: &mut Formatter<'_>) -> fmt::Result {
+        writeln!(f, "the commands of fcbench that find, draw and import\n\n{}\n", Commands::USAGE)?;
+        writeln!(f, "Commands:")?;
+        COMMANDS.iter().try_for_each(|it| writeln!(f, "  {:6} {}", it.name, it.about))
+    }
+}

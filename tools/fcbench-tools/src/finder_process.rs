@@ -1,0 +1,142 @@
+//! The finder as a process of its own: how it is started, heard, stopped at the limit, and ended.
+
+use crate::command_line::Find;
+use crate::limit::{Limit, PROGRESS};
+use crate::program::say;
+use crate::signals::ask_to_end;
+use crate::status::Status;
+use std::env;
+use std::io::{self, BufRead, BufReader, IsTerminal, Read};
+use std::path::PathBuf;
+use std::process::{Child, ChildStderr, Command, ExitStatus, Stdio};
+use std::sync::mpsc::{Receiver, RecvTimeoutError, Sender, channel};
+use std::thread::{self, Builder, JoinHandle};
+use std::time::{Duration, Instant};
+
+/// How often it is looked whether the finder has ended, when the answer is there.
+const LOOKS: u32 = 100;
+const BETWEEN_LOOKS: Duration = Duration::from_millis(1);
+
+/// How often it is looked whether the limit is over.
+const BETWEEN_LIMITS: Duration = Duration::from_millis(10);
+
+/// How long a finder that was asked to end may write what it has.
+const LAST_WORDS: Duration = Duration::from_secs(5);
+
+/// The longest summary that is read.
+const LONGEST_SUMMARY: u64 = 1 << 20;
+
+/// The finder of evidence: the program that the environment variable FCBENCH_FINDER names, or else
+/// this one. What it finds is checked, so any program may be named. It is started with the words
+/// `find HISTORY --workers N [--steps N]`, and writes evidence to its standard output. It is waited
+/// for until it closes that. At the limit it gets SIGTERM, and after five more seconds it is killed.
+pub fn finder(command: &Find) -> io::Result<Command> {
+    let named = env::var_os("FCBENCH_FINDER").map(PathBuf::from);
+    let is_own = named.is_none();
+    let mut finder = Command::new(named.map_or_else(env::current_exe, Ok)?);
+    finder.args(["find", &command.history, "--workers", &command.workers.to_string()]);
+    if let Some(steps) = command.steps {
+        finder.args(["--steps", &steps.to_string()]);
+    }
+    // What is wrong with a history, the proved program says. Of another finder nothing else is known.
+    if is_own {
+        finder.arg("--summary");
+        if io::stderr().is_terminal() {
+            finder.arg("--progress");
+        }
+    }
+    finder.stdin(Stdio::null()).stderr(if is_own { Stdio::piped() } else { Stdio::null() });
+    Ok(finder)
+}
+
+/// Whether a finder ended as one that wrote all it found.
+fn has_found(ended: ExitStatus) -> bool {
+    let statuses = [Status::YES, Status::MALFORMED, Status::OPEN, Status::UNREADABLE];
+    Status::of(ended).is_some_and(|status| statuses.contains(&status))
+}
+
+/// How a finder ended, where it did so by itself: its output may be closed a moment before it ends.
+fn end_of(finder: &mut Child) -> Option<ExitStatus> {
+    (0..LOOKS).find_map(|look| {
+        if look > 0 {
+            thread::sleep(BETWEEN_LOOKS);
+        }
+        finder.try_wait().ok().flatten()
+    })
+}
+
+/// Ends a finder that still works when the answer is there, and says so if it failed before that.
+fn end(finder: &mut Child, was_stopped: bool) {
+    match end_of(finder) {
+        Some(ended) if was_stopped || has_found(ended) => {}
+        Some(ended) => {
+            say(format_args!("the finder failed, so the evidence is not complete: {ended}"));
+        }
+        None => {
+            let _ = finder.kill();
+            let _ = finder.wait();
+        }
+    }
+}
+
+/// Stops a finder at the limit, and ends it when the answer is there, so that nothing can be received.
+/// One that is heard says itself that it is stopped.
+fn keep(finder: &mut Child, is_heard: bool, limit: Limit, answer: &Receiver<()>) {
+    let mut stopped = None;
+    while answer.recv_timeout(BETWEEN_LIMITS) == Err(RecvTimeoutError::Timeout) {
+        match stopped {
+            None if limit.is_over() && ask_to_end(finder) => {
+                if !is_heard {
+                    say(format_args!("the finder is stopped"));
+                }
+                stopped = Some(Instant::now());
+            }
+            Some(at) if at.elapsed() >= LAST_WORDS => {
+                let _ = finder.kill();
+            }
+            _ => {}
+        }
+    }
+    end(finder, stopped.is_some());
+}
+
+/// Hands on how far the finder is, and gives what it says of the history.
+fn hear(said: ChildStderr) -> String {
+    let mut summary = String::new();
+    for line in BufReader::new(said.take(LONGEST_SUMMARY)).lines().map_while(Result::ok) {
+        if line.contains(PROGRESS) {
+            say(format_args!("{}", line.trim_start_matches("; ")));
+        } else {
+            summary.extend([&line, "\n"]);
+        }
+    }
+    summary
+}
+
+/// A finder that works, with the threads that look after it and hear it.
+pub struct Finder {
+    answer: Sender<()>,
+    keeper: JoinHandle<()>,
+    hearer: Option<JoinHandle<String>>,
+}
+
+impl Finder {
+    /// Starts a finder that works until the limit at most.
+    pub fn start(command: &mut Command, limit: Limit) -> io::Result<Finder> {
+        let mut finder = command.spawn()?;
+        let hearing = finder.stderr.take().map(|said| Builder::new().spawn(|| hear(said)));
+        let hearer = hearing.transpose()?;
+        let is_heard = hearer.is_some();
+        let (answer, answered) = channel();
+        let keeping = move || keep(&mut finder, is_heard, limit, &answered);
+        let keeper = Builder::new().spawn(keeping)?;
+        Ok(Finder { answer, keeper, hearer })
+    }
+
+    /// Ends it, since the answer is there. Gives what it said of the history.
+    pub fn end(self) -> String {
+        drop(self.answer);
+        let _ = self.keeper.join();
+        self.hearer.and_then(|it| it.join().ok()).unwrap_or_default()
+    }
+}

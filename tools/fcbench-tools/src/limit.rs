@@ -1,0 +1,68 @@
+//! How long evidence is looked for, and what is told of it meanwhile.
+
+use crate::program::note;
+use crate::signals::{is_asked_to_end, note_the_end};
+use std::time::{Duration, Instant};
+
+/// When the search for evidence began, and its most seconds, if they are given. SIGTERM ends it too.
+#[derive(Clone, Copy)]
+pub struct Limit {
+    begun: Instant,
+    seconds: Option<u64>,
+}
+
+impl Limit {
+    /// The search begins now.
+    pub fn begin(seconds: Option<u64>) -> Limit {
+        note_the_end();
+        Limit { begun: Instant::now(), seconds }
+    }
+
+    fn elapsed(&self) -> Duration {
+        self.begun.elapsed()
+    }
+
+    /// Whether no more evidence is to be looked for.
+    pub fn is_over(&self) -> bool {
+        let is_late = |seconds| self.elapsed() >= Duration::from_secs(seconds);
+        is_asked_to_end() || self.seconds.is_some_and(is_late)
+    }
+}
+
+/// What the lines of standard error have that say how far `find` is.
+pub const PROGRESS: &str = "objects done: ";
+
+/// Tells how far `find` is, after 2, 4, 8 seconds, and so on.
+pub struct Progress {
+    limit: Limit,
+    all: usize,
+    /// When it is told next, if it is told.
+    next: Option<Duration>,
+}
+
+impl Progress {
+    /// The progress of a search of `all` objects.
+    pub fn new(limit: Limit, all: usize, is_told: bool) -> Progress {
+        Progress { limit, all, next: is_told.then_some(Duration::from_secs(2)) }
+    }
+
+    fn tell(&self, before: &str, done: usize) {
+        let (all, seconds) = (self.all, self.limit.elapsed().as_secs());
+        note(format_args!("; {before}{PROGRESS}{done} of {all}, after {seconds} s"));
+    }
+
+    /// Tells how many objects are done, if it is time for that.
+    pub fn tell_in_time(&mut self, done: usize) {
+        if let Some(next) = self.next.filter(|next| self.limit.elapsed() >= *next) {
+            self.tell("", done);
+            self.next = Some(next * 2);
+        }
+    }
+
+    /// Tells how many objects were done, if these are not all.
+    pub fn tell_at_the_end(&self, done: usize) {
+        if done < self.all {
+            self.tell("stopped, ", done);
+        }
+    }
+}

@@ -1,0 +1,373 @@
+//! Figures of a history, which tell how much a yes says of it, and what is suspicious in it.
+
+use crate::history::{End, History, Invocation, ObjectHistory};
+use crate::model::{Op, Reply};
+use std::collections::HashSet;
+use std::fmt::{self, Display, Formatter};
+
+/// How many operations a history has, and how they overlap. Only operations on one object are compared, since two objects share no
+/// order.
+#[derive(Clone, Copy, Debug, Default, PartialEq, Eq)]
+pub struct Figures {
+    /// Those that did not fail.
+    pub operations: usize,
+    /// How many of them overlap another one.
+    pub overlapping: usize,
+    /// How many were outstanding at once at most.
+    pub at_once: usize,
+    pub pending: usize,
+    pub failed: usize,
+}
+
+/// When the operation was over, as seen by the others.
+fn end_of(operation: &Invocation) -> u32 {
+    operation.returned().unwrap_or(u32::MAX)
+}
+
+impl Figures {
+    fn of_object(object: &ObjectHistory) -> Figures {
+        let all: Vec<&Invocation> = object.ops.iter().filter(|it| !it.has_failed()).collect();
+        let mut ends: Vec<u32> = all.iter().map(|it| end_of(it)).collect();
+        ends.sort_unstable();
+        let (mut latest_end, mut over) = (0, 0);
+        let mut figures = Figures {
+            operations: all.len(),
+            pending: all.iter().filter(|it| it.is_pending()).count(),
+            failed: object.ops.len() - all.len(),
+            ..Figures::default()
+        };
+        for (place, operation) in all.iter().enumerate() {
+            over += ends[over..].iter().take_while(|end| **end < operation.number).count();
+            figures.at_once = figures.at_once.max(place + 1 - over);
+            let is_within = latest_end > operation.number;
+            let has_next = all.get(place + 1).is_some_and(|next| next.number < end_of(operation));
+            figures.overlapping += usize::from(is_within || has_next);
+            latest_end = latest_end.max(end_of(operation));
+        }
+        figures
+    }
+
+    /// The figures of all objects together.
+    pub fn of(history: &History) -> Figures {
+        history.objects.iter().map(Figures::of_object).fold(Figures::default(), |sum, it| Figures {
+            operations: sum.operations + it.operations,
+            overlapping: sum.overlapping + it.overlapping,
+            at_once: sum.at_once.max(it.at_once),
+            pending: sum.pending + it.pending,
+            failed: sum.failed + it.failed,
+        })
+    }
+
+    /// Whether so few operations overlap that a race could hardly show.
+    pub fn is_sequential(&self) -> bool {
+        self.operations > 1 && self.overlapping * 20 < self.operations
+    }
+}
+
+impl Display for Figures {
+    fn fmt(&self, f: &mut Formatter<'_>) -> fmt::Result {
+        let Figures { operations, overlapping, at_once, pending, failed } = *self;
+        let share = (overlapping * 100).checked_div(operations).unwrap_or(0);
+        let noun = if operations == 1 { "operation" } else { "operations" };
+        write!(
+            f,
+            "{share} % of {operations} {noun} overlap another one, at most {at_once} at once; {pending} pending, {failed} failed"
+        )
+    }
+}
+
+/// Whether each put of a map replied that nothing was there, also of a key that was put before: then the replies were not recorded.
+fn puts_tell_nothing(object: &ObjectHistory) -> bool {
+    let mut keys = HashSet::new();
+    let mut has_second = false;
+    for operation in &object.ops {
+        match (operation.op, operation.end) {
+            (Op::Put(key, _), End::Returned { reply, .. }) => {
+                if reply != Reply::Value(None) {
+                    return false;
+                }
+                has_second |= !keys.insert(key);
+            }
+            (Op::Del(key), End::Returned { .. }) => {
+                keys.remove(&key);
+            }
+            _ => {}
+        }
+    }
+    has_second
+}
+
+/// How many removals failed, and their function, where there are several and none returned.
+fn failed_removals(history: &History) -> Option<(usize, &'static str)> {
+    let of = |op: Op| history.objects.iter().flat_map(|it| &it.ops).filter(move |it| it.op == op);
+    [(Op::Dequeue, "dequeue"), (Op::Pop, "pop"), (Op::ExtractMin, "extract-min")]
+        .into_iter()
+        .map(|(op, f)| (of(op).count(), of(op).all(Invocation::has_failed), f))
+        .find_map(|(count, all_failed, f)| (count > 1 && all_failed).then_some((count, f)))
+}
+
+/// The one value that was seen in a register and that no operation puts in, if it was seen first before any write returned: then the
+/// register may begin with it.
+fn first_value(object: &ObjectHistory) -> Option<i64> {
+    let mut put = HashSet::new();
+    let mut first_set = u32::MAX;
+    for operation in &object.ops {
+        if let Op::Write(value) | Op::Cas(_, value) = operation.op {
+            put.insert(value);
+            if operation.reply() != Some(Reply::NotSwapped) {
+                first_set = first_set.min(end_of(operation));
+            }
+        }
+    }
+    let seen = |it: &Invocation| match (it.op, it.reply()?) {
+        (Op::Read, Reply::Value(value)) => value,
+        (Op::Cas(..), Reply::Swapped(value, _)) => Some(value),
+        _ => None,
+    };
+    let all = object.ops.iter().filter_map(|it| Some((it.number, seen(it)?)));
+    let mut strange = all.filter(|(_, value)| !put.contains(value));
+    let (number, first) = strange.next()?;
+    (number < first_set && strange.all(|(_, value)| value == first)).then_some(first)
+}
+
+/// The value with which all those registers seem to begin that begin with one, and these registers.
+fn first_values(history: &History) -> Option<(i64, Vec<u32>)> {
+    let of = |it: &ObjectHistory| Some((first_value(it)?, it.object));
+    let all: Vec<(i64, u32)> = history.objects.iter().filter_map(of).collect();
+    let (value, _) = *all.first()?;
+    let is_one = all.iter().all(|it| it.0 == value);
+    is_one.then(|| (value, all.into_iter().map(|it| it.1).collect()))
+}
+
+/// The events of replies that are to be the argument, or its pair, and are not.
+fn strange_replies(history: &History) -> Vec<u32> {
+    let is_strange = |it: &Invocation| match (it.op, it.reply()) {
+        (
+            Op::Enqueue(value) | Op::Push(value) | Op::Insert(value) | Op::Write(value),
+            Some(reply),
+        ) => reply != Reply::Value(Some(value)),
+        (Op::Cas(old, new), Some(reply)) => {
+            reply != Reply::NotSwapped && reply != Reply::Swapped(old, new)
+        }
+        _ => false,
+    };
+    let all = history.objects.iter().flat_map(|it| &it.ops).filter(|it| is_strange(it));
+    let mut events: Vec<u32> = all.filter_map(Invocation::returned).collect();
+    events.sort_unstable();
+    events
+}
+
+/// The first of some objects or events, and how many more they are, in words.
+fn named(word: &str, all: &[u32]) -> Option<String> {
+    match all {
+        [] => None,
+        [first] => Some(format!("{word} {first}")),
+        [first, more @ ..] => Some(format!("{word} {first} and {} more", more.len())),
+    }
+}
+
+/// What is suspicious in a history, in words.
+pub fn warnings(history: &History) -> Vec<String> {
+    let figures = Figures::of(history);
+    let mut all = Vec::new();
+    if figures.operations == 0 {
+        all.push("the history has no operations, so a yes says nothing".to_owned());
+    }
+    if let Some((failed, f)) = failed_removals(history) {
+        all.push(format!(
+            "all {failed} calls of :{f} failed, so none is judged: a call that found nothing is :ok with :value nil"
+        ));
+    }
+    if figures.is_sequential() {
+        let few = match figures.overlapping {
+            0 => "no two operations overlap".to_owned(),
+            some => format!("only {some} of {} operations overlap another one", figures.operations),
+        };
+        all.push(format!(
+            "{few}: a race {} show in this history",
+            if figures.overlapping == 0 { "cannot" } else { "can hardly" }
+        ));
+    }
+    if let Some(event) = named("event", &strange_replies(history)) {
+        all.push(format!(
+            "the reply of {event} is not its argument: probably the recorder is wrong, and not the store"
+        ));
+    }
+    if let Some((value, objects)) = first_values(history)
+        && let Some(objects) = named("object", &objects)
+    {
+        all.push(format!(
+            "{objects}: value {value} was read first, and no operation writes it. If registers begin with {value}: fcbench import --initial {value}"
+        ));
+    }
+    let silent = history.objects.iter().filter(|it| puts_tell_nothing(it));
+    let silent: Vec<u32> = silent.map(|it| it.object).collect();
+    if let Some(objects) = named("object", &silent) {
+        all.push(format!(
+            "{objects}: every :put replied nil, which says that the key had no value, also where it was put before. Unless these are \
+             puts if absent: if your store does not tell the earlier value, make each key a register, an object of its own"
+        ));
+    }
+    all
+}
+
+#[cfg(test)]
+mod tests {
+    use super::*;
+    use crate::read_history;
+
+    fn told(text: &str) -> (String, Vec<String>) {
+        let history = read_history(text.as_bytes()).expect("a history");
+        (Figures::of(&history).to_string(), warnings(&history))
+    }
+
+    fn event(process: u32, kind: &str, call: &str, object: u32) -> String {
+        format!("{{:process {process}, :type :{kind}, {call}, :object {object}}}\n")
+    }
+
+    fn call(process: u32, of: &str) -> String {
+        event(process, "invoke", of, 0) + &event(process, "ok", of, 0)
+    }
+
+    #[test]
+    fn nothing_overlaps() {
+        let text = call(0, ":f :enqueue, :value 1") + &call(1, ":f :enqueue, :value 2");
+        let wanted =
+            "0 % of 2 operations overlap another one, at most 1 at once; 0 pending, 0 failed";
+        assert_eq!(told(&text).0, wanted);
+        assert_eq!(
+            told(&text).1,
+            ["no two operations overlap: a race cannot show in this history"]
+        );
+        assert_eq!(told(&call(0, ":f :enqueue, :value 1")).1, [""; 0]);
+    }
+
+    #[test]
+    fn some_overlap_on_one_object() {
+        let text = event(0, "invoke", ":f :enqueue, :value 1", 0)
+            + &event(1, "invoke", ":f :enqueue, :value 2", 0)
+            + &event(2, "invoke", ":f :enqueue, :value 3", 1)
+            + &event(0, "ok", ":f :enqueue, :value 1", 0)
+            + &event(1, "info", ":f :enqueue, :value 2", 0)
+            + &event(2, "ok", ":f :enqueue, :value 3", 1)
+            + &event(3, "invoke", ":f :dequeue, :value nil", 1)
+            + &event(3, "fail", ":f :dequeue, :value nil", 1);
+        let wanted =
+            "66 % of 3 operations overlap another one, at most 2 at once; 1 pending, 1 failed";
+        assert_eq!(told(&text), (wanted.to_owned(), Vec::new()));
+    }
+
+    #[test]
+    fn few_overlap() {
+        let mut text: String =
+            (0..60).map(|value| call(0, &format!(":f :enqueue, :value {value}"))).collect();
+        text += &(event(0, "invoke", ":f :enqueue, :value 98", 0)
+            + &event(1, "invoke", ":f :enqueue, :value 99", 0));
+        let wanted =
+            "only 2 of 62 operations overlap another one: a race can hardly show in this history";
+        assert_eq!(told(&text).1, [wanted]);
+    }
+
+    #[test]
+    fn puts_without_replies() {
+        let put = |process, value| {
+            event(process, "invoke", &format!(":f :put, :value [1 {value}]"), 0)
+                + &event(process, "ok", ":f :put, :value nil", 0)
+        };
+        let del =
+            event(0, "invoke", ":f :del, :value 1", 0) + &event(0, "ok", ":f :del, :value 5", 0);
+        let is_warned = |text: &str| {
+            told(text).1.iter().any(|it| it.starts_with("object 0: every :put replied nil"))
+        };
+        assert!(is_warned(&(put(0, 5) + &put(1, 6))));
+        assert!(!is_warned(&put(0, 5)));
+        assert!(!is_warned(&(put(0, 5) + &del + &put(0, 6))));
+        let told = event(0, "invoke", ":f :put, :value [1 7]", 0)
+            + &event(0, "ok", ":f :put, :value 6", 0);
+        assert!(!is_warned(&(put(0, 5) + &put(1, 6) + &told)));
+    }
+
+    fn answered(process: u32, of: &str, reply: &str, object: u32) -> String {
+        let f = of.split(',').next().expect("a function");
+        event(process, "invoke", of, object)
+            + &event(process, "ok", &format!("{f}, :value {reply}"), object)
+    }
+
+    /// The one warning that has these words, or nothing.
+    fn warned(text: &str, words: &str) -> String {
+        let mut all = told(text).1;
+        all.retain(|it| it.contains(words));
+        assert!(all.len() < 2, "{all:?}");
+        all.concat()
+    }
+
+    #[test]
+    fn registers_that_begin_with_a_value() {
+        let begins = |text: &str| warned(text, "If registers begin with ");
+        let read = |value: &str, object| answered(0, ":f :read", value, object);
+        let write =
+            |value: &str, object| answered(1, &format!(":f :write, :value {value}"), value, object);
+        let cas =
+            |pair: &str, reply: &str| answered(1, &format!(":f :cas, :value {pair}"), reply, 0);
+        let said = "object 0: value 0 was read first, and no operation writes it. If registers begin with 0: fcbench import --initial 0";
+        assert_eq!(begins(&read("0", 0)), said);
+        assert_eq!(begins(&(read("0", 0) + &write("1", 0) + &read("1", 0) + &read("0", 0))), said);
+        assert_eq!(begins(&cas("[0 1]", "[0 1]")), said);
+        assert_eq!(begins(&(cas("[5 6]", "false") + &read("0", 0))), said);
+        let several = read("-1", 2) + &read("-1", 3) + &write("4", 5) + &read("-1", 7);
+        assert!(begins(&several).starts_with("object 2 and 2 more: value -1 was read first"));
+        for text in [
+            read("nil", 0),
+            read("0", 0) + &write("0", 0),
+            write("1", 0) + &read("0", 0),
+            read("0", 0) + &read("3", 0),
+            read("0", 0) + &read("3", 1),
+            cas("[0 1]", "false"),
+        ] {
+            assert_eq!(begins(&text), "", "{text}");
+        }
+    }
+
+    #[test]
+    fn replies_that_are_not_the_argument() {
+        let told = |text: &str| warned(text, "is not its argument: probably the recorder is wrong");
+        for f in ["write", "enqueue", "push", "insert"] {
+            let call = |reply: &str| answered(0, &format!(":f :{f}, :value 1"), reply, 0);
+            assert_eq!(told(&call("1")), "");
+            assert!(told(&call("2")).starts_with("the reply of event 1 is not "), "{f}");
+            let text = call("1") + &call("2") + &call("3");
+            assert!(told(&text).starts_with("the reply of event 3 and 1 more is not "), "{f}");
+        }
+        let cas = |reply: &str| answered(0, ":f :cas, :value [1 2]", reply, 0);
+        assert_eq!(told(&(cas("[1 2]") + &cas("false"))), "");
+        assert!(told(&cas("[3 4]")).starts_with("the reply of event 1 is not "));
+    }
+
+    #[test]
+    fn nothing_is_judged() {
+        let warned = |text: &str, what| told(text).1.iter().any(|it| it.starts_with(what));
+        assert!(warned("{:process :nemesis}", "the history has no operations"));
+        let failed = event(1, "invoke", ":f :dequeue, :value nil", 0)
+            + &event(1, "fail", ":f :dequeue, :value nil", 0);
+        let put = call(0, ":f :enqueue, :value 1");
+        let what = "all 2 calls of :dequeue failed";
+        assert!(warned(&(put.clone() + &failed + &failed), what));
+        assert!(!warned(&(put.clone() + &failed), what));
+        let found = event(1, "invoke", ":f :dequeue, :value nil", 0)
+            + &event(1, "ok", ":f :dequeue, :value 1", 0);
+        assert!(!warned(&(put + &failed + &found), what));
+    }
+
+    #[test]
+    fn many_objects_have_one_warning() {
+        let put = |object, value| {
+            event(0, "invoke", &format!(":f :put, :value [1 {value}]"), object)
+                + &event(0, "ok", ":f :put, :value nil", object)
+        };
+        let text: String = (3..8).map(|object| put(object, 5) + &put(object, 6)).collect();
+        let about_puts: Vec<_> =
+            told(&text).1.into_iter().filter(|it| it.contains(":put")).collect();
+        assert_eq!(about_puts.len(), 1);
+        assert!(about_puts[0].starts_with("object 3 and 4 more: every :put replied nil"));
+    }
+}

@@ -1,0 +1,77 @@
+//! Facts of a history by which a sentence is worded: what found a value, and which operations would
+//! have put it in and did not.
+
+use super::Pattern;
+use crate::history::{Invocation, ObjectHistory};
+use crate::model::{Kind, Op, Reply};
+
+/// Operations that would have put a value in, or set it, and did not: all failed, or all were
+/// refused, being compare-and-sets.
+#[derive(Clone, Copy, Debug, PartialEq, Eq)]
+pub struct Undone {
+    /// The number of the first one's invocation.
+    pub first: u32,
+    pub count: usize,
+    pub were_refused: bool,
+}
+
+/// What a sentence says beside its pattern.
+#[derive(Clone, Copy, Debug, Default, PartialEq, Eq)]
+pub struct Facts {
+    /// Whether the value was found by accepted compare-and-sets, and by no read.
+    pub is_by_swap: bool,
+    /// Of a value that was never put in, or too late: what would have put it in.
+    pub undone: Option<Undone>,
+}
+
+/// Whether the operation would put this value in, or set it, under this key at a map.
+fn would_put(op: Op, key: Option<i64>, value: i64) -> bool {
+    match op {
+        Op::Write(new) | Op::Cas(_, new) => new == value,
+        Op::Put(own, new) => key.is_none_or(|key| key == own) && new == value,
+        op => op.puts() == Some(value),
+    }
+}
+
+impl Undone {
+    fn of(history: &ObjectHistory, key: Option<i64>, value: i64) -> Option<Undone> {
+        let of = |were_refused: bool, is_undone: fn(&Invocation) -> bool| {
+            let would = |o: &&Invocation| is_undone(o) && would_put(o.op, key, value);
+            let mut all = history.ops.iter().filter(would);
+            let first = all.next()?.number;
+            Some(Undone { first, count: 1 + all.count(), were_refused })
+        };
+        of(false, Invocation::has_failed)
+            .or_else(|| of(true, |o| o.reply() == Some(Reply::NotSwapped)))
+    }
+}
+
+impl Facts {
+    /// Those of a pattern of this history, at a map under this key, which this part shows.
+    pub fn of(
+        history: &ObjectHistory,
+        part: &ObjectHistory,
+        key: Option<i64>,
+        pattern: &Pattern,
+    ) -> Facts {
+        let value = match pattern {
+            Pattern::NeverSet(value) | Pattern::TooEarly(value) | Pattern::Stale(Some(value)) => {
+                *value
+            }
+            _ => return Facts::default(),
+        };
+        let found =
+            |o: &Invocation| o.op == Op::Read && o.reply() == Some(Reply::Value(Some(value)));
+        let swapped =
+            |o: &Invocation| matches!(o.reply(), Some(Reply::Swapped(old, _)) if old == value);
+        Facts {
+            is_by_swap: history.kind == Kind::Register
+                && part.ops.iter().any(swapped)
+                && !part.ops.iter().any(found),
+            undone: match pattern {
+                Pattern::Stale(_) => None,
+                _ => Undone::of(history, key, value),
+            },
+        }
+    }
+}

@@ -1,0 +1,23 @@
+//! Imports histories: of the operations that a store of Jepsen holds, or of lines of JSON, it makes a text that `fcbench` judges, and a
+//! table of the names that were made numbers, by which the answer is told in the words of the history.
+//!
+//! What an operation says is taken as it is said. Where it is not plain, as a `:cas` that replies nil, nothing is assumed: the history is
+//! refused, and the operation is named with its line.
+
+mod convert;
+pub mod edn;
+mod failures;
+mod form;
+mod functions;
+mod json;
+mod names;
+mod numbering;
+mod operations;
+mod told;
+
+pub use convert::{Imported, Options, form_of, import};
+pub use failures::Replies;
+pub use form::Form;
+pub use names::Names;
+pub use operations::Refused;
+pub use told::told;
