@@ -3,7 +3,11 @@ import os
 import threading
 import time
 
-from . import faulty, orders, rows, schedules, verifications, workloads
+from .check import malformed_texts
+from .judge import orders_to_find
+from . import rows
+from .run import schedules, workloads
+from .verify import worked_evidence
 from .rows import CERTIFICATES, HISTORY
 from .running import EXAMPLES, OF_TOOLS, at_once
 from .texts import certificate, invoke, lines, ok
@@ -67,7 +71,7 @@ def through_pipes(program, files, words, size=7, pause=0.0, **how):
 def worked_rows(program, report):
     """Each row on plain files, with reads of one byte, on named pipes, and where it is a check with four workers. The tools read a history
     twice, so theirs is no pipe."""
-    for row in rows.ROWS + verifications.ROWS:
+    for row in rows.ROWS + worked_evidence.ROWS:
         in_files(program, report, row)
         if row.words[0] == "check":
             in_files(program, report, row, "--workers", "4")
@@ -80,7 +84,7 @@ def worked_rows(program, report):
 
 def rows_of_tables(program, report):
     """Each malformed text, order, count of steps and schedule, on plain files; a check also with two workers, which read side by side."""
-    for row in faulty.ROWS + orders.ROWS + rows.STEPS + schedules.ROWS:
+    for row in malformed_texts.ROWS + orders_to_find.ROWS + rows.STEPS + schedules.ROWS:
         in_files(program, report, row)
         if row.words[0] == "check":
             in_files(program, report, row, "--workers", "2")
@@ -88,13 +92,13 @@ def rows_of_tables(program, report):
 
 def every_number_of_workers(program, report):
     """Each number of workers gives the same answer."""
-    for number, (history, certificates, out) in enumerate(orders.OF_ALL_WORKERS):
+    for number, (history, certificates, out) in enumerate(orders_to_find.OF_ALL_WORKERS):
         first = program.write(f"shared.{number}.history.edn", history)
         second = program.write(f"shared.{number}.certificates.edn", certificates)
         run = lambda workers: program.run("check", "--workers", str(workers), first, second)
         for workers, ran in zip(range(1, 17), at_once(run, range(1, 17))):
             name = f"check: {workers} workers: {' '.join(certificates.split())}"
-            report.answers(name, ran, out, orders.STATUSES[out[:3]])
+            report.answers(name, ran, out, orders_to_find.STATUSES[out[:3]])
 
 
 def found_orders_are_valid(program, report):

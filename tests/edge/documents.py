@@ -1,8 +1,10 @@
 """Checks that documents agree with the code: tables of crates, contracts, counts of lines to believe, links, and words to avoid."""
+import glob
 import io
 import os
 import re
 import subprocess
+import sys
 import tokenize
 
 from .running import ROOT
@@ -23,12 +25,13 @@ def read(path):
 
 def documents(program, report):
     """What scripts of docs/ find is what the pages say."""
-    for script, page in (("crate_tables.py", "architecture.md"), ("contract_list.py", "contracts.md")):
-        ran = subprocess.run([f"{ROOT}/docs/{script}", "--check"], capture_output=True, text=True)
-        report.equal(f"documents: docs/{page} agrees with the code", 0, ran.returncode, ran.stdout + ran.stderr)
+    ran = subprocess.run([f"{ROOT}/docs/crate_tables.py", "--check"], capture_output=True, text=True)
+    report.equal("documents: docs/architecture.md agrees with crates.txt", 0, ran.returncode, ran.stdout + ran.stderr)
+    ran = subprocess.run([f"{ROOT}/docs/contract_list.py"], capture_output=True, text=True)
+    report.equal("documents: docs/contract_list.py reads each clause", (0, ""), (ran.returncode, ran.stderr))
     ran = subprocess.run([f"{ROOT}/docs/lines_to_believe.py"], capture_output=True, text=True)
     counted = re.findall(r"^(\w+)\D+(\d+)", ran.stdout, re.M)
-    report.equal("documents: three counts of lines to believe", ["judge_history", "judge", "reason"], [name for name, _ in counted], ran.stderr)
+    report.equal("documents: three counts of lines to believe", ["history", "judge", "reason"], [name for name, _ in counted], ran.stderr)
     for page in ("README.md", "docs/definitions.md", "docs/guarantees.md"):
         text = read(f"{ROOT}/{page}")
         for name, count in counted:
@@ -55,6 +58,49 @@ def links(program, report):
             report.holds(f"links: {os.path.relpath(page, ROOT)}: {target}", there)
 
 
+def clauses_by_function():
+    """The names of the clauses of each public function, by the name of the function."""
+    sys.path.insert(0, f"{ROOT}/docs")
+    import contract_list
+
+    found = {}
+    for crate in sorted(os.listdir(f"{ROOT}/crates")):
+        if not os.path.exists(f"{ROOT}/crates/{crate}/src/lib.rt"):
+            continue
+        for name, _, clauses in contract_list.functions(crate):
+            found.setdefault(name.rpartition("::")[2], set()).update(clause[1].rstrip() for clause in clauses if clause[1])
+    return found
+
+
+def is_part_of(record, part):
+    """Whether a definition in specs/ has a part of this name."""
+    for path in glob.glob(f"{ROOT}/crates/*/specs/**/*.antt", recursive=True):
+        body = re.search(rf"^pub record {record} .*?(?=^\S|\Z)", read(path), re.M | re.S)
+        if body and re.search(rf"^ +pub {part} :", body[0], re.M):
+            return True
+    return False
+
+
+def named_clauses(program, report):
+    """Where a page says `CLAUSE` of `FUNCTION`, the contract has the clause; `RECORD.PART` of `FUNCTION` is a part of a definition."""
+    clauses = clauses_by_function()
+    crates = set(os.listdir(f"{ROOT}/crates"))
+    sources = glob.glob(f"{ROOT}/crates/*/src/**/*.rt", recursive=True)
+    named = {name for path in sources for name in re.findall(r"\b(?:ensures|requires) (\w+) \{", read(path))}
+    # The changelog tells what was there.
+    for page in [it for it in PAGES if not it.endswith("CHANGELOG.md")]:
+        for names, function in re.findall(r"((?:`[\w.]+`(?: \([^()]*\))?(?:, | and )?)+) of `(\w+)`", read(page)):
+            for name in re.findall(r"`([\w.]+)`", re.sub(r"\([^()]*\)", "", names)):
+                record, _, part = name.rpartition(".")
+                # Of a crate a page names files and definitions, and beside a function types.
+                if function not in clauses or function in crates or not record and name[0].isupper():
+                    continue
+                there = is_part_of(record, part) if record else name in clauses[function] | clauses.keys()
+                report.holds(f"named_clauses: {os.path.relpath(page, ROOT)}: `{name}` of `{function}`", there)
+        for name in re.findall(r"\bclauses? `(\w+)`", read(page)):
+            report.holds(f"named_clauses: {os.path.relpath(page, ROOT)}: the clause `{name}`", name in named)
+
+
 def words_to_avoid():
     """The words in the first columns of the two tables of CONTRIBUTING."""
     tables = read(f"{ROOT}/docs/CONTRIBUTING.md").split("| avoid | write |\n")[1:]
@@ -79,7 +125,7 @@ def said_in_code(text):
 
 
 def scripts():
-    """What the scripts, clients and headers of the repository say."""
+    """What the scripts, callers and headers of the repository say."""
     for base, folders, files in os.walk(ROOT):
         top = os.path.relpath(base, ROOT)
         folders[:] = [it for it in folders if it not in (".git", "out", "target", "__pycache__") and (top, it) not in ((".", "crates"), (".", "examples"))]
@@ -106,7 +152,7 @@ def plain_words(program, report):
     report.holds("plain_words: CONTRIBUTING has two tables of words to avoid", len(tables) == 2 and all(len(it) > 5 for it in tables))
     texts = {os.path.relpath(page, ROOT): read(page) for page in PAGES if not page.endswith("CONTRIBUTING.md")}
     texts.update(scripts())
-    comments = {"docs/contracts.md": texts.pop("docs/contracts.md")}
+    comments = {}
     for name, messages, said in messages_and_comments():
         texts[name], comments[name] = messages, said
     for words, looked_at in zip(tables, ([texts, comments], [texts])):
@@ -136,19 +182,19 @@ def snippets(program, report):
     found = re.findall(r"^```(c|cpp|rust|go|python)\n(.*?)^```$", read(f"{ROOT}/docs/embedding.md"), re.M | re.S)
     report.holds("snippets: docs/embedding.md has some", len(found) >= 5)
     for language, snippet in found:
-        folder = f"{ROOT}/clients/{language}"
+        folder = f"{ROOT}/callers/{language}"
         files = ["\n".join(code(read(f"{base}/{file}"))) for base, _, files in os.walk(folder) for file in files if "test" in f"{base}/{file}"[len(ROOT) :]]
         report.holds(f"snippets: a test in {language} has {code(snippet)[0]}", any("\n".join(code(snippet)) in it for it in files), snippet)
     page = read(f"{ROOT}/docs/tutorial.md")
-    own = code(read(f"{ROOT}/docs/record_queue.py")) + code(read(f"{ROOT}/clients/python/test_recorder.py"))
+    own = code(read(f"{ROOT}/docs/record_queue.py")) + code(read(f"{ROOT}/callers/python/test_recorder.py"))
     for line in re.findall(r"^    ((?:journal\.|answer = |assert ).+)$", page, re.M):
         report.holds(f"snippets: docs/tutorial.md: {line}", line in own)
     for recorder, (line, tests) in RECORDERS.items():
-        example = re.findall(f"^{line}$", read(f"{ROOT}/clients/{recorder}").partition("\nclass ")[0], re.M)
-        own = {it for test in tests for it in code(read(f"{ROOT}/clients/{test}"))}
+        example = re.findall(f"^{line}$", read(f"{ROOT}/callers/{recorder}").partition("\nclass ")[0], re.M)
+        own = {it for test in tests for it in code(read(f"{ROOT}/callers/{test}"))}
         lacks = [it for it in example if it.strip() not in own and not it.startswith(("//", "#"))]
         report.holds(f"snippets: {recorder} has an example", len(example) >= 5, example)
         report.equal(f"snippets: lines of {recorder} that no test has", [], lacks)
 
 
-PARTS = (documents, links, plain_words, snippets)
+PARTS = (documents, links, named_clauses, plain_words, snippets)

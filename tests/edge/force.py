@@ -4,7 +4,7 @@ All that is known of an object while its history is read is a set of contents, e
 and have not returned. Where that set is empty, no order is valid."""
 import functools
 
-from .reasons import NEXT
+from .verify.reasons import NEXT
 from .running import at_once
 from .texts import lines
 

@@ -4,7 +4,7 @@ import random
 from dataclasses import dataclass
 
 from . import texts
-from .reasons import NEXT, maps_of, value_of
+from .verify.reasons import NEXT, maps_of, value_of
 
 FUNCTIONS = {
     "queue": ("enqueue", "dequeue"),

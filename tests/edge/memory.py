@@ -8,7 +8,9 @@ import subprocess
 import sys
 from dataclasses import dataclass
 
-from . import reasons, rows, verifications, workloads
+from .verify import reasons, worked_evidence
+from . import rows
+from .run import workloads
 from .answers import is_accepted
 from .rows import HISTORY
 from .running import EXAMPLES, OF_TOOLS, ROOT, SECONDS, Program, at_once
@@ -86,7 +88,7 @@ def of_example(*words):
 
 def cases():
     """Every allocation of each worked row of the proved program and of runs of two clients, and some of examples and of longer ones."""
-    for it in rows.ROWS + verifications.ROWS:
+    for it in rows.ROWS + worked_evidence.ROWS:
         if len(it.texts[0]) < LONG and it.words[0] not in OF_TOOLS:
             yield of_row(it)
     for name, history, *_ in (it for it in rows.NOT_LINEARIZABLE if len(it[1]) < LONG):
@@ -229,7 +231,7 @@ def is_well_without_memory(program, command, whole, ran):
 
 
 def refused_memory_of_tools(program, report):
-    """An allocation of each process of judge, find and draw is refused: the status is 0 or 1 only where the answer holds."""
+    """An allocation of each process of judge, find, draw and import is refused: the status is 0 or 1 only where the answer holds."""
     tried, ended = 0, set()
     for text in OF_THE_TOOLS:
         program.write(HISTORY, text)

@@ -3,11 +3,13 @@ import os
 import resource
 import signal
 
-from . import rows, schedules, verifications
+from . import rows
+from .run import schedules
+from .verify import worked_evidence
 from .answers import MUTEX_TWICE
-from .files import AS_NOBODY, good_runs, proved_runs, write_good
+from .check.unreadable_files import AS_NOBODY, good_runs, proved_runs, write_good
 from .rows import CERTIFICATES, EVIDENCE, HISTORY
-from .running import at_once
+from .running import OF_TOOLS, at_once
 
 RUN = ("run", "--clients", "2", "--calls", "5")
 
@@ -22,9 +24,8 @@ def commands():
 
 
 def is_failed(words, ran, out=b""):
-    """Whether a run that put out only this ended as one whose output failed. The tools say why. judge leaves its output to the proved
-    program, which says nothing."""
-    says = words[0] in ("find", "draw") or words == ("judge", "--help")
+    """Whether a run that put out only this ended as one whose output failed. The tools say why, and the proved program says nothing."""
+    says = words[0] in OF_TOOLS
     is_said = ran.err.startswith(b"fcbench: the output failed: ") if says else ran.err == b""
     return (ran.status, ran.out) == (4, out) and is_said
 
@@ -65,13 +66,13 @@ def output_cut_short(program, report):
 
 
 # Evidence whose answers are cut.
-CLAIMS = (rows.order(1, 0, 4), rows.TWO_OF_THREE, verifications.COUNTED, verifications.WHOLE)
+CLAIMS = (rows.order(1, 0, 4), rows.TWO_OF_THREE, worked_evidence.COUNTED, worked_evidence.WHOLE)
 
 
 def cut_rows():
     """Rows whose outputs are cut after each of their bytes: findings, verifications, records, and one of each other command. In a judgement the
     output of the finder would be cut too."""
-    given = [it for it in verifications.ROWS if it.words[0] == "verify" and it.texts[1] in (*CLAIMS, "7")]
+    given = [it for it in worked_evidence.ROWS if it.words[0] == "verify" and it.texts[1] in (*CLAIMS, "7")]
     given += [it for it in rows.SIMULATIONS if it.texts[0] in (rows.SERVED_BY_ANOTHER, "")]
     given += [it for it in schedules.ROWS if it.out == schedules.TWO_CLIENTS]
     for it in (*rows.FINDINGS, *given):

@@ -505,7 +505,7 @@ STEPS = [
     search("4,097 pending operations, and no step", PENDING_4097, "; object 0: too large\n", 3, "--steps", "0"),
 ]
 
-# The orders of these are the only valid ones. What is found of others is evidence of another sort: tests/edge/evidence.py hands it to verify.
+# The orders of these are the only valid ones. What is found of others is evidence of another sort: tests/edge/verify/any_evidence.py hands it to verify.
 FINDINGS = [
     find("empty text", "", "", 0),
     find("an enqueue and a dequeue", ENQUEUE_DEQUEUE, order(0, 2), 0),
@@ -568,10 +568,10 @@ def refutation(part, whole, *operations):
     return lines(f"not linearizable: object 0: {part} of {whole} operations have no valid order", *operations)
 
 
-ENQUEUE_1 = "maps 0 and 1: process 0, :enqueue 1, :ok 1"
-ENQUEUE_2 = "maps 2 and 3: process 0, :enqueue 2, :ok 2"
-ENQUEUE_3 = "maps 4 and 5: process 0, :enqueue 3, :ok 3"
-DEQUEUE_2 = "maps 6 and 7: process 0, :dequeue nil, :ok 2"
+ENQUEUE_1 = "events 0 and 1: process 0, :enqueue 1, :ok 1"
+ENQUEUE_2 = "events 2 and 3: process 0, :enqueue 2, :ok 2"
+ENQUEUE_3 = "events 4 and 5: process 0, :enqueue 3, :ok 3"
+DEQUEUE_2 = "events 6 and 7: process 0, :dequeue nil, :ok 2"
 REFUTATIONS = [
     refute("no reason", THREE_VALUES, "", "", 3),
     refute("the whole", THREE_VALUES, "{:object 0}", refutation(4, 4, ENQUEUE_1, ENQUEUE_2, ENQUEUE_3, DEQUEUE_2), 1),
@@ -580,7 +580,7 @@ REFUTATIONS = [
         "a prefix, in which a call is pending",
         THREE_VALUES + lines(invoke(0, "dequeue"), ok(0, "dequeue", 1)),
         "{:object 0, :cuts [{:keep [1 2], :numbers [0 2 6 8]} {:until 9}]}",
-        refutation(4, 5, ENQUEUE_1, ENQUEUE_2, DEQUEUE_2, "map 8: process 0, :dequeue nil, pending"),
+        refutation(4, 5, ENQUEUE_1, ENQUEUE_2, DEQUEUE_2, "event 8: process 0, :dequeue nil, pending"),
         1,
     ),
     refute(
@@ -590,9 +590,9 @@ REFUTATIONS = [
         refutation(
             3,
             4,
-            "maps 0 and 1: process 0, :enqueue 7, :ok 7",
-            "maps 2 and 3: process 0, :dequeue nil, :ok 7",
-            "maps 6 and 7: process 0, :dequeue nil, :ok 7",
+            "events 0 and 1: process 0, :enqueue 7, :ok 7",
+            "events 2 and 3: process 0, :dequeue nil, :ok 7",
+            "events 6 and 7: process 0, :dequeue nil, :ok 7",
         ),
         1,
     ),
@@ -603,9 +603,9 @@ REFUTATIONS = [
         refutation(
             3,
             3,
-            "maps 0 and 1: process 0, :write 1, :ok 1",
-            "maps 2 and 3: process 0, :write 5, :ok 5, counted as :write 9, :ok 9",
-            "maps 4 and 5: process 0, :read nil, :ok 1",
+            "events 0 and 1: process 0, :write 1, :ok 1",
+            "events 2 and 3: process 0, :write 5, :ok 5, counted as :write 9, :ok 9",
+            "events 4 and 5: process 0, :read nil, :ok 1",
         ),
         1,
     ),
@@ -616,9 +616,9 @@ REFUTATIONS = [
         refutation(
             3,
             3,
-            "maps 0 and 1: process 0, :put [3 7], :ok nil, counted as :write 7, :ok 7",
-            "maps 2 and 3: process 0, :del 3, :ok 7, counted as :cas [7 9], :ok [7 9]",
-            "maps 4 and 5: process 0, :get 3, :ok 7, counted as :read nil, :ok 7",
+            "events 0 and 1: process 0, :put [3 7], :ok nil, counted as :write 7, :ok 7",
+            "events 2 and 3: process 0, :del 3, :ok 7, counted as :cas [7 9], :ok [7 9]",
+            "events 4 and 5: process 0, :get 3, :ok 7, counted as :read nil, :ok 7",
         ),
         1,
     ),

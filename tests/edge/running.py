@@ -1,5 +1,6 @@
 """Runs the two programs under test, and counts what they passed."""
 import concurrent.futures
+import contextlib
 import os
 import re
 import shutil
@@ -13,7 +14,7 @@ SECONDS = 120
 ROOT = os.path.dirname(os.path.dirname(os.path.dirname(os.path.realpath(__file__))))
 EXAMPLES = f"{ROOT}/examples"
 # The commands of the tools, as ./fcbench sorts them too. Every other command line is for the proved program.
-OF_TOOLS = ("judge", "find", "draw")
+OF_TOOLS = ("judge", "find", "draw", "import")
 
 
 @dataclass(frozen=True)
@@ -24,6 +25,20 @@ class Ran:
     out: bytes
     err: bytes
     seconds: float = field(default=0.0, compare=False)
+
+
+def without_explanation(words, ran):
+    """The output, without the lines by which judge explains a malformed history after the line of the verifier."""
+    out = ran.stdout or b""
+    if words[:1] != ("judge",) or ran.returncode != 2:
+        return out
+    return re.sub(rb"(?<=\n)(; (event|line) \d+[:,].*\n){1,2}(; it can be imported: .*\n)?\Z", b"", out)
+
+
+def without_warnings(words, ran):
+    """What is on standard error, without what judge says is suspicious in a history, and what to do where it is out of steps. Most histories of
+    tests are short, and overlap little."""
+    return re.sub(rb"^fcbench: (warning|out of steps): .*\n", b"", ran.stderr, flags=re.M) if words[:1] == ("judge",) else ran.stderr
 
 
 @dataclass(frozen=True)
@@ -62,7 +77,7 @@ class Program:
             )
         except subprocess.TimeoutExpired:
             return Ran(-1, b"", f"not ended after {SECONDS} seconds".encode(), SECONDS)
-        return Ran(ran.returncode, ran.stdout or b"", ran.stderr, time.monotonic() - begun)
+        return Ran(ran.returncode, without_explanation(words, ran), without_warnings(words, ran), time.monotonic() - begun)
 
     def counts(self, *words):
         """Runs the program of these words, and returns also how many allocations and reads it made: of several processes, the last to end."""
@@ -114,14 +129,14 @@ def alone(path, room):
     return Program(copied(path, room, name), room, faults_in(room), label=name)
 
 
+@contextlib.contextmanager
 def in_room(proved, tools, room):
-    """The proved program and the tools beside each other in a new folder of this folder. The label is the name of the proved program."""
-    label = os.path.basename(proved)
-    own = f"{room}/room.of.{label}"
-    os.mkdir(own)
-    # Some runs are those of another user.
-    os.chmod(own, 0o777)
-    return Program(copied(proved, own, "fcbench"), own, faults_in(room), copied(tools, own, "fcbench-tools"), label)
+    """The proved program and the tools beside each other in a new folder of this folder, as long as one part of the tests runs, so that no
+    part finds a file of another one. The label is the name of the proved program."""
+    with tempfile.TemporaryDirectory(prefix="room-", dir=room) as own:
+        # Some runs are those of another user.
+        os.chmod(own, 0o777)
+        yield Program(copied(proved, own, "fcbench"), own, faults_in(room), copied(tools, own, "fcbench-tools"), os.path.basename(proved))
 
 
 def at_once(call, values):

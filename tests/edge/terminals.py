@@ -37,7 +37,7 @@ def on_terminal(program, words):
     begun = time.monotonic()
     try:
         started = subprocess.Popen(
-            [program.path, *words], stdin=subprocess.DEVNULL, stdout=subprocess.PIPE, stderr=its, cwd=program.room
+            program.line(words), stdin=subprocess.DEVNULL, stdout=subprocess.PIPE, stderr=its, cwd=program.room
         )
         os.close(its)
         reader = threading.Thread(target=read_all, args=(own, got))

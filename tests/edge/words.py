@@ -51,6 +51,9 @@ REFUSED_LINES = """
     find h.edn --workers 17
     find h.edn --workers 2 --workers 2
     find h.edn --first return
+    find h.edn --seconds 0
+    find --seconds 1000001 h.edn
+    find h.edn --seconds
     judge
     judge h.edn c.edn
     judge -e.edn
@@ -64,6 +67,10 @@ REFUSED_LINES = """
     judge h.edn --workers=17
     judge h.edn --workers many
     judge h.edn --object 0
+    judge h.edn --seconds 0
+    judge --seconds soon h.edn
+    judge h.edn --seconds 1 --seconds 1
+    judge --progress h.edn
     refute
     refute h.edn
     refute h.edn r.edn c.edn
@@ -91,8 +98,16 @@ REFUSED_LINES = """
     draw --from 4294967296 h.edn
     draw --to end h.edn
     draw --steps 1000000001 h.edn
+    draw --from 5 --to 2 h.edn
     draw --workers 2 h.edn c.edn
+    draw --seconds 1 h.edn
     draw --from 1 --from 2 h.edn
+    import
+    import h.edn c.edn
+    import --initial [ h.edn
+    import h.edn --fail-is-reply=(
+    import h.edn --independent=yes
+    import h.edn --workers 2
     check --version h.edn c.edn
     run --clients 33
     run --clients 0
@@ -121,6 +136,35 @@ REFUSED = (
     ("run", "--kind", ""),
     *[tuple(it.split()) for it in REFUSED_LINES.strip().splitlines()],
 )
+
+# Words by which the tools refuse a command line, for the words that are wrong in it.
+NAMED = {
+    (): "a command is missing",
+    "jump": "'jump'",
+    "find": "<HISTORY> is missing",
+    "find h.edn c.edn": "'c.edn' is one word too many",
+    "find -e.edn": "'-e.edn'",
+    "find h.edn --steps": "--steps needs a value",
+    "find h.edn --steps -1": "--steps takes a number from 0 to 1000000000, and not '-1'",
+    "find --workers 0 h.edn": "--workers takes a number from 1 to 16, and not '0'",
+    "find h.edn --workers 2 --workers 2": "--workers is given twice",
+    "judge": "<HISTORY> is missing",
+    "judge --json h.edn": "'--json'",
+    "judge h.edn c.edn": "'c.edn' is one word too many",
+    "judge h.edn --workers many": "--workers takes a number from 1 to 16, and not 'many'",
+    "judge h.edn --seconds": "--seconds needs a value",
+    "judge h.edn --seconds 0": "--seconds takes a number from 1 to 1000000, and not '0'",
+    "judge h.edn --all=yes": "--all takes no value",
+    "judge --progress h.edn": "'--progress'",
+    "draw": "<HISTORY> is missing",
+    "draw h.edn c.edn d.edn": "'d.edn' is one word too many",
+    "draw --to end h.edn": "--to takes a number from 0 to 4294967295, and not 'end'",
+    "draw --from 5 --to 2 h.edn": "--from 5 is after --to 2, so no event is drawn",
+    "import": "<HISTORY> is missing",
+    "import h.edn c.edn": "'c.edn' is one word too many",
+    "import --initial [ h.edn": "--initial takes one form of EDN, and not '['",
+    "import h.edn --fail-is-reply=(": "--fail-is-reply takes one form of EDN, and not '('",
+}
 
 # What the files of command lines hold, and what is answered of them.
 CHECKED = (rows.OVERLAPPING, rows.order(1, 0, 4)), rows.THREE_YES, 0
@@ -163,6 +207,8 @@ ACCEPTED = (
     ("judge --workers=1 h.edn --steps +7", *out_of_steps(7)),
     ("judge --workers 16 -- h.edn", *SEARCHED),
     ("judge -- -e.edn", *JUDGED),
+    ("judge h.edn --seconds 1000000", *SEARCHED),
+    ("find --seconds=1000000 h.edn --progress", *FOUND),
     ("refute h.edn r.edn", *REFUTED),
     (
         "refute h.edn --steps 7 r.edn",
@@ -192,8 +238,9 @@ def help_texts(program, report):
         report.equal(f"{words[0]} names each command", [], lacks, ran.out)
     options = {"check": ("--workers",), "search": ("--steps", "--first"), "refute": ("--steps",)}
     options["run"] = ("--kind", "--objects", "--clients", "--calls", "--seed")
-    options.update(verify=("--steps",), find=("--steps", "--workers"), draw=("--object", "--from", "--to", "--steps"))
-    options["judge"] = options["find"]
+    options.update(verify=("--steps",), find=("--seconds", "--steps", "--workers", "--summary"), draw=("--object", "--from", "--to", "--steps"))
+    options["judge"] = (*options["find"], "--names")
+    options["import"] = ("--names", "--independent", "--fail-is-reply", "--check-owners", "--initial")
     for command in (*COMMANDS, *OF_TOOLS):
         ran = program.run(command, "--help")
         lacks = [it for it in options.get(command, ()) if it.encode() not in ran.out]
@@ -233,6 +280,17 @@ def refused(program, report):
         report.holds(f"refused: {' '.join(words) or 'no word'}", is_well, ran)
 
 
+def refused_words_are_named(program, report):
+    """Where the tools refuse a command line, the first line of standard error says what is wrong and in which word; then comes the usage."""
+    for line, says in NAMED.items():
+        words = line.split() if line else ()
+        ran = subprocess.run([program.tools, *words], cwd=program.room, capture_output=True, text=True)
+        first, *more = ran.stderr.splitlines()
+        usage = f"Usage: fcbench {words[0]} [OPTIONS] <HISTORY>" if words and words[0] in OF_TOOLS else "Usage: fcbench <COMMAND>"
+        is_well = first.startswith("error: ") and says in first and any(it.startswith(usage) for it in more)
+        report.holds(f"refused: {line or 'no word'}: {says}", (ran.returncode, ran.stdout) == (64, "") and is_well, ran)
+
+
 def bad_words_are_told(program, report):
     """An option that takes one of some words, and is given another, is named, with the words that it takes."""
     kinds = "queue, stack, heap, register, map, mutex, mixed"
@@ -262,6 +320,11 @@ def limits(program, report):
     program.write("empty.edn", "")
     for steps in ("0", "1000000000"):
         report.answers(f"search --steps {steps}", program.run("search", "--steps", steps, "empty.edn"), "", 0)
+    program.write("one.edn", rows.OVERLAPPING)
+    ran = program.run("draw", "--object", "4", "one.edn")
+    is_told = ran.err == b"fcbench: warning: --object 4: the history has no such object\n"
+    report.holds("draw --object 4, which is not there", (ran.status, is_told) == (0, True) and ran.out, ran.err)
+    report.equal("draw --object 0 warns of nothing", b"", program.run("draw", "--object", "0", "one.edn").err)
     for first in ("number", "return"):
         report.answers(f"search --first {first}", program.run("search", "--first", first, "empty.edn"), "", 0)
 
@@ -281,8 +344,18 @@ def dispatched(program, report):
         ran = script(*words)
         lacks = [it for it in (*COMMANDS, *OF_TOOLS) if f"\n  {it} ".encode() not in ran.stdout]
         report.equal(f"fcbench.sh {words[0]} names each command", (0, []), (ran.returncode, lacks), ran.stdout)
+    ran = script()
+    lacks = [it for it in (*COMMANDS, *OF_TOOLS) if f"\n  {it} ".encode() not in ran.stderr]
+    is_refused = (ran.returncode, ran.stdout, lacks) == (64, b"", []) and ran.stderr.startswith(b"error: a command is missing\n")
+    report.holds("fcbench.sh without a word names each command", is_refused, ran)
+    shown = script("--help").stdout
+    report.holds("fcbench.sh --help begins with judge", 0 < shown.find(b"\n  judge ") < shown.find(b"\n  check "), shown)
+    for word, near in (("jugde", "judge"), ("judgee", "judge"), ("improt", "import"), ("dwar", None), ("jump", None)):
+        ran = script(word)
+        said = f"fcbench: did you mean {near}?\n".encode() if near else b"error: "
+        report.holds(f"fcbench.sh {word}: {near or 'no command'} is near", (ran.returncode, ran.stdout) == (64, b"") and ran.stderr.startswith(said), ran)
     for command in OF_TOOLS:
         report.equal(f"fcbench.sh help {command}", program.run(command, "--help").out, script("help", command).stdout)
 
 
-PARTS = (help_texts, accepted, version, refused, bad_words_are_told, not_utf_8, limits, dispatched)
+PARTS = (help_texts, accepted, version, refused, refused_words_are_named, bad_words_are_told, not_utf_8, limits, dispatched)

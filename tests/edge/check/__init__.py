@@ -1,0 +1,1 @@
+"""Tests of check, and of how texts are read."""

@@ -1,0 +1,149 @@
+"""Long histories, which workers read in pieces: the verdict is the one of a single worker, which reads the text in one piece.
+
+The histories are those of bench/gen.py, so that the lines of a verdict are known from outside."""
+import functools
+import json
+import os
+import re
+import subprocess
+import sys
+
+from ..running import ROOT, at_once
+
+# With one worker a text is one piece.
+WORKERS = ("1", "2", "3", "4", "7", "16")
+# The words of bench/gen.py: all six kinds with calls that fail or stay pending, as Jepsen writes; objects of which each has many operations;
+# more calls at once than there are pieces; and short maps of a single object.
+HISTORIES = {
+    "mixed": "--kind all --objects 30 --calls 8000 --concurrency 24 --processes 40 --time --index --fail 0.05 --info 0.02 --nemesis 0.02",
+    "few objects": "--kind mixed --objects 5 --calls 10000 --concurrency 8 --fail 0.02 --info 0.01 --time",
+    "at once": "--kind all --objects 200 --calls 11000 --concurrency 300 --processes 300 --index",
+    "one queue": "--kind queue --calls 12000 --concurrency 4 --unique --fill 0.6",
+}
+# A text that is shorter is read as a whole by any number of workers.
+LEAST_LENGTH = 1_000_000
+# The maps that a history may have.
+MOST_MAPS = 1_000_000
+# A process and an object that no generated history has.
+OTHER = 1_000_000, 60_000
+
+
+@functools.cache
+def generated(program, name, words, seed):
+    """A history of bench/gen.py with its certificates, and the lines of the verdict."""
+    folder = f"{program.room}/pieces {name}"
+    os.makedirs(folder, exist_ok=True)
+    made = [sys.executable, f"{ROOT}/bench/gen.py", "history", folder, *words.split(), "--seed", str(seed)]
+    subprocess.run(made, check=True, stdout=subprocess.DEVNULL)
+    texts = []
+    for file in ("history.edn", "certs.edn", "expect.json"):
+        with open(f"{folder}/{file}", encoding="utf-8") as it:
+            texts.append(it.read())
+    return texts[0], texts[1], json.loads(texts[2])["check"]
+
+
+def judged(program, name, history, certificates, workers=WORKERS):
+    """What check answers with each number of workers."""
+    files = program.write(f"{name}.history.edn", history), program.write(f"{name}.certificates.edn", certificates)
+    return at_once(lambda it: program.run("check", *files, "--workers", it), workers)
+
+
+def same_with_each(program, report, name, history, certificates, workers=WORKERS):
+    """The verdict is the same with each number of workers. Returns the one of a single worker."""
+    whole, *others = judged(program, "pieces", history, certificates, workers)
+    report.holds(f"pieces: {name}: one worker", whole.status in (0, 1, 2) and whole.out and not whole.err, whole)
+    for it, ran in zip(workers[1:], others):
+        report.equal(f"pieces: {name}: {it} workers", whole, ran)
+    return whole
+
+
+def in_all(history, certificates):
+    """The same with one operation more, on an object of its own: it is the first map and the last one."""
+    head, tail = (f"{{:process {OTHER[0]}, :type :{it}, :f :read, :value nil, :object {OTHER[1]}}}\n" for it in ("invoke", "ok"))
+    later = re.sub(r"(?<=[\[ ])\d+(?=[\] ])", lambda it: str(int(it[0]) + 1), re.sub(r":object (\d+), :order", r":object=\1 :order", certificates))
+    later = later.replace(":object=", ":object ")
+    return head + history + tail, f"{later}{{:object {OTHER[1]}, :order [0]}}\n"
+
+
+def each(lines, at, of, change):
+    """The lines, of which every n-th is changed, from a place on."""
+    return [change(it) if number >= at and number % of == 0 else it for number, it in enumerate(lines)]
+
+
+def spellings(history):
+    """Other texts of the same maps. After the place 2,000 a text is no longer tried before it is cut."""
+    lines = history.splitlines()
+    text = lambda those: "\n".join(those) + "\n"
+    yield "no line feed at the end", history.rstrip("\n")
+    yield "line ends of two characters", history.replace("\n", "\r\n")
+    yield "two maps on a line", re.sub(r"\}\n(?=.*\n.*\n)", "} ", history, count=3_000)
+    yield "pairs on lines", "\n".join(" ".join(lines[at : at + 2]) for at in range(0, len(lines), 2))
+    yield "blank lines", text(each(lines, 0, 3, lambda it: f"\n \t,{it}\n"))
+    yield "comments", text(each(lines, 0, 5, lambda it: f"; {{:process 0 \"[\n{it} ; }}]"))
+    yield "some maps on two lines, late", text(each(lines, 2_000, 90, lambda it: it.replace(", :f", ",\n:f")))
+    yield "all maps on two lines, late", text(each(lines, 2_000, 1, lambda it: it.replace(", :f", ",\n:f")))
+    yield "all maps on two lines", text(each(lines, 0, 1, lambda it: it.replace(", :f", ",\n:f")))
+    yield "strings with line feeds", text(each(lines, 2_000, 40, lambda it: it[:-1] + ', :note "a\n{:process 0}\nb"}'))
+    yield "a string of many lines", text(each(lines, 0, 9_000, lambda it: it[:-1] + ', :note "' + "\n}" * 200_000 + '"}'))
+    yield "keys in another order", text(each(lines, 0, 2, lambda it: re.sub(r"\{(:process \S+), (:type \S+),", r"{\2 \1", it)))
+
+
+def valid_texts_in_pieces(program, report):
+    """Valid histories, in several spellings, are judged yes with each number of workers, and counted as they were made."""
+    for seed, (name, words) in enumerate(HISTORIES.items()):
+        history, certificates, lines = generated(program, name, words, seed)
+        report.holds(f"pieces: {name}: is long", len(history) >= LEAST_LENGTH, len(history))
+        whole = same_with_each(program, report, name, history, certificates)
+        report.answers(f"pieces: {name}: verdict", whole, lines, 0)
+        operations, objects = (int(it) for it in re.match(r"yes: (\d+) operations, (\d+) objects", lines).groups())
+        whole = same_with_each(program, report, f"{name}: an operation over all pieces", *in_all(history, certificates))
+        report.holds(f"pieces: {name}: one more", whole.out.startswith(f"yes: {operations + 1} operations, {objects + 1} objects\n".encode()), whole)
+        if name == "mixed":
+            for spelling, text in spellings(history):
+                whole = same_with_each(program, report, f"{name}: {spelling}", text, certificates)
+                report.answers(f"pieces: {name}: {spelling}: verdict", whole, lines, 0)
+
+
+def faults_at_seams(program, report):
+    """Faults that no piece has by itself, each by its place: a process that is busy, one that is not, and an object of another kind."""
+    history, certificates, _ = generated(program, "mixed", HISTORIES["mixed"], 0)
+    history, certificates = in_all(history, certificates)
+    maps = history.count("\n")
+    process, on = OTHER
+    late = {
+        "a process that is busy": (f"{{:process {process}, :type :invoke, :f :read, :object {on}}}\n", maps - 1),
+        "a reply to another function": (f"{{:process {process}, :type :ok, :f :write, :value 1, :object {on}}}\n", maps - 1),
+        "a reply of another object": (f"{{:process {process}, :type :ok, :f :read, :object {on + 1}}}\n", maps - 1),
+        "a process that is idle": (f"{{:process {process + 1}, :type :ok, :f :read, :object {on}}}\n", maps - 1),
+        "an object of another kind": (f"{{:process {process + 1}, :type :invoke, :f :pop, :object {on}}}\n", maps - 1),
+    }
+    begun = history[: history.rindex("\n", 0, -1) + 1]
+    for name, (line, at) in late.items():
+        whole = same_with_each(program, report, name, begun + line, certificates)
+        report.holds(f"pieces: {name}: place", whole.status == 2 and f" {at}".encode() in whole.out, whole)
+    for more, status in ((0, 0), (1, 2)):
+        count = MOST_MAPS - history.count("\n") + more
+        whole = same_with_each(program, report, f"{MOST_MAPS + more} maps", history + "{:process :n}\n" * count, certificates, ("1", "2", "7"))
+        report.equal(f"pieces: {MOST_MAPS + more} maps: status", status, whole.status, whole)
+
+
+def long_texts_are_read_in_pieces(program, report):
+    """A verdict does not tell how the text was read, but the number of allocations does. Each of 16 workers makes several for its piece."""
+    words = "--kind all --objects 12 --calls 5200 --concurrency 24 --processes 40 --time --index"
+    history, certificates, lines = generated(program, "not long", words, 5)
+    orders = program.write("pieces.certificates.edn", certificates)
+    counts = {}
+    for length in (LEAST_LENGTH - 1, LEAST_LENGTH):
+        name = program.write("pieces.history.edn", history + ";" * (length - len(history) - 1) + "\n")
+        for workers in ("1", "16"):
+            ran, allocations, _ = program.counts("check", name, orders, "--workers", workers)
+            report.answers(f"pieces: {length} bytes, {workers} workers", ran, lines, 0)
+            counts[length, workers] = allocations
+    few, many = (counts[LEAST_LENGTH + more, "16"] for more in (-1, 0))
+    whole, alone = (counts[LEAST_LENGTH + more, "1"] for more in (-1, 0))
+    report.holds("pieces: a long text is read in pieces by 16 workers", many >= few + 16 * 10, counts)
+    report.holds("pieces: a long text is read in one piece by one", abs(alone - whole) < 10, counts)
+    return f"{few} and {many} allocations"
+
+
+PARTS = (valid_texts_in_pieces, faults_at_seams, long_texts_are_read_in_pieces)

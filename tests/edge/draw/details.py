@@ -1,0 +1,728 @@
+"""Checks what is on a page beside its sentences: tables, points, boxes, captions and notes, by code that shares nothing with the
+program."""
+import itertools
+import re
+from functools import cached_property
+
+from ..histories import KIND_OF, Call, calls_of
+from .pages import REF, classes, found, spelled
+from ..verify.reasons import IMPOSSIBLE, TOLD, maps_of, value_of
+from .sentences import FEW_NAMED, FORMS, Said, Walked, grouped, label_of, number_in, why_bars_false
+from ..texts import value
+
+# An object with at most so many events is drawn whole; of another without a focus the first ones are; and at most so many.
+WHOLE, FIRST, MOST = 160, 160, 400
+# The events before and after each of the focus, where the pairs before are too many.
+AROUND = ((20, 10), (10, 5), (5, 2), (2, 1), (1, 0), (0, 0))
+HOLE, LANES, ALONE = 7, 24, 12
+# The most rows of tried orders, the operations of a part that are tried, and the steps.
+TRIED, MOST_TRIED, STEPS = 24, 64, 2000
+# The most operations of a reason that are drawn alone.
+MOST_ALONE = 200
+# Of a reason with this many operations all orders are tried.
+FEW_ORDERED = 8
+# The fewest characters of a label of which the middle is left out.
+SHORTEST_CUT = 6
+# An object that contains no more has a box for each.
+FEW = 10
+LEFT = {"queue": ", first at the left", "stack": ", bottom at the left", "heap": ", least at the left"}
+
+
+# Why an entry is refused, by the groups of the sentence.
+BECAUSE = {
+    "c3": lambda it: "no operation",
+    "c4": lambda it: f"stands already as entry {it[4]}",
+    "c5": lambda it: f"returned at event {it[6]}, before #{it[7]} was invoked",
+    "c6": lambda it: f"gives {it[4]}, returned {it[7]}",
+    "c9": lambda it: "not possible",
+}
+
+
+def said_of(call):
+    return f"⟨{call.number}|{label_of(call)}⟩"
+
+
+class Shown:
+    """A page with its history, the orders that it was checked by or found by, what judge told, and the stretch that was asked for."""
+
+    def __init__(self, page, history, orders, told, stretch=(None, None)):
+        self.history = history
+        self.page, self.orders, self.told, self.stretch = page, orders, told, stretch
+        self.walked = {}
+        self.calls, self.maps = calls_of(history)
+        self.process_at = {at: it.process for it in self.calls.values() for at in (it.number, it.at) if at is not None}
+        self.nemeses = [number for number, it in enumerate(maps_of(history)) if it["process"].startswith(":")]
+
+    def on(self, x):
+        return [it for it in self.calls.values() if it.on == x]
+
+    def kind(self, x):
+        return KIND_OF[self.on(x)[0].f]
+
+    @cached_property
+    def figures(self):
+        """The whole figures, by their objects."""
+        those = [it for it in self.page.body.iter("figure") if re.fullmatch(r"fig\d+", it.get("id", ""))]
+        return [(int(it.get("id")[3:]), it) for it in those]
+
+    def refused(self, x):
+        """The rank of the entry that is refused, or None."""
+        ranks = [int(cells[0]) for name, cells in self.page.rows(f"t{x}") if name == "bad"]
+        return ranks[0] if ranks else None
+
+    def contents(self, x):
+        """What the object contains before the order and after each entry, up to the one that is refused."""
+        if x not in self.walked:
+            self.walked[x] = list(self.walk(x))
+        return self.walked[x]
+
+    def walk(self, x):
+        walk = Walked(self.kind(x))
+        yield walk.text()
+        for number in self.orders[x][: (self.refused(x) or len(self.orders[x]) + 1) - 1]:
+            walk.take(self.calls[number])
+            yield walk.text()
+
+    @cached_property
+    def reason(self):
+        return reason_of(self.told, self.figures[0][0])
+
+    @cached_property
+    def focus(self):
+        """The operations that the sentences name, or those of the reason."""
+        named = {int(number) for sentence in self.page.said for number, _ in re.findall(REF, sentence)}
+        if self.page.answer == "impossible":
+            return set(self.reason[0]) | named
+        return named if self.page.answer in ("no", "open") else set()
+
+
+def reason_of(told, x=None):
+    """The operations of the first reason that judge tells, or of the first of an object, as the part has them, by their numbers, the one from which on it is a part,
+    which is one of them, and the value that stands for others. An operation that only begins the part is None."""
+    calls, is_first, since, other = {}, False, None, None
+    for line in told.splitlines():
+        named = IMPOSSIBLE.fullmatch(line)
+        if named and is_first:
+            break
+        is_first |= bool(named) and x in (None, int(named[1]))
+        if not is_first:
+            continue
+        it = TOLD.fullmatch(line.removeprefix("; "))
+        if it:
+            f, argument, reply = (it[7], it[8], it[9]) if it[7] else (it[4], it[5], it[6])
+            number, at = int(it[1]), int(it[2]) if it[2] else None
+            calls[number] = Call(number, it[3], 0, f, value_of(argument), at, "open" if at is None else "ok", value_of(reply))
+        elif "{:object" in line:
+            starts, others = re.findall(r"\{:from (\d+)\}", line), re.findall(r":other (-?\d+)", line)
+            since, other = int(starts[-1]) if starts else None, int(others[-1]) if others else None
+    if since is not None:
+        calls.setdefault(since, None)
+    return calls, since, other
+
+
+# ---- the order
+
+
+def because_of(page):
+    """Why an entry is refused, in a few words, by what the sentences say."""
+    for form, words in BECAUSE.items():
+        told = [it for it in (re.fullmatch(FORMS[form], said) for said in page.said) if it]
+        if told:
+            return words(told[0])
+    return None
+
+
+def why_rows_false(shown, x):
+    """What is false of the table of an order that is known, or None."""
+    order, contents, refused, rank = shown.orders[x], shown.contents(x), shown.refused(x), 0
+    because = because_of(shown.page)
+    rows = shown.page.rows(f"t{x}")
+    for name, cells in rows:
+        if name == "skip":
+            skipped = re.fullmatch(r"([\d ]+) entr(y|ies) not shown", cells[0])
+            rank += number_in(skipped[1])
+            if (skipped[1] == "1") != (skipped[2] == "y"):
+                return f"the row {cells}"
+            continue
+        rank += 1
+        call = shown.calls.get(order[rank - 1])
+        own = said_of(call) if call and call.on == x else f"`{order[rank - 1]}`"
+        wanted = "not looked at" if refused and rank > refused else because if rank == refused else f"`{contents[rank]}`"
+        if [int(cells[0]), *cells[1:]] != [rank, own, wanted]:
+            return f"the row {cells} of entry {rank}, {own}, {wanted}"
+        if name != ("bad" if rank == refused else "after" if refused and rank > refused else ""):
+            return f"the row of entry {rank} is {name}"
+    return None if not rows or rank == len(order) else f"{rank} of {len(order)} entries"
+
+
+def why_points_false(shown, x, figure):
+    """What is false of the points of an order that is known, or None."""
+    points = found(figure, "a", "pt")
+    if points and x not in shown.orders:
+        return None if shown.page.answer == "open" else "there are points without an order"
+    contents, because = shown.contents(x) if points else [], because_of(shown.page)
+    for it in points:
+        rank, call, is_bad = int(it.get("data-rank")), shown.calls[int(it.get("data-op"))], "bad" in classes(it)
+        title = "".join(it.find("title").itertext())
+        if shown.orders[x][rank - 1] != call.number or is_bad != (rank == shown.refused(x)):
+            return f"the point {rank}"
+        said = f"{rank}: {label_of(call)}\n" + ("" if is_bad else f"event {call.number}, process {call.process}\n")
+        content = f"{because}\ncontent before: {contents[rank - 1]}" if is_bad else f"content after: {contents[rank]}"
+        if title != said + content:
+            return f"the point {rank} says {title}"
+    return None
+
+
+def why_labels_false(figure):
+    """A bar whose label is neither that of its operation, nor its beginning and its end, as far as these can be read, or None."""
+    for bar in found(figure, "g", "op"):
+        text, label = bar.find("a/text"), "".join(bar.find("title").itertext()).partition("\n")[0]
+        head, dots, tail = ("", "", "") if text is None else text.text.partition("…")
+        is_cut = dots and tail and SHORTEST_CUT <= len(text.text) <= len(label) and label.startswith(head) and label.endswith(tail)
+        if text is not None and text.text != label and not is_cut:
+            return f"the label {text.text} of {label}"
+    return None
+
+
+def why_marks_collide(figure):
+    """A refused point on the bar of another operation, or a line that joins points above the bars, or points that are not neighbours, or an arrow that breaks
+    another one or the bar at which it begins, or None."""
+    for line in found(figure, "svg", "sys"):
+        # In the order in which they are drawn.
+        parts = [name for it in line.iter() for name in classes(it)]
+        last = lambda name: len(parts) - parts[::-1].index(name)
+        if "thread" in parts and "op" in parts[: last("thread")]:
+            return "the thread runs over a bar"
+        if "halo" in parts and "line" in parts[: last("halo")]:
+            return "the halo of an arrow breaks another arrow"
+        for halo in found(line, "path", "halo"):
+            x, y = map(int, re.match(r"M(\d+) (\d+)", halo.get("d")).groups())
+            if any(left <= x <= right and top <= y < low for _, left, right, top, low in bars_of(line)):
+                return "the halo of an arrow notches the bar at which it begins"
+        points = found(line, "a", "pt")
+        ranks = [int(it.get("data-rank")) for it in points]
+        joined = "".join(re.findall("[ML]", found(line, "path", "thread")[0].get("d"))) if found(line, "path", "thread") else ""
+        if joined[1:] != "".join("L" if b == a + 1 else "M" for a, b in zip(ranks, ranks[1:])) and joined:
+            return f"the thread joins {ranks} as {joined}"
+        for it in points:
+            text = it.find("text")
+            x, y = int(text.get("x")), int(text.get("y")) - 3
+            for operation, left, right, top, low in bars_of(line):
+                if left <= x <= right and top <= y < low and operation != it.get("data-op"):
+                    return f"the point {it.get('data-rank')} is on the bar of operation {operation}"
+    return None
+
+
+def bars_of(line):
+    """The bars of a line: each operation, and where its bar is: left, right, top and bottom."""
+    for bar in found(line, "g", "op"):
+        x, y, width, height = (int(next(bar.iter("rect")).get(it)) for it in ("x", "y", "width", "height"))
+        yield bar.get("data-op"), x, x + width, y, y + height
+
+
+# ---- what the object contains
+
+
+def boxes_of(figure):
+    """The boxes of a figure: what each is, its text, and what is under it."""
+    boxes = []
+    for it in found(figure, "g", "box"):
+        text, *under = ("".join(own.itertext()) for own in it.iter("text"))
+        boxes.append((" ".join(classes(it)[1:]), text, tuple(under)))
+    return boxes
+
+
+def boxes_of_list(walk, call, boxes):
+    """The boxes of a list that are right, of which as many are left out as it says."""
+    items, wanted, place = walk.items, [], 0
+    gives = None if call.f in ("enqueue", "push", "insert") or not items else len(items) - 1 if walk.kind == "stack" else 0
+    others = [it for it in range(len(items)) if it != gives and items[it][0] == call.reply and call.reply is not None]
+    returned = others[0] if others else None
+    for name, text, _ in boxes:
+        if name == "skip":
+            place += number_in(text.removeprefix("… "))
+            wanted.append((name, text, ()))
+        elif place < len(items):
+            number, by = items[place]
+            own = {gives: ("gives", ("gives",)), returned: ("returned", ("returned",))}.get(place, ("", ()))
+            wanted.append((own[0], str(number), (*own[1], f"put by #{by}")))
+            place += 1
+    if not items:
+        wanted.append(("gives", "empty", ("gives nil",)) if call.f not in ("enqueue", "push", "insert") else ("", "empty", ()))
+    if returned is None:
+        wanted.append(("absent", value(call.reply), ("returned",) if call.reply is None else ("returned,", "not in it")))
+    # Those that are told of are there.
+    is_whole = place == len(items) and (len(items) > FEW or not any(it[0] == "skip" for it in boxes))
+    return wanted if is_whole else [*wanted, "all of it"]
+
+
+def boxes_wanted(walk, call, boxes):
+    kind, found_item = walk.kind, walk.found(call) if walk.kind != "mutex" else None
+    if kind in ("queue", "stack", "heap"):
+        return boxes_of_list(walk, call, boxes)
+    if kind == "mutex":
+        return [("gives", walk.text(), () if walk.holder is None else (f"put by #{walk.holder}",))]
+    returned = ("absent", value(call.reply), ("returned",))
+    if kind == "register":
+        return [("gives", walk.text(), ("contains", *([f"put by #{found_item[1]}"] if found_item else []))), returned]
+    key, entries = call.argument[0] if call.f == "put" else call.argument, []
+    for (own, held), by in walk.items:
+        if own == key or len(walk.items) <= FEW:
+            entries.append(("gives", f"{own} {held}", ("gives", f"put by #{by}")) if own == key else ("", f"{own} {held}", (f"put by #{by}",)))
+    return [*entries, *([] if found_item else [("gives", f"{key} nothing", ("gives nil",))]), returned]
+
+
+def why_boxes_false(shown):
+    """What is false of the boxes of a page, or None."""
+    figure = shown.page.by_id("content")
+    if figure is None:
+        return None
+    x = int(re.sub(r"\D", "", shown.figures[0][1].get("id")))
+    rank = shown.refused(x)
+    call, walk = shown.calls[shown.orders[x][rank - 1]], Walked(shown.kind(x))
+    for number in shown.orders[x][: rank - 1]:
+        walk.take(shown.calls[number])
+    caption, boxes = spelled(figure.find("figcaption")), boxes_of(figure)
+    if caption != f"The {walk.kind} before entry {rank}{LEFT.get(walk.kind, '')}":
+        return f"the caption of the boxes is {caption}"
+    wanted = boxes_wanted(walk, call, boxes)
+    return None if boxes == wanted else f"the boxes are {boxes}, and not {wanted}"
+
+
+# ---- a reason
+
+
+def tries_of(calls, other, recorded):
+    """Each way to begin that breaks: what was placed, the content there, the next call, and which it is; and whether these are all."""
+    part = list(calls)
+    kind = KIND_OF[part[0].f] if part else None
+    ways, reached, rows, steps = [], set(), [], 0
+
+    def ways_after(before):
+        left = [it for it in part if it not in before]
+        ends = [it.at for it in left if it.returned() is not None]
+        return [(before, it) for it in left if not any(end < it.number for end in ends)]
+
+    ways = ways_after(())[::-1] if len(part) <= MOST_TRIED else []
+    while ways and steps < STEPS:
+        steps += 1
+        before, call = ways.pop()
+        walk = Walked(kind)
+        for it in before:
+            walk.take(it)
+        text = "other" if kind == "register" and walk.items and walk.items[0][0] == other else walk.text()
+        old = [it[0] for it in walk.items], walk.holder is None
+        if not walk.is_possible(call):
+            rows.append((before, text, call, "is not possible"))
+            continue
+        there, own, given = walk.items[0][0] if walk.items else None, recorded[call.number], walk.take(call)
+        if call.end == "ok" and given != call.reply:
+            # One that the part counts as a cas was given what is there.
+            given = there if call.f == "cas" != own.f else given
+            is_other = other is not None and given is not False and given == other
+            rows.append((before, text, call, f"gives {'other' if is_other else value(given)}, returned {value(own.reply)}"))
+            continue
+        new = [it[0] for it in walk.items], walk.holder is None
+        state = frozenset(it.number for it in (*before, call)), repr(new)
+        if state in reached or call.end == "open" and old == new:
+            continue
+        reached.add(state)
+        ways += ways_after((*before, call))[::-1]
+    return rows, not ways and len(part) <= MOST_TRIED
+
+
+def leaves_nothing(call):
+    """Whether the object is empty, or free, after a call, by its reply."""
+    return call.f in ("del", "release") or call.f in ("dequeue", "pop", "extract-min", "read", "get") and call.reply is None
+
+
+def prior_content(shown, since):
+    """The row for the content of a lock before a part with which the operation that begins the part is not possible."""
+    if since is None or shown.kind(shown.calls[since].on) != "mutex":
+        return []
+    first = shown.calls[since]
+    return [((), "held" if first.f == "acquire" else "free", first, "is not possible")]
+
+
+def why_tried_false(shown):
+    """What is false of the table of the orders of a reason, or None."""
+    calls, since, other = shown.reason
+    begins = [shown.calls[since]] if since is not None and calls[since] is None and leaves_nothing(shown.calls[since]) else []
+    tries, is_all = tries_of([it for it in calls.values() if it], other, shown.calls)
+    if not tries:
+        return None if shown.page.by_id("tried") is None else "there is a table of no orders"
+    tries = [*prior_content(shown, since), *(((*begins, *before), *more) for before, *more in tries)]
+    rows = shown.page.rows("tried")
+    name = lambda call: said_of(shown.calls[call.number])
+    wanted = [
+        ("", [str(place), ", ".join(name(it) for it in before), f"`{text}`", name(call), which])
+        for place, (before, text, call, which) in enumerate(tries[:TRIED], 1)
+    ]
+    more = len(tries) - len(wanted)
+    if rows != wanted + ([("skip", [f"{grouped(more)} more"])] if more else []):
+        return f"the tried orders are {rows}, and not {wanted}"
+    one = "There is one way to begin, up to equal content, and up to the operation that does not fit"
+    several = f"{'Both' if len(tries) == 2 else f'All {len(tries)}'} ways to begin, up to equal content, each up to the operation that does not fit"
+    caption = f"Every order breaks. {one if len(tries) == 1 else several}" if is_all else "Ways to begin"
+    caption += ". “other” is any value that the reason does not keep" if other is not None else ""
+    said = spelled(shown.page.by_id("tried").find("caption"))
+    return None if said == caption else f"the caption of the tried orders is {said}, and not {caption}"
+
+
+def drawn_alone(shown, numbers):
+    """Those of the operations of a reason that its figure has: the first ones, and of the processes that begin first."""
+    few = [shown.calls[it] for it in sorted(numbers)[:MOST_ALONE]]
+    begins = {}
+    for call in few:
+        begins.setdefault(call.process, call.number)
+    lanes = sorted(begins, key=begins.get)[:LANES]
+    return [it.number for it in few if it.process in lanes]
+
+
+def outside_note(calls):
+    """What is said of the operations that are not wholly within a reason."""
+    if not calls:
+        return []
+    more = len(calls) - FEW_NAMED
+    words, named = "they may" if len(calls) > 1 else "it may", ", ".join(said_of(it) for it in calls[:FEW_NAMED])
+    ending = f", and {grouped(more)} more" if more > 0 else ""
+    return [f"Not wholly within this stretch, so {words} have taken effect outside of it: {named}{ending}."]
+
+
+def why_reason_false(shown):
+    """What is false of the figure of a reason, or None."""
+    zoom, (calls, since, _) = shown.page.by_id("zoom"), shown.reason
+    # The operations that the sentence names are drawn too.
+    alone = drawn_alone(shown, set(calls) | shown.focus)
+    if shown.page.bars("zoom") != alone:
+        return f"the reason has {alone}, and the figure {shown.page.bars('zoom')}"
+    x = shown.calls[min(calls)].on
+    count, live = len(calls), sum(it.is_live() for it in shown.on(x))
+    caption = f"{grouped(count)} operation{'' if count == 1 else 's'} of {grouped(live)}"
+    caption += ": it has no place in any order" if count == 1 else ": these alone have no valid order"
+    caption += f", whatever the {shown.kind(x)} contained before event {since}." if since is not None else "."
+    if len(alone) < count:
+        caption += f" Drawn: {grouped(len(alone))} of them."
+    more = len(alone) - count
+    if more > 0:
+        caption += f" Drawn with {grouped(more)} other operation{'' if more == 1 else 's'} that the sentence names."
+    if found(zoom, "g", "before"):
+        caption += " Arrows: returned before the other was invoked, so it stands before it."
+    if spelled(zoom.find("figcaption")) != caption:
+        return f"the caption is {spelled(zoom.find('figcaption'))}, and not {caption}"
+    if len(calls) <= FEW_ORDERED and not Said(shown.history, {}).general(sorted(calls), since, None, None):
+        return f"the operations {sorted(calls)} have a valid order"
+    outside = [shown.calls[n] for n, it in sorted(calls.items()) if it and it.end == "open" and shown.calls[n].end == "ok"]
+    if since is not None and calls[since] is not None and calls[since].end == "open":
+        return "the operation that begins the part is pending"
+    if any("the table says where" in it for it in shown.page.said) and not shown.page.rows("tried"):
+        return "the table of tried orders is empty"
+    wanted = outside_note(outside)
+    notes = [spelled(it) for it in found(zoom, "p", "note")]
+    return None if notes == wanted else f"the notes are {notes}, and not {wanted}"
+
+
+# ---- the window
+
+
+def chosen(numbers, focus, stretch):
+    """Which of an object's events are drawn, by the numbers of their maps."""
+    since, until = stretch
+    if since is not None or until is not None:
+        return [it for it in numbers if (since or 0) <= it and (until is None or it < until)][:MOST]
+    if len(numbers) <= WHOLE:
+        return list(numbers)
+    if not focus:
+        return list(numbers)[:FIRST]
+    places = [numbers.index(it) for it in focus]
+    for before, after in AROUND:
+        drawn = sorted({it for at in places for it in range(max(0, at - before), min(len(numbers), at + after + 1))})
+        if len(drawn) <= MOST:
+            break
+    for one, other in zip(list(drawn), drawn[1:]):
+        if other - one - 1 <= HOLE:
+            drawn += range(one + 1, other)
+    return [numbers[it] for it in sorted(set(drawn))[:MOST]]
+
+
+def starts_of(numbers, drawn):
+    """The numbers at which a stretch of drawn events begins."""
+    is_drawn = [it in drawn for it in numbers]
+    return [number for number, was, is_now in zip(numbers, [False, *is_drawn], is_drawn) if is_now and not was]
+
+
+class View:
+    """What a figure of an object shows, and what of the window it leaves out."""
+
+    def __init__(self, shown, x, figure, stretch=None):
+        self.calls, focus = shown.on(x), shown.focus
+        events = sorted([it.number for it in self.calls] + [it.at for it in self.calls if it.at is not None] + shown.nemeses)
+        spots = [it for call in self.calls if call.number in focus for it in (call.number, call.at) if it is not None]
+        drawn = set(chosen(events, spots, stretch or shown.stretch))
+        self.bars = {int(it.get("data-op")) for it in found(figure, "g", "op")}
+        self.lanes = {shown.calls[it].process for it in self.bars}
+        inside = [it for it in self.calls if it.number in drawn or it.at in drawn]
+        # Those without a lane.
+        self.gone = [it for it in inside if it.process not in self.lanes]
+        self.inside = {it.number for it in inside} - {it.number for it in self.gone}
+        own = {None, *self.lanes}
+        self.kept = events
+        self.drawn = [it for it in events if it in drawn and (not self.gone or shown.process_at.get(it) in own)]
+        starts = starts_of(self.kept, set(self.drawn))
+        ends = lambda it: float("inf") if it.end in ("open", "info") else it.at
+        others = [it for it in self.calls if it.number not in drawn and it.at not in drawn]
+        self.through = {it.number for it in others if any(it.number < at < ends(it) for at in starts)}
+
+    def note(self):
+        """What is said of what is left out."""
+        words, hidden = "", len(self.through - self.bars)
+        if self.gone:
+            processes = len({it.process for it in self.gone})
+            words += f"Not drawn: {grouped(len(self.gone))} operation{'' if len(self.gone) == 1 else 's'} of {grouped(processes)} other "
+            words += f"process{'' if processes == 1 else 'es'} in the same stretch. "
+        if len(self.bars) < len(self.calls):
+            words += f"Drawn: {grouped(len(self.bars))} of {grouped(len(self.calls))} operations of the object. "
+            words += "Gaps say how many maps are left out. `--from A --to B` draws another stretch."
+        if hidden:
+            words += f" Not drawn: {grouped(hidden)} operation{' that is' if hidden == 1 else 's that are'} open all through. "
+        return [words] if words else []
+
+    def gaps(self, maps):
+        """The maps that are left out before, between and after the drawn events, where some of them are events of the object."""
+        places = {number: place for place, number in enumerate(self.kept)}
+        ends = [(-1, -1)] + [(places[it], it) for it in self.drawn] + [(len(self.kept), maps)]
+        return [range(earlier + 1, later) for (one, earlier), (other, later) in zip(ends, ends[1:]) if other - one > 1]
+
+    def words_of(self, gap):
+        """What is said of a gap: its maps, and the operations that were invoked there and have no bar."""
+        count = sum(it.number in gap and it.number not in self.bars for it in self.calls)
+        maps = f"{grouped(len(gap))} map{'' if len(gap) == 1 else 's'}"
+        return f"{maps} left out, with {grouped(count)} operation{'' if count == 1 else 's'}"
+
+
+def why_bars_touch(figure):
+    """Two bars of a lane that look like one, or None."""
+    for line in found(figure, "svg", "sys"):
+        spans = sorted((top, left, right) for _, left, right, top, _ in bars_of(line))
+        for (lane, _, end), (other, begin, _) in zip(spans, spans[1:]):
+            if lane == other and begin <= end:
+                return f"two bars of a lane touch at {begin}"
+    return None
+
+
+def why_view_false(shown, x, figure, stretch=None):
+    """What is false of what a figure leaves out, and says that it does, or None."""
+    view = View(shown, x, figure, stretch)
+    if not view.inside <= view.bars <= view.inside | view.through or len(view.lanes) > LANES:
+        return f"there are bars of {sorted(view.bars)}, and not {sorted(view.inside)}"
+    notes = [spelled(it) for it in found(figure, "p", "note")]
+    if notes != view.note():
+        return f"the notes are {notes}, and not {view.note()}"
+    titles = ["".join(it.find("title").itertext()) for it in found(figure, "g", "gap")]
+    texts = ["".join(it.find("text").itertext()).removeprefix("⋯ ") for it in found(figure, "g", "gap")]
+    gaps = view.gaps(shown.maps) if view.drawn else []
+    wanted = [view.words_of(it) for it in gaps]
+    if titles != wanted or texts != [grouped(len(it)) for it in gaps]:
+        return f"the gaps are {titles}, {texts}, and not {wanted}"
+    # No operation is left out without a gap that counts it.
+    _, left_out = shown_counts(figure)
+    return None if len(view.bars) + left_out == len(view.calls) or not view.drawn else f"{len(view.bars)} operations are drawn, {left_out} are in gaps"
+
+
+# ---- other stretches
+
+
+def shown_counts(figure):
+    """How many operations have bars in a figure, and how many its gaps count."""
+    titles = ["".join(it.find("title").itertext()) for it in found(figure, "g", "gap")]
+    bars = {it.get("data-op") for it in found(figure, "g", "op")}
+    return len(bars), sum(number_in(re.search(r"with ([\d ]+) op", it)[1]) for it in titles)
+
+
+def stretches_of(page, x):
+    """The other stretches of an object: the maps from one on and before one, and the figure."""
+    for it in found(page.body, "details", "stretch"):
+        if it.get("id").startswith(f"s{x}-"):
+            since, until = re.fullmatch(r"Maps (\d+) to (\d+)", it.find("summary").text).groups()
+            yield (int(since), int(until) + 1), it.find("figure")
+
+
+def why_stretches_false(shown, x, figure):
+    """What is false of the other stretches of an object, or None."""
+    drawn = {int(it.get("data-op")) for it in found(figure, "g", "op")}
+    for stretch, own in stretches_of(shown.page, x):
+        wrong = why_view_false(shown, x, own, stretch) or why_points_false(shown, x, own)
+        if wrong:
+            return f"the stretch {stretch}: {wrong}"
+        inside = {it for it in View(shown, x, own, stretch).inside if any(since <= it for since in stretch[:1])}
+        if inside & drawn:
+            return f"the stretch {stretch} has operations that are drawn before"
+        drawn |= inside
+    return None
+
+
+# ---- the strip
+
+
+# How many columns a strip has at most, and how wide one is.
+COLUMNS, COLUMN = 480, 2
+
+
+def at_once(calls, maps):
+    """How many calls run at most at one time. One that is pending runs until its :info."""
+    changes = sorted((at, change) for it in calls if it.is_live() for at, change in ((it.number, 1), ((maps if it.at is None else it.at + 1), -1)))
+    return max(itertools.accumulate((change for _, change in changes), initial=0))
+
+
+def why_strip_false(shown, x, figure):
+    """What is false of the strip of an object, or None."""
+    view, strips = View(shown, x, figure), [it for it in found(shown.page.body, "figure", "strip")]
+    is_wanted = len(view.drawn) > 0 and len(view.inside) < len(view.calls)
+    if len(shown.figures) > 1:
+        return None
+    if len(strips) != is_wanted:
+        return f"there are {len(strips)} strips"
+    if not strips:
+        return None
+    caption, maps = spelled(strips[0].find("figcaption")), shown.maps
+    wanted = f"The whole history, {grouped(maps)} maps, by how many operations of the object run at once, at most {at_once(view.calls, maps)}."
+    if not caption.startswith(wanted):
+        return f"the caption of the strip is {caption}, and not {wanted}"
+    column = lambda number: number * min(COLUMNS, maps) // maps
+    frames = [(int(it.get("x")) // COLUMN, int(it.get("width")) // COLUMN) for it in found(strips[0], "rect", "shown")]
+    framed = {it for start, width in frames for it in range(start, start + width)}
+    if not {column(it) for it in view.drawn} <= framed:
+        return "what is drawn is not framed in the strip"
+    links = [(it.get("href"), int(it.find("rect").get("x")) // COLUMN) for it in found(strips[0], "a")]
+    if links != [(f"#s{x}-{place}", column(stretch[0])) for place, (stretch, _) in enumerate(stretches_of(shown.page, x), 1)]:
+        return f"the strip leads to {links}"
+    spots = {it for call in view.calls if call.number in shown.focus for it in (call.number, call.at) if it is not None}
+    marks = [int(it) // COLUMN for path in found(strips[0], "path", "marked") for it in re.findall(r"M(\d+) ", path.get("d"))]
+    return None if marks == sorted({column(it) for it in spots}) else f"the strip has marks at {marks}"
+
+
+# ---- captions
+
+
+BARS = "Bars run from invocation to return."
+ORDER = " The numbered points are the order: each lies on its bar, and ranks rise from left to right."
+LONGEST = " The numbered points are the longest order that was found for this page."
+UP_TO = " The numbered points are the order, up to its fault."
+OUTLINED = "In its surroundings: the operations of the reason are outlined, the others are dimmed."
+
+
+def why_caption_false(shown, number, x, figure):
+    """What is false of the caption of the figure of an object, which is so many after the first one, or None."""
+    caption, points = spelled(figure.find("figcaption")), found(figure, "a", "pt")
+    focus, bars = shown.focus, [(int(it.get("data-op")), classes(it)) for it in found(figure, "g", "op")]
+    if any(("focus" in those) != (number in focus) for number, those in bars):
+        return f"other operations than {sorted(focus)} are outlined"
+    if caption == OUTLINED:
+        is_so = shown.page.answer == "impossible" and all("dim" in those for it, those in bars if it not in focus)
+    elif caption == "In its surroundings.":
+        is_so = shown.page.by_id("zoom") is not None
+    elif caption == "As above.":
+        is_so = number > 0
+    elif caption == BARS + ORDER:
+        is_so = bool(points) and shown.page.answer not in ("no", "open")
+    elif caption == BARS + LONGEST:
+        is_so = bool(points) and shown.page.answer == "open"
+    elif caption == BARS + UP_TO:
+        is_so = bool(points) and shown.page.answer == "no"
+    else:
+        is_so = caption == BARS and not points
+    return None if is_so else f"the caption of object {x} is {caption}"
+
+
+def why_zoom_false(shown):
+    """What is false of the figure of the operations that a sentence names, or None."""
+    zoom = shown.page.by_id("zoom")
+    if zoom is None:
+        return None
+    if shown.page.answer == "impossible":
+        return why_reason_false(shown)
+    if spelled(zoom.find("figcaption")) != "Only the operations that the sentence speaks of.":
+        return "the caption of the figure of the fault"
+    return None if set(shown.page.bars("zoom")) == shown.focus else f"the figure has {shown.page.bars('zoom')}, and not {shown.focus}"
+
+
+# ---- the legend
+
+
+def signs_of(page):
+    """What the figures of a page show, each as the legend names it."""
+    lines = [it for it in page.body.iter("svg") if "sys" in classes(it)]
+    bars = [it for line in lines for it in found(line, "g", "op")]
+    has = lambda name: any(name in classes(it) for it in bars)
+    shining = [(classes(it), "".join(it.find("title").itertext()).startswith(("acquire", "release"))) for it in bars if "dim" not in classes(it)]
+    shines = lambda name, is_of_lock=False: any(name in those and of_lock == is_of_lock for those, of_lock in shining)
+    is_open = lambda bar: "pending" not in classes(bar) and not bar.find(".//path[@class='edge']").get("d").endswith("Z")
+    points = [it for line in lines for it in found(line, "a", "pt")]
+    among = lambda name: any(found(line, "g", name) for line in lines)
+    return {
+        " puts in or sets": shines("put"),
+        " takes out": shines("take"),
+        " acquires": shines("put", is_of_lock=True),
+        " releases": shines("take", is_of_lock=True),
+        " reads": shines("read"),
+        " compares and sets": shines("swap"),
+        " pending: open at the right, it may have happened or not": has("pending"),
+        " failed: it did not happen": has("failed"),
+        " open at an end: it goes on outside of this line": any(is_open(it) for it in bars),
+        " what the sentence above speaks of": has("focus"),
+        " its rank in the order": bool(points),
+        " the entry that is refused": any("bad" in classes(it) for it in points),
+        " returned before the other was invoked": among("before"),
+        " a map of the nemesis": among("nem"),
+        " what the nemesis began, until it ended that": among("band"),
+        " maps that are left out": among("gap"),
+    }
+
+
+def why_legend_false(page):
+    """What is false of the legend of a page, or None: it explains what is there, and nothing else."""
+    told = [it.find("svg").tail for legend in found(page.body, "details", "legend") for it in legend.iter("li")]
+    wanted = [name for name, is_there in signs_of(page).items() if is_there]
+    return None if told == wanted else f"the legend has {told}, and not {wanted}"
+
+
+# ---- all of it
+
+
+def first_of(wrongs):
+    """The first of these that is not None, or None."""
+    return next((it for it in wrongs if it), None)
+
+
+def all_figures(page):
+    """The figures with lines: those of objects and of their other stretches, and that of a fault or a reason."""
+    return [it for it in page.body.iter("figure") if it.find("div/svg[@class='sys']") is not None]
+
+
+def of_each(check):
+    """A check of each figure."""
+    return lambda shown: first_of(check(it) for it in all_figures(shown.page))
+
+
+def of_objects(check):
+    """A check of the whole figure of each object."""
+    return lambda shown: first_of(check(shown, x, it) for x, it in shown.figures)
+
+
+# What is checked on a page beside its sentences, each by its name.
+CHECKS = {
+    "legend": lambda shown: why_legend_false(shown.page),
+    "bars": lambda shown: first_of(why_bars_false(it, shown.calls) for it in all_figures(shown.page)),
+    "labels": of_each(why_labels_false),
+    "marks": of_each(why_marks_collide),
+    "touching": of_each(why_bars_touch),
+    "named": why_zoom_false,
+    "tried": lambda shown: why_tried_false(shown) if shown.page.by_id("why") is not None else None,
+    "boxes": why_boxes_false,
+    "view": of_objects(why_view_false),
+    "stretches": of_objects(why_stretches_false),
+    "strip": of_objects(why_strip_false),
+    "captions": lambda shown: first_of(why_caption_false(shown, number, x, it) for number, (x, it) in enumerate(shown.figures)),
+    "points": of_objects(why_points_false),
+    "rows": lambda shown: first_of(why_rows_false(shown, x) for x, _ in shown.figures if x in shown.orders),
+}

@@ -1,0 +1,696 @@
+"""Checks the sentences of a page on the history that it is of, by code that shares nothing with the program."""
+import itertools
+import re
+
+from ..histories import KIND_OF, calls_of
+from .pages import REF, found, spelled
+from ..verify.reasons import NEXT, OPEN, has_order, maps_of
+from ..texts import value
+
+PUT = {"queue": "enqueue", "stack": "push", "heap": "insert", "register": "write", "map": "put", "mutex": "acquire"}
+PUTS = ("enqueue", "push", "insert", "write", "put", "cas")
+TAKES = ("dequeue", "pop", "extract-min")
+# The most rows of the table of objects.
+MOST_OBJECTS = 64
+# How many operations a sentence or a note names one by one at most.
+FEW_NAMED = 12
+TIMES = {"once": 1, "twice": 2}
+ROLES = {f: "put" for f in PUT.values()} | {f: "take" for f in (*TAKES, "del", "release")} | {f: "read" for f in ("read", "get")} | {"cas": "swap"}
+STATES = {"ok": "done", "fail": "failed", "info": "pending", "open": "pending"}
+
+
+def number_in(text):
+    return int(text.replace(" ", ""))
+
+
+def grouped(number):
+    """A count as a page has it."""
+    return f"{number:,}".replace(",", " ")
+
+
+def label_of(call):
+    """The label of a call: its function, its argument, and what it returned where that says more."""
+    text = call.f + ("" if call.argument is None else f" {value(call.argument)}")
+    if call.end in ("open", "info"):
+        return f"{text} → ?"
+    is_said = call.f in ("acquire", "release") or call.f in ("enqueue", "push", "insert", "write") and call.reply == call.argument
+    return text if call.end == "fail" or is_said else f"{text} → {value(call.reply)}"
+
+
+def value_put(call):
+    if call.f in ("enqueue", "push", "insert", "write"):
+        return call.argument
+    if call.f == "put" or call.f == "cas" and call.reply is not False:
+        return call.argument[1]
+    return None
+
+
+def found_by(call):
+    """What a register or a key contained before the call, by its reply; ... where that does not tell it."""
+    if call.f == "cas":
+        return ... if call.reply is False else call.argument[0]
+    return call.reply if call.f in ("read", "get", "put", "del") else ...
+
+
+def left_by(call):
+    """What a register or a key contained after the call, which returned; ... where that can't be told."""
+    if call.f in ("read", "get"):
+        return call.reply
+    return None if call.f == "del" else ... if value_put(call) is None else value_put(call)
+
+
+def key_of(call):
+    return call.argument[0] if call.f == "put" else call.argument if call.f in ("get", "del") else None
+
+
+class Walked:
+    """What an object contains after some entries of an order, as values with the numbers of the calls that put them there."""
+
+    def __init__(self, kind):
+        self.kind, self.items, self.holder, self.releaser = kind, [], None, None
+
+    def take(self, call):
+        """Takes in a call, and returns its reply."""
+        before, f, of = list(self.items), call.f, call.argument
+        if f in ("enqueue", "push", "insert"):
+            self.items.append((of, call.number))
+            if f == "insert":
+                self.items.sort()
+            return of
+        if f in TAKES:
+            return self.items.pop(-1 if f == "pop" else 0)[0] if before else None
+        if f == "write" or f == "cas" and before and before[0][0] == of[0]:
+            self.items = [(of if f == "write" else of[1], call.number)]
+            return of
+        if f in ("read", "cas"):
+            return False if f == "cas" else before[0][0] if before else None
+        if f in ("put", "get", "del"):
+            own = [it for it in before if it[0][0] == key_of(call)]
+            if f != "get":
+                self.items = [it for it in before if it not in own]
+            if f == "put":
+                self.items = sorted(self.items + [(of, call.number)])
+            return own[0][0][1] if own else None
+        self.holder, self.releaser = (call.number, self.releaser) if f == "acquire" else (None, call.number)
+        return None
+
+    def is_possible(self, call):
+        return call.f not in ("acquire", "release") or (call.f == "acquire") == (self.holder is None)
+
+    def found(self, call):
+        """The item that the call finds, or None."""
+        if call.f in ("put", "get", "del"):
+            return next(((it[0][1], it[1]) for it in self.items if it[0][0] == key_of(call)), None)
+        return (self.items[-1] if self.kind == "stack" else self.items[0]) if self.items else None
+
+    def text(self):
+        values = [it[0] for it in self.items]
+        if self.kind == "mutex":
+            return "free" if self.holder is None else "held"
+        if self.kind == "register":
+            return value(values[0] if values else None)
+        if self.kind == "map":
+            more = f", … {len(values) - 6} more" if len(values) > 6 else ""
+            return "{" + ", ".join(f"{k} {v}" for k, v in values[:6]) + more + "}"
+        if len(values) > 11:
+            first = 2 if self.kind == "stack" else 8
+            shown = (" ".join(map(str, it)) for it in (values[:first], values[first - 10 :]))
+            return "[" + f" … {len(values) - 10} more … ".join(shown) + "]"
+        return "[" + " ".join(map(str, values)) + "]"
+
+
+class Said:
+    """What the sentences of a page say of a history, and of the orders that it was checked by."""
+
+    def __init__(self, history, orders):
+        self.calls, self.maps = calls_of(history)
+        self.orders, self.processes = orders, [it["process"] for it in maps_of(history)]
+
+    def on(self, x):
+        return [it for it in self.calls.values() if it.on == x]
+
+    def walked(self, x, order, k):
+        """What the object contains before the k-th entry of the order."""
+        kind = KIND_OF[self.on(x)[0].f]
+        walk = Walked(kind)
+        for number in order[: k - 1]:
+            walk.take(self.calls[number])
+        return walk
+
+    # ---- a refusal
+
+    def c1(self, x, n):
+        return int(x) not in self.orders and number_in(n) == len(self.on(int(x)))
+
+    def c2(self, x):
+        return int(x) in self.orders and not self.on(int(x))
+
+    def c3(self, k, x, number, why):
+        x, number = int(x), int(re.sub(r"[⟨`]|\|.*|`", "", number))
+        if self.orders[x][int(k) - 1] != number:
+            return False
+        call = self.calls.get(number)
+        if why == "the number is negative":
+            return number < 0
+        there = re.fullmatch(r"it names no event of the history, which has ([\d ]+)", why)
+        if there:
+            return number >= self.maps == number_in(there[1])
+        other = re.fullmatch(r"it is an operation on object (\d+)", why)
+        if other:
+            return call.on == int(other[1]) != x
+        failed = re.fullmatch(r"it failed at event (\d+), so it did not happen", why)
+        if failed:
+            return (call.end, call.at, call.on) == ("fail", int(failed[1]), x)
+        beside = re.fullmatch(r"event (\d+) is of the nemesis", why)
+        if beside:
+            return int(beside[1]) == number and self.processes[number].startswith(":")
+        ended = re.fullmatch(r"event (\d+) is the completion of operation #(\d+)", why)
+        return bool(ended) and int(ended[1]) == number and self.calls[int(ended[2])].at == number
+
+    def c4(self, n, x, j, k):
+        order = self.orders[int(x)]
+        return int(j) < int(k) and order[int(j) - 1] == order[int(k) - 1] == int(n)
+
+    def c5(self, b, n, own, r, again, at):
+        early, late = self.calls[int(b)], self.calls[int(n)]
+        order = self.orders[late.on]
+        return (
+            (int(own), int(again), int(at)) == (late.number, early.number, early.number)
+            and late.returned() == int(r) < early.number
+            and order.index(early.number) < order.index(late.number)
+        )
+
+    def c7(self, n, r, x):
+        call = self.calls[int(n)]
+        return call.returned() == int(r) and call.on == int(x) and call.number not in self.orders[call.on]
+
+    def at_entry(self, k, n):
+        call = self.calls[int(n)]
+        order = self.orders[call.on]
+        return call, order, order[int(k) - 1] == call.number, self.walked(call.on, order, int(k))
+
+    def c9(self, k, n, of):
+        call, order, is_there, walk = self.at_entry(k, n)
+        held = re.fullmatch(r"held there, by ⟨(\d+)\|.*", of)
+        since = re.fullmatch(r"free there, since ⟨(\d+)\|.*", of)
+        if held:
+            return is_there and walk.holder == int(held[1]) and call.f == "acquire"
+        releaser = int(since[1]) if since else None
+        return is_there and walk.holder is None and walk.releaser == releaser and call.f == "release"
+
+    def c6(self, k, n, gives, kind, content, returned, rest):
+        call, order, is_there, walk = self.at_entry(k, n)
+        found, text, given = walk.found(call), walk.text(), walk.take(call)
+        is_so = is_there and (value(given), value(call.reply)) == (gives, returned) and call.end == "ok"
+        is_so &= KIND_OF[call.f] == kind and text == content and given != call.reply
+        giver = re.match(rf" (-?\d+) was put there by {REF}\.", rest)
+        if giver:
+            is_so &= found == (int(giver[1]), int(giver[2])) and call.f not in ("enqueue", "push", "insert", "write")
+            rest = rest[giver.end() :]
+        return bool(is_so and (not rest or self.source(call, order, int(k), walk, rest)))
+
+    def source(self, call, order, k, walk, rest):
+        """What is said of the value that the call returned."""
+        live = [it for it in self.on(call.on) if it.is_live() and it.number < call.at]
+        same_key = [it for it in live if key_of(it) == key_of(call) or it.f not in ("put", "get", "del")]
+        nothing = re.fullmatch(r" No (other )?operation that was invoked before event (\d+) put (-?\d+)\.", rest)
+        if nothing:
+            putters = [it.number for it in same_key if value_put(it) == int(nothing[3])]
+            return int(nothing[2]) == call.at and putters == ([call.number] if nothing[1] else [])
+        by = re.fullmatch(rf" (-?\d+) was put by {REF}, (.*)\.", rest)
+        if not by or value_put(self.calls[int(by[2])]) != int(by[1]) or int(by[2]) == call.number:
+            return False
+        number, wanted, how = int(by[2]), int(by[1]), by[4]
+        if how == "which the order leaves out":
+            return number not in order
+        place = order.index(number) + 1 if number in order else None
+        after = re.fullmatch(r"which comes after it, as entry (\d+)", how)
+        if after:
+            return place == int(after[1]) > k
+        entry = re.match(r"entry (\d+)", how)
+        if not entry or place != int(entry[1]) or place >= k:
+            return False
+        how = how[entry.end() :]
+        if how == ", and is not at its turn":
+            return (wanted, number) in self.walked(call.on, order, k).items
+        taken = re.fullmatch(rf", and taken out by {REF}, entry (\d+)", how)
+        if taken:
+            taker, rank = self.calls[int(taken[1])], int(taken[3])
+            is_there = place < rank < k and order[rank - 1] == taker.number and taker.f in TAKES
+            return is_there and self.walked(call.on, order, rank).found(taker) == (wanted, number)
+        return how == "" and call.f in ("read", "cas", "put", "get", "del")
+
+    # ---- no order
+
+    def none_valid(self, x, kind):
+        return KIND_OF[self.on(int(x))[0].f] == kind
+
+    def never_put(self, n, v, at, f, again):
+        call = self.calls[int(n)]
+        others = [it for it in self.on(call.on) if it.number < call.at and it.is_live()]
+        is_so = (call.returned(), call.reply) == (int(at), int(v)) and v == again and call.f in TAKES
+        return is_so and not any(it.f == f and it.argument == int(v) for it in others)
+
+    def not_empty(self, n, kind, p, at, until, v):
+        call, put = self.calls[int(n)], self.calls[int(p)]
+        others = [it for it in self.on(call.on) if it.number < int(until) and it.f in TAKES and it.is_live()]
+        is_so = call.reply is None and call.end == "ok" and put.returned() == int(at) < call.number
+        is_so &= put.argument == int(v) and call.at == int(until)
+        return is_so and not any(it.end != "ok" or it.reply == int(v) for it in others)
+
+    def out_of_date(self, n, verb, v, by, how, at, first, last, again, so):
+        later, earlier = self.calls[int(n)], self.calls[int(by)]
+        found, left = found_by(later), left_by(earlier)
+        is_so = later.end == earlier.end == "ok" and found is not Ellipsis and left is not Ellipsis and found != left
+        is_so &= v == again == so == value(None if found is Ellipsis else found) and key_of(later) == key_of(earlier) and later.on == earlier.on
+        is_so &= verb == ("returned" if later.f in ("read", "get") else "found")
+        under, key = "" if key_of(earlier) is None else f" under key {key_of(earlier)}", key_of(earlier)
+        words = {"read": f"found {{}}{under}", "get": f"found {{}}{under}", "del": f"deleted key {key}"}.get(earlier.f, f"set {{}}{under}")
+        is_so &= how == words.format(value(None if left is Ellipsis else left))
+        is_so &= earlier.returned() == int(at) < later.number and (earlier.number, later.at) == (int(first), int(last))
+        ran = [it for it in self.on(later.on) if it.is_live() and it.number < later.at and (it.returned() is None or it.returned() > earlier.number)]
+        others = [it for it in ran if it.number != later.number and (key_of(it) == key_of(later) or it.f in ("write", "cas"))]
+        if found is None:
+            return is_so and not any(it.f == "del" for it in others)
+        return is_so and not any(value_put(it) == found and it.argument != (found, found) for it in others)
+
+    def twice_released(self, first, last, a, b):
+        one, two = self.calls[int(a)], self.calls[int(b)]
+        is_so = one.f == two.f == "release" and one.end == two.end == "ok" and one.on == two.on
+        is_so &= (min(one.number, two.number), max(one.at, two.at)) == (int(first), int(last))
+        ran = [it for it in self.on(one.on) if it.is_live() and it.number < int(last) and (it.returned() is None or it.returned() > int(first))]
+        return is_so and not any(it.f == "acquire" for it in ran)
+
+    def wrong_turn(self, a, at, b, v, w, t, again, until, once_more, then):
+        one, two, taker = (self.calls[int(it)] for it in (a, b, t))
+        others = [it for it in self.on(one.on) if it.number < int(until) and it.is_live()]
+        is_so = one.returned() == int(at) < two.number and (one.argument, two.argument) == (int(v), int(w))
+        is_so &= (taker.reply, taker.at) == (int(w), int(until)) and (again, once_more) == (w, v)
+        is_so &= sum(it.f == "enqueue" and it.argument == int(w) for it in others) == 1
+        if then is not None:
+            after = self.calls[int(then)]
+            is_so &= (after.f, after.reply, after.on) == ("dequeue", int(v), one.on) and after.number > int(until)
+        return is_so and not any(it.f == "dequeue" and (it.end != "ok" or it.reply == int(v)) for it in others)
+
+    def lost(self, n, took, count, lesser, place, how, most, values):
+        call, found = self.calls[int(n)], None if took is None else int(took)
+        live = [it for it in self.on(call.on) if it.is_live() and it.number != call.number]
+        kind, named = KIND_OF[call.f], [(int(v), int(times or 1)) for v, times in re.findall(r"(-?\d+)(?: \((\d+) times\))?", values)]
+        own = [it for it in live if it.f in PUTS and it.argument == found] if found is not None else []
+        # From which number on a put counts, and before which number it must have returned.
+        first = max((it.returned() or call.at for it in own), default=0) if kind == "stack" else 0
+        # Of a queue it is that of the last one that may be meant: a part may leave out what was done with the found value before.
+        limit = max((it.number for it in own if it.number < call.at), default=call.number) if kind == "queue" and own else call.number
+        ahead = [it.argument for it in live if it.f in PUTS and it.number >= first and (it.returned() or call.at) < limit]
+        taken = [it.reply for it in live if it.f in TAKES and it.end == "ok" and it.at < call.at]
+        # What else may have taken one of the values: a removal that returned it late, or one that is pending, if no other took all of it.
+        takers = [it for it in live if it.f in TAKES and it.number < call.at]
+        late = sum(it.end == "ok" and it.at > call.at and it.reply in dict(named) for it in takers)
+        replies = [it.reply for it in live if it.f in TAKES and it.end == "ok"]
+        left = sum(sum(it.f in PUTS and it.argument == v for it in live) - replies.count(v) for v, _ in named)
+        others = late + min(sum(it.end != "ok" for it in takers), left)
+        places = {"heap": f"in the heap before {found} was found", "queue": f"enqueued before {found}", "stack": f"pushed on {found}"}
+        is_so = (call.end, call.reply) == ("ok", found) and place == (f"in the {kind} before that" if found is None else places[kind])
+        is_so &= (lesser is not None) == (found is not None and kind == "heap") and all(not lesser or v < found for v, _ in named)
+        is_so &= all(times <= ahead.count(v) - taken.count(v) for v, times in named)
+        most = int(most) if most else 0
+        counted = sum(times for _, times in named)
+        return is_so and counted > most >= min(others, counted) and (counted == int(count) or values.endswith(" and others"))
+
+    def too_often(self, v, put, putters, taken, takers, f, again, until):
+        named = [those and [int(it[0]) for it in re.findall(REF, those)] for those in (putters, takers)]
+        counts = [TIMES.get(it, None) or number_in(it.removesuffix(" times")) for it in (put, taken)]
+        by = [self.calls[it] for those in named if those for it in those]
+
+        def is_so(x):
+            live = [it for it in self.on(x) if it.is_live()]
+            puts = [it.number for it in live if it.number < int(until) and it.f == f and it.argument == int(v)]
+            takes = [it.number for it in live if it.f in TAKES and (it.reply, it.end) == (int(v), "ok") and it.at <= int(until)]
+            are_named = all(those == own if those else len(own) > FEW_NAMED for those, own in zip(named, (puts, takes)))
+            return are_named and counts == [len(puts), len(takes)] and len(takes) > len(puts)
+
+        return v == again and any(is_so(x) for x in ({it.on for it in by} or {it.on for it in self.calls.values()}))
+
+    def left_open(self, x, why):
+        return bool(self.on(int(x))) and why in ("out of steps", "out of memory")
+
+    def longest(self, n, m, rest):
+        """The order is checked with its table."""
+        return number_in(n) <= number_in(m)
+
+    def has_order_until(self, x, until):
+        """Whether what was invoked on an object before a number has an order, where what returned later is pending; None if it is much."""
+        calls = [it for it in self.on(x) if it.number < until and it.is_live()]
+        ended = [it.returned() if (it.returned() or until) < until else None for it in calls]
+        few = len(calls) <= FEW_NAMED
+        return has_order([(it.number, end, it.f, it.argument, it.reply) for it, end in zip(calls, ended)]) if few else None
+
+    def first_event(self, n):
+        x = next((it.on for it in self.calls.values() if it.returned() == int(n)), None)
+        return x is not None and self.has_order_until(x, int(n) + 1) in (False, None) and self.has_order_until(x, int(n)) in (True, None)
+
+    def first_events(self, least, most):
+        returns = {it.returned(): it.on for it in self.calls.values() if it.returned() is not None}
+        are_there = int(least) in returns and int(most) in returns and int(least) < int(most)
+        return are_there and self.has_order_until(returns[int(most)], int(most) + 1) in (False, None)
+
+    def contents(self, calls, has_window):
+        """What the object may have contained before the part: nothing, or, where it is a window, any small content."""
+        if not has_window:
+            return [()]
+        kind = KIND_OF[calls[0].f]
+        seen = {it for call in calls for it in (call.reply, value_put(call)) if isinstance(it, int) and it is not False} | {-99}
+        if kind == "mutex":
+            return [(), ("held",)]
+        if kind == "register":
+            return [()] + [(it,) for it in seen]
+        if kind == "map":
+            keys = {key_of(it) for it in calls}
+            return [tuple(zip(sorted(keys), those)) for those in itertools.product(seen, repeat=len(keys))] + [()]
+        sizes = range(3)
+        found = [it for size in sizes for it in itertools.product(sorted(seen), repeat=size)]
+        return [tuple(sorted(it)) if kind == "heap" else it for it in found]
+
+    def general(self, bars, begin, last, returned):
+        """The operations that have bars have no valid order, and where one is named it is among them."""
+        calls = [self.calls[it] for it in bars]
+        if last is not None:
+            call = self.calls[int(last)]
+            if call not in calls or returned is not None and value(call.reply) != returned:
+                return False
+        since = None if begin is None else int(begin)
+        return not any(self.has_order_from(calls, content, since) for content in self.contents(calls, begin is not None))
+
+    def has_order_from(self, calls, content, since):
+        """Whether some order of the calls is valid after this content. Those that began before the window need not be in it."""
+        free = [it for it in calls if since is not None and it.number < since]
+        for left_out in itertools.chain.from_iterable(itertools.combinations(free, size) for size in range(len(free) + 1)):
+            kept = [it for it in calls if it not in left_out and it.is_live()]
+            if is_ordered(kept, content):
+                return True
+        return False
+
+
+def is_ordered(calls, content):
+    """Whether some order of the calls is valid after this content."""
+    live = [(it.number, it.returned(), it.f, it.argument, it.reply) for it in calls]
+    if not content:
+        return has_order(live)
+
+    def goes_on(left, content):
+        ends = [it[1] for it in left if it[1] is not None]
+        if not ends:
+            return True
+        for it in left:
+            if any(end < it[0] for end in ends if end != it[1]):
+                continue
+            taken = NEXT[it[2]](content, it[2], it[3])
+            if taken and (it[1] is None or taken[1] == it[4]) and goes_on(left - {it}, taken[0]):
+                return True
+        return False
+
+    return goes_on(frozenset(live), content)
+
+
+VALID = (
+    "The history is linearizable: (?:this order is|these orders, one for each object, are) valid. Each operation that returned has its "
+    "place in the order between its invocation and its return, and each reply is what the object gives there."
+)
+KINDS = "(queue|stack|heap|register|map|mutex)"
+REPLY = r"(nil|false|-?\d+|\[-?\d+ -?\d+\])"
+FORMS = {
+    "c1": r"Object (\d+) has no certificate. The history has ([\d ]+) operations? on it, so it needs one: `\{:object \d+, :order \[..\]\}`.",
+    "c2": r"The certificates give an order for object (\d+), and no invocation of the history names it. Each certificate must be of an "
+    r"object of the history.",
+    "c3": r"Entry (\d+) of the order for object (\d+) is (⟨[^⟩]*⟩|`-?\d+`), which is no operation that can stand in it: (.*)\.",
+    "c4": rf"{REF} stands twice in the order for object (\d+), as entry (\d+) and again as entry (\d+). An operation takes effect once.",
+    "c5": rf"The order puts {REF} before {REF}. But #(\d+) returned at event (\d+), before #(\d+) was invoked at event (\d+). An operation that "
+    r"returned before another began must stand before it.",
+    "c6": rf"As entry (\d+) of the order, {REF} gives {REPLY}: the {KINDS} contains `([^`]*)` there. The history says that it returned "
+    rf"{REPLY}\.(.*)",
+    "c7": rf"{REF} returned at event (\d+), so it happened. But the order for object (\d+) leaves it out.",
+    "c9": rf"As entry (\d+) of the order, {REF} is not possible: the mutex is (.*)\. A mutex is (?:acquired only while it is free|released "
+    r"only while it is held)\.",
+    "none_valid": rf"No order of the operations of object (\d+), a {KINDS}, is valid. So the history is not linearizable.",
+    "never_put": rf"{REF} returned (-?\d+) at event (\d+), and no ([\w-]+) of (-?\d+) was invoked before that.",
+    "not_empty": rf"{REF} found the {KINDS} empty. But {REF} had returned before \(event (\d+)\), and nothing that was invoked before event "
+    r"(\d+) took (-?\d+) out again. So the \w+ contained -?\d+.",
+    "out_of_date": rf"{REF} (returned|found) (nil|-?\d+). But {REF} ((?:set|found|deleted) [\w -]+) and returned "
+    r"\(event (\d+)\) before that began, and nothing else that ran in between \(events (\d+) to (\d+)\) made it (nil|-?\d+) again. "
+    r"So (nil|-?\d+) is out of date.",
+    "twice_released": rf"Between event (\d+) and event (\d+) the mutex was released twice, by {REF} and {REF}, and no acquire ran in between.",
+    "wrong_turn": rf"{REF} returned \(event (\d+)\) before {REF} was invoked, so (-?\d+) went in before (-?\d+). But {REF} took (-?\d+) out, "
+    rf"and nothing invoked before event (\d+) took (-?\d+) out(?:\.|: only then {REF} began\.)",
+    "lost": rf"{REF} (?:found nothing|took (-?\d+) out)\. But (\d+) (lesser )?values? (?:was|were) (in the \w+ before that|in the heap before -?\d+ was found|"
+    r"enqueued before -?\d+|pushed on -?\d+), and (none of them|at most (\d+) of them) can have been taken out by then: (.*)\.",
+    "first_event": r"Event (\d+) is the first that leaves no order\.",
+    "first_events": r"The first event that leaves no order is one from event (\d+) to event (\d+)\. They were not all tried\.",
+    "left_open": r"No order was found for object (\d+), and none was excluded: ([\w ]+). So the history is not decided.",
+    "longest": r"The longest order that was found for this page has ([\d ]+) of ([\d ]+) operations?\. (It has each operation that returned, but the judge did not find it\.|After it comes .*\.)",
+    "too_often": r"(-?\d+) was \w+ (once|twice|[\d ]+ times)(?:, by (.*))?, and \w+ (once|twice|[\d ]+ times)(?:, by (.*))?\. No other ([\w-]+) of "
+    r"(-?\d+) was invoked before event (\d+).",
+}
+# Of each form that has operations, which of the groups are labels: those are checked apart.
+GENERAL = re.compile(
+    # What the finder says comes first, and is not checked.
+    r"(?:[A-Z][^⟨]*\. )??(?:Whatever the \w+ contained before event (\d+)(?:, and in whatever order .* come|, and wherever .* comes|), |"
+    r"In whatever order .* come, |Wherever .* comes, |Whatever comes before, )"
+    rf"(?:⟨(\d+)\|[^⟩]*⟩ could not return {REPLY}\.|⟨(\d+)\|[^⟩]*⟩ is not possible\.|one of them does not fit(?:: the table says where each "
+    r"order breaks)?\.)"
+)
+# A line that says no more than the general sentence.
+SAYS_NO_MORE = "the following operations have no valid order"
+# What is said beside.
+ASIDES = (
+    r"`--steps N` lets the last search of an object go further\.",
+    r"This says nothing of the history\. `fcbench judge HISTORY` looks for an order\.",
+    r"This refuses the order, and not the history: another order may be valid. `fcbench judge HISTORY` looks for one.",
+    r"Not drawn: (?:object \d+|[\d ]+ objects). `--object \d+` draws object \d+.",
+    r"The history is linearizable: it has no operations.",
+    r"The history has no object \d+.",
+    VALID,
+)
+
+
+# How sentences of some forms go on. A sentence may go on in several ways.
+ENDINGS = {
+    "c3 negative": ("c3", "the number is negative"),
+    "c3 beyond": ("c3", "it names no event of the history"),
+    "c3 other object": ("c3", "it is an operation on object"),
+    "c3 failed": ("c3", "it failed at event"),
+    "c3 nemesis": ("c3", "is of the nemesis"),
+    "c3 completion": ("c3", "is the completion of operation"),
+    "c6 giver": ("c6", " was put there by "),
+    "c6 no": ("c6", " No operation that was invoked before event "),
+    "c6 no other": ("c6", " No other operation that was invoked before event "),
+    "c6 left out": ("c6", ", which the order leaves out."),
+    "c6 after": ("c6", ", which comes after it, as entry "),
+    "c6 turn": ("c6", ", and is not at its turn."),
+    "c6 taken": ("c6", ", and taken out by "),
+    "c6 entry": ("c6", r" was put by [^|]*\|[^⟩]*⟩, entry \d+\.$"),
+    "c9 held": ("c9", "the mutex is held there, by "),
+    "c9 free since": ("c9", "the mutex is free there, since "),
+    "c9 free": ("c9", "the mutex is free there, from the beginning"),
+    "too_often once": ("too_often", " (?:enqueued|pushed|inserted) once, by "),
+    "too_often twice": ("too_often", " (?:enqueued|pushed|inserted) twice, by "),
+    "out of steps": ("left_open", "out of steps"),
+    "general in a window": ("general", "^Whatever the "),
+    "general of the whole": ("general", "^In whatever order "),
+    "general, no reply": ("general", " could not return "),
+    "general, not possible": ("general", " is not possible"),
+    "general, one of them": ("general", "one of them does not fit"),
+}
+
+
+def form_of(sentence):
+    """The form of a sentence, or None."""
+    forms = {**FORMS, "general": GENERAL, **{f"aside {number}": it for number, it in enumerate(ASIDES)}}
+    return next((form for form, pattern in forms.items() if re.fullmatch(pattern, sentence)), None)
+
+
+def forms_of(page):
+    """The forms of the sentences of a page, and the ways in which they go on."""
+    said = [(form_of(it), it) for it in page.said]
+    ways = [way for form, it in said for way, (of, words) in ENDINGS.items() if of == form and re.search(words, it)]
+    return [*[form for form, _ in said], *ways]
+
+
+def groups_of(form, match):
+    """The groups of a match without labels."""
+    names = [it for it in re.finditer(r"\((?!\?)", FORMS[form].replace(r"\(", "  "))]
+    labels = {number for number, it in enumerate(names, 1) if FORMS[form][it.start() :].startswith("([^⟩]*)")}
+    return [match[number] for number in range(1, len(names) + 1) if number not in labels]
+
+
+def why_false(page, history, orders):
+    """What is false of the sentences of a page, or None."""
+    said = Said(history, orders)
+    for sentence in page.said:
+        for number, label in re.findall(REF, sentence):
+            if label_of(said.calls[int(number)]) != label:
+                return f"no label of operation {number}: {label}"
+        wrong = why_sentence_false(page, said, sentence)
+        if wrong:
+            return f"{wrong}: {sentence}"
+    return None
+
+
+def why_sentence_false(page, said, sentence):
+    if any(re.fullmatch(it, sentence) for it in ASIDES):
+        return None
+    for form, pattern in FORMS.items():
+        match = re.fullmatch(pattern, sentence)
+        if match:
+            return None if getattr(said, form)(*groups_of(form, match)) else f"false ({form})"
+    match = GENERAL.fullmatch(sentence)
+    if not match:
+        return "no known sentence"
+    bars, last = page.bars("zoom"), match[2] or match[4]
+    counted = re.search(r"these ([\d\u202f\u2009\xa0 ]+) operations come, ", sentence)
+    # The figure may leave some out, and says then of how many.
+    all_of_them = number_in(re.match(r"([\d ]+) operations? of", spelled(page.by_id("zoom").find("figcaption")))[1])
+    if counted and int(re.sub(r"\D", "", counted[1])) != all_of_them - (last is not None):
+        return "false (general: the number of operations)"
+    if len(bars) < all_of_them:
+        return None if last is None else "false (general: an operation of very many)"
+    is_so = said.general(bars, match[1], last, match[3])
+    return None if is_so else "false (general)"
+
+
+def line_of(page):
+    """What the lines say of the object that is drawn, where it has no valid order."""
+    drawn = next((it.get("id")[3:] for it in page.body.iter("figure") if re.fullmatch(r"fig\d+", it.get("id", ""))), None)
+    told = re.search(rf"^; object {drawn}: impossible\n; (?!events? \d|\{{)(.*)$", page.lines, re.M)
+    return told[1] if told else SAYS_NO_MORE
+
+
+def why_first_false(page):
+    """The sentence on the first event that leaves no order that is missing, where the lines name that event, or None."""
+    told = re.search(r"; (event \d+ is the first that leaves no order|the first event that leaves no order is one from event \d+ to event \d+)$", line_of(page))
+    if told is None:
+        return None
+    wanted = f"{told[1][0].upper()}{told[1][1:]}."
+    return None if any(it.startswith(wanted) for it in page.said) else f"it does not say {wanted}"
+
+
+def why_vague(page):
+    """A general sentence that does not begin with what the lines say of the object, or None: a sentence of the page is never vaguer than the line."""
+    explained = re.split(r"; (?:event \d+ is the first|the first event|before that, )", line_of(page))[0]
+    if explained.endswith(SAYS_NO_MORE):
+        return None
+    wanted = f"{explained[0].upper()}{explained[1:]}. "
+    vague = [it for it in page.said if form_of(it) == "general" and not it.startswith(wanted)]
+    return f"it does not say {wanted}: {vague}" if vague else None
+
+
+def became(call):
+    """What a bar says of how its call ended."""
+    return {
+        "ok": f"returned at event {call.at}",
+        "fail": f"failed at event {call.at}: it did not happen",
+        "info": f"pending: info at event {call.at}, it may have happened or not",
+        "open": "pending: it has no completion",
+    }[call.end]
+
+
+def why_bars_false(figure, calls):
+    """What is false of the bars of a figure, or None."""
+    for bar in found(figure, "g", "op"):
+        call = calls[int(bar.get("data-op"))]
+        if bar.get("class").split()[1:3] != [ROLES[call.f], STATES[call.end]]:
+            return f"the bar of operation {call.number} is {bar.get('class')}"
+        said = re.sub(r"\nfrom .*", "", bar.find("title").text)
+        if said != f"{label_of(call)}\nevent {call.number}, process {call.process}, object {call.on}\n{became(call)}":
+            return f"the bar of operation {call.number} says {said}"
+    return None
+
+
+def counts_of(calls):
+    """How many of the calls did not fail, are pending, and failed."""
+    failed = sum(it.end == "fail" for it in calls)
+    return len(calls) - failed, sum(it.end in ("info", "open") for it in calls), failed
+
+
+def why_counts_false(page, history):
+    """What is false of the counts of a page, or None."""
+    calls, maps = calls_of(history)
+    objects = sorted({it.on for it in calls.values()})
+    live, pending, failed = counts_of(calls.values())
+    ending = [f"{grouped(count)} {word}" for count, word in ((pending, "pending"), (failed, "failed")) if count]
+    wanted = [f"{grouped(count)} {word}{'' if count == 1 else 's'}" for count, word in ((maps, "map"), (live, "operation"), (len(objects), "object"))]
+    if page.facts.split(" · ")[1:] != wanted + ending:
+        return f"the facts are {page.facts}"
+    rows = page.rows("objects")
+    more = len(objects) - MOST_OBJECTS
+    if rows and more > 0 and rows.pop() != ("skip", [f"{grouped(more)} more object{'' if more == 1 else 's'}"]) or rows and len(rows) != min(len(objects), MOST_OBJECTS):
+        return f"{len(rows)} objects are told of"
+    for _, cells in rows:
+        own = [it for it in calls.values() if f"object {it.on}" == cells[0]]
+        if cells[1] != KIND_OF[own[0].f] or [number_in(it) for it in cells[2:5]] != list(counts_of(own)):
+            return f"the row of {cells[0]} is {cells}"
+    return None
+
+
+def why_open_false(page, history, told):
+    """What is false of a page that says that a history is open, by what judge told, or None."""
+    objects = [OPEN.fullmatch(it) for it in told.splitlines()]
+    x, why = next((int(it[1]), it[2]) for it in objects if it)
+    said = f"No order was found for object {x}, and none was excluded: {re.sub(' after .*', '', why)}. So the history is not decided."
+    if page.said[0] != said:
+        return f"it says {page.said[0]}"
+    calls, _ = calls_of(history)
+    bars = page.bars(f"fig{x}")
+    if not bars or any(calls[it].on != x for it in bars):
+        return f"bars of {bars}"
+    return why_longest_false(page, calls, x)
+
+
+def why_longest_false(page, calls, x):
+    """What is false of the longest order that a page of an open object has, or None: each entry has its reply, and what may come next does not fit."""
+    said = next((re.fullmatch(FORMS["longest"], it) for it in page.said if form_of(it) == "longest"), None)
+    if not said:
+        return "there is no longest order"
+    live = {number: it for number, it in calls.items() if it.on == x and it.is_live()}
+    rows = page.rows(f"t{x}")
+    numbers = [int(re.match(r"⟨(\d+)", cells[1])[1]) for name, cells in rows if name != "skip"]
+    if number_in(said[2]) != len(live) or len(numbers) > number_in(said[1]):
+        return f"the longest order has {len(numbers)} entries"
+    if len(numbers) < number_in(said[1]):
+        return None if any(name == "skip" for name, _ in rows) else f"rows of {numbers}"
+    walk, left = Walked(KIND_OF[next(iter(live.values())).f]), dict(live)
+    fits = lambda it: walk.is_possible(it)
+    for number in numbers:
+        call = left.pop(number)
+        ends = [it.returned() for it in left.values() if it.returned() is not None]
+        if any(end < call.number for end in ends) or not fits(call) or walk.take(call) != call.reply and call.end == "ok":
+            return f"entry {number} of the longest order"
+    ends = [it.returned() for it in left.values() if it.returned() is not None]
+    following = sorted(it.number for it in left.values() if it.end == "ok" and not any(end < it.number for end in ends))
+    named = sorted(int(it) for it, _ in re.findall(REF, said[3]))
+    if following and len(following) <= FEW_NAMED and named != following:
+        return f"{following} may come next, and not {named}"
+    return f"{said[3]}" if bool(following) != said[3].startswith("After") else None
+
+
+def why_order_false(page, history):
+    """What is false of the tables of orders of a page whose history is linearizable, or None."""
+    said = Said(history, {})
+    for x in sorted({it.on for it in said.calls.values()}):
+        rows = page.rows(f"t{x}")
+        walk, last, entries = Walked(KIND_OF[said.on(x)[0].f]), 0, []
+        if any("skip" in name for name, _ in rows):
+            continue
+        for _, (rank, operation, content) in rows:
+            number = int(re.match(r"⟨(\d+)", operation)[1])
+            call = said.calls[number]
+            if not walk.is_possible(call) or walk.take(call) != call.reply and call.end == "ok" or content != f"`{walk.text()}`":
+                return f"entry {rank} of object {x}"
+            last += 1
+            entries.append(call)
+            if int(rank) != last:
+                return f"rank {rank} of object {x}"
+        if any(a.returned() is not None and a.returned() < b.number for b, a in itertools.combinations(entries, 2)):
+            return f"the order of object {x}"
+        if rows and {it.number for it in said.on(x) if it.end == "ok"} - {it.number for it in entries}:
+            return f"an operation is left out of object {x}"
+    return None

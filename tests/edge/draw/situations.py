@@ -1,0 +1,454 @@
+"""What is drawn: the situations that the design of the pages was settled on, on inputs of their size and sort, and others."""
+import gzip
+import random
+import re
+from dataclasses import dataclass
+
+from .. import histories, rows, texts
+from ..judge import like_recorded
+from ..judge.like_recorded import ExpiringLock, LaggingRegister, RacyQueue, RacyRegister, ShardedQueue, played
+from ..running import EXAMPLES
+
+# The greatest value, and the greatest number of a process.
+GREATEST = 2**63 - 1
+LEAST = -(2**63)
+# How many generated histories there are of each verdict.
+OF_EACH = 50
+# How often each sentence must be said.
+OF_EACH_FORM = 5
+
+
+@dataclass(frozen=True)
+class Case:
+    """A history that is drawn, with the certificates by which it is checked, if there are some."""
+
+    name: str
+    history: object
+    certificates: object = None
+    options: tuple = ()
+    shows: tuple = ()
+    # In how many milliseconds the browser must load the page, if that is measured.
+    loads: int = 0
+    # Whether the sentences are read back, and which of them must be said.
+    reads: bool = True
+    says: tuple = ()
+
+    def stem(self):
+        return re.sub(r"\W", "_", self.name)
+
+
+# ---- the situations
+
+
+def example(stem, is_checked=True, *options):
+    """A case of an example."""
+
+    def read(name):
+        with open(f"{EXAMPLES}/{stem}.{name}", "rb") as file:
+            return file.read()
+
+    certificates = read("certificates.edn") if is_checked else None
+    return Case(f"example {stem} {'checked' if is_checked else 'judged'} {' '.join(options)}".strip(), read("history.edn"), certificates, options)
+
+
+def checked(name, made, *options, **more):
+    """A case of a history that was played, with its orders."""
+    return Case(name, made.text(), made.certificates(), options, **more)
+
+
+def around(maps, word, before, after):
+    """The numbers of maps from so many before the first with this word on, and before so many after it."""
+    at = next(number for number, it in enumerate(maps) if word in it)
+    return str(at - before), str(at + after)
+
+
+def swapped(order, place):
+    return [*order[:place], order[place + 1], order[place], *order[place + 2 :]]
+
+
+def too_late(calls, order):
+    """The order with an entry before one that had returned: an entry in its second half that puts a value in."""
+    for place in range(len(order) // 2, len(order) - 1):
+        late, early = calls[order[place]], calls[order[place + 1]]
+        if early.f == "enqueue" and late.f == "dequeue" and late.at < early.number:
+            return swapped(order, place)
+    raise ValueError("no such entries")
+
+
+def wrong_at(calls, order, place):
+    """The order in which two entries from a place on, which overlap and are on one key, are the other way round."""
+    for at in range(place, len(order) - 1):
+        one, other = calls[order[at]], calls[order[at + 1]]
+        is_put = {one.f, other.f} == {"put"} and one.argument[0] == other.argument[0]
+        if is_put and one.end == other.end == "ok" and one.argument[1] != other.argument[1] and other.number < one.at:
+            return swapped(order, at)
+    raise ValueError("no such entries")
+
+
+def without_acquire(calls, order, place):
+    """The order without an acquire that stands at a place or after it."""
+    at = next(at for at in range(place, len(order)) if calls[order[at]].f == "acquire")
+    return order[:at] + order[at + 1 :]
+
+
+def paused_map():
+    with gzip.open(f"{EXAMPLES}/recorded/redis_map_paused.edn.gz") as file:
+        return file.read().decode()
+
+
+def orders_of(certificates):
+    """The orders in a text of certificates, by their objects."""
+    found = re.findall(r"\{:object (\d+), :order \[([^\]]*)\]", certificates.decode() if isinstance(certificates, bytes) else certificates or "")
+    return {int(on): [int(it) for it in order.split()] for on, order in found}
+
+
+def found_orders(program, name, history):
+    """The orders that are found for a history."""
+    return orders_of(program.run("find", program.write(f"{name}.{rows.HISTORY}", history)).out)
+
+
+WRONG_TURN = texts.one_process(("enqueue", 1, 1), ("enqueue", 2, 2), ("enqueue", 3, 3), ("dequeue", None, 1), ("dequeue", None, 3), ("dequeue", None, 2))
+WRONG_REPLY_OF_A_QUEUE = texts.one_process(*[("enqueue", it, it) for it in range(20)], ("dequeue", None, 7))
+WRONG_REPLY_OF_A_MAP = texts.one_process(("put", (1, 10), None), ("put", (2, 20), None), ("get", 1, 20))
+# The only one that puts in what the operation returned is the operation.
+OWN_VALUE_OF_A_CAS = texts.one_process(("write", 1, 1), ("cas", (5, 5), (5, 5)))
+OWN_VALUE_OF_A_PUT = texts.one_process(("put", (2, 5), None), ("put", (1, 5), 5))
+PUT_AGAIN = texts.one_process(("put", (1, 5), None), ("del", 1, 5), ("put", (1, 5), 5))
+# The second 5 is taken out by the pending one.
+TAKEN_BY_A_PENDING_ONE = texts.lines(
+    *texts.one_process(("enqueue", 5, 5), ("dequeue", None, 5), ("enqueue", 5, 5)).splitlines(),
+    texts.invoke(1, "dequeue"),
+    texts.info(1, "dequeue"),
+    texts.invoke(0, "dequeue"),
+    texts.ok(0, "dequeue", 5),
+)
+WRONG_REPLY_OF_AN_ENQUEUE = texts.one_process(("enqueue", 7, 7), ("enqueue", 1, 2))
+ACQUIRED_TWICE = texts.one_process(("acquire", None, None), ("release", None, None), ("acquire", None, None), ("acquire", None, None))
+BUSY = texts.lines(
+    texts.invoke(0, "write", 1),
+    texts.invoke(1, "read"),
+    texts.ok(0, "write", 1),
+    texts.ok(1, "read", 1),
+    texts.invoke(0, "read"),
+    texts.invoke(1, "write", 2),
+    texts.invoke(0, "write", 3),
+    texts.ok(0, "read", 1),
+)
+NOT_CLOSED = "{:process 0, :type :invoke, :f :enqueue, :value 1}\n{:process 0, :type :ok, :f :enqueue, :value 1\n{:process 0, :type :invoke, :f :dequeue}\n"
+MIXED = ("queue", "stack", "heap", "register", "map") * 2
+
+
+def of_yes():
+    """Histories that are linearizable, as those of Redis that was paused, or refused some calls."""
+    yield example("overlapping")
+    yield example("jepsen")
+    yield checked("a stack with failed operations", played(("stack",) * 2, 1000, 4, refused=280, nemeses=2))
+    yield checked("ten objects of five kinds", played(MIXED, 1600, 8, lost=13, nemeses=4))
+    yield checked("two mutexes", played(("mutex",) * 2, 1000, 5, lost=4, refused=1, nemeses=2))
+    queue = played(("queue",) * 2, 1500, 8, lost=5, nemeses=2)
+    since, until = around(queue.maps, ":nemesis", 17, 32)
+    yield checked("a queue with a nemesis", queue, "--from", since, "--to", until)
+    register = played(("register",), 1000, 8, lost=10, nemeses=4, values=5)
+    yield checked("a register of 1 000", register)
+    yield Case("a register of 1 000 judged", register.text())
+
+
+def comes_too_late():
+    """A queue whose order has an entry before one that had returned."""
+    queue = played(("queue",), 600, 4)
+    calls, _ = histories.calls_of(queue.text())
+    return Case("an entry that comes too late", queue.text(), queue.certificates(lambda it: too_late(calls, it)), says=("c5",))
+
+
+def never_put():
+    """A map under whose greatest key a value is seen that was never put there. Labels have no room for the values."""
+    calls = [("put", (LEAST, GREATEST), None), ("put", (LEAST, LEAST), GREATEST), ("get", GREATEST, LEAST)]
+    return Case("a value that was never put", texts.one_process(*calls), says=("general",))
+
+
+def of_no(program):
+    """Orders that are refused."""
+    for stem in ("no_certificate", "strange_object", "no_operation", "stands_twice", "left_out", "not_in_order", "wrong_reply", "not_possible"):
+        yield example(stem)
+    yield comes_too_late()
+    queue = played(("queue",), 600, 4)
+    order = queue.orders[0]
+    yield Case("an entry that is no operation", queue.text(), texts.order(*order[:40], 999_999, *order[40:]), says=("c3 beyond",))
+    yield Case("an entry that stands twice", queue.text(), texts.order(*order[:70], order[30], *order[70:]), says=("c4",))
+    racy = played(("queue",), 400, 4, RacyQueue)
+    by_return = texts.order(*racy.by_return()[0])
+    yield Case("a racy queue in the order of returns", racy.text(), by_return, says=("c6 taken",))
+    paused = paused_map()
+    calls, _ = histories.calls_of(paused)
+    order = wrong_at(calls, found_orders(program, "paused", paused)[0], 640)
+    yield Case("a map that was paused, in a spoilt order", paused, texts.order(*order), says=("c6",))
+    mutex = played(("mutex",), 400, 4)
+    calls, _ = histories.calls_of(mutex.text())
+    order = mutex.certificates(lambda it: without_acquire(calls, it, 198))
+    yield Case("a mutex of 400 without an acquire", mutex.text(), order, says=("c9 free since",))
+    yield Case("a queue gives another value", WRONG_REPLY_OF_A_QUEUE, texts.order(*range(0, 42, 2)), says=("c6 turn",))
+    yield Case("a map gives another value", WRONG_REPLY_OF_A_MAP, texts.order(0, 2, 4))
+    yield Case("a cas finds what it sets", OWN_VALUE_OF_A_CAS, texts.order(0, 2), says=("c6 no other",))
+    yield Case("a put finds what it puts", OWN_VALUE_OF_A_PUT, texts.order(0, 2), says=("c6 no other",))
+    yield Case("a put finds what was deleted", PUT_AGAIN, texts.order(0, 2, 4))
+    yield Case("a value that a pending operation took out", TAKEN_BY_A_PENDING_ONE, texts.order(0, 2, 4, 6, 8), says=("c6 taken",))
+    yield Case("an enqueue returns another value", WRONG_REPLY_OF_AN_ENQUEUE, texts.order(0, 2))
+    yield Case("a mutex is acquired twice", ACQUIRED_TWICE, texts.order(0, 2, 4, 6), says=("c9 held",))
+
+
+def of_two_values(count, processes, put="enqueue", take="dequeue"):
+    """A history of a queue, or of a stack, of n values, each 0 or 1, of which two are taken out the other way round: no part shows that which leaves
+    out something before."""
+    rng = random.Random(f"two values {count}")
+    values = [rng.randrange(2) for _ in range(count)]
+    taken = values[::-1] if take == "pop" else list(values)
+    at = next(it for it in range(count // 2, count) if taken[it] != taken[it + 1])
+    taken[at], taken[at + 1] = taken[at + 1], taken[at]
+    calls = [(put, it, it) for it in values] + [(take, None, it) for it in taken]
+    return texts.lines(*[line for place, call in enumerate(calls) for line in one_call(place % processes, *call)])
+
+
+def one_call(process, f, argument, reply):
+    return texts.invoke(process, f, argument), texts.ok(process, f, reply)
+
+
+def taken_again(count):
+    """A history of a queue in which one value is put in n times, and taken out once more."""
+    calls = [("enqueue", 7, 7), ("dequeue", None, 7)] * count + [("dequeue", None, 7)]
+    return texts.one_process(*calls)
+
+
+def old_values():
+    """Histories of a register and of a map in which an operation finds a value that was replaced, by the operation that replaced it."""
+    register = [("write", 1, 1), ("write", 2, 2)]
+    of_map = [("put", (5, 1), None), ("put", (5, 2), 1)]
+    yield "a read", [*register, ("read", None, 1)]
+    yield "a read after a read", [*register, ("read", None, 2), ("read", None, 1)]
+    yield "a read of nothing", [("write", 1, 1), ("read", None, None)]
+    yield "a cas", [*register, ("cas", (1, 3), (1, 3))]
+    yield "a cas that sets the same", [*register, ("cas", (1, 1), (1, 1))]
+    yield "a read after a cas", [("write", 1, 1), ("cas", (1, 2), (1, 2)), ("read", None, 1)]
+    yield "a get", [*of_map, ("get", 5, 1)]
+    yield "a put", [*of_map, ("put", (5, 3), 1)]
+    yield "a put of the same", [*of_map, ("put", (5, 1), 1)]
+    yield "a del", [*of_map, ("del", 5, 1)]
+    yield "a get after a del", [*of_map, ("del", 5, 2), ("get", 5, 2)]
+    yield "a get of nothing", [*of_map, ("get", 5, None)]
+
+
+def of_impossible():
+    """Histories without an order, of faulty objects."""
+    for name, calls in old_values():
+        yield Case(f"{name} finds an old value", texts.one_process(*calls), says=("out_of_date",))
+    yield Case("a value taken out 301 times", taken_again(300), says=("too_often",))
+    yield Case("a reason of 100 operations of 40 processes", of_two_values(50, 40), says=("general",))
+    yield Case("a reason of 5 200 operations", of_two_values(2_600, 1), says=("general",))
+    yield Case("a reason of 1 400 operations of 40 processes", of_two_values(700, 40, "push", "pop"), says=("general",))
+    yield Case("a racy queue of 400", played(("queue",), 400, 4, RacyQueue).text(), says=("not_empty",))
+    yield Case("a sharded queue of 240", played(("queue",), 240, 3, ShardedQueue).text(), says=("wrong_turn",))
+    yield Case("a register of 500 with a racy cas", played(("register",), 500, 5, RacyRegister, values=5).text(), says=("general",))
+    yield Case("a racy register of 400", played(("register",), 400, 4, RacyRegister, seed=10, values=5).text(), says=("general",))
+    yield Case("a lagging register of 500", played(("register",), 500, 5, LaggingRegister).text(), says=("out_of_date",))
+    for stem in ("postgres_queue", "sharded_queue", "redis_lock", "redis_replica", "racy_stack", "larger_first", "lost_put", "never_enqueued"):
+        yield example(stem, False)
+    yield Case("a queue gives the later value first", WRONG_TURN)
+    yield never_put()
+
+
+def of_open():
+    """Histories of which nothing is found in so few steps."""
+    for seed in range(3):
+        yield Case(f"a short search {seed}", texts.lines(*histories.long_search(seed)), None, ("--steps", str(seed)), says=("left_open",))
+    register = played(("register",), 1000, 8, lost=10, values=5)
+    yield Case("a register of 1 000 that is open", register.text() + texts.lines(*histories.long_search(1, 1)), None, ("--steps", "0"), says=("left_open",))
+
+
+def situations(program):
+    """The situations that the design of the pages was settled on, and some beside."""
+    yield from of_yes()
+    yield from of_no(program)
+    yield from of_impossible()
+    yield from of_open()
+    yield Case("a process that is busy", BUSY)
+    yield example("after_info", False)
+    yield Case("a map that is not closed", NOT_CLOSED)
+    yield example("two_for_one")
+
+
+def options_and_faults():
+    """Pages of other objects and stretches, of other faults, and of nothing."""
+    yield Case("no operations", "")
+    yield example("two_queues")
+    yield example("two_queues", True, "--object", "1")
+    yield example("two_queues", True, "--object", "7")
+    yield example("wrong_reply", True, "--object", "3")
+    yield example("redis_lock", False, "--from", "10", "--to", "30")
+    yield example("racy_stack", False, "--object", "0", "--from", "0")
+    yield example("postgres_queue", False, "--to", "2")
+    yield example("postgres_queue", False, "--from", "1000000")
+    yield example("redis_lock", False, "--from", "0", "--to", "0")
+    yield example("wrong_reply", True, "--from", "1000000")
+    for stem in ("bad_number", "failed", "pending", "heap", "map", "mutex", "queue", "register", "stack"):
+        yield example(stem)
+        yield example(stem, False)
+    yield Case("an object without an order and one with", WRONG_TURN + texts.lines(texts.invoke(5, "push", 1, 4), texts.ok(5, "push", 1, 4)))
+    for it in rows.MALFORMED:
+        yield Case(it.name, *it.texts[:2])
+
+
+def hostile():
+    """Texts with markup, quotes, wide characters and control characters, in places where a text may have them."""
+    said = '"</script><script>alert(1)</script>&amp;\u202e\u3042\U0001f600\\n"'
+    note = f":note {said}, :error [:{'k' * 64} \"{'x' * 100_000}\"]"
+    history = f"{{:process 0, :type :invoke, :f :enqueue, :value {GREATEST}, {note}}}\n{{:process 0, :type :ok, :f :enqueue, :value {GREATEST}}}\n"
+    history += f"{{:process {GREATEST}, :type :invoke, :f :dequeue}}\n{{:process {GREATEST}, :type :info, :f :dequeue}}\n"
+    history += f"{{:process :{'n' * 64}, :type :info, :f :{'f' * 64}}}\n"
+    yield Case("long strings and keywords in keys that are ignored", history, reads=False)
+    shows = ("</script><script>alert(1)</script>&amp;", "あ", "\U0001f600", "\\x1b", "→")
+    both = texts.lines(texts.invoke(GREATEST, "push", 1), texts.ok(GREATEST, "push", 1), texts.invoke(1_000_000, "pop"), texts.ok(1_000_000, "pop", 1))
+    yield Case("long numbers of processes", both, texts.order(0, 2))
+    yield Case("a faulty map of a process with a long number", both + texts.lines(texts.ok(GREATEST - 1, "pop", 1)))
+    bad = f"; {said}\n{{:process 0, :type :invoke, :f :pop, :note {said[:-1]}\x1b\t<b>\"}}\n{{:process 0, :type :invoke, :f :pop, :note {said[:-1]}\x1b\t<b>\"}}\n"
+    yield Case("a faulty map with markup", bad, shows=shows)
+    yield Case("a fault in a line of markup", f"{{:process {said} <b>}}\n", shows=("</script><script>alert(1)</script>&amp;",))
+    yield Case("a text that is not UTF-8", b"{:process 0, :note \"\xff<b>\"}", shows=("\\xff<b>",))
+    yield Case("a very long line", "[" * 16 + " " * 5000 + "x" * 5000 + "\n" * 3, shows=("…",))
+
+
+
+
+def extreme():
+    """Values and keys at the limits of 64 bits, alone and in pairs."""
+    pairs = ((LEAST, GREATEST), (GREATEST, LEAST))
+    register = [("write", LEAST, LEAST), ("cas", pairs[0], pairs[0]), ("read", None, GREATEST), ("cas", pairs[0], False), ("cas", pairs[1], pairs[1])]
+    of_map = [("put", (LEAST, GREATEST), None), ("put", (LEAST, LEAST), GREATEST), ("put", pairs[1], None), ("get", LEAST, LEAST), ("del", GREATEST, LEAST)]
+    yield Case("a register with values at the limits", texts.one_process(*register), texts.order(*range(0, 10, 2)))
+    yield Case("a map with keys and values at the limits", texts.one_process(*of_map), texts.order(*range(0, 10, 2)))
+    for name, calls in (("register", register), ("map", of_map)):
+        yield Case(f"a {name} with values at the limits judged", texts.one_process(*calls))
+        f, argument, reply = calls[-1]
+        wrong = [*calls[:-1], (f, argument, False if f == "cas" else GREATEST)]
+        yield Case(f"a {name} with values at the limits, one wrong", texts.one_process(*wrong), texts.order(*range(0, 10, 2)), says=("c6",))
+        yield Case(f"a {name} with values at the limits, impossible", texts.one_process(*wrong))
+    for put, take in (("enqueue", "dequeue"), ("push", "pop"), ("insert", "extract-min")):
+        values = [GREATEST - it for it in range(12)] + [LEAST + it for it in range(12)]
+        calls = [(put, it, it) for it in values] + [(take, None, values[5])]
+        yield Case(f"24 values of 64 bits, {take}", texts.one_process(*calls), texts.order(*range(0, 50, 2)), says=("c6",))
+        yield Case(f"24 values of 64 bits, {take}, judged", texts.one_process(*calls))
+
+
+def many_objects():
+    """As many objects as are drawn, with five-digit numbers, and operations with the longest values."""
+    maps, orders = [], []
+    for on in range(65_536 - 600, 65_536):
+        orders.append(texts.certificate(on, len(maps)))
+        maps += [texts.invoke(GREATEST - on, "put", (LEAST, LEAST + on), on), texts.ok(GREATEST - on, "put", None, on)]
+    return Case("600 objects", texts.lines(*maps), texts.lines(*orders))
+
+
+def forty_objects():
+    """40 objects of five kinds, which must load in less than a second."""
+    return checked("forty objects", played(MIXED * 4, 440, 8), loads=1_000)
+
+
+# ---- generated histories
+
+
+def mutated(rng, made, code):
+    """Certificates for a made history that check refuses with this code, where it can be made so."""
+    order = list(made.order)
+    calls, _ = histories.calls_of(made.text())
+    done = [it for it in order if calls[it].end == "ok"]
+    if code == "C1" or not order or not done:
+        return ""
+    place = rng.randrange(len(order))
+    if code == "C2":
+        return texts.lines(texts.certificate(0, *order), texts.certificate(3))
+    if code == "C3":
+        numbers = [-1, len(made.maps) + 5] + [it.at for it in calls.values() if it.at is not None] + [n for n, it in calls.items() if it.end == "fail"]
+        order.insert(place, rng.choice(numbers))
+    if code == "C4":
+        order.insert(rng.randrange(place, len(order)) + 1, order[place])
+    if code == "C7":
+        order.remove(rng.choice(done))
+    if code in ("C5", "C6", "C9"):
+        other = rng.randrange(len(order))
+        order[place], order[other] = order[other], order[place]
+    return texts.order(*order)
+
+
+def without_one(rng, made):
+    """The order without one that puts a value in, or with one of these at its end."""
+    calls, _ = histories.calls_of(made.text())
+    putters = [it for it in made.order if calls[it].f in ("enqueue", "push", "insert", "write", "put", "acquire")]
+    if not putters:
+        return made.order
+    gone = rng.choice(putters)
+    return [it for it in made.order if it != gone] + rng.choice(([], [gone]))
+
+
+def given_back_twice(seed):
+    """A history of a mutex that processes hold in turn, and that another one gives back once more."""
+    rng = random.Random(f"given back twice {seed}")
+    calls = [(rng.randrange(3), f) for _ in range(rng.randrange(2, 20)) for f in ("acquire", "release")]
+    at = 0 if seed < OF_EACH_FORM else rng.randrange(1, len(calls) // 2 + 1) * 2
+    calls.insert(at, (3, "release"))
+    maps = [write(process, f) for process, f in calls for write in (texts.invoke, texts.ok)]
+    if at > 0 and rng.random() < 0.5:
+        # It overlaps the one before.
+        maps[2 * at - 1], maps[2 * at] = maps[2 * at], maps[2 * at - 1]
+    return texts.lines(*maps)
+
+
+def of_faults():
+    """Histories that are wrong in each way, judged, and checked by the order that was right."""
+    for sort, kinds in histories.FAULTS.items():
+        for kind in kinds:
+            for seed in range(14):
+                made = histories.faulty(sort, kind, seed)
+                yield Case(f"{sort} {kind} {seed}", made.text())
+                if made.order:
+                    yield Case(f"{sort} {kind} {seed} checked", made.text(), texts.order(*made.order))
+    for seed in range(20):
+        yield Case(f"sharded {seed}", played(("queue",), 24, 3, ShardedQueue, seed=seed).text())
+        yield Case(f"a mutex that is given back twice {seed}", given_back_twice(seed))
+        yield Case(f"an expiring lock {seed}", played(("mutex",), 40, 3, ExpiringLock, seed=seed).text())
+    for seed in range(60):
+        rng = random.Random(f"without one {seed}")
+        made = histories.made(rng.choice(tuple(histories.FUNCTIONS)), f"without {seed}", calls=20, processes=rng.choice((1, 2, 3)), values=1000)
+        yield Case(f"without one {seed}", made.text(), texts.order(*without_one(rng, made)))
+
+
+def of_several_objects():
+    """Histories of two objects and a nemesis, with an entry that is no operation of the object, and other objects that are asked for."""
+    for seed in range(40):
+        rng = random.Random(f"several {seed}")
+        made = played(rng.sample(tuple(histories.FUNCTIONS)[:5], 2), 12, 3, seed=seed, lost=1, refused=1, nemeses=2)
+        numbers = [number for number, it in enumerate(made.maps) if ":nemesis" in it] + made.orders.get(1, [])
+        order = list(made.orders.get(0, []))
+        order.insert(rng.randrange(len(order) + 1), rng.choice(numbers))
+        yield Case(f"several {seed}", made.text(), made.certificates(lambda _, order=order: order))
+        yield Case(f"several {seed} without", made.text(), None, ("--object", str(rng.choice((0, 1, 2)))))
+    for seed in range(8):
+        yield Case(f"no operations {seed}", texts.lines(*[like_recorded.nemesis("stop") for _ in range(seed)]), rng.choice((None, "")))
+
+
+def generated():
+    """Histories of each verdict, several times as many as are wanted: which verdict it is, the program says."""
+    yield from of_faults()
+    yield from of_several_objects()
+    kinds = tuple(histories.FUNCTIONS)
+    for seed in range(3 * OF_EACH):
+        rng = random.Random(f"generated {seed}")
+        kind = kinds[seed % len(kinds)]
+        made = histories.made(kind, seed, calls=rng.choice((4, 9, 20, 45)), processes=rng.choice((2, 3, 5)))
+        yield Case(f"generated {kind} {seed}", made.text(), rng.choice((None, texts.order(*made.order))))
+        for code in ("C1", "C2", "C3", "C4", "C5", "C6", "C7"):
+            other = histories.made(kind if code != "C6" else kinds[seed % 5], seed, calls=rng.choice((4, 9, 20, 45)), processes=rng.choice((1, 2, 3)))
+            yield Case(f"generated {code} {kind} {seed}", other.text(), mutated(rng, other, code))
+        mutex = histories.made("mutex", seed, calls=12, processes=2)
+        yield Case(f"generated C9 {seed}", mutex.text(), mutated(rng, mutex, "C9"))
+        for kind in kinds:
+            yield Case(f"spoilt {kind} {seed}", texts.lines(*histories.spoilt(kind, seed)))
+    for seed in range(OF_EACH + 10):
+        yield Case(f"a long search {seed}", texts.lines(*histories.long_search(seed)), None, ("--steps", str(seed % 3)))

@@ -1,0 +1,55 @@
+"""Whether pages leave nothing out silently: of histories with few and many processes and pending operations, drawn in each way, the operations with bars
+and those that gaps count are all."""
+import random
+import re
+
+from .. import histories
+from .details import shown_counts, stretches_of
+from .drawings import at_once, run
+from .pages import Drawn
+from .situations import Case
+from ..judge.like_recorded import played
+
+# How many pages are looked at. 500 are by tests/run --pages 500.
+PAGES = 40
+PROCESSES = (2, 3, 8, 24, 25, 60, 200, 1_000)
+KINDS = ("queue", "stack", "heap", "register", "map", "mutex")
+
+
+def whole_case(seed):
+    """A history with 2 to 1,000 processes and up to 40 % of pending operations, checked by its order, or by none."""
+    rng = random.Random(f"whole {seed}")
+    processes = PROCESSES[seed % len(PROCESSES)]
+    calls = max(rng.choice((5, 40, 120, 400)), processes + rng.randrange(50))
+    lost = calls * rng.choice((0, 5, 20, 40)) // 100
+    kind = rng.choice(KINDS[:5] if lost else KINDS)
+    made = played((kind,), calls, processes, seed=seed, lost=lost, refused=rng.choice((0, 3)), nemeses=rng.choice((0, 2)))
+    options = () if rng.random() < 0.6 else ("--from", str(rng.randrange(2 * calls)))
+    return Case(f"whole {seed}", made.text(), rng.choice((made.certificates(), "")), options)
+
+
+def why_not_whole(page, history):
+    """The figure of the object, and each other stretch, whose operations are not all drawn or counted, or None."""
+    calls, _ = histories.calls_of(history)
+    figures = [("the figure", page.by_id("fig0"))] + [(f"the stretch {stretch}", it) for stretch, it in stretches_of(page, 0)]
+    for name, figure in figures:
+        drawn, counted = shown_counts(figure)
+        if figure is None or drawn + counted != len(calls) and drawn > 0:
+            return f"{name}: {drawn} operations are drawn, {counted} are in gaps, and there are {len(calls)}"
+    return None
+
+
+def drawn_wholes(program, report):
+    """Of each page the operations with bars and those of the gaps are all operations of the object."""
+
+    def draw(seed):
+        case = whole_case(seed)
+        drawn, _, _ = run(program, case)
+        return case, why_not_whole(Drawn(drawn.out), case.history)
+
+    for case, wrong in at_once(draw, range(PAGES)):
+        report.equal(f"draw: {case.name}: each operation is drawn or counted", None, wrong)
+    return f"{PAGES} pages"
+
+
+PARTS = (drawn_wholes,)

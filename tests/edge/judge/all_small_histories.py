@@ -1,0 +1,360 @@
+"""All small histories of some calls, and some larger ones that are drawn: what search, find and judge say of each."""
+import itertools
+import re
+
+from .. import force
+
+PUTS_AND_TAKES = {"queue": ("enqueue", "dequeue"), "stack": ("push", "pop"), "heap": ("insert", "extract-min")}
+
+
+def done(f, argument, reply):
+    """A call that returns: its function, its argument and its completion."""
+    return f, argument, ("ok", reply)
+
+
+def unknown(f, argument):
+    """A call of which nothing is known from some moment on."""
+    return f, argument, ("info", argument)
+
+
+# ---- search: two processes
+
+# Calls, of which the last two have no known end.
+SEARCHED = {
+    "queue": (
+        done("enqueue", 1, 1),
+        done("enqueue", 2, 2),
+        done("dequeue", None, 1),
+        done("dequeue", None, 2),
+        done("dequeue", None, None),
+        unknown("enqueue", 1),
+        unknown("dequeue", None),
+    ),
+    "register": (
+        done("write", 1, 1),
+        done("write", 2, 2),
+        done("read", None, 1),
+        done("read", None, 2),
+        done("cas", (1, 2), (1, 2)),
+        unknown("write", 1),
+        unknown("cas", (1, 2)),
+    ),
+    # Two values that may or may not have come in.
+    "queue of unknown values": (
+        done("enqueue", 1, 1),
+        done("enqueue", 2, 2),
+        done("dequeue", None, 1),
+        done("dequeue", None, 2),
+        done("dequeue", None, None),
+        unknown("enqueue", 1),
+        unknown("enqueue", 2),
+    ),
+    # Reads of nil, and a compare-and-set that did not take place.
+    "register not yet written": (
+        done("write", 1, 1),
+        done("write", 2, 2),
+        done("read", None, None),
+        done("read", None, 2),
+        done("cas", (1, 2), False),
+        unknown("write", 2),
+        unknown("read", None),
+    ),
+}
+
+
+def history_of(turns, calls):
+    """The maps with these turns and calls. None where a process stays busy, or goes on where nothing is known of its call."""
+    events, running, gone, calls = [], {}, set(), iter(calls)
+    for process in turns:
+        if process in gone:
+            return None
+        if process not in running:
+            f, argument, running[process] = next(calls)
+            events.append((process, "invoke", f, argument))
+            continue
+        kind, value = running.pop(process)
+        if kind == "info":
+            gone.add(process)
+        events.append((process, kind, f_of(events, process), value))
+    return None if running else events
+
+
+def f_of(events, process):
+    """The function that a process called last."""
+    return next(f for of, _, f, _ in reversed(events) if of == process)
+
+
+def searched_by_force(program, report):
+    """A search in either order of trying answers on all histories of at most four operations as a search by brute force does."""
+    counts = []
+    for name, calls in SEARCHED.items():
+        histories = force.Sorted()
+        for size in (2, 4, 6, 8):
+            for turns in itertools.product((0, 1), repeat=size):
+                # Process 0 begins, and both have an even number of maps.
+                if turns[0] == 0 and sum(turns) % 2 == 0:
+                    for chosen in itertools.product(calls, repeat=size // 2):
+                        events = history_of(turns, chosen)
+                        if events:
+                            histories.add(events)
+        counts.append(histories.counts())
+        report.holds(f"search: {name}: there are histories with an order and without", 1000 < counts[-1][1] < counts[-1][0], counts)
+        search_both_sorts(program, report, f"search: all small histories of a {name}", histories)
+    return f"{sum(it[0] for it in counts)} histories"
+
+
+def search_both_sorts(program, report, name, histories):
+    """Searches in both orders of trying."""
+    for first in ("number", "return"):
+        words = ("search", "--first", first, "--steps", "1000000")
+        of_others = lambda history, count: force.of_each(program, f"{name}, by {first}, without an order", words, history, count, "impossible", 1)  # noqa: B023
+        both_sorts(program, report, f"{name}, by {first}", histories, words, of_others)
+
+
+def both_sorts(program, report, name, histories, words, of_others, more="", maps_of_more=0):
+    """An order is put out of each history that has one, which check accepts. At the others another function looks."""
+    look = lambda history, _, count: force.of_orders(program, name, words, history, count)
+    force.on_texts(program, report, histories.texts(True, more, maps_of_more), look)
+    force.on_texts(program, report, histories.texts(False, more, maps_of_more), lambda history, _, count: of_others(history, count))
+
+
+# ---- find: three processes
+
+
+def calls_of_values(kind):
+    puts, takes = PUTS_AND_TAKES[kind]
+    return (done(puts, 1, 1), done(puts, 2, 2), done(takes, None, 1), done(takes, None, 2), done(takes, None, None))
+
+
+FOUND = {
+    **{it: calls_of_values(it) for it in PUTS_AND_TAKES},
+    "register": (
+        done("write", 1, 1),
+        done("write", 2, 2),
+        done("read", None, 1),
+        done("read", None, 2),
+        done("read", None, None),
+        done("cas", (1, 2), (1, 2)),
+        done("cas", (2, 1), (2, 1)),
+        done("cas", (1, 2), False),
+    ),
+    "map": (
+        done("put", (0, 1), None),
+        done("put", (0, 2), None),
+        done("put", (0, 1), 2),
+        done("put", (0, 2), 1),
+        done("get", 0, 1),
+        done("get", 0, 2),
+        done("get", 0, None),
+        done("del", 0, 1),
+        done("del", 0, 2),
+    ),
+    "mutex": (done("acquire", None, None), done("release", None, None)),
+}
+# How often turns are drawn, of which one in a hundred or so are those of a history.
+DRAWS = 20_000
+
+
+def digits(number, radix, count):
+    """The digits of a number, the lowest first."""
+    return [number // radix**place % radix for place in range(count)]
+
+
+def are_turns(turns):
+    """Whether each process that has begun returns, processes are named as they come, and neighbours that both begin or both return
+    are in the order of their names."""
+    busy, named, before = [False] * 3, 0, (0, False)
+    for process in turns:
+        returns = busy[process]
+        if process > named or before[0] > process and before[1] == returns:
+            return False
+        named = max(named, process + 1)
+        busy[process] = not returns
+        before = process, returns
+    return not any(busy)
+
+
+def found_by_force(program, report):
+    """All histories of at most three operations, and some of four and five that are drawn: find finds an order where there is one."""
+    counts = []
+    for kind, calls in FOUND.items():
+        histories, chance = force.Sorted(), None
+        for size in (1, 2, 3):
+            for turns in filter(are_turns, itertools.product(range(3), repeat=2 * size)):
+                for chosen in itertools.product(calls, repeat=size):
+                    histories.add(history_of(turns, chosen))
+        for size in (4, 5):
+            chance = force.Chance(2026)
+            for _ in range(DRAWS):
+                turns = digits(chance.below(3 ** (2 * size)), 3, 2 * size)
+                if are_turns(turns):
+                    chosen = digits(chance.below(len(calls) ** size), len(calls), size)
+                    histories.add(history_of(turns, [calls[it] for it in chosen]))
+        counts.append(histories.counts())
+        report.holds(f"find: {kind}: there are small histories with an order and without", 0 < counts[-1][1] < counts[-1][0], counts)
+        find_both_sorts(program, report, f"find: small histories of a {kind}", histories)
+    return f"{sum(it[0] for it in counts)} histories"
+
+
+def find_both_sorts(program, report, name, histories, more="", maps_of_more=0):
+    """Looks for orders of histories that have one, and of those that have none."""
+    of_others = lambda history, count: force.of_no_orders(program, name, history, count)
+    both_sorts(program, report, name, histories, ("find",), of_others, more, maps_of_more)
+
+
+# ---- judge: two processes, whose calls may fail or have no end
+
+TAKEN = (1, 2, None)
+# A call with the replies that it may have.
+JUDGED = {
+    **{
+        kind: ((puts, 1, (1,)), (puts, 2, (2,)), (takes, None, TAKEN), (takes, None, TAKEN))
+        for kind, (puts, takes) in PUTS_AND_TAKES.items()
+    },
+    "register": (
+        ("write", 1, (1,)),
+        ("write", 2, (2,)),
+        ("read", None, (1, 2, None)),
+        ("cas", (1, 2), ((1, 2), False)),
+        ("cas", (2, 1), ((2, 1), False)),
+    ),
+    "map": (
+        ("put", (7, 1), (None, 1, 2)),
+        ("put", (7, 2), (None, 1, 2)),
+        ("get", 7, (None, 1, 2)),
+        ("del", 7, (None, 1, 2)),
+        ("get", 8, (None,)),
+    ),
+    "mutex": (("acquire", None, (None,)), ("release", None, (None,))),
+}
+# The kind, how many of its calls there are to choose from, how many operations a history has at most, whether one is taken of each two
+# that differ only by an exchange of the values 1 and 2, how many histories there are, and how many of them have no valid order. Without
+# that choice the registers of 4 operations are 3,477,196, and the maps 5,392,676.
+ALL = (
+    ("queue", 3, 4, False, 381_588, 227_782),
+    ("stack", 3, 4, False, 381_588, 225_442),
+    ("heap", 3, 4, False, 381_588, 227_610),
+    ("register", 5, 3, False, 62_092, 34_388),
+    ("register", 5, 4, True, 1_739_512, 1_159_684),
+    ("map", 4, 3, False, 84_260, 68_504),
+    ("map", 4, 4, True, 2_709_991, 2_423_248),
+    ("mutex", 2, 4, False, 27_306, 15_481),
+)
+# How many histories are judged at a time.
+LOT = 4 * force.MOST_OBJECTS
+WHOLE = re.compile(rb":cuts \[\]\}$", re.M)
+
+
+def first_value(value):
+    """The first of the values 1 and 2 that is named in an argument or a reply, or None."""
+    named = value if isinstance(value, tuple) else (value,)
+    return next((it for it in named if it in (1, 2)), None)
+
+
+class Every:
+    """All histories of at least one call and at most this many, in at most twice as many maps, a lot at a time. Process 0 makes
+    the first step. Of two histories in which only the values 1 and 2 are exchanged the one that names 1 first can be taken alone."""
+
+    def __init__(self, calls, operations, of_two, take):
+        self.calls, self.steps, self.take, self.histories = calls, 2 * operations, take, force.Sorted()
+        self.count, self.without, self.text_of = 0, 0, {}
+        self.go_on("", 0, operations, (None, None), force.NOTHING_DONE, not of_two)
+        self.take_lot()
+
+    def take_lot(self):
+        """Hands on the histories that there are by now."""
+        lot, without = self.histories.counts()
+        self.count, self.without = self.count + lot, self.without + without
+        self.take(self.histories)
+        self.histories = force.Sorted()
+
+    def step(self, text, maps, left, waiting, state, is_named, event):
+        """Goes on after one more map, unless it is the first to name a value, and names 2."""
+        if event not in self.text_of:
+            self.text_of[event] = force.template([event])
+        first = None if is_named else first_value(event[3])
+        if first != 2:
+            self.go_on(text + self.text_of[event], maps + 1, left, waiting, force.after(state, *event), is_named or first == 1)
+
+    def go_on(self, text, maps, left, waiting, state, is_named):
+        if maps:
+            of = self.histories.of
+            of[bool(state[0])].append((text, maps))
+            if len(of[True]) + len(of[False]) == LOT:
+                self.take_lot()
+        if maps == self.steps:
+            return
+        for process, call in enumerate(waiting):
+            if call:
+                others = (None, waiting[1]) if process == 0 else (waiting[0], None)
+                f, argument, replies = call
+                for kind, value in (*[("ok", it) for it in replies], ("fail", argument)):
+                    self.step(text, maps, left, others, state, is_named, (process, kind, f, value))
+            elif left and (process == 0 or maps):
+                for it in self.calls:
+                    others = (it, waiting[1]) if process == 0 else (waiting[0], it)
+                    self.step(text, maps, left - 1, others, state, is_named, (process, "invoke", it[0], it[1]))
+
+
+def judge_both_sorts(program, report, name, histories):
+    """Judges histories, with no step of a search. A reason that keeps all operations without a count does not come from a pattern."""
+    words = ("judge", "--steps", "0")
+
+    def valid(history, text, count):
+        ran = program.run(*words, history)
+        expected = f"yes: {text.count(':type :invoke') - text.count(':type :fail')} operations, {count} objects\n".encode()
+        return [(name, (0, b"", expected), (ran.status, ran.err, ran.out[: len(expected)]))]
+
+    def impossible(history, _, count):
+        ran = program.run(*words, history)
+        said = b"".join(it for it in ran.out.splitlines(True) if it.startswith(b"; object "))
+        differs = force.difference(force.all_say(count, "impossible"), said)
+        reasons = ran.out.count(b"\n; {:object "), len(WHOLE.findall(ran.out))
+        return [(f"{name}, without an order", (1, b"", None, (count, 0)), (ran.status, ran.err, differs, reasons))]
+
+    force.on_texts(program, report, histories.texts(True), valid)
+    force.on_texts(program, report, histories.texts(False), impossible)
+
+
+def judged_by_force(program, report):
+    """All histories of some calls. A reason is found for each that has no valid order, and for no other."""
+    for kind, calls, operations, of_two, *counts in ALL:
+        name = f"judge: all small histories of a {kind} of at most {operations} operations"
+        made = Every(JUDGED[kind][:calls], operations, of_two, lambda it: judge_both_sorts(program, report, name, it))
+        report.equal(f"{name}, and those without an order", tuple(counts), (made.count, made.without))
+    return f"{sum(it[4] for it in ALL)} histories"
+
+
+def drawn(calls, chance, operations):
+    """A history of at most this many operations of two processes, some of which fail or are pending."""
+    events, waiting, over, left = [], {}, set(), operations
+    for _ in range(4 * operations):
+        process = chance.below(2)
+        if process in over or process not in waiting and not left:
+            continue
+        if process not in waiting:
+            call = waiting[process] = calls[chance.below(len(calls))]
+            events.append((process, "invoke", call[0], call[1]))
+            left -= 1
+            continue
+        f, argument, replies = waiting.pop(process)
+        end = {0: "fail", 1: "info"}.get(chance.below(12), "ok")
+        if end == "info":
+            over.add(process)
+        events.append((process, end, f, replies[chance.below(len(replies))] if end == "ok" else argument))
+    return events
+
+
+def judged_at_random(program, report):
+    """Of a thousand histories of a kind that are drawn, a reason is found for each that has no valid order."""
+    for kind, calls in JUDGED.items():
+        histories, chance = force.Sorted(), force.Chance(2026)
+        for _ in range(1000):
+            events = drawn(calls, chance, 4)
+            if events:
+                histories.add(events)
+        report.holds(f"judge: drawn histories of a {kind}: some have an order and some have none", 0 < histories.counts()[1] < histories.counts()[0])
+        judge_both_sorts(program, report, f"judge: drawn histories of a {kind}", histories)
+
+
+PARTS = (searched_by_force, found_by_force, judged_by_force, judged_at_random)

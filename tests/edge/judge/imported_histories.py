@@ -1,0 +1,241 @@
+"""Histories of a Jepsen store, and lines of JSON: import makes a text of them, and judge tells its answer in their words."""
+import gzip
+import os
+import random
+import re
+import subprocess
+
+from ..running import Ran, at_once
+
+# A register of two keys, of which "x" is read as :b after :c was written over it, by processes with names.
+STORE = """#jepsen.history.Op{:index 0, :time 5, :type :invoke, :process 0, :f :write, :value ["x" :b]}
+{:index 1, :type :info, :f :start, :value [:isolated {"n1" #{"n2"}}], :process :nemesis, :time 1.5}
+{:index 2, :type :ok, :process 0, :f :write, :value ["x" :b]}
+{:index 3, :type :invoke, :process 0, :f :write, :value ["x" "c"]}
+{:index 4, :type :ok, :process 0, :f :write, :value ["x" "c"]}
+{:index 5, :type :invoke, :process 1, :f :read, :value ["y" nil]}
+{:index 6, :type :ok, :process 1, :f :read, :value ["y" nil]}
+{:index 7, :type :invoke, :process 1, :f :read, :value ["x" nil]}
+{:index 8, :type :ok, :process 1, :f :read, :value ["x" :b]}
+"""
+TEXT = b"""{:process 0, :type :invoke, :f :write, :value 0, :object 0, :time 5, :index 0}
+{:process :nemesis, :f :start, :index 1}
+{:process 0, :type :ok, :f :write, :value 0, :object 0, :index 2}
+{:process 0, :type :invoke, :f :write, :value 1, :object 0, :index 3}
+{:process 0, :type :ok, :f :write, :value 1, :object 0, :index 4}
+{:process 1, :type :invoke, :f :read, :value nil, :object 1, :index 5}
+{:process 1, :type :ok, :f :read, :value nil, :object 1, :index 6}
+{:process 1, :type :invoke, :f :read, :value nil, :object 0, :index 7}
+{:process 1, :type :ok, :f :read, :value 0, :object 0, :index 8}
+"""
+NAMES = '{:object 0, :is "x"}\n{:object 1, :is "y"}\n{:value 0, :is :b}\n{:value 1, :is "c"}\n'
+# What a judgement says of it, in any order of lines but the last.
+SAID = (b'; object 0, which is "x": impossible\n', b'events 3 and 4: process 0, :write "c", :ok "c"', b"events 7 and 8: process 1, :read nil, :ok :b")
+
+JSON = """{"process": "n1", "type": "invoke", "f": "enqueue", "value": "job 1"}
+{"process": "n1", "type": "ok", "f": "enqueue", "value": true}
+{"process": "n2", "type": "invoke", "f": "dequeue", "value": null}
+{"process": "n2", "type": "ok", "f": "dequeue", "value": "job 1"}
+"""
+JSON_ARRAY = "[\n" + ",\n".join(JSON.splitlines()) + "\n]\n"
+# A queue that says that it is empty while a job is in it, as clients write that.
+WRONGLY_EMPTY = """{{:process 0, :type :invoke, :f :enqueue, :value "job 1"}}
+{{:process 0, :type :ok, :f :enqueue, :value "job 1"}}
+{{:process 1, :type :invoke, :f :dequeue}}
+{{:process 1, :type :fail, :f :dequeue, {}}}
+"""
+# How a client says so, the option by which it is a reply, and whether import warns without that.
+EMPTIES = (
+    (":error :empty", "--fail-is-reply", True),
+    (":error [:empty \"queue 1\"]", "--fail-is-reply", True),
+    (":error \"empty\"", "--fail-is-reply", True),
+    (":error :not-found", "--fail-is-reply", True),
+    (":value :exhausted", "--fail-is-reply=:exhausted", True),
+    (":error \"no such job\"", "--fail-is-reply=#{:empty \"no such job\"}", True),
+    (":error :gone", "--fail-is-reply=:gone", False),
+)
+# Swaps of a store that refuses each, as clients write that: what the failed one has, and the option by which it is a reply of false.
+SWAPS = (":error :did-not-match", "--fail-is-reply=:did-not-match"), (":other 1", "--fail-is-reply=nil"), (":error :not-found", "--fail-is-reply")
+WRONGLY_REFUSED = """{{:process 0, :type :invoke, :f :write, :value 1}}
+{{:process 0, :type :ok, :f :write, :value 1}}
+{{:process 0, :type :invoke, :f :cas, :value [1 2]}}
+{{:process 0, :type :fail, :f :cas, :value [1 2], {}}}
+"""
+# A history, and what is said of it.
+REFUSED = (
+    ("{:process 0, :type :invoke, :f :write, :value 1.5}", "line 1: operation 0: 1.5 cannot be the argument of :write, which is an integer, string or keyword"),
+    ("\n\n{:process 0, :type :invoke, :f :drain}", "line 3: operation 0: :drain is none of the functions :enqueue, :dequeue, "),
+    ("{:process 0", "line 1: the text ends before }; expected are maps"),
+    ("{:process 0, :type :invoke}", "line 1: operation 0: no :f, which is one of the functions :enqueue, "),
+    ("{:process 0, :type :invoke, :f write}", "line 1: operation 0: the symbol write cannot be an :f: write the keyword :write"),
+    ("\n{:process 0, :value 1,\n:value 2}", "line 3: the key :value is in the same map twice; "),
+    ('{"process": 0, "value": 1,\n"value": 2}', "line 2: the key :value is in the same map twice"),
+    ("\ufeff{:process 0}", "line 1: a byte order mark: remove it"),
+    ("", "line 1: no operation of a client"),
+)
+
+
+def imports(program, report):
+    """A store of tuples, keywords and strings, and lines of JSON, are imported and judged in their words."""
+    room = program.room
+    store = program.write("store.edn", STORE)
+    names = f"{room}/names.edn"
+    made = program.run("import", "--names", names, store)
+    report.equal("import: the text of a store", Ran(0, TEXT, b""), made)
+    with open(names, encoding="utf-8") as file:
+        report.equal("import: its table of names", NAMES, file.read())
+    text = program.write("imported.edn", made.out)
+    judged = program.run("judge", "--names", names, text)
+    report.holds("import: it is judged in its words", judged.status == 1 and all(it in judged.out for it in SAID), judged)
+    reason = b"".join(line[2:] for line in judged.out.splitlines(True) if line.startswith(b"; {"))
+    refuted = program.run("refute", text, program.write("reasons.edn", reason))
+    report.equal("import: its reason is accepted", 1, refuted.status, refuted)
+    lines = program.write("lines.json", JSON)
+    judged = program.run("judge", program.write("of_json.edn", program.run("import", lines).out))
+    report.answers("import: lines of JSON", judged, b"yes: 2 operations, 1 objects\nqueue: 1 objects, 2 operations\n", 0)
+    array = program.run("import", program.write("array.json", JSON_ARRAY))
+    report.equal("import: an array of JSON is as its lines", program.run("import", lines).out, array.out, array)
+
+
+def failed_operations(program, report):
+    """A failed removal that says that the queue was empty is left out with a warning, so the history is a yes; or, if the user says so, it is
+    a reply of nil, and the history is a no."""
+    for error, option, warns in EMPTIES:
+        path = program.write("empty.edn", WRONGLY_EMPTY.format(error))
+        left_out, reply = program.run("import", path), program.run("import", option, path)
+        said = [it for it in left_out.err.decode().splitlines() if it.startswith("fcbench: warning: left out: 1 failed :dequeue with ")]
+        report.equal(f"import: {error}: warnings", (0, int(warns), b""), (left_out.status, len(said), reply.err), left_out.err)
+        statuses = [program.run("judge", program.write("text.edn", it.out)).status for it in (left_out, reply)]
+        report.equal(f"import: {error}: {option} makes a no of a yes", [0, 1], statuses)
+
+
+def failed_swaps(program, report):
+    """Failed swaps are left out with a warning. With the option a store that refuses a swap that it should make gets a no."""
+    for error, option in SWAPS:
+        path = program.write("refusing.edn", WRONGLY_REFUSED.format(error))
+        left_out, reply = program.run("import", path), program.run("import", option, path)
+        is_said = left_out.err.startswith(b"fcbench: warning: left out: 1 failed :cas with") and left_out.err.count(b"\n") == 1
+        report.equal(f"import: a swap with {error}: warnings", (0, True, b""), (left_out.status, is_said, reply.err), left_out.err)
+        statuses = [program.run("judge", program.write("text.edn", it.out)).status for it in (left_out, reply)]
+        report.equal(f"import: a swap with {error}: {option} makes a no of a yes", [0, 1], statuses)
+
+
+def standard_input(program, report):
+    """import - reads standard input; gzip is named; an initial value of no register is warned of."""
+    ran = subprocess.run(program.line(("import", "-")), input=STORE.encode(), capture_output=True, cwd=program.room, check=False)
+    report.equal("import -: standard input", (0, TEXT, b""), (ran.returncode, ran.stdout, ran.stderr))
+    path = program.write("store.edn.gz", gzip.compress(STORE.encode()))
+    report.answers("import: gzip", program.run("import", path), "", 4, f"fcbench: cannot read {path}: this is gzip: zcat it first\n")
+    path = program.write("queue.edn", WRONGLY_EMPTY.format(":error :gone"))
+    ran = program.run("import", "--initial", "0", path)
+    report.equal("import: --initial without a register", (0, b"fcbench: warning: --initial writes nothing: the history has no register that it names\n"), (ran.status, ran.err))
+
+
+def imports_are_refused(program, report):
+    """What cannot be mapped is named with its line, and files that cannot be read or written are named."""
+    for text, why in REFUSED:
+        path = program.write("refused.edn", text)
+        ran = program.run("import", path)
+        report.holds(f"import: {why}", (ran.status, ran.out) == (2, b"") and ran.err.decode().startswith(f"fcbench: {path}, {why}"), ran)
+    store, missing = program.write("store.edn", STORE), f"{program.room}/not_there/names.edn"
+    for words, says in ((("import", missing), f"cannot read {missing}"), (("import", "--names", missing, store), f"cannot write {missing}")):
+        ran = program.run(*words)
+        report.holds(f"import: {says}", (ran.status, ran.out) == (4, b"") and ran.err.decode().startswith(f"fcbench: {says}"), ran)
+    twice = program.write("twice.edn", "{:value 1, :is :a} {:value 2, :is :a}")
+    ran = program.run("judge", "--names", twice, program.write("imported.edn", TEXT))
+    report.holds("judge: a table of names that is not one to one", ran.status == 2 and b":a is value 2, and another value too" in ran.err, ran)
+    report.holds("import: no file is left", not os.path.exists(missing))
+
+
+# ---- generated files
+
+FILES = 500
+KEYS = (":x", ":test/y", '"k 1"', '"a \\"b\\", {c} [d]"', "3", "70000", "-1")
+VALUES = (":v{}", ":test/v{}", '"job {}"', '"{} \\\\ [:a, nil] }}"', "{}", "-{}", "1{}000000000000000000000")
+PROCESSES = ("0", "7", '"n1"', '"n 2, b"')
+
+
+def drawn(seed):
+    """A file of calls of one process after another on the registers of some keys, its key and value that is read after it was replaced, and
+    the number of the event and the process that reads it."""
+    rng, last, events = random.Random(f"imported {seed}"), {}, []
+    keys = rng.sample(KEYS, rng.randrange(1, len(KEYS)))
+
+    def call(f, key, value, reply):
+        process = rng.choice(PROCESSES)
+        for kind, it in (("invoke", value), ("ok", reply)):
+            events.append(f"{{:index {len(events)}, :time {len(events) * 1000}, :process {process}, :type :{kind}, :f :{f}, :value [{key} {it}]}}")
+        return process
+
+    def write(key):
+        last[key] = rng.choice(VALUES).format(len(events) + 10)
+        call("write", key, last[key], last[key])
+
+    for _ in range(rng.randrange(12)):
+        key = rng.choice(keys)
+        if rng.random() < 0.5:
+            write(key)
+        else:
+            call("read", key, "nil", last.get(key, "nil"))
+        if rng.random() < 0.1:
+            events.append(f"{{:index {len(events)}, :process :nemesis, :type :info, :f :start, :value {{\"n1\" #{{:cut}}}}}}")
+    key = rng.choice(keys)
+    write(key)
+    old = last[key]
+    write(key)
+    place = len(events)
+    process = call("read", key, "nil", old)
+    form = rng.choice(("{}", "[{}]"))
+    tag = rng.choice(("", "#jepsen.history.Op"))
+    return form.format("\n".join(tag + it for it in events)), events, key, old, place, process
+
+
+def named(table, sort, number):
+    return table.get((sort, number), number)
+
+
+def told_back(events, text, table):
+    """Whether each operation of a text has the words of its event, by the table of names."""
+    for event, line in zip(events, text.splitlines(), strict=True):
+        found = re.fullmatch(r"{:process (\d+), :type :(\w+), :f :(\w+), :value (-?\d+|nil), :object (\d+), :time (\d+), :index (\d+)}", line)
+        if not found:
+            of_nemesis = re.fullmatch(r"{:process :nemesis, :f :(\w+), :index (\d+)}", line)
+            if not of_nemesis or not event.startswith("{:index %s, :process :nemesis, :type :info, :f :%s, " % of_nemesis.group(2, 1)):
+                return False
+            continue
+        process, kind, f, value, on, moment, index = found.groups()
+        words = f"[{named(table, 'object', on)} {named(table, 'value', value)}]"
+        if event != f"{{:index {index}, :time {moment}, :process {named(table, 'process', process)}, :type :{kind}, :f :{f}, :value {words}}}":
+            return False
+    return True
+
+
+def judged_in_words(program, seed):
+    """What is wrong with the import of a generated file and its judgement in the words of the file, or None."""
+    file, events, key, old, place, process = drawn(seed)
+    stem = f"generated.{seed}"
+    store, names = program.write(f"{stem}.edn", file), f"{program.room}/{stem}.names.edn"
+    made = program.run("import", "--independent", "--names", names, store)
+    with open(names, encoding="utf-8") as lines:
+        entries = [re.fullmatch(r"{:(\w+) (-?\d+), :is (.*)}\n", line).groups() for line in lines]
+    table = {(sort, number): name for sort, number, name in entries}
+    if not len(entries) == len(table) == len({(sort, name) for sort, _, name in entries}):
+        return f"not one to one: {entries}"
+    if made.status != 0 or not told_back(events, made.out.decode(), table):
+        return f"other words: {file} {made}"
+    ran = program.run("judge", "--names", names, program.write(f"{stem}.text.edn", made.out))
+    own = next((number for (sort, number), name in table.items() if (sort, name) == ("object", key)), None)
+    on = key if own is None else f"{own}, which is {key}"
+    wanted = (f"; object {on}: impossible\n", f"; events {place} and {place + 1}: process {process}, :read nil, :ok {old}\n")
+    return None if ran.status == 1 and all(it in ran.out.decode() for it in wanted) else f"{wanted}: {file} {ran}"
+
+
+def generated_files(program, report):
+    """Files of tuples, keywords and strings: each operation of the text has the words of the file, by a table that is one to one, and so has
+    the operation that judge names as impossible."""
+    for seed, wrong in enumerate(at_once(lambda seed: judged_in_words(program, seed), range(FILES))):
+        report.equal(f"import: generated file {seed}", None, wrong)
+    return f"{FILES} files"
+
+
+PARTS = (imports, failed_operations, failed_swaps, standard_input, imports_are_refused, generated_files)

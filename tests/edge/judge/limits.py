@@ -1,0 +1,141 @@
+"""Judgements that are stopped, by --seconds or by SIGTERM: judge answers what was found by then, and never what does not hold."""
+import itertools
+import os
+import re
+import signal
+import subprocess
+import time
+
+from .. import texts
+from ..rows import yes
+from ..running import SECONDS, Ran, at_once
+from ..terminals import on_terminal
+from ..verify import worked_evidence
+from .bad_finders import FEW, Judged, finder, is_gone, why_wrong
+
+# A search of one object tries some 100,000 orders, so that of all of them takes many seconds of one worker.
+WRITES, OBJECTS = 14, 300
+
+
+def register(on):
+    """The maps of a register that has one order, which is hard to find: of writes at once the one that returned first is the last, since none of
+    the other values was there when they were looked for."""
+    process = on * 100
+    writes = [(texts.invoke(process + it, "write", it, on), texts.ok(process + it, "write", it, on)) for it in range(WRITES)]
+    looked = [call for it in range(WRITES - 1, 0, -1) for call in (texts.invoke(process, "cas", (it, -1), on), texts.ok(process, "cas", False, on))]
+    return [*(begun for begun, _ in writes), *(ended for _, ended in writes), *looked]
+
+
+def long_history(first):
+    """A text of many such registers, and before them an object 0 of these maps."""
+    return first + texts.lines(*[it for on in range(1, OBJECTS) for it in register(on)])
+
+
+YES = texts.lines(texts.invoke(0, "enqueue", 1, 0), texts.ok(0, "enqueue", 1, 0))
+LONG = (Judged("a long history", long_history(YES), 3, ""), Judged("a long history that is wrong", long_history(worked_evidence.TWICE), 1, ""))
+DONE = rb"objects done: (\d+) of (\d+), after \d+ s\n"
+STOPPED = b"fcbench: the finder is stopped\n"
+WARNING = rb"fcbench: warning: .*\n"
+
+
+def started(program, *words, env=None):
+    """Starts a command, of a group of processes of its own."""
+    own = {name: value for name, value in os.environ.items() if name not in ("FCBENCH", "FCBENCH_FINDER")}
+    return subprocess.Popen(program.line(words), stdin=subprocess.DEVNULL, stdout=subprocess.PIPE, stderr=subprocess.PIPE,
+                            env={**own, **(env or {})}, cwd=program.room, start_new_session=True)
+
+
+def ended(child):
+    """What a command gave that was started."""
+    out, err = child.communicate(timeout=SECONDS)
+    return Ran(child.returncode, out, re.sub(WARNING, b"", err))
+
+
+def ended_by(send):
+    """The same of one that gets a signal after a second."""
+    def end(child):
+        time.sleep(1)
+        send(child)
+        return ended(child)
+    return end
+
+
+# What stops a judgement: an option, or a signal. timeout sends it to all processes of the judgement.
+STOPS = {
+    "--seconds": (("--seconds", "1"), ended),
+    "SIGTERM": ((), ended_by(subprocess.Popen.terminate)),
+    "SIGTERM to all": ((), ended_by(lambda child: os.killpg(child.pid, signal.SIGTERM))),
+}
+
+
+def stopped_searches(program, report):
+    """A long search is stopped: the objects that were reached are decided, and the others are open. One worker takes them in turn."""
+    most = 0
+    for (number, it), (name, (options, end)) in itertools.product(enumerate(LONG), STOPS.items()):
+        path = program.write(f"stopped.{number}.edn", it.text)
+        ran = end(started(program, "judge", "--workers", "1", *options, path))
+        name = f"judge: {name}: {it.name}"
+        said = re.fullmatch(b"fcbench: stopped, " + DONE, ran.err)
+        report.holds(f"{name}: standard error", said and int(said[2]) == OBJECTS, ran)
+        done = int(said[1]) if said else 0
+        most = max(most, done)
+        report.holds(f"{name}: some objects were done, and some were not", 0 < done < OBJECTS, ran)
+        report.equal(f"{name}: the status", it.status, ran.status, ran)
+        report.equal(f"{name}: the answer", None, why_wrong(program, it, ran))
+        found = [int(it) for it in re.findall(rb"; object (\d+): open\n", ran.out)]
+        report.equal(f"{name}: the objects that are open", list(range(done, OBJECTS)), found, ran)
+    return f"at most {most} of {OBJECTS} objects were done"
+
+
+def stopped_finds(program, report):
+    """find writes whole lines of what it has, and says how much that is. A limit that is not reached changes nothing."""
+    path = program.write("stopped.edn", LONG[0].text)
+    ran = ended(started(program, "find", "--workers", "1", "--seconds", "1", path))
+    said = re.fullmatch(b"; stopped, " + DONE, ran.err)
+    is_whole = re.fullmatch(rb"({:object \d+, :order \[[\d ]+\]}\n)+", ran.out)
+    report.holds("find: --seconds", ran.status == 3 and said and is_whole and ran.out.count(b"\n") == int(said[1]), ran)
+    one, none = program.write("one.edn", texts.lines(*register(0))), program.write("none.edn", "")
+    calls = 2 * WRITES - 1
+    report.answers("judge: a limit that is not reached", program.run("judge", "--seconds", "100", one), yes(calls, 1, f"register: 1 objects, {calls} operations"), 0)
+    report.answers("judge: a limit, and no object", program.run("judge", "--seconds", "1", none), yes(0, 0), 0)
+
+
+# How a finder goes on after its evidence.
+GOING_ON = {
+    "it sleeps": "exec sleep 1000",
+    "it takes no notice of SIGTERM": "trap '' TERM; while :; do sleep 0.1; done",
+}
+
+
+def stopped_finders(program, report):
+    """Other finders are stopped too, and what they wrote is judged."""
+    def stopped(case):
+        (number, (name, script)), (at, it) = case
+        path = finder(program, f"stopped.{number}.{at}", f'echo $$ > "$evidence.pid"\ncat "$evidence"\n{script}', it.evidence)
+        text = program.write(f"stopped.{number}.{at}.history.edn", it.text)
+        ran = ended(started(program, "judge", "--seconds", "1", text, env={"FCBENCH_FINDER": path}))
+        return f"judge: --seconds: {name}: {it.name}", it, ran, is_gone(f"{path}.edn.pid")
+
+    for name, it, ran, gone in at_once(stopped, itertools.product(enumerate(GOING_ON.items()), enumerate(FEW))):
+        report.equal(f"{name}: the status", it.status, ran.status, ran)
+        report.equal(f"{name}: standard error", STOPPED, ran.err)
+        report.holds(f"{name}: the finder is gone", gone)
+
+
+def progress(program, report):
+    """On a terminal judge says how many objects are done, after 2 and 4 seconds; elsewhere it does not."""
+    path = program.write("progress.edn", LONG[0].text)
+    words = ("judge", "--workers", "1", "--seconds", "6", path)
+    ran, _ = on_terminal(program, words)
+    told = re.findall(rb"fcbench: (?:stopped, )?objects done: (\d+) of (\d+), after (\d+) s\r\n", ran.err)
+    done = [int(it) for it, _, _ in told]
+    times = [int(at) for _, _, at in told]
+    # The finder begins a little later than judge, whose limit it is.
+    is_in_time = len(times) == 3 and times[:2] == [2, 4] and 4 <= times[2] <= 6
+    report.holds("judge: progress on a terminal: its times", is_in_time, ran)
+    report.equal("judge: progress on a terminal: all objects", {b"%d" % OBJECTS}, {all_objects for _, all_objects, _ in told}, ran)
+    report.holds("judge: progress on a terminal: it rises", done == sorted(done) and done[:1] < done[-1:], ran)
+    report.equal("judge: no progress elsewhere", 1, ended(started(program, *words)).err.count(b"objects done: "))
+
+
+PARTS = (stopped_searches, stopped_finds, stopped_finders, progress)

@@ -1,0 +1,1 @@
+"""Tests of run and simulate, and of the desk."""

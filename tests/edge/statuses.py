@@ -1,0 +1,145 @@
+"""The table of exit statuses in docs/formats.md: each of its cells has an example here that ends so, and no other status has one."""
+import re
+
+from . import rows
+from .rows import CERTIFICATES, EVIDENCE, HISTORY, REASONS, SCHEDULE
+from .running import ROOT
+
+# The text of each file.
+FILES = {
+    HISTORY: rows.OVERLAPPING,
+    CERTIFICATES: rows.order(1, 0, 4),
+    EVIDENCE: rows.order(1, 0, 4),
+    SCHEDULE: rows.SERVED_BY_ANOTHER,
+    "no.edn": rows.OUT_OF_ORDER,
+    "bad.edn": rows.AFTER_INFO,
+    "long.edn": rows.FIRST_WRITE_LAST,
+    "other.edn": rows.order(0, 1, 4),
+    "empty.edn": "",
+    "three.edn": rows.THREE_VALUES,
+    REASONS: rows.TWO_OF_THREE,
+    "waits.edn": rows.lines(rows.ONE_CLIENT),
+    "names.edn": "{:value 1, :is :a} {:value 2, :is :a}",
+}
+FULL = "/dev/full"
+NO_VERIFIER = {"env": {"FCBENCH": "/not/there"}}
+NO_MEMORY = {"faults": {"REFUSE_AT": 1}}
+
+
+def of_files(command, *others):
+    """The examples that each command on a history has: a malformed one, files that are not there, an output that fails, and wrong words."""
+    yield 2, (command, "bad.edn", *others)
+    yield 4, (command, "missing.edn", *others)
+    yield 4, (command, HISTORY, *others), {"stdout": FULL}
+    yield 64, (command,)
+    yield 64, (command, HISTORY, *others, "--no-such-option")
+
+
+# Of each command of the table its examples: the status, the words, and how they are run.
+EXAMPLES = {
+    "judge": [
+        (0, ("judge", HISTORY)),
+        (1, ("judge", "no.edn")),
+        (2, ("judge", "--names", "names.edn", HISTORY)),
+        (3, ("judge", "long.edn", "--steps", "0")),
+        (70, ("judge", HISTORY), NO_VERIFIER),
+        *of_files("judge"),
+    ],
+    # That the finder fails is a fault of its own, of which tools/fcbench-tools/src/find.rs has a test.
+    "find": [(0, ("find", HISTORY)), (3, ("find", "no.edn")), (70, None), *of_files("find")],
+    "verify": [
+        (0, ("verify", HISTORY, EVIDENCE)),
+        (1, ("verify", "three.edn", REASONS)),
+        (3, ("verify", HISTORY, "empty.edn")),
+        (3, ("verify", HISTORY, "bad.edn")),
+        (3, ("verify", HISTORY, EVIDENCE), NO_MEMORY),
+        *of_files("verify", EVIDENCE),
+    ],
+    "check": [
+        (0, ("check", HISTORY, CERTIFICATES)),
+        (1, ("check", HISTORY, "other.edn")),
+        (2, ("check", HISTORY, REASONS)),
+        (3, ("check", HISTORY, CERTIFICATES), NO_MEMORY),
+        (4, ("check", HISTORY, "missing.edn")),
+        *of_files("check", CERTIFICATES),
+    ],
+    "refute": [
+        (1, ("refute", "three.edn", REASONS)),
+        (2, ("refute", "three.edn", "names.edn")),
+        (3, ("refute", "three.edn", "empty.edn")),
+        (3, ("refute", "three.edn", REASONS), NO_MEMORY),
+        *of_files("refute", REASONS),
+    ],
+    "search": [
+        (0, ("search", HISTORY)),
+        (1, ("search", "no.edn")),
+        (3, ("search", "long.edn", "--steps", "0")),
+        (3, ("search", HISTORY), NO_MEMORY),
+        *of_files("search"),
+    ],
+    "draw": [
+        (0, ("draw", HISTORY)),
+        (0, ("draw", HISTORY, CERTIFICATES)),
+        (1, ("draw", "no.edn")),
+        (1, ("draw", HISTORY, "other.edn")),
+        (3, ("draw", "long.edn", "--steps", "0")),
+        (70, ("draw", HISTORY), NO_VERIFIER),
+        *of_files("draw"),
+    ],
+    "import": [(0, ("import", HISTORY)), (4, ("import", "--names", "missing/names.edn", HISTORY)), *(it for it in of_files("import") if it[0] != 2), (2, ("import", REASONS))],
+    "run": [
+        (0, ("run", "--calls", "2")),
+        (3, ("run", "--calls", "2"), NO_MEMORY),
+        (4, ("run", "--calls", "2"), {"stdout": FULL}),
+        (64, ("run", "h.edn")),
+    ],
+    "simulate": [
+        (0, ("simulate", SCHEDULE)),
+        (2, ("simulate", "waits.edn")),
+        (3, ("simulate", SCHEDULE), NO_MEMORY),
+        *of_files("simulate"),
+    ],
+    "--help": [
+        *((0, (word,)) for word in ("--help", "help", "--version", "-V")),
+        (3, ("--help",), NO_MEMORY),
+        (4, ("--help",), {"stdout": FULL}),
+    ],
+}
+
+
+def in_table():
+    """The statuses of each command that docs/formats.md has, by the first name in its row."""
+    with open(f"{ROOT}/docs/formats.md", encoding="utf-8") as file:
+        text = file.read().partition("\n## Exit statuses\n")[2].partition("\n## ")[0]
+    head, _, *those = re.findall(r"^\|(.*)\|$", text, re.M)
+    statuses = [int(it) for it in head.split("|")[1:]]
+    for row in those:
+        name, *cells = (it.strip() for it in row.split("|"))
+        yield name.partition("`")[2].partition("`")[0], {status for status, cell in zip(statuses, cells, strict=True) if cell != "-"}
+
+
+def ended(program, words, stdout=None, **how):
+    """The run of these words. A file may take its output."""
+    if stdout is None:
+        return program.run(*words, **how)
+    with open(stdout, "wb") as file:
+        return program.run(*words, stdout=file, **how)
+
+
+def each_status(program, report):
+    """Each cell of the table has an example that ends so. With 4, 64 and 70 nothing is printed, and with 64 standard error says why."""
+    for name, text in FILES.items():
+        program.write(name, text)
+    table = dict(in_table())
+    report.equal("statuses: the commands of the table", list(EXAMPLES), list(table))
+    for command, examples in EXAMPLES.items():
+        report.equal(f"statuses: those of {command} that have an example", table.get(command), {it[0] for it in examples})
+        for status, words, *how in examples:
+            if words is None:
+                continue
+            ran = ended(program, words, **(how[0] if how else {}))
+            is_well = ran.status == status and (status < 4 or not ran.out) and (status != 64 or ran.err.startswith(b"error: "))
+            report.holds(f"statuses: {status}: {' '.join(words)} {how or ''}", is_well, ran)
+
+
+PARTS = (each_status,)

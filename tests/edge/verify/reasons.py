@@ -1,0 +1,303 @@
+"""What judge and refute say of histories that are not linearizable.
+
+Each operation that is told must be one of the history, and the operations must have no valid order. Both are checked here
+anew: the history is read, and all orders are tried, by code that shares nothing with the program."""
+import functools
+import os
+import re
+import threading
+
+from .. import rows
+from ..running import EXAMPLES
+from ..texts import lines
+
+VALUE = r"nil|false|-?\d+|\[-?\d+ -?\d+\]"
+TOLD = re.compile(
+    rf"events? (\d+)(?: and (\d+))?: process (\d+), :([\w-]+) ({VALUE})(?:, :ok ({VALUE}))?"
+    rf"(?:, counted as :([\w-]+) ({VALUE})(?:, :ok ({VALUE}))?)?(, pending)?"
+)
+IMPOSSIBLE = re.compile(r"; object (\d+): impossible")
+OPEN = re.compile(r"; object (\d+): (open|out of memory|out of steps after \d+)")
+# Of more operations than these not all orders are tried.
+MOST_ORDERED = 12
+
+
+def value_of(word):
+    """The value that a word of EDN is: an integer, None for nil, False, or a pair."""
+    if word in (None, "nil"):
+        return None
+    if word == "false":
+        return False
+    numbers = tuple(int(it) for it in re.findall(r"-?\d+", word))
+    return numbers if word.startswith("[") else numbers[0]
+
+
+@functools.lru_cache(maxsize=16)
+def maps_of(history):
+    """The maps of a history, each with its process, type, function, value and object."""
+    found = []
+    for text in re.findall(r"\{[^{}]*\}", history):
+        fields = dict(re.findall(rf":(process|type|f|value|object) (:[\w-]+|{VALUE})", text))
+        found.append(fields)
+    return found
+
+
+# ---- the objects
+
+
+def next_of_queue(content, f, argument):
+    if f == "enqueue":
+        return content + (argument,), argument
+    return content[1:], content[0] if content else None
+
+
+def next_of_stack(content, f, argument):
+    if f == "push":
+        return content + (argument,), argument
+    return content[:-1], content[-1] if content else None
+
+
+def next_of_heap(content, f, argument):
+    if f == "insert":
+        return tuple(sorted(content + (argument,))), argument
+    return content[1:], content[0] if content else None
+
+
+def next_of_register(content, f, argument):
+    now = content[0] if content else None
+    if f == "read":
+        return content, now
+    if f == "write":
+        return (argument,), argument
+    return ((argument[1],), argument) if now == argument[0] else (content, False)
+
+
+def next_of_map(content, f, argument):
+    of = dict(content)
+    key = argument[0] if f == "put" else argument
+    before = of.get(key)
+    if f == "put":
+        of[key] = argument[1]
+    elif f == "del":
+        of.pop(key, None)
+    return tuple(sorted(of.items())), before
+
+
+def next_of_mutex(content, f, argument):
+    if (f == "acquire") == bool(content):
+        return None
+    return (("held",) if f == "acquire" else ()), None
+
+
+NEXT = {
+    **dict.fromkeys(("enqueue", "dequeue"), next_of_queue),
+    **dict.fromkeys(("push", "pop"), next_of_stack),
+    **dict.fromkeys(("insert", "extract-min"), next_of_heap),
+    **dict.fromkeys(("read", "write", "cas"), next_of_register),
+    **dict.fromkeys(("put", "get", "del"), next_of_map),
+    **dict.fromkeys(("acquire", "release"), next_of_mutex),
+}
+
+
+def has_order(calls):
+    """Whether some order of the calls is valid. A call is a number, a return or None, a function, its argument and its reply."""
+    calls = tuple(calls)
+
+    @functools.lru_cache(maxsize=None)
+    def goes_on(left, content):
+        ends = [calls[it][1] for it in left if calls[it][1] is not None]
+        if not ends:
+            return True
+        for it in left:
+            number, at, f, argument, reply = calls[it]
+            if any(end < number for end in ends if end != at):
+                continue
+            taken = NEXT[f](content, f, argument)
+            if taken and (at is None or taken[1] == reply) and goes_on(left - {it}, taken[0]):
+                return True
+        return False
+
+    return goes_on(frozenset(range(len(calls))), ())
+
+
+# ---- counts
+
+
+def sets_and_takes(count, f, argument, reply, has_returned):
+    """How often a call sets what is counted, and takes it away."""
+    if "held" in count or "free" in count:
+        gives, takes = ("acquire", "release") if "held" in count else ("release", "acquire")
+        return f == gives, f == takes and has_returned
+    key, value = count.get("key"), count.get("value")
+    if key is None:
+        sets = f in ("enqueue", "push", "insert", "write") and argument == value
+        sets |= f == "cas" and argument[1] == value and (reply is not False or not has_returned)
+        takes = has_returned and f in ("dequeue", "pop", "extract-min") and reply == value
+        return sets, takes or has_returned and f == "cas" and reply is not False and argument[0] == value
+    if f == "get" or (argument[0] if f == "put" else argument) != key:
+        return False, False
+    if value is None:
+        sets = f == "del" and (not has_returned or reply is not None)
+        return sets, f == "put" and has_returned and reply is None
+    return f == "put" and argument[1] == value, has_returned and reply == value
+
+
+def is_overdrawn(count, calls):
+    """Whether a content is taken away more often, in the calls from a number on, than it can have been there."""
+    start, sets, takes = count["from"], 0, 0
+    for number, at, f, argument, reply in calls:
+        gives, takes_away = sets_and_takes(count, f, argument, reply, at is not None)
+        sets += gives and not (at is not None and at < start)
+        takes += takes_away and number >= start
+    is_there_at_first = "free" in count or ("key" in count and "value" not in count)
+    return takes > sets + (is_there_at_first if start == 0 else 1)
+
+
+PUTS, REMOVALS = ("enqueue", "push", "insert"), ("dequeue", "pop", "extract-min")
+
+
+def is_settled(f, found, start, puts):
+    """Whether, where a pop found a value, each push of it had returned before a number."""
+    return f != "pop" or found is None or all(at is not None and at < start for _, at, _, value, _ in puts if value == found)
+
+
+def is_blocked(count, calls):
+    """Whether more values definitely were ahead of what a removal found than others can have taken out before it."""
+    puts, removals = [it for it in calls if it[2] in PUTS], [it for it in calls if it[2] in REMOVALS]
+    own = next((it for it in removals if it[0] == count["ahead"] and it[1] is not None), None)
+    start = count.get("from", 0)
+    if own is None or not is_settled(own[2], own[4], start, puts):
+        return False
+    number, returned, f, _, found = own
+    before = number
+    if f == "dequeue" and found is not None:
+        before = min(number, next((it[0] for it in puts if it[3] == found), 0))
+    can_be_ahead = lambda value: f != "extract-min" or found is None or value < found
+    ahead = [it for it in puts if can_be_ahead(it[3]) and it[1] is not None and it[1] < before and it[0] >= start]
+    others = [it for it in removals if it[0] != number and it[0] <= returned]
+    return len(ahead) > sum(at is None or reply is not None and can_be_ahead(reply) for _, at, _, _, reply in others)
+
+
+def count_in(reason):
+    """The count that a reason names, or None."""
+    found = re.search(r":count \{([^}]*)\}", reason)
+    if not found:
+        return None
+    return {name: value == "true" or int(value) for name, value in re.findall(r":(\w+) (true|-?\d+)", found[1])}
+
+
+# ---- what is told
+
+
+def has_failed(maps, number):
+    """Whether the next map of the process that invoked the operation at this map says that it failed."""
+    process = maps[number]["process"]
+    return next((it["type"] == ":fail" for it in maps[number + 1 :] if it["process"] == process), False)
+
+
+def is_of_history(maps, told, on):
+    """Whether the history has such a call, which did not fail: its invocation and its return at these maps, on this object."""
+    number, at, process, f, argument, reply = (told[it] for it in range(1, 7))
+    begun = maps[int(number)]
+    is_begun = (begun["type"], begun["process"], begun["f"]) == (":invoke", process, f":{f}")
+    is_begun &= value_of(begun.get("value")) == value_of(argument) and int(begun.get("object", 0)) == on
+    if at is None:
+        return is_begun and reply is None and told[10] is not None and not has_failed(maps, int(number))
+    ended = maps[int(at)]
+    is_ended = (ended["type"], ended["process"], ended["f"]) == (":ok", process, f":{f}")
+    return is_begun and is_ended and value_of(ended.get("value")) == value_of(reply) and told[10] is None
+
+
+def call_of(told):
+    """The call as the part counts it."""
+    f, argument, reply = (told[7], told[8], told[9]) if told[7] else (told[4], told[5], told[6])
+    at = int(told[2]) if told[2] else None
+    return int(told[1]), at, f, value_of(argument), value_of(reply)
+
+
+def why_not_shown(history, on, operations, reason):
+    """What is wrong with the operations that are told of an object, or None: they are of the history, and have no valid order."""
+    maps, calls = maps_of(history), []
+    for line in operations:
+        told = TOLD.fullmatch(line)
+        if not told:
+            return f"no operation: {line}"
+        if not is_of_history(maps, told, on):
+            return f"not in the history: {line}"
+        calls.append(call_of(told))
+    count = count_in(reason)
+    if count:
+        is_exceeded = is_blocked if "ahead" in count else is_overdrawn
+        return None if is_exceeded(count, calls) else "the count is not exceeded"
+    if not calls or len(calls) <= MOST_ORDERED and has_order(calls):
+        return "the operations have a valid order"
+    return None
+
+
+def explained_in(out):
+    """The objects that a judgement calls impossible, each with its operations and its reason; and the lines besides."""
+    found, others = [], []
+    for line in out.decode().splitlines():
+        if IMPOSSIBLE.fullmatch(line):
+            found.append((int(IMPOSSIBLE.fullmatch(line)[1]), []))
+        elif found and not OPEN.fullmatch(line):
+            found[-1][1].append(line.removeprefix("; "))
+        else:
+            others.append(line)
+    return [(on, without_sentence(told[:-1]), told[-1] if told else "") for on, told in found], others
+
+
+def without_sentence(told):
+    """The lines that are told of an object without the sentence, where it has one."""
+    return told if not told or TOLD.fullmatch(told[0]) else told[1:]
+
+
+def operations_on(history, on):
+    """How many operations of an object did not fail."""
+    open_calls, count = {}, 0
+    for it in maps_of(history):
+        if int(it.get("object", 0)) != on or not it["process"].isdigit():
+            continue
+        if it["type"] == ":invoke":
+            count += 1
+        count -= it["type"] == ":fail"
+    return count
+
+
+def refuted(history, on, operations):
+    """What refute says of a reason whose part has these operations."""
+    return lines(f"not linearizable: object {on}: {len(operations)} of {operations_on(history, on)} operations have no valid order", *operations)
+
+
+def why_not_explained(program, history, ran):
+    """What is wrong with a judgement that ends with 1, or None. Each of its reasons is also handed to refute."""
+    found, others = explained_in(ran.out)
+    if ran.status != 1 or not found or any(not OPEN.fullmatch(it) for it in others):
+        return f"no judgement: {ran}"
+    stem = f"explained.{os.getpid()}.{threading.get_ident()}"
+    name = program.write(f"{stem}.history.edn", history)
+    for on, operations, reason in found:
+        wrong = why_not_shown(history, on, operations, reason)
+        if wrong:
+            return f"object {on}: {wrong}"
+        again = program.run("refute", name, program.write(f"{stem}.reasons.edn", lines(reason)))
+        if (again.status, again.out.decode()) != (1, refuted(history, on, operations)):
+            return f"object {on}: refute says {again}"
+    return None
+
+
+def explanations(program, report):
+    """Where judge says that an object is impossible, the operations that it tells are of the history and have no valid order."""
+    cases = [(name, history, options) for name, history, *options in rows.NOT_LINEARIZABLE]
+    for name in sorted(os.listdir(EXAMPLES)):
+        stem, _, kind = name.partition(".")
+        if kind == "refuted":
+            with open(f"{EXAMPLES}/{stem}.history.edn") as file:
+                cases.append((f"example {stem}", file.read(), ()))
+    for name, history, options in cases:
+        ran = program.run("judge", *options, program.write(rows.HISTORY, history))
+        report.equal(f"judge: {name}: why it is not linearizable", None, why_not_explained(program, history, ran), ran)
+    report.holds("histories that are not linearizable are tried", len(cases) > 10, cases)
+
+
+PARTS = (explanations,)
