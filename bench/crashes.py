@@ -243,7 +243,7 @@ def part_of(ops, cuts):
 
 
 def is_blocked(kind, ops, number, start):
-    """Whether more surely was ahead of what a removal found than can have been taken out before it."""
+    """Whether more definitely was ahead of what a removal found than can have been taken out before it."""
     removal = next(o for o in ops if o.number == number)
     found, before = removal.reply, number
     own = [o for o in ops if found is not None and o.value == found]

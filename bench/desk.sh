@@ -3,7 +3,7 @@
 #
 #   (cd crates/desk_bench && rt run) && bench/desk.sh [ROUNDS]
 #
-# Each line has the kind, the number of threads, and then the desk (`call` and `call_at_once`), a Mutex and flat combining, without
+# Each line has the kind, the number of threads, and then the desk, a Mutex and flat combining, without
 # records and with.
 set -euo pipefail
 # What a round frees is kept for the next, so that no round pays for fresh pages.
@@ -15,8 +15,8 @@ peers=$here/combine_rs/out/release/combine
 # All of the desk first: nothing else is to run beside it.
 mapfile -t measured < <("$here/../crates/desk_bench/out/desk_bench" "$rounds")
 for line in "${measured[@]}"; do
-  read -r kind threads desk at_once <<<"$line"
+  read -r kind threads desk <<<"$line"
   plain=$("$peers" --kind "$kind" --threads "$threads" --calls 10000 --rounds "$rounds" --least)
   recorded=$("$peers" --kind "$kind" --threads "$threads" --calls 10000 --rounds "$rounds" --least --recorded)
-  echo "$kind $threads desk $desk, at once $at_once, plain mutex and flat ${plain#* }, recorded ${recorded#* }"
+  echo "$kind $threads desk $desk, plain mutex and flat ${plain#* }, recorded ${recorded#* }"
 done

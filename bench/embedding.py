@@ -3,7 +3,7 @@
 
     embedding.py DIR [PROGRAM [ROUNDS]]
 
-DIR is a folder for the texts. clients/build has made the library. Without PROGRAM only the short histories are timed. In each of the ROUNDS,
+DIR is a folder for the texts. callers/build has made the library. Without PROGRAM only the short histories are timed. In each of the ROUNDS,
 default 9, all rows are measured in turn. A row has the least and the middle of the rounds: the processor's time in the process and its kernel
 together, and then the time by the clock. The last line says whether the library is slower than the program, and then the status is 1."""
 import os

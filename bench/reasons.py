@@ -7,7 +7,7 @@ DIR is a folder of plant.py with the name KIND-CALLS-ATONCE-VALUES, where VALUES
 `PLAIN find FILE` run in turn, N times, but once where a run takes a second, and the least processor time of each counts. Each may take as many seconds of
 it as given. Answers are kept in DIR/answers.json, so that a run that was stopped can go on.
 
-What `judge` says is checked by tests/edge/reasons.py: the operations are of the history and have no valid order, or the count is exceeded.
+What `judge` says is checked by tests/edge/verify/reasons.py: the operations are of the history and have no valid order, or the count is exceeded.
 Broken are the histories of which one of the two gives a reason; linearizable those for which one of the two found an order; of the others
 nothing is known. The size is the number of operations that `judge` tells; that of a count is two. A row is printed for each
 DIR; with --together for all numbers of calls at once together. The ratio is the middle of those of the histories for which both gave a reason."""

@@ -1,27 +1,23 @@
 #!/usr/bin/env python3
-"""Writes docs/contracts.md: of each library crate its public functions, and of each function its clauses.
+"""Prints the contracts: of each library crate its public functions, and of each function its clauses.
 
-    docs/contract_list.py [--check]
+    docs/contract_list.py [CRATE..]     of these crates, or of all
 
 All of it comes from the source: what a crate is from the first lines of its lib.rt, what a function does from its doc comment, and what a
-clause says from the comment before it and from the clause itself. With --check nothing is written: the exit status is 1 where
-the page is another than the one that would be written."""
+clause says from the comment before it and from the clause itself. A clause that the script cannot read ends it with an error."""
 import os
 import re
 import sys
 
 from crate_tables import ROOT, groups
 
-PAGE = f"{ROOT}/docs/contracts.md"
 HEAD = """# The contracts, crate by crate
-
-This page is made from the source by [contract_list.py](contract_list.py), and the gate checks that it is up to date.
 
 Each public function is listed with its clauses: what it asks of its caller (*asks*), and what it promises. A clause has a name, except
 where a function has only one, and its text, after the comment that the source has before it. The text is in the words of
-[definitions.md](definitions.md): `IfOk result P` says that P holds of the result where it is Ok, and so `IfErr`, `IfSome`, `OnOk`.
+docs/definitions.md: `IfOk result P` says that P holds of the result where it is Ok, and so `IfErr`, `IfSome`, `OnOk`.
 `x.now` is what an argument refers to, `x.old` and `x.new` what it referred to before and after.
-[guarantees.md](guarantees.md) says what follows for a user of the program.
+docs/guarantees.md says what follows for a user of the program.
 """
 FN = re.compile(r"^( *)(pub )?(?:const )?(?:unsafe )?(extern \"C\" )?fn (\w+)")
 CLAUSE = re.compile(r"^ *(ensures|requires)(?: ([a-z_]\w*))? \{")
@@ -128,14 +124,14 @@ def first_paragraph(doc):
     return " ".join(doc[: doc.index("")] if "" in doc else doc)
 
 
-def page():
+def page(chosen):
     made = [HEAD]
     for heading, crates in groups():
         if heading.startswith("Tests"):
             continue
         rows = []
         for crate, _ in crates:
-            if not os.path.isfile(f"{ROOT}/crates/{crate}/src/lib.rt"):
+            if chosen and crate not in chosen or not os.path.isfile(f"{ROOT}/crates/{crate}/src/lib.rt"):
                 continue
             listed = [it for it in functions(crate) if it[2]]
             rows.append(f"\n### `{crate}`\n\n{about(crate)}")
@@ -151,17 +147,12 @@ def page():
     return "".join(made)
 
 
-def main(*options):
-    made = page()
-    if "--check" in options:
-        same = os.path.isfile(PAGE) and "\n".join(lines_of(PAGE)) == made
-        if not same:
-            print("docs/contracts.md is not up to date: docs/contract_list.py mends it")
-        return 0 if same else 1
-    with open(PAGE, "w") as file:
-        file.write(made)
-    return 0
+def main(*chosen):
+    own = {name for _, crates in groups() for name, _ in crates}
+    if unknown := set(chosen) - own:
+        sys.exit(f"contract_list.py: no such crate: {min(unknown)}")
+    print(page(chosen), end="")
 
 
 if __name__ == "__main__":
-    sys.exit(main(*sys.argv[1:]))
+    main(*sys.argv[1:])

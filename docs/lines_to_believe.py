@@ -14,8 +14,8 @@ import sys
 
 ROOT = os.path.dirname(os.path.dirname(os.path.realpath(__file__)))
 WORD = re.compile(r"[^\s(){}\[\],;.λ]+")
-# What judge and judge_history say of a yes.
-CLAUSES = {"judge_history": ("model.Linearizable.IsLinearizable", "events.Events.denoted", "events.Events.kind_at", "model.Orders.events"),
+# What a yes says of a history in memory, and what judge says of a text.
+CLAUSES = {"history": ("model.Linearizable.IsLinearizable", "events.Events.denoted", "events.Events.kind_at", "model.Orders.events"),
            "judge": ("judging.Texts.IsLinearizableText",),
            # What the lines of verify say of an object that is impossible.
            "reason": ("verifying.Decisions.IsRefutation",)}

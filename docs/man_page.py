@@ -51,11 +51,12 @@ def cells(row):
 
 
 def table(rows):
-    """Each row is a tag, and what belongs to it: the cell after it as it is, and the others with the heads of their columns."""
+    """Each row is a tag, and what belongs to it: the cell after it as it is, and the others with the heads of their columns. A head that is a number
+    is there in any case."""
     heads = cells(rows[0])
     for row in rows[2:]:
         tag, *rest = cells(row)
-        said = [cell if number == 0 else f"{heads[number + 1]}: {cell}" for number, cell in enumerate(rest) if cell]
+        said = [f"{head}: {cell}" if number or head.isdigit() else cell for number, (head, cell) in enumerate(zip(heads[1:], rest)) if cell not in ("", "-")]
         yield from (".TP", line(tag) or "\\&", line(". ".join(said)) or "\\&")
 
 

@@ -2,7 +2,7 @@
 """Records a queue that four threads use, as a history for fcbench.
 
     docs/record_queue.py [--fixed] > queue.history.edn
-    docs/record_queue.py [--fixed] --judge          judges it in place, by the library that clients/build makes
+    docs/record_queue.py [--fixed] --judge          judges it in place, by the library that callers/build makes
 
 The queue is a list with two indices. Its dequeue reads the index of the head and then moves it: without a lock (the bug) two threads can
 take the same value. With --fixed it holds a lock meanwhile."""
@@ -12,7 +12,7 @@ import sys
 import threading
 import time
 
-sys.path.insert(0, os.path.join(os.path.dirname(os.path.abspath(__file__)), "..", "clients", "python"))
+sys.path.insert(0, os.path.join(os.path.dirname(os.path.abspath(__file__)), "..", "callers", "python"))
 from recorder import Recorder  # noqa: E402
 
 THREADS, CALLS = 4, 50
