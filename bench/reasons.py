@@ -25,7 +25,7 @@ sys.dont_write_bytecode = True
 HERE = os.path.dirname(os.path.realpath(__file__))
 sys.path.insert(0, os.path.join(HERE, os.pardir, "tests"))
 
-from edge.reasons import explained_in, why_not_shown  # noqa: E402
+from edge.verify.reasons import explained_in, why_not_shown  # noqa: E402
 
 MAPS = re.compile(r"maps? (\d+)(?: and (\d+))?:")
 

@@ -1,4 +1,4 @@
-"""Checks that documents agree with the code: tables of crates, contracts, counts of lines to believe, links, and words to avoid."""
+"""Checks that documents agree with the code: tables of crates, contracts, counts of lines to believe, links, words to avoid, and scripts."""
 import glob
 import io
 import os
@@ -197,4 +197,13 @@ def snippets(program, report):
         report.equal(f"snippets: lines of {recorder} that no test has", [], lacks)
 
 
-PARTS = (documents, links, named_clauses, plain_words, snippets)
+def usages(program, report):
+    """Each script that reads its words by argparse says its usage, so that what it imports is there."""
+    scripts = [it for it in sorted(glob.glob(f"{ROOT}/bench/*.py") + glob.glob(f"{ROOT}/tests/*")) if os.path.isfile(it) and "argparse" in read(it)]
+    report.holds("usages: there are some", len(scripts) >= 5, scripts)
+    for script in scripts:
+        ran = subprocess.run([sys.executable, script, "--help"], capture_output=True, text=True)
+        report.holds(f"usages: {os.path.relpath(script, ROOT)} --help", ran.returncode == 0 and "options:" in ran.stdout, ran)
+
+
+PARTS = (documents, links, named_clauses, plain_words, snippets, usages)
