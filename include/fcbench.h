@@ -23,7 +23,7 @@
  * Each call answers an exit status of the program's command, below, and writes the command's lines
  * into `out`: at most `capacity` bytes, without a zero byte after them. `*needed` is how many bytes
  * the lines are. Where it is more than `capacity` the lines are cut there: call again with that
- * much room for all of them. The status is right either way, so who wants no lines passes NULL and 0.
+ * much room for all of them. The status is right either way, so pass NULL and 0 if you do not need the lines.
  */
 #ifndef FCBENCH_H
 #define FCBENCH_H
@@ -65,7 +65,7 @@ uint32_t fcbench_refute(const uint8_t *history, size_t history_length,
                         const uint8_t *reasons, size_t reasons_length, uint32_t steps,
                         uint8_t *out, size_t capacity, size_t *needed);
 
-/* Checks evidence from anybody, which may be any bytes: orders, reasons and searches for the objects
+/* Checks evidence from any source, which may be any bytes: orders, reasons and searches for the objects
  * of the history. Judges the history by what they show. A search for which the evidence names no
  * number of steps takes at most `steps` steps. */
 uint32_t fcbench_verify(const uint8_t *history, size_t history_length,

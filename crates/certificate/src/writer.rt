@@ -21,7 +21,7 @@ fn write_between<S: Sink>(first: bool, sink: &mut S) -> Result<(), Failed>
     write_bytes(if first { b"" } else { b" " }, sink)
 }
 
-/// An integer, after the space that stands before each that is not the first.
+/// An integer, after the space before each that is not the first.
 fn write_next<S: Sink>(first: bool, n: i64, sink: &mut S) -> Result<(), Failed>
     requires { S.broken sink.old ≡ false }
     ensures sent { Writes result (S.sent sink.old) (S.sent sink.new) (S.broken sink.new)

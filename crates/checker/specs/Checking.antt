@@ -13,12 +13,12 @@ use Rattle.checker.specs.declared.refusal.Refusal.TheVariants.{BadOrder, NoMemor
 use Rattle.checker.specs.Faults.{IsFirstFault}
 use Rattle.checker.specs.Refusals.{HasCertificate}
 
--- the certificate of the object stands at this place
+-- the certificate of the object is at this place
 pub record IsPlace (certificates : List Certificate) (x k : ℕ) : Type 0 where
   pub inside : k < length certificates
   pub for_object : (c : Certificate) → (get_or certificates k c).object ≡ x
 
--- each key is an object whose certificate stands at the value
+-- each key is an object whose certificate is at the value
 abbrev pub ArePlaces : NumberMap ℕ → List Certificate → Type 0
 ArePlaces m certificates = (x k : ℕ) → value_of m x ≡ Some k → IsPlace certificates x k
 

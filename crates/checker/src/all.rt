@@ -15,7 +15,7 @@ use events::{History, ObjectHistory, split};
 use number_map::NumberMap;
 use std::alloc::{AllocError, Global};
 
-/// Where the certificate of each object stands.
+/// The place of the certificate of each object.
 pub fn places(alloc: Global, certificates: &[Certificate]) -> Result<NumberMap<usize>, AllocError>
     ensures { IfOk result (λ m. AreAllPlaces m certificates.now) }
 {
@@ -26,7 +26,7 @@ pub fn places(alloc: Global, certificates: &[Certificate]) -> Result<NumberMap<u
     Ok(places)
 }
 
-/// Checks the certificate of one object, which stands at the object's place.
+/// Checks the certificate of one object, which is at the object's place.
 pub fn check_object_at(
     alloc: Global,
     object: &ObjectHistory,
@@ -46,7 +46,7 @@ pub fn check_object_at(
     check_object(alloc, object, &certificates[place])
 }
 
-/// The least number, with one more.
+/// The lesser of `least` and `object`.
 fn lesser(least: Option<u32>, object: u32) -> u32
     ensures { result ≡ option_map_or (λ x. min x object) least object }
 {

@@ -19,8 +19,8 @@ pub fn one_first_fault()
 {}
 
 /// Certificates of different objects have one first refusal at most. So two checks of the same
-/// certificates, as `check_all` and `check_parallel`, have one answer. Where an allocation failed
-/// nothing is said.
+/// certificates, as `check_all` and `check_parallel`, have one answer. The law does not cover
+/// allocation failures.
 pub fn one_first_refusal()
     ensures refusal { (events : List Event) (certificates : List Certificate)
         → AreDistinct certificates → (one other : Refusal)

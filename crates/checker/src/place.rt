@@ -1,4 +1,4 @@
-//! Where the operation with a number stands.
+//! The place of the operation with a number.
 
 ghost use Rattle.std.specs.Prelude.{◌≡◌, ◌<◌, length, Some, None, pos, AllPairs, IfSome, IfNone};
 ghost use Rattle.std.specs.List.{HoldsAt};
@@ -11,7 +11,7 @@ use events::{End, Invocation};
 /// How many operations beside the last one are looked at before all are searched.
 const NEARBY: usize = 24;
 
-/// The place of the operation with this number, if it did not fail and stands near this place.
+/// The place of the operation with this number, if it did not fail and is near this place.
 fn nearby_place(ops: &[Invocation], entry: i64, near: usize) -> Option<usize>
     requires { AllPairs (λ a b. a.number < b.number) ops.now }
     ensures { IfSome result (λ k. (k < length ops.now)

@@ -11,9 +11,9 @@ pub enum OrderFault {
     Repeated { op: i64 },
     /// C5: the operation returned before the greatest invocation among the earlier entries.
     TooLate { op: i64, by: u32 },
-    /// C9: the operation is not possible where it stands.
+    /// C9: the operation is not possible in its place.
     NotPossible { op: i64 },
-    /// C6: the operation returned another reply than this one, which it has where it stands.
+    /// C6: the operation returned another reply than this one, which it has in its place.
     WrongReply { op: i64, gives: AnyReply },
     /// C7: the operation returned and is not in the order.
     Omitted { op: u32 },

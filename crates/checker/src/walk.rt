@@ -32,7 +32,7 @@ fn late_by(end: &End, greatest: Option<u32>) -> Option<u32>
     }
 }
 
-/// The greatest number, with one more.
+/// The greater of `greatest` and `number`.
 fn greatest_with(greatest: Option<u32>, number: u32) -> u32
     ensures { result ≡ option_map_or (λ by. max by number) greatest number }
 {
@@ -85,7 +85,7 @@ fn check_entries<S: SeqObject<Op = AnyOp, Reply = AnyReply>>(
         return Err(Refusal::NoMemory);
     };
     let mut greatest: Option<u32> = None;
-    // Most entries stand near the one before.
+    // Most entries are near the one before.
     let mut near = 0;
     for entry in order {
         let op = *entry;

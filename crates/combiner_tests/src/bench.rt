@@ -39,7 +39,7 @@ pub(crate) enum Closing {
     /// The client with this number has not retired. The bench is as it was.
     Unretired(Bench, u32),
     /// There is no such client.
-    Nobody,
+    NoClient,
 }
 
 impl Model for Bench {
@@ -146,7 +146,7 @@ impl Bench {
     /// Closes the desk by the client with this number.
     pub(crate) fn close(mut self, number: u64) -> Result<Closing, AllocError> {
         let Some(last) = self.take(number) else {
-            return Ok(Closing::Nobody);
+            return Ok(Closing::NoClient);
         };
         let Bench { desk, mut seats } = self;
         match desk.close(last) {

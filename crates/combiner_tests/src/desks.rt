@@ -32,7 +32,7 @@ impl Bench {
     // The number that the client in this seat has of itself.
     fn number(&mut self, seat: u64) -> Result<u32, Fail> {
         let Some(client) = self.take(seat) else {
-            return Err(Fail::new("nobody is there"));
+            return Err(Fail::new("the bench has no client left"));
         };
         let number = client.number();
         self.seat(seat, client)?;
@@ -70,7 +70,7 @@ fn a_desk_begins_with_its_clients(rt: HostRuntime) -> Result<(), Fail> {
 fn closes_too_early<R: Abort>(rt: &R, bench: Bench, number: u64) -> Result<(Bench, u32), Fail> {
     match bench.close(number)? {
         Closing::Unretired(bench, client) => Ok((bench, client)),
-        Closing::Closed(_) | Closing::Nobody => panic!(rt; "the desk was closed"),
+        Closing::Closed(_) | Closing::NoClient => panic!(rt; "the desk was closed"),
     }
 }
 

@@ -1,4 +1,4 @@
-//! What a record comes to: the lines of its history, its certificates, and the verdict of the check
+//! What a record gives: the lines of its history, its certificates, and the verdict of the check
 //! on both.
 
 use certificate::write_certificates;

@@ -23,10 +23,10 @@ fn mutex(clients: u32, quota: u32) -> Setup {
 }
 
 impl Bench {
-    // What the client's outstanding call on object 0 comes to; None: an allocation failed.
+    // What the client's outstanding call on object 0 gives; None: an allocation failed.
     fn wait<R: Wait>(&mut self, rt: &R, number: u64) -> Result<Option<Got>, Fail> {
         let Some(client) = self.take(number) else {
-            return Err(Fail::new("nobody is there to wait"));
+            return Err(Fail::new("no client is left to wait"));
         };
         if self.desk.objects() == 0 {
             return Err(Fail::new("there is no object"));

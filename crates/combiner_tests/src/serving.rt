@@ -38,7 +38,7 @@ yes: 3 operations, 1 objects
 mutex: 1 objects, 3 operations
 ";
 
-// What a call of enqueue and then one of dequeue come to.
+// What a call of enqueue and then one of dequeue give.
 fn enqueue_and_dequeue<R: Wait>(
     rt: &R,
     desk: &Desk<Refusing>,
@@ -53,7 +53,7 @@ fn enqueue_and_dequeue<R: Wait>(
 }
 
 impl Bench {
-    // What the calls of the clients 0 and 1 come to, each in a thread of its own.
+    // What the calls of the clients 0 and 1 give, each in a thread of its own.
     fn both_call<R: Threads + Wait + Sync>(
         &mut self,
         rt: &R,
@@ -148,7 +148,7 @@ fn wait_until_held<R: Wait>(
     unreachable!()
 }
 
-// What a call comes to that is made while object 0 is held. Once it is over, another one is posted.
+// What a call gives that is made while object 0 is held. Once it is over, another one is posted.
 fn call_and_post<R: Wait>(rt: &R, desk: &Desk<Refusing>, client: Client<Refusing>, op: AnyOp) -> Got
     requires client { client.desk ≡ desk.now.id }
     requires object { 0 < length desk.now.id.kinds }
@@ -160,7 +160,7 @@ fn call_and_post<R: Wait>(rt: &R, desk: &Desk<Refusing>, client: Client<Refusing
 }
 
 impl Bench {
-    // What a call of client 0 comes to, while client 1 holds the object until that call is over.
+    // What a call of client 0 gives, while client 1 holds the object until that call is over.
     fn call_on_held<R: Threads + Wait + Sync>(&mut self, rt: &R, op: AnyOp) -> Result<Got, Fail> {
         let (Some(zero), Some(one)) = (self.take(0), self.take(1)) else {
             return Err(Fail::new("a client is not there"));

@@ -146,7 +146,7 @@ impl Bench {
     /// Why the call may not be posted; nothing where it is posted.
     fn post(&mut self, number: u64, object: u32, op: AnyOp) -> Result<Option<Post>, Fail> {
         let Some(mut client) = self.take(number) else {
-            return Err(Fail::new("nobody is there to post"));
+            return Err(Fail::new("no client is left to post"));
         };
         let posted = self.desk.post(&mut client, object, op);
         self.seat(number, client)?;
@@ -155,7 +155,7 @@ impl Bench {
 
     fn enlist(&mut self, number: u64, wanted: Enlist) -> Result<bool, Fail> {
         let Some(mut client) = self.take(number) else {
-            return Err(Fail::new("nobody is there to enlist"));
+            return Err(Fail::new("no client is left to enlist"));
         };
         if self.desk.objects() == 0 {
             return Err(Fail::new("there is no object"));
@@ -167,7 +167,7 @@ impl Bench {
 
     pub(crate) fn combine(&mut self, number: u64) -> Result<Combined, Fail> {
         let Some(client) = self.take(number) else {
-            return Err(Fail::new("nobody is there to combine"));
+            return Err(Fail::new("no client is left to combine"));
         };
         if self.desk.objects() == 0 {
             return Err(Fail::new("there is no object"));
@@ -189,7 +189,7 @@ impl Bench {
     /// How many requests it answers; None where another client holds the object.
     fn serve(&mut self, number: u64, object: u32, rows: &[u32]) -> Result<Option<usize>, Fail> {
         let Some(client) = self.take(number) else {
-            return Err(Fail::new("nobody is there to serve"));
+            return Err(Fail::new("no client is left to serve"));
         };
         if object >= self.desk.objects() {
             return Err(Fail::new("there is no such object"));
@@ -207,7 +207,7 @@ impl Bench {
 
     pub(crate) fn poll(&mut self, number: u64) -> Result<Got, Fail> {
         let Some(mut client) = self.take(number) else {
-            return Err(Fail::new("nobody is there to poll"));
+            return Err(Fail::new("no client is left to poll"));
         };
         let answer = self.desk.poll(&mut client);
         self.seat(number, client)?;
@@ -221,7 +221,7 @@ impl Bench {
         op: AnyOp,
     ) -> Result<Result<Got, CallFault>, Fail> {
         let Some(client) = self.take(number) else {
-            return Err(Fail::new("nobody is there to call"));
+            return Err(Fail::new("no client is left to call"));
         };
         let (client, called) = call(rt, &self.desk, client, 0, op);
         self.seat(number, client)?;
@@ -230,7 +230,7 @@ impl Bench {
 
     pub(crate) fn is_waiting(&mut self, number: u64) -> Result<bool, Fail> {
         let Some(client) = self.take(number) else {
-            return Err(Fail::new("nobody is there to wait"));
+            return Err(Fail::new("no client is left to wait"));
         };
         let waits = client.outstanding();
         self.seat(number, client)?;
@@ -277,7 +277,7 @@ impl Bench {
 
     fn reserve_too_much(&mut self, number: u64) -> Result<bool, Fail> {
         let Some(client) = self.take(number) else {
-            return Err(Fail::new("nobody is there to reserve"));
+            return Err(Fail::new("no client is left to reserve"));
         };
         if self.desk.objects() == 0 {
             return Err(Fail::new("there is no object"));
@@ -376,7 +376,7 @@ pub(crate) fn closes<R: AllocGlobal + Abort>(
     match bench.close(number)? {
         Closing::Closed(record) => says(rt, &record, lines, name),
         Closing::Unretired(_, client) => panic!(rt; "{name}: client {client} has not retired"),
-        Closing::Nobody => panic!(rt; "{name}: client {number} is not there"),
+        Closing::NoClient => panic!(rt; "{name}: client {number} is not there"),
     }
     Ok(())
 }

@@ -35,7 +35,7 @@ use Rattle.command_line.specs.declared.table.Verb.{Verb}
 use Rattle.command_line.specs.declared.table.Verb.TheVariants as is
 
 -- The number is what the option's value says, a decimal number within these bounds, before which a
--- plus may stand. Where the option is not given, it is the default.
+-- plus is allowed. Where the option is not given, it is the default.
 abbrev pub IsNumber : Bounds → Option Text → ℕ → Type 0
 IsNumber b None n = n ≡ b.default
 IsNumber b (Some t) n =

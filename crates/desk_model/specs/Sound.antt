@@ -26,7 +26,7 @@ abbrev pub IsAmong : List Kind → AnyEvent → Type 0
 IsAmong kinds (Invoked t x op) = (x < length kinds) × (kind_of op ≡ kind_at kinds x)
 IsAmong kinds (Returned t a) = ⊤
 
--- what a call that is over has put into the log stands after calls that were invoked before it
+-- what a call that is over has put into the log is after calls that were invoked before it
 -- returned
 abbrev pub IsInTime : World → ℕ → AnyDone → Type 0
 IsInTime w c d =

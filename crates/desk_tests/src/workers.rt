@@ -235,7 +235,7 @@ fn is_served_beside(record: &Record<AnyObject>, first: &Entry, second: &Entry) -
 }
 
 /// At one queue, some passes of four clients serve more than one request: entries of two clients
-/// stand between two returns.
+/// are between two returns.
 #[test]
 fn passes_serve_calls_of_others(rt: HostRuntime) -> Result<(), Fail> {
     for _ in 0..100 {

@@ -6,7 +6,7 @@ use Rattle.edn_fields.specs.Fields.{value_at}
 use Rattle.edn_fields.specs.Values.{IsValue}
 use Rattle.edn_fields.specs.declared.operation.OperationValues.{OperationValues}
 
--- each value lies where its token buffer begins, and what has no value is an empty token buffer
+-- each value is at the beginning of its token buffer; what has no value is an empty token buffer
 pub record HasValues (v : OperationValues) (es : Entries) : Type 0 where
   pub process : IsValue v.process.now (value_at (codes "process") es)
   pub map_type : IsValue v.map_type.now (value_at (codes "type") es)

@@ -1,4 +1,4 @@
-//! The values of an operation map, where its tokens lie on a token buffer.
+//! The values of an operation map, whose tokens are in a token buffer.
 
 ghost use Rattle.std.specs.Prelude.{◌≡◌, ◌++◌, ◌∷◌, [], ℕ, List, IfSome, IfNone};
 ghost use Rattle.edn_reader.specs.Datum.{Datum, Entries, dictionary, entries_of};

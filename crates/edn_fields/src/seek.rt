@@ -1,4 +1,4 @@
-//! The value that a map has for one key, where its tokens lie on a token buffer.
+//! The value that a map has for one key, whose tokens are in a token buffer.
 
 ghost use Rattle.std.specs.Prelude.{◌≡◌, ◌++◌, ◌∷◌, [], IfSome, IfNone, MatchOption};
 ghost use Rattle.edn_reader.specs.Datum.{Datum, Entries, keyword, atom, dictionary};

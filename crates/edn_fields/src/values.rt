@@ -1,4 +1,4 @@
-//! The values that a map has for its keys, where its tokens lie on a token buffer.
+//! The values that a map has for its keys, whose tokens are in a token buffer.
 
 ghost use Rattle.std.specs.Prelude.{◌≡◌, ◌≤◌, length, option_map};
 ghost use Rattle.edn_reader.specs.Pieces.{token_buffer_tokens};

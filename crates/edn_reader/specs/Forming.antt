@@ -1,4 +1,4 @@
--- Tokens at whose front those of a form stand. No public clause speaks of it.
+-- Tokens at whose front those of a form are. No public clause speaks of it.
 use Rattle.std.specs.Prelude.{◌≡◌, List, ◌∷◌, ◌++◌}
 use Rattle.edn_reader.specs.Datum.{Datum, Items, Entries}
 use Rattle.edn_reader.specs.Text.{InProfile, ItemsInProfile, EntriesInProfile}

@@ -15,7 +15,7 @@ use Rattle.edn_reader.specs.declared.piece.Piece.TheVariants.{OpenVector, CloseV
 use Rattle.edn_reader.specs.declared.piece.Piece.TheVariants.{CloseMap}
 use Rattle.edn_reader.specs.declared.piece.Piece.TheVariants.{Nil, True, False, Int, Str, Keyword}
 
--- what stands between quotes, with the escapes resolved
+-- what is between quotes, with the escapes resolved
 abbrev mutual
   pub unquoted : List ℕ → List ℕ
   unquoted [] = []

@@ -13,7 +13,7 @@ BeginWith [] bytes rest = bytes ≡ rest
 BeginWith (t ∷ ts) bytes rest = (behind : List ℕ) × IsNext bytes t behind × BeginWith ts behind rest
 
 -- The text is UTF-8, and begins with the first tokens of some forms, in which keys are distinct and
--- no bracket lies too deep. The last of these tokens stands at this place, after separators and
+-- no bracket is too deep. The last of these tokens is at this place, after separators and
 -- comments.
 pub record IsSoundAt (place : ℕ) (text : List ℕ) : Type 0 where
   pub utf8 : IsUtf8 text

@@ -1,4 +1,4 @@
--- Which forms a text spells, in two steps: from bytes to tokens, by what may stand before a token,
+-- Which forms a text spells, in two steps: from bytes to tokens, by what may be before a token,
 -- be a token and follow it; and from forms to tokens, by `Token`. Bytes are numbers: 10 is the line
 -- feed, 34 the quote, 59 the semicolon, 92 the backslash.
 use Rattle.std.specs.Prelude.{◌≡◌, ℕ, zero, suc, ◌+◌, ◌-◌, ◌*◌, ◌^◌, ◌<◌, ◌≤◌, ◌⊎◌, ℤ, pos, negsuc}
@@ -13,7 +13,7 @@ use Rattle.edn_reader.specs.Token.{Token, open_vector, close_vector, open_map, c
 use Rattle.edn_reader.specs.Token.{items_tokens}
 use Rattle.edn_reader.specs.Bytes.{is_separator, is_token_byte, is_digit, is_name}
 
--- What may stand before a token: separators and comments. A comment goes on to its line feed, and
+-- What may be before a token: separators and comments. A comment goes on to its line feed, and
 -- `EndsComment` is of the bytes after its semicolon.
 abbrev mutual
   pub IsGap : List ℕ → Type 0
@@ -24,7 +24,7 @@ abbrev mutual
   EndsComment [] = ⊥
   EndsComment (b ∷ bs) = ((b ≡ 10) × IsGap bs) ⊎ ((b ≡ 10 → ⊥) × EndsComment bs)
 
--- What may stand after the last token: the same, where the last comment needs no line feed.
+-- What may be after the last token: the same, where the last comment needs no line feed.
 abbrev mutual
   pub IsEnding : List ℕ → Type 0
   IsEnding [] = Unit {0}
@@ -82,7 +82,7 @@ escape_of c =
     92 then Some 92 else if c == 34 then Some 34 else None
 
 -- The bytes between the quotes, and the bytes that they stand for. No quote and no backslash
--- stands there but in an escape.
+-- is there, except in an escape.
 abbrev mutual
   pub IsQuoted : List ℕ → List ℕ → Type 0
   IsQuoted [] s = s ≡ []

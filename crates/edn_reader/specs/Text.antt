@@ -35,7 +35,7 @@ atom_text (integer z) = signed_decimal z
 atom_text (string s) = quoted s
 atom_text (keyword k) = 58 ∷ k
 
--- what stands before an element or a pair that is not the first
+-- what is before an element or a pair that is not the first
 abbrev pub between : Bool → List ℕ → List ℕ
 between true separator = []
 between false separator = separator
@@ -57,7 +57,7 @@ abbrev mutual
   entries_text first (entry k d es) =
       (between first (codes ", ") ++ ((58 ∷ k) ++ (32 ∷ text_of d))) ++ entries_text false es
 
--- a pair of a map, after what stands between it and the pair before
+-- a pair of a map, after what is between it and the pair before
 abbrev pub pair_text : Bool → List ℕ → Datum → List ℕ
 pair_text first k d = between first (codes ", ") ++ ((58 ∷ k) ++ (32 ∷ text_of d))
 

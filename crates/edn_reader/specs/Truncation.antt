@@ -12,7 +12,7 @@ use Rattle.edn_reader.specs.Token.{Token, open_vector, close_vector, open_map, c
 abbrev pub most_items : ℕ
 most_items = 3
 
--- an element of a vector, a vector or a map in place of which stands nil
+-- an element of a vector, a vector or a map in place of which nil is kept
 abbrev pub truncated_item : Datum → Datum
 truncated_item (atom a) = atom a
 truncated_item (vector ds) = atom nil
@@ -61,7 +61,7 @@ abbrev pub integer_vector_of : Datum → Option (List ℤ)
 integer_vector_of (vector ds) = integers_in ds
 integer_vector_of other = None
 
--- the integer vector that stands under a key: under the first entry that has it
+-- the integer vector under a key: under the first entry that has it
 abbrev pub integer_vector_under : List ℕ → Entries → Option (List ℤ)
 integer_vector_under key no_entries = None
 integer_vector_under key (entry k d es) =

@@ -4,7 +4,7 @@ ghost use Rattle.std.specs.Prelude.{◌≡◌, ◌≢◌, ◌↔◌, ◌++◌, �
 use std::alloc::{AllocError, AllocFailed};
 use std::fmt;
 
-/// What is wrong with a text, or that memory ran out, and where that stands. A kind prints as its
+/// What is wrong with a text, or that memory ran out, and where. A kind prints as its
 /// number, `E1` to `E11`. Which of several faults is named, and its place, is tested and not
 /// proved.
 #[derive(Clone, Copy, Debug, PartialEq, Eq)]
@@ -20,7 +20,7 @@ pub enum FaultKind {
     BadToken,
     /// E4: an integer past 64 bits. At the first byte of the token.
     NumberRange,
-    /// E5: a key that stands earlier in the same map. At the first byte of the later key.
+    /// E5: a key that is also earlier in the same map. At the first byte of the later key.
     DuplicateKey,
     /// E6: a map is closed after a key without its value. At the `}`.
     OddMap,
@@ -74,7 +74,7 @@ impl fmt::Display for FaultKind {
     }
 }
 
-/// A fault, and the byte where it stands, counted from 0. It prints as `E4 at byte 19`.
+/// A fault, and the byte where it is, counted from 0. It prints as `E4 at byte 19`.
 #[derive(Clone, Copy, Debug, PartialEq, Eq)]
 pub struct EdnFault {
     pub kind: FaultKind,
@@ -146,7 +146,7 @@ impl<T: Drop> From<AllocFailed<T>> for Cause {
     }
 }
 
-/// A cause, and how much of the text was left where it stands.
+/// A cause, and how much of the text was left where it is.
 #[derive(Clone, Copy, Debug, PartialEq, Eq)]
 pub struct Stop {
     pub cause: Cause,

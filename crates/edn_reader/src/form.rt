@@ -61,7 +61,7 @@ impl Name {
     }
 }
 
-/// An element of a text. `Str` holds what stands between the quotes, with the escapes resolved.
+/// An element of a text. `Str` holds what is between the quotes, with the escapes resolved.
 #[derive(Debug, PartialEq, Drop)]
 pub enum Form {
     Nil,

@@ -131,7 +131,7 @@ impl<'p, 'a> Tokens<'p, 'a> {
     }
 }
 
-/// The form whose tokens stand at the front.
+/// The form whose tokens are at the front.
 pub(crate) fn form_at(alloc: Global, pieces: &[Piece]) -> Result<Form, AllocError>
     requires { BeginsForm (token_buffer_tokens pieces.now) }
     ensures { IfOk result (λ form. (behind : List Token)

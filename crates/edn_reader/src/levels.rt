@@ -76,7 +76,7 @@ fn is_one_of(names: &[&str], name: &str) -> bool
     false
 }
 
-/// A set of the names, which stay where they lie.
+/// A set of the names, which stay where they are.
 fn set_of<'a>(alloc: Global, names: &[&'a str]) -> Result<HashSet<&'a str>, AllocError>
     ensures { IfOk result (λ set. HasNames set (spec.name_views names.entry.now)) }
 {

@@ -11,7 +11,7 @@ use crate::lexer::split_word;
 use crate::string::escape_of;
 use crate::word::{fault_of, integer as integer_of};
 
-/// A bracket, or an element that stands alone. A string is what stands between its quotes, with
+/// A bracket, or an element of one token. A string is what is between its quotes, with
 /// the escapes as they are written.
 #[derive(Clone, Copy, Debug)]
 pub enum Piece<'a> {
@@ -68,7 +68,7 @@ fn behind_name(text: &[u8]) -> &[u8]
     rest
 }
 
-/// Whether no word goes on here.
+/// Whether a word ends here.
 #[inline(always)]
 fn ends_token(rest: &[u8]) -> bool
     ensures { result ≡ true → EndsToken rest.now }

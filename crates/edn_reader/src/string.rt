@@ -1,4 +1,4 @@
-//! What stands between the quotes of a string.
+//! What is between the quotes of a string.
 ghost use Rattle.std.specs.Prelude.{◌≡◌, IfOk, string_bytes};
 ghost use Rattle.std.specs.Str.{IsUtf8};
 ghost use Rattle.edn_reader.specs.Spells as spec;
@@ -19,7 +19,7 @@ pub(crate) fn escape_of(c: u8) -> Option<u8>
     }
 }
 
-/// What stands between quotes, with the escapes resolved.
+/// What is between quotes, with the escapes resolved.
 pub(crate) fn string_in(alloc: Global, raw: &[u8]) -> Result<String, AllocError>
     requires { IsUtf8 (unquoted raw.now) }
     ensures { IfOk result (λ s. string_bytes s ≡ unquoted raw.now) }

@@ -55,7 +55,7 @@ impl<'a> TokenBuffer<'a> {
         }
     }
 
-    /// Takes this token, which stands at the front, and keeps what follows it.
+    /// Takes this token, which is at the front, and keeps what follows it.
     // Put in its callers' place, so that a token whose kind is known there is never copied. What
     // follows, and where reading fails, are no part of the result: they would be copied in parts,
     // and the parts read as one.

@@ -91,7 +91,7 @@ pub record ObjectCalls : Type 0 where
   pub kind : Kind
   pub ops : List Invocation
 
--- Numbers rise, the operations are of the kind, and a response stands after its invocation, and at
+-- Numbers rise, the operations are of the kind, and a response is after its invocation, and at
 -- no invocation.
 pub record IsObjectHistory (h : ObjectCalls) : Type 0 where
   pub rising : AllPairs (λ a b. a.number < b.number) h.ops

@@ -136,7 +136,8 @@ fn watch<R: Eprint + Clock>(rt: &R, is_done: &AtomicBool) {
     let _ = rt.eprintln("fcbench: under way");
 }
 
-/// Does the work. Where somebody may watch, it is said after a second that it is under way.
+/// Does the command. If standard error is a terminal, a second thread says after a second that it
+/// runs.
 fn run_watched<R: Host, F: FnOnce() -> u8 + Send>(rt: &R, may_watch: bool, work: F) -> u8
     requires { F.IsAlwaysCallable work }
 {

@@ -102,7 +102,7 @@ IsCertificatesFault c (Faulty (CertificateForms f)) =
     SpellsWithFault certificate_fault.IsFirstFault c f
 IsCertificatesFault c NoMemory = AreCertificatesSound c
 
--- What reading the text of a history comes to: the client events that it denotes and no others, or
+-- What reading the text of a history gives: the client events that it denotes and no others, or
 -- what stops it, which is an allocation failure where it denotes some and is not too long.
 pub record IsHistoryRead (h : List ℕ) (r : Result (List Event) TextFailure) : Type 0 where
   pub denotes : IfOk r (DenotesHistory h)

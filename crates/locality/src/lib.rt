@@ -1,4 +1,4 @@
-//! Locality of linearizability, its converse, and what the definitions come to in worked histories:
+//! Locality of linearizability, its converse, and what the definitions say of worked histories:
 //! functions that do nothing, and whose contracts are theorems. Locality is the theorem of Herlihy
 //! and Wing, "Linearizability: A Correctness Condition for Concurrent Objects", TOPLAS 1990,
 //! section 3.

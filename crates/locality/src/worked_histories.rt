@@ -1,4 +1,4 @@
-//! What the definitions come to in small histories, which `specs/WorkedHistories.antt` writes out.
+//! What the definitions say of small histories, which `specs/WorkedHistories.antt` writes out.
 
 ghost use Rattle.std.specs.Prelude.{List, ℤ, pos, [], ◌∷◌};
 ghost use Rattle.model.specs.declared.Kind.{Kind};
@@ -81,7 +81,7 @@ pub fn each_object_has_its_order()
     ensures linearizable { IsLinearizable (λ x. Kind.Queue) (events two_queues) }
 {}
 
-/// A mutex is acquired by one process at a time: the second acquire stands after the release.
+/// A mutex is acquired by one process at a time: the second acquire comes after the release.
 pub fn mutex_is_held_by_one()
     ensures history { IsHistory mutex_passed_on }
     ensures valid { IsValidOrder Kind.Mutex (calls_on 0 mutex_passed_on)

@@ -76,7 +76,7 @@ impl<S: SeqObject> Machine<S> {
         self.held_by(client).is_none()
     }
 
-    // Whether there is such an object, and nobody holds it.
+    // Whether there is such an object, and no client holds it.
     pub(crate) fn is_free(&self, object: u32) -> bool
         ensures { IsTrue result ↔ ((object < length self.now.kinds)
             × ((world_of self.now).holder object ≡ None)) }

@@ -96,7 +96,7 @@ IsOperation h e = e.turn < length (filter (invokes e.process) h)
 abbrev pub IsTurn : (Event → Bool) → ℕ → List Event → Event → Type 0
 IsTurn test turn before event = IsTrue (test event) × (length (filter test before) ≡ turn)
 
--- One operation of a well-formed history precedes another where the response of the first stands
+-- One operation of a well-formed history precedes another where the response of the first is
 -- before the invocation of the second. Herlihy and Wing, read literally, order operations that have
 -- both events; here, by this project's choice, the second may also be pending in H.
 pub record Precedes (h : List Event) (e f : Operation) : Type 0 where

@@ -95,11 +95,11 @@ pub record IsValidOrderOf (object : Specification) (calls : List Call) (order : 
   pub entries : List Call
   pub numbers : order ≡ map (λ e. pos e.number) entries
   pub known : All (Contains calls) entries
-  -- none stands twice
+  -- no number is in it twice
   pub once : AllPairs (λ a b. a ≢ b) order
   -- each operation that returned is in it
   pub whole : All (λ e. IsSome e.returned → Contains entries e) calls
-  -- none stands after one that it precedes
+  -- no call comes after one that it precedes
   pub in_order : AllPairs (λ a b. ReturnsBefore b a → ⊥) entries
   -- along the order from the empty content each is possible, and what it returned is the reply
   pub replies : RepliesBy object.next object.empty entries

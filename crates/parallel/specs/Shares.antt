@@ -27,7 +27,7 @@ IsRefusedPiece os certificates k r =
     → IsRefused (get_or os k d).kind (calls_of (get_or os k d).ops) certificates
     (get_or os k d).object r
 
--- what a worker found is the refusal at the first of its places where one stands
+-- what a worker found is the refusal at the first of its places that has one
 pub record IsFirstOfShare (worker workers : ℕ) (os : List ObjectCalls)
     (certificates : List Certificate) (f : RefusedPiece) : Type 0 where
   pub inside : f.piece < length os
@@ -42,7 +42,7 @@ pub record IsShare (worker workers : ℕ) (os : List ObjectCalls) (certificates 
       ((k : ℕ) → k < length os → FallsTo worker workers k → IsFinePiece os certificates k)
   pub found : IfErr r (IsFirstOfShare worker workers os certificates)
 
--- what this worker found stands at no lesser place
+-- what this worker found is at no lesser place
 abbrev pub IsNotBefore : RefusedPiece → Result (Unit {0}) RefusedPiece → Type 0
 IsNotBefore f r = IfErr r (λ g. f.piece ≤ g.piece)
 

@@ -51,7 +51,7 @@ module _ {S O R : Type 0} where
       (length journals ≡ n)
       × ((c : ℕ) → from ≤ c → c < n → IsJournalOf xs c (slice_index_or journals c []))
 
--- what stood below n stands there still
+-- what was below n is still there
 abbrev pub IsSameBelow : {A : Type 0} → ℕ → List (List A) → List (List A) → Type 0
 IsSameBelow n xs ys = (k : ℕ) → k < n → slice_index_or ys k [] ≡ slice_index_or xs k []
 

@@ -160,7 +160,7 @@ fn take_log<S: SeqObject>(
     }
 }
 
-// The logs of the objects, which stand first.
+// The logs of the objects, which come first.
 fn take_logs<S: SeqObject>(
     left: &mut Left<S, S::Op, S::Reply>,
     objects: usize,
@@ -177,7 +177,7 @@ fn take_logs<S: SeqObject>(
     }
 }
 
-// Drops what stands from one slot up to another.
+// Drops what is from one slot up to another.
 fn pass_over<S: SeqObject>(left: &mut Left<S, S::Op, S::Reply>, from: usize, to: usize)
     requires { IsTakenTo from left.old × (from ≤ to) × (to ≤ table_slots) }
     ensures { IsTakenTo to left.new × (values_of left.new ≡ values_of left.old) }

@@ -148,7 +148,7 @@ impl<S: SeqObject> Desk<S> {
         Ok(())
     }
 
-    /// Whether the client may make this call: if not, the first of P1 to P4 that stands.
+    /// Whether the client may make this call: if not, the first of P1 to P4 that holds.
     fn may_post(&self, client: &Client<S>, object: u32, op: &S::Op) -> Result<(), Post>
         requires { client.now.desk ≡ self.now.id }
         ensures may { OnOk result (MayPost client.now) }

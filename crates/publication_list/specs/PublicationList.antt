@@ -1,10 +1,10 @@
--- The publication list of one object: which rows are listed, from the head on, and how each other
--- row stands.
+-- The publication list of one object: which rows are listed, from the head on, and the state of
+-- each other row.
 -- After Hendler, Incze, Shavit, Tzafrir, "Flat Combining and the Synchronization-Parallelism
 -- Tradeoff", SPAA 2010, section 2.
 use Rattle.std.specs.Prelude.{◌≡◌, ℕ, zero, suc, ◌+◌, ◌<◌, List, [], ◌∷◌, ◌++◌, length, slice_index}
 
--- how a row stands
+-- the state of a row
 pub data Stage : Type 0 where
   -- it is not listed, and its mark says inactive
   asleep : Stage
@@ -24,7 +24,7 @@ pub record PublicationList : Type 0 where
 abbrev pub empty_list : PublicationList
 empty_list = record { made = 0; rows = []; stage = λ r. asleep }
 
--- no row stands twice
+-- no row is in it twice
 abbrev pub IsDistinct : List ℕ → Type 0
 IsDistinct rows =
     (i j : ℕ) → i < length rows → j < length rows → slice_index rows i ≡ slice_index rows j → i ≡ j

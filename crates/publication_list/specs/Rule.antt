@@ -27,7 +27,7 @@ TakenOutOk l (Some r) =
     (r < l.made) × (l.stage r ≡ unlinked) × ((q : ℕ) → l.stage q ≡ unlinked → q ≡ r)
 
 -- What the seat with this number knows: the walker's is the first, and that of row c the one after
--- c others. The list ends with what the walker has left. Of tries and walks nothing is said.
+-- c others. The list ends with what the walker has left. It says nothing of tries and walks.
 abbrev pub ViewOk : PublicationList → ℕ → ListView → Type 0
 ViewOk l seat (view.Walker made left out walks) =
     (seat ≡ 0) × (made ≡ l.made) × ((newcomers : List ℕ) × (l.rows ≡ newcomers ++ left))

@@ -53,7 +53,7 @@ max_tickets = 640000
 -- Journals and the logs of this many objects are a record.
 pub record IsRecord (objects : ℕ) (journals : ℕ → List AnyEvent) (logs : ℕ → List AnyEntry) : Type 0
   where
-    -- no ticket stands twice in the journals, and in order of tickets their events are proper
+    -- no ticket is in the journals twice, and in order of tickets their events are proper
     pub events : List Event
     pub are_events : AreEventsOf journals events
     pub proper : IsProper events

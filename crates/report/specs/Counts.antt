@@ -28,7 +28,7 @@ use_by x Info = None
 abbrev pub uses : List Event → List Use
 uses es = filter_map (λ e. use_by e.object e.action) es
 
--- the elements with one more, unless it is among them
+-- the elements and this one, unless it is among them
 abbrev pub with_new : {X : Type 0} → (X → X → Bool) → List X → X → List X
 with_new same seen x = if list_any (same x) seen then seen else seen ++ x ∷ []
 

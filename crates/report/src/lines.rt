@@ -10,7 +10,7 @@ use crate::verdict::{Fault, KindCount, Summary};
 use checker::{OrderFault, Refusal};
 use seq_objects::{AnyReply, Value, kind_name, value_of_reply};
 
-/// The pieces of a line. After the one that has the line feed stand empty ones.
+/// The pieces of a line. After the one that has the line feed are empty ones.
 pub(crate) type Line = [Piece; 9];
 
 const EMPTY: Piece = Piece::Text(b"");

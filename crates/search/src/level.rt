@@ -21,7 +21,7 @@ pub(crate) struct Level {
     pub undo: Undo,
     /// What could come next.
     pub window: Window,
-    /// All places in the order lie below.
+    /// It is above all places in the order.
     pub high: u32,
     pub digest: Digest,
 }

@@ -190,7 +190,7 @@ impl Reversible {
         }
     }
 
-    /// Does the operation. Where an allocation fails nothing is said of what the object contains.
+    /// Does the operation. If an allocation fails, the object may contain anything.
     pub fn apply(&mut self, op: &AnyOp) -> Result<Step, AllocError>
         requires { IsSome (next (content_of self.old) op.now) }
         ensures { IfOk result (IsStep (content_of self.old) op.now (content_of self.new)) }
@@ -205,8 +205,7 @@ impl Reversible {
         }
     }
 
-    /// Undoes what an operation did. Where an allocation fails nothing is said of what the object
-    /// contains.
+    /// Undoes what an operation did. If an allocation fails, the object may contain anything.
     pub fn undo(&mut self, undo: Undo) -> Result<(), AllocError>
         ensures { OnOk result (content_of self.new ≡ undone undo (content_of self.old)) }
     {

@@ -109,7 +109,7 @@ fn items_of(alloc: Global, operations: &[Invocation]) -> Result<Vec<Invocation>,
         .collect(alloc)
 }
 
-/// Puts the operations, which stand by rising number, into the order in which they are tried.
+/// Puts the operations, which are by rising number, into the order in which they are tried.
 fn arrange(items: &mut Vec<Invocation>, first: TryFirst) -> Result<(), AllocError>
     ensures { IsPermutation items.old.items items.new.items }
 {

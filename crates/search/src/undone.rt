@@ -7,7 +7,7 @@ ghost use Rattle.search.specs.Outcomes.{max_places};
 
 use std::alloc::{AllocError, Global};
 
-/// The places of the operations that are not yet in the order, rising. Slot 0 stands before the
+/// The places of the operations that are not yet in the order, rising. Slot 0 is before the
 /// first of all places, and slot `k + 1` after place `k`. `next` has for each slot the first place
 /// after it that is in the list, and `before`, for each place, the slot before it in the list. The
 /// place after the last one is the end.

@@ -85,7 +85,7 @@ fn one_more(left: usize, end: &End) -> usize
 /// How many operations a pair that is remembered lists, where it lists all that are to return.
 const MOST_LISTED: usize = 4096;
 
-/// Where a search stands: the order that has begun, and the place that is looked at next.
+/// The state of a search: the order that has begun, and the place that is looked at next.
 #[derive(Drop)]
 pub(crate) struct State {
     pub levels: Vec<Level>,
@@ -93,7 +93,7 @@ pub(crate) struct State {
     pub undone: Undone,
     pub dead: Dead,
     pub digest: Digest,
-    /// All places in the order lie below.
+    /// It is above all places in the order.
     pub high: u32,
     pub at: u32,
     /// What can come next.
@@ -233,7 +233,7 @@ impl State {
         self.go_on(trials, step)
     }
 
-    /// The pair at which the search stands, where it lists few operations. Once a pending one is in
+    /// The pair at which the search is, where it lists few operations. Once a pending one is in
     /// the order, all that are to return are listed.
     fn pair_here(&self, alloc: Global, trials: &Trials) -> Result<Option<Pair>, AllocError>
         requires trials { AreTrials trials.now }
@@ -252,7 +252,7 @@ impl State {
         }))
     }
 
-    /// Remembers where the search stands as dead, and goes back to the level before. Whether there
+    /// Remembers that the pair is dead, and goes back to the level before. Whether there
     /// is one.
     fn come_back(&mut self, alloc: Global, trials: &Trials) -> Result<bool, AllocError>
         requires trials { AreTrials trials.now }

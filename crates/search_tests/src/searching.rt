@@ -94,7 +94,7 @@ const MAP: &[u8] = b"
 
 const AMPLE: u64 = 1_000_000;
 
-/// What is to be found.
+/// What the search must find.
 #[derive(Clone, Copy)]
 enum Wanted {
     Order(&'static [i64]),

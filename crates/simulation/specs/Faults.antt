@@ -40,7 +40,7 @@ IsSoundTo ds n =
     (first : Datum) × (rest : List Datum) × (ds ≡ first ∷ rest) × (header_of first ≢ None)
     × AreStepsTo rest n
 
--- the fault of a kind stands at this form, and none at an earlier one; an allocation failure, at a
+-- the fault of a kind is at this form, and none is at an earlier one; an allocation failure, at a
 -- form in which nothing is wrong
 abbrev pub FaultIs : List Datum → ScheduleFaultKind → ℕ → Type 0
 FaultIs ds NoHeader n = LacksHeader ds × (n ≡ 0)

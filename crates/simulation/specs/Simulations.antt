@@ -48,7 +48,7 @@ pub record IsGoingOn (h : Header) (steps : List (ℕ × AnyStep)) (client : ℕ)
   pub going : world.ended client ≡ false
   pub earlier : (d : ℕ) → d < client → world.ended d ≡ true
 
--- why the steps have no record; of an allocation failure nothing is said
+-- why the steps have no record, except where an allocation failed
 abbrev pub IsPlayFault : Header → List (ℕ × AnyStep) → PlayFault → Type 0
 IsPlayFault h steps (play.NotEnded c) = IsGoingOn h steps c
 IsPlayFault h steps play.NoMemory = ⊤

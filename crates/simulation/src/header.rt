@@ -19,7 +19,7 @@ pub(crate) const MAX_CLIENTS: u32 = 32;
 /// The most calls of each client.
 const MAX_CALLS: u32 = 10_000;
 
-/// What a machine is to be made of.
+/// The objects and clients of a machine.
 #[derive(Clone, Copy, Debug, PartialEq, Eq)]
 pub struct Header {
     pub kinds: Kinds,

@@ -15,14 +15,14 @@ use machine::Step;
 use model::AnyOp;
 use std::alloc::Global;
 
-/// What a machine is to be made of, and the steps of its clients.
+/// The header of a schedule, and the steps of its clients.
 #[derive(Drop)]
 pub struct Schedule {
     pub header: Header,
     pub steps: Vec<(u32, Step<AnyOp>)>,
 }
 
-/// The steps that the forms are, which stand after a header.
+/// The steps that the forms are, which come after a header.
 fn read_steps(alloc: Global, forms: &[Form]) -> Result<Vec<(u32, Step<AnyOp>)>, ScheduleFault>
     ensures steps { IfOk result (λ v. map spec.step_of (views forms.now)
         ≡ map (λ s. Some s) v.items) }

@@ -66,14 +66,14 @@ value_form False = atom (boolean false)
 value_form (Int z) = atom (integer z)
 value_form (Pair a b) = vector (item (atom (integer a)) (item (atom (integer b)) no_items))
 
--- what stands after :type
+-- the value of :type
 abbrev pub type_of : Action → List ℕ
 type_of (Invoke op) = codes "invoke"
 type_of (Ok r) = codes "ok"
 type_of Fail = codes "fail"
 type_of Info = codes "info"
 
--- what stands after :value: the reply of a call that returned one, else the argument
+-- the value of :value: the reply of a call that returned one, else the argument
 abbrev pub value_of : AnyOp → Action → Value
 value_of op (Invoke o) = op_value op
 value_of op (Ok r) = reply_value r
