@@ -64,7 +64,7 @@ class Run:
         return (TAKE if value is None else PUT)[self.kind]
 
     def phase(self, clients, calls, puts):
-        """Calls of some clients, until so many have begun. What is open then is returned: each with its process and value."""
+        """Calls of some clients, until this many have begun. What is open then is returned: each with its process and value."""
         first = self.process
         self.process += clients
         idle, open_calls = list(range(first, self.process)), []
@@ -89,7 +89,7 @@ class Run:
         return []
 
     def crash(self, open_calls, pending, fate):
-        """Those that are open take effect or do not; so many stay pending, and the others return before. Then the content goes."""
+        """Those that are open take effect or do not; this many stay pending, and the others return before. Then the content goes."""
         self.rng.shuffle(open_calls)
         for place, call in enumerate(open_calls):
             if not call[2] and (place >= pending or self.rng.random() < 0.5):
@@ -279,7 +279,7 @@ def why_wrong(kind, ops, line):
     return ("it has an order" if answer else "not searched to the end" if answer is None else None), len(part)
 
 
-# Of at most so many operations all orders are tried.
+# Of at most this many operations all orders are tried.
 FEW = 16
 
 

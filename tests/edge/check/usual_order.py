@@ -172,7 +172,7 @@ BROKEN = (
     ("E9", invoke("enqueue", "1") + f"\n{MARK}x"),
 )
 
-# What comes before: so many maps of another process, in this form.
+# What comes before: this many maps of another process, in this form.
 BEFORE = ((0, usual), (4, usual), (12, with_a_note), (80, type_first))
 
 

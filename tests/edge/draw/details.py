@@ -10,7 +10,7 @@ from ..verify.reasons import IMPOSSIBLE, TOLD, maps_of, value_of
 from .sentences import FEW_NAMED, FORMS, Said, Walked, grouped, label_of, number_in, why_bars_false
 from ..texts import value
 
-# An object with at most so many events is drawn whole; of another without a focus the first ones are; and at most so many.
+# The most events of an object that is drawn whole, and how many of a larger one without a focus are drawn.
 WHOLE, FIRST, MOST = 160, 160, 400
 # The events before and after each of the focus, where the pairs before are too many.
 AROUND = ((20, 10), (10, 5), (5, 2), (2, 1), (1, 0), (0, 0))
@@ -612,7 +612,7 @@ OUTLINED = "In its surroundings: the operations of the reason are outlined, the 
 
 
 def why_caption_false(shown, number, x, figure):
-    """What is false of the caption of the figure of an object, which is so many after the first one, or None."""
+    """What is false of the caption of the figure of an object, which is this many after the first one, or None."""
     caption, points = spelled(figure.find("figcaption")), found(figure, "a", "pt")
     focus, bars = shown.focus, [(int(it.get("data-op")), classes(it)) for it in found(figure, "g", "op")]
     if any(("focus" in those) != (number in focus) for number, those in bars):

@@ -13,7 +13,7 @@ from .sentences import grouped, label_of, why_bars_false
 BESIDE, MARKED, LINE = 80, 160, 160
 # How many lines are shown before and after.
 LINES = 2
-# A history has at most so many maps.
+# The most maps of a history.
 MOST_MAPS = 1_000_000
 OF_NEMESIS = "{:process :n}"
 # How many characters of a token are quoted.

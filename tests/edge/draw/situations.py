@@ -57,7 +57,7 @@ def checked(name, made, *options, **more):
 
 
 def around(maps, word, before, after):
-    """The numbers of maps from so many before the first with this word on, and before so many after it."""
+    """The numbers of maps from this many before the first with this word on, to this many after it."""
     at = next(number for number, it in enumerate(maps) if word in it)
     return str(at - before), str(at + after)
 

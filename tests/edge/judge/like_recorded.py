@@ -7,7 +7,7 @@ from .. import texts
 from ..histories import FUNCTIONS, calls_of
 from ..verify.reasons import NEXT
 
-# Calls that could not be done for so many turns of all clients are given up.
+# Calls that could not be done for this many turns of all clients are given up.
 PATIENCE = 400
 
 

@@ -435,7 +435,7 @@ SMALL = (
     (TWO_HOLD, "the lock was acquired more often than it can have been free", 2),
     (RELEASED_TWICE, "the lock was released more often than it can have been held", 3),
 )
-# A reason of these has at most so many operations.
+# The most operations of a reason of these.
 LONG = (
     (LONG_QUEUE, "value -2 was dequeued while value 10000, which was enqueued before it, was still in the queue", 3),
     (LONG_STACK, "value 10000 was popped while value -2, which was pushed on it, was still in the stack", 3),

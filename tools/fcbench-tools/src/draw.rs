@@ -6,7 +6,7 @@ use crate::find::{bytes_of, read_with, say_failures, write_evidence};
 use crate::import::names_in;
 use crate::program::{path_for_both, proved, put_out, say, verifier};
 use crate::status::Status;
-use ::import::{Names, told};
+use ::import::{Names, with_names};
 use finder::{Decision, History, Options, decide, read_history};
 use pages::{Asides, Drawn, Fault, Verdict, Which, Words, malformed_page, memory_page, orders_in};
 use std::panic::{AssertUnwindSafe, catch_unwind};
@@ -108,9 +108,9 @@ impl<'a> Drawing<'a> {
         Some(malformed_page(text.name, &text.bytes, fault, lines))
     }
 
-    /// The lines of the answer, in names if they are told so.
-    fn told(&self, lines: &str) -> String {
-        self.names.as_ref().map_or_else(|| lines.to_owned(), |names| told(names, lines))
+    /// The lines of the answer, in names, if there is a table of names.
+    fn named(&self, lines: &str) -> String {
+        self.names.as_ref().map_or_else(|| lines.to_owned(), |names| with_names(names, lines))
     }
 
     /// What is drawn. A table of names numbers maps as the history that was imported.
@@ -135,8 +135,8 @@ impl<'a> Drawing<'a> {
         let certificates = self.certificates.as_ref().map(|text| text.name);
         let asides = Asides::read(&self.history.bytes, history);
         let words = Words::new(self.names.as_ref(), &asides);
-        let told = self.told(lines);
-        let (lines, options) = (told.trim_end(), self.options());
+        let named = self.named(lines);
+        let (lines, options) = (named.trim_end(), self.options());
         let drawn = Drawn { history, name, certificates, lines, options, words };
         let orders = self.certificates.as_ref().map(|text| orders_in(&text.bytes));
         match (verdict, orders) {

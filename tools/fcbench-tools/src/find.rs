@@ -5,7 +5,7 @@ use crate::limit::{Limit, Progress};
 use crate::program::{note, output_failed, say};
 use crate::status::Status;
 use finder::{
-    Decision, Evidence, Figures, History, LONGEST, Options, decide_each, read_history_from,
+    Decision, Evidence, History, LONGEST, Options, Statistics, decide_each, read_history_from,
     warnings,
 };
 use std::fs::File;
@@ -80,7 +80,7 @@ pub fn find(command: &Find) -> Status {
         return Status::MALFORMED;
     };
     if command.summarizes {
-        note(format_args!("; {}", Figures::of(&history)));
+        note(format_args!("; {}", Statistics::of(&history)));
         warnings(&history).iter().for_each(|it| note(format_args!("; warning: {it}")));
     }
     let all = history.objects.len();

@@ -12,7 +12,7 @@ use crate::program::{output_failed, path_for_both, put_out, say, verifier};
 use crate::signals::spare;
 use crate::status::Status;
 use crate::terminal::copy_shortened;
-use ::import::{Names, told};
+use ::import::{Names, with_names};
 use finder::read_history;
 use pages::{Fault, Verdict, fault_lines};
 use std::fmt::Write as _;
@@ -31,7 +31,7 @@ struct Lines<'a> {
 impl Lines<'_> {
     /// Writes an answer to standard output.
     fn write(&self, answer: &[u8]) -> io::Result<()> {
-        let named = self.names.map(|names| told(names, &String::from_utf8_lossy(answer)));
+        let named = self.names.map(|names| with_names(names, &String::from_utf8_lossy(answer)));
         let lines = named.as_deref().map_or(answer, str::as_bytes);
         let mut out = io::stdout().lock();
         match self.is_shortened {

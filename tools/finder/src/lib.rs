@@ -18,7 +18,6 @@ mod content;
 mod cuts;
 mod decide;
 mod evidence;
-mod figures;
 mod first;
 mod history;
 mod lexer;
@@ -32,6 +31,7 @@ mod search;
 #[cfg(test)]
 mod small;
 mod splitmix;
+mod statistics;
 mod timeline;
 mod trees;
 mod usual;
@@ -39,7 +39,6 @@ mod usual;
 pub use cuts::{Count, Counted, Cut, Values, part_by};
 pub use decide::{Options, decide, decide_each};
 pub use evidence::{Decision, Evidence};
-pub use figures::{Figures, warnings};
 pub use history::{End, History, Invocation, Nemesis, ObjectHistory, Run};
 pub use lexer::{Lexer, Token, TokenKind, ends_word};
 pub use model::{Kind, Op, Reply, Value};
@@ -49,3 +48,4 @@ pub use reasons::{
     Undone,
 };
 pub use search::First;
+pub use statistics::{Statistics, warnings};

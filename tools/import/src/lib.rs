@@ -13,11 +13,11 @@ mod json;
 mod names;
 mod numbering;
 mod operations;
-mod told;
+mod renaming;
 
 pub use convert::{Imported, Options, form_of, import};
 pub use failures::Replies;
 pub use form::Form;
 pub use names::Names;
 pub use operations::Refused;
-pub use told::told;
+pub use renaming::with_names;

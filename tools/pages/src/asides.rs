@@ -65,7 +65,7 @@ impl Asides {
     }
 }
 
-/// Nanoseconds as seconds, with so many digits after the point.
+/// Nanoseconds as seconds, with this many digits after the point.
 pub fn seconds(nanoseconds: i64, digits: u32) -> String {
     let sign = if nanoseconds < 0 { "−" } else { "" };
     let (whole, rest) =

@@ -8,7 +8,7 @@ mod drawing;
 mod elements;
 mod faults;
 mod figures;
-mod history;
+mod judged_page;
 mod page;
 mod timeline;
 mod verdict;
@@ -16,7 +16,7 @@ mod words;
 
 pub use asides::Asides;
 pub use faults::{fault_lines, malformed_page, memory_page};
-pub use history::{Drawn, Options, Order, orders_in};
+pub use judged_page::{Drawn, Options, Order, orders_in};
 pub use verdict::{
     Answer, Fault, FormFaultKind, MapFaultKind, OrderFault, Refusal, TextFaultKind, Verdict, Which,
 };

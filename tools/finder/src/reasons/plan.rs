@@ -46,11 +46,11 @@ pub struct Plan {
     /// Whether the plan does not begin later than it does: what was before shows what is wrong.
     pub keeps_beginning: bool,
     pub elements: Vec<Element>,
-    /// The count that shows it; without one a search is to.
+    /// The count that shows it. Without one a search must.
     pub count: Option<Count>,
 }
 
-/// How an operation is to the part of a plan.
+/// Whether a plan keeps an operation.
 enum Role {
     Kept,
     Optional,
@@ -67,7 +67,7 @@ impl Role {
 }
 
 impl Values {
-    /// How an operation is to the part that keeps these values.
+    /// The role of an operation in the part that keeps these values.
     fn role_of(&self, operation: &Invocation) -> Role {
         if operation.has_failed() {
             return Role::LeftOut;

@@ -1,4 +1,5 @@
-//! How often places are covered: the first of a range that is not.
+//! A segment tree with lazy addition to a range: finds the first place of a range that is not
+//! covered.
 
 /// A part of the places.
 #[derive(Clone, Copy, Default)]

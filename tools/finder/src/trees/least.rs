@@ -1,4 +1,4 @@
-//! Numbers at places: the least of a range.
+//! A segment tree of minima: the least number of a range.
 
 /// What is in place of a number that is taken out.
 pub const ABSENT: i64 = i64::MAX;

@@ -1,4 +1,4 @@
-//! Marks at places: the greatest of a range.
+//! A segment tree of maxima: the greatest mark of a range.
 
 /// A moment, and the place of what it belongs to.
 #[derive(Clone, Copy, Default)]

@@ -1,4 +1,5 @@
-//! Counts at places, with changes of all places before one.
+//! A segment tree of counts: adds to all places before one, and finds the last place whose count is
+//! large enough.
 
 /// The counts of some places that are side by side: what was added at them, and the greatest of
 /// what was added at one and those after it.

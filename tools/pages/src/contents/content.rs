@@ -178,7 +178,7 @@ impl Content {
     }
 }
 
-/// A list of no more values has all of them in its text, and a longer one so many.
+/// A list of at most this many values has all of them in its text, and a longer one has `SHOWN`.
 const FEW: usize = 11;
 const SHOWN: usize = 10;
 

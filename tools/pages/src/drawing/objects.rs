@@ -9,7 +9,7 @@ use crate::figures::{
     Moment, Placed, Scene, Stretch, WithoutLane, choose, drawn_places, figure_of, narrow, near_to,
     strip_of,
 };
-use crate::history::Options;
+use crate::judged_page::Options;
 use crate::timeline::{
     ContentBox, DrawnStretch, Extent, Figure, Mark, ObjectDrawing, Operation, Row, Span, Spans,
     State, operation_at, operations_of, spans,

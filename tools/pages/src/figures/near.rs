@@ -19,7 +19,7 @@ const MARGIN: usize = 256;
 const MOST_PLACES: usize = 32;
 
 /// The numbers around this one that have, besides the margins, `before` events before it and `after`
-/// from it on, if there are so many.
+/// from it on, if there are that many.
 fn numbers_near(operations: &[Operation], number: u32, before: usize, after: usize) -> Range<u32> {
     let place = operations.partition_point(|operation| operation.number() < number);
     let first = place.saturating_sub(before + MARGIN);

@@ -70,7 +70,7 @@ pub fn point_width(rank: u32) -> u32 {
     point_room(rank) + 6
 }
 
-/// The width of the column of an event, with room for so many characters.
+/// The width of the column of an event, with room for this many characters.
 pub fn event_width(characters: u32) -> u32 {
     EVENT_WIDTH.max(characters * SMALL_CHARACTER + 8)
 }

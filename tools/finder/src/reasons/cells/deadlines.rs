@@ -4,7 +4,7 @@ use super::scene::{Scene, needed};
 use crate::accesses::Access;
 use crate::timeline::Call;
 
-/// The most calls that need a value of which it is looked which one is the first.
+/// Of at most this many calls that need a value the first one is looked for.
 const MOST_NEEDERS: usize = 8;
 
 /// How often deadlines are made earlier by one another.

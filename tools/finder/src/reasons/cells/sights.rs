@@ -4,7 +4,7 @@ use super::greatest::{Greatest, Item};
 use crate::accesses::Cell;
 use crate::timeline::Call;
 
-/// The most calls that set a content of which it is looked how many touch a time.
+/// Of at most this many calls that set a content it is counted how many touch a time.
 const MOST_COUNTED: usize = 64;
 
 /// A call that sets a content: when it begins and ends, and when all calls that set the same and

@@ -1,4 +1,4 @@
-//! Figures of a history, which tell how much a yes says of it, and what is suspicious in it.
+//! Statistics of a history, which tell how much a yes says of it, and what is suspicious in it.
 
 use crate::history::{End, History, Invocation, ObjectHistory};
 use crate::model::{Op, Reply};
@@ -8,7 +8,7 @@ use std::fmt::{self, Display, Formatter};
 /// How many operations a history has, and how they overlap. Only operations on one object are compared, since two objects share no
 /// order.
 #[derive(Clone, Copy, Debug, Default, PartialEq, Eq)]
-pub struct Figures {
+pub struct Statistics {
     /// Those that did not fail.
     pub operations: usize,
     /// How many of them overlap another one.
@@ -24,37 +24,39 @@ fn end_of(operation: &Invocation) -> u32 {
     operation.returned().unwrap_or(u32::MAX)
 }
 
-impl Figures {
-    fn of_object(object: &ObjectHistory) -> Figures {
+impl Statistics {
+    fn of_object(object: &ObjectHistory) -> Statistics {
         let all: Vec<&Invocation> = object.ops.iter().filter(|it| !it.has_failed()).collect();
         let mut ends: Vec<u32> = all.iter().map(|it| end_of(it)).collect();
         ends.sort_unstable();
         let (mut latest_end, mut over) = (0, 0);
-        let mut figures = Figures {
+        let mut statistics = Statistics {
             operations: all.len(),
             pending: all.iter().filter(|it| it.is_pending()).count(),
             failed: object.ops.len() - all.len(),
-            ..Figures::default()
+            ..Statistics::default()
         };
         for (place, operation) in all.iter().enumerate() {
             over += ends[over..].iter().take_while(|end| **end < operation.number).count();
-            figures.at_once = figures.at_once.max(place + 1 - over);
+            statistics.at_once = statistics.at_once.max(place + 1 - over);
             let is_within = latest_end > operation.number;
             let has_next = all.get(place + 1).is_some_and(|next| next.number < end_of(operation));
-            figures.overlapping += usize::from(is_within || has_next);
+            statistics.overlapping += usize::from(is_within || has_next);
             latest_end = latest_end.max(end_of(operation));
         }
-        figures
+        statistics
     }
 
-    /// The figures of all objects together.
-    pub fn of(history: &History) -> Figures {
-        history.objects.iter().map(Figures::of_object).fold(Figures::default(), |sum, it| Figures {
-            operations: sum.operations + it.operations,
-            overlapping: sum.overlapping + it.overlapping,
-            at_once: sum.at_once.max(it.at_once),
-            pending: sum.pending + it.pending,
-            failed: sum.failed + it.failed,
+    /// The statistics of all objects together.
+    pub fn of(history: &History) -> Statistics {
+        history.objects.iter().map(Statistics::of_object).fold(Statistics::default(), |sum, it| {
+            Statistics {
+                operations: sum.operations + it.operations,
+                overlapping: sum.overlapping + it.overlapping,
+                at_once: sum.at_once.max(it.at_once),
+                pending: sum.pending + it.pending,
+                failed: sum.failed + it.failed,
+            }
         })
     }
 
@@ -64,9 +66,9 @@ impl Figures {
     }
 }
 
-impl Display for Figures {
+impl Display for Statistics {
     fn fmt(&self, f: &mut Formatter<'_>) -> fmt::Result {
-        let Figures { operations, overlapping, at_once, pending, failed } = *self;
+        let Statistics { operations, overlapping, at_once, pending, failed } = *self;
         let share = (overlapping * 100).checked_div(operations).unwrap_or(0);
         let noun = if operations == 1 { "operation" } else { "operations" };
         write!(
@@ -168,9 +170,9 @@ fn named(word: &str, all: &[u32]) -> Option<String> {
 
 /// What is suspicious in a history, in words.
 pub fn warnings(history: &History) -> Vec<String> {
-    let figures = Figures::of(history);
+    let statistics = Statistics::of(history);
     let mut all = Vec::new();
-    if figures.operations == 0 {
+    if statistics.operations == 0 {
         all.push("the history has no operations, so a yes says nothing".to_owned());
     }
     if let Some((failed, f)) = failed_removals(history) {
@@ -178,14 +180,16 @@ pub fn warnings(history: &History) -> Vec<String> {
             "all {failed} calls of :{f} failed, so none is judged: a call that found nothing is :ok with :value nil"
         ));
     }
-    if figures.is_sequential() {
-        let few = match figures.overlapping {
+    if statistics.is_sequential() {
+        let few = match statistics.overlapping {
             0 => "no two operations overlap".to_owned(),
-            some => format!("only {some} of {} operations overlap another one", figures.operations),
+            some => {
+                format!("only {some} of {} operations overlap another one", statistics.operations)
+            }
         };
         all.push(format!(
             "{few}: a race {} show in this history",
-            if figures.overlapping == 0 { "cannot" } else { "can hardly" }
+            if statistics.overlapping == 0 { "cannot" } else { "can hardly" }
         ));
     }
     if let Some(event) = named("event", &strange_replies(history)) {
@@ -218,7 +222,7 @@ mod tests {
 
     fn told(text: &str) -> (String, Vec<String>) {
         let history = read_history(text.as_bytes()).expect("a history");
-        (Figures::of(&history).to_string(), warnings(&history))
+        (Statistics::of(&history).to_string(), warnings(&history))
     }
 
     fn event(process: u32, kind: &str, call: &str, object: u32) -> String {

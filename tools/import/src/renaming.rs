@@ -7,7 +7,7 @@ use std::collections::{BTreeMap, HashMap};
 
 /// The text, in which each integer is what this gives of it. The sign belongs to an integer that follows no letter or digit.
 fn with_numbers(text: &str, mut named: impl FnMut(i64) -> Option<String>) -> String {
-    let (mut told, mut rest) = (String::new(), text);
+    let (mut said, mut rest) = (String::new(), text);
     while let Some(place) = rest.find(|it: char| it.is_ascii_digit()) {
         let has_sign = rest[..place].ends_with('-')
             && !rest[..place - 1].ends_with(|it: char| it.is_ascii_alphanumeric());
@@ -15,14 +15,14 @@ fn with_numbers(text: &str, mut named: impl FnMut(i64) -> Option<String>) -> Str
         let end = rest[place..]
             .find(|it: char| !it.is_ascii_digit())
             .map_or(rest.len(), |length| place + length);
-        told.push_str(&rest[..begin]);
+        said.push_str(&rest[..begin]);
         let number = &rest[begin..end];
-        told.push_str(
+        said.push_str(
             &number.parse().ok().and_then(&mut named).unwrap_or_else(|| number.to_owned()),
         );
         rest = &rest[end..];
     }
-    told + rest
+    said + rest
 }
 
 fn name(names: &BTreeMap<i64, Form>, number: i64) -> Option<String> {
@@ -53,8 +53,8 @@ fn split_list(text: &str) -> (&str, &str) {
     }
 }
 
-/// How the numbers after a word of a sentence are told.
-fn told_after(names: &Names, word: &str, list: &str) -> String {
+/// The numbers after a word of a sentence, with their names.
+fn named_after(names: &Names, word: &str, list: &str) -> String {
     with_numbers(list, |number| match word {
         "event" | "events" | "map" => Some((number - i64::from(names.before)).to_string()),
         "process" | "processes" => name(&names.processes, number),
@@ -65,31 +65,31 @@ fn told_after(names: &Names, word: &str, list: &str) -> String {
 const WORDS: [&str; 9] =
     ["event", "events", "map", "process", "processes", "key", "value", "values", "keys"];
 
-/// A sentence, in which numbers after a word that says what they are are told.
+/// A sentence whose numbers have names, where a word before them says what they are.
 fn sentence(names: &Names, text: &str) -> String {
-    let mut told = String::new();
+    let mut said = String::new();
     let mut rest = text;
     if let Some((number, after)) = rest.strip_prefix("object ").and_then(|it| it.split_once(':')) {
-        told.push_str(&format!("object {number}"));
+        said.push_str(&format!("object {number}"));
         if let Some(key) = number.parse().ok().and_then(|number| name(&names.objects, number)) {
-            told.push_str(&format!(", which is {key}"));
+            said.push_str(&format!(", which is {key}"));
         }
-        told.push(':');
+        said.push(':');
         rest = after;
     }
     while let Some(space) = rest.find(' ') {
         let (before, after) = rest.split_at(space + 1);
-        told.push_str(before);
+        said.push_str(before);
         rest = after;
         let word =
             before.trim_end().rsplit(|it: char| !it.is_ascii_alphabetic()).next().unwrap_or("");
         if WORDS.contains(&word) {
             let (list, after) = split_list(rest);
-            told.push_str(&told_after(names, word, list));
+            said.push_str(&named_after(names, word, list));
             rest = after;
         }
     }
-    told + rest
+    said + rest
 }
 
 /// The numbers that stand for any other value in the part that a reason names, and the words for them.
@@ -121,11 +121,11 @@ fn counted(names: &Names, others: &HashMap<i64, &str>, text: &str) -> String {
     if let Some(words) = written.and_then(|number: i64| others.get(&number)) {
         return format!("a write of {words}{end}");
     }
-    let told = with_numbers(call, |number| match others.get(&number) {
+    let said = with_numbers(call, |number| match others.get(&number) {
         Some(_) => Some("other".to_owned()),
         None => name(&names.values, number),
     });
-    told + end
+    said + end
 }
 
 /// The line of an operation, as `events 4 and 9: process 2, :dequeue nil, :ok 7`, if it is one.
@@ -150,7 +150,7 @@ fn operation(names: &Names, others: &HashMap<i64, &str>, text: &str) -> Option<S
         .ok()
         .and_then(|number| name(&names.processes, number))
         .unwrap_or_else(|| process.to_owned());
-    Some(format!("{word} {}: process {process}, {words}", told_after(names, word, numbers)))
+    Some(format!("{word} {}: process {process}, {words}", named_after(names, word, numbers)))
 }
 
 impl Names {
@@ -176,7 +176,7 @@ impl Names {
 }
 
 /// The lines of an answer in the words of the history. A reason stays as it is, for `refute`; it is after the operations of its part.
-pub fn told(names: &Names, answer: &str) -> String {
+pub fn with_names(names: &Names, answer: &str) -> String {
     let mut others = HashMap::new();
     let mut lines: Vec<String> = Vec::new();
     for line in answer.lines().rev() {
@@ -190,8 +190,8 @@ pub fn told(names: &Names, answer: &str) -> String {
             lines.push(line.to_owned());
             continue;
         }
-        let told = operation(names, &others, text).unwrap_or_else(|| sentence(names, text));
-        lines.push(format!("; {told}"));
+        let said = operation(names, &others, text).unwrap_or_else(|| sentence(names, text));
+        lines.push(format!("; {said}"));
     }
     lines.reverse();
     lines.iter().map(|line| format!("{line}\n")).collect()
@@ -238,7 +238,7 @@ mod tests {
             ("malformed history: H5 at map 3", "malformed history: H5 at map 1"),
             ("; {:object 0, :cuts [{:until 8}]}", "; {:object 0, :cuts [{:until 8}]}"),
         ] {
-            assert_eq!(told(&names(), &format!("{line}\n")), format!("{wanted}\n"));
+            assert_eq!(with_names(&names(), &format!("{line}\n")), format!("{wanted}\n"));
         }
     }
 
@@ -248,6 +248,6 @@ mod tests {
                       ; {:object 0, :cuts [{:cell [7], :other 9, :numbers [4]}]}\n";
         let wanted = "; events 2 and 3: process 1, :write \"b\", :ok \"b\", counted as a write of another value\n\
                       ; {:object 0, :cuts [{:cell [7], :other 9, :numbers [4]}]}\n";
-        assert_eq!(told(&names(), answer), wanted);
+        assert_eq!(with_names(&names(), answer), wanted);
     }
 }
