@@ -6,6 +6,10 @@ own=$(dirname "$(readlink -f "$0")")/../libexec/fcbench
 if [ -x "$own/fcbench" ]; then
   FCBENCH=$own/fcbench FCBENCH_TOOLS=$own/fcbench-tools
 fi
+if [ -z "${FCBENCH_TOOLS:-}" ]; then
+  echo 'fcbench: start ./fcbench, or install it with ./install' >&2
+  exit 70
+fi
 export FCBENCH
 tools=$FCBENCH_TOOLS
 

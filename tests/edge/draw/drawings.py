@@ -1,4 +1,4 @@
-"""The pages that draw puts out: what stands on them, in a browser too, and whether what they say of a history is true."""
+"""Pages that draw writes: what is on them, also in a browser, and whether what they say of a history is true."""
 import collections
 import itertools
 import json
