@@ -10,10 +10,10 @@ def value(it):
     return f"[{it[0]} {it[1]}]" if isinstance(it, tuple) else str(it)
 
 
-def operation_map(kind, process, f, of, on):
+def operation_map(event_type, process, f, argument, on):
     """One map of a history. The object is left out where it is None."""
     end = "" if on is None else f", :object {on}"
-    return f"{{:process {process}, :type :{kind}, :f :{f}, :value {value(of)}{end}}}"
+    return f"{{:process {process}, :type :{event_type}, :f :{f}, :value {value(argument)}{end}}}"
 
 
 def invoke(process, f, of=None, on=None):
