@@ -43,10 +43,10 @@ extern "C" {
 #define FCBENCH_NO 1u
 /* A text is malformed. The line says where. Of fcbench_verify the text is the history. */
 #define FCBENCH_MALFORMED 2u
-/* Not decided: the lines say why, as an object that stays open, evidence that is malformed, or
+/* Undecided: the lines say why, as an object that stays open, evidence that is malformed, or
  * `out of memory`. Where an allocation fails, a proved function answers this, or an answer that holds
  * all the same. */
-#define FCBENCH_OPEN 3u
+#define FCBENCH_UNDECIDED 3u
 
 /* As many steps as the program takes where it is given none: 1,000,000. For fcbench_judge: 1,000,000, or
  * 100 for each operation of the object, whichever is more. */
@@ -85,7 +85,7 @@ uint32_t fcbench_judge(const uint8_t *history, size_t history_length, uint32_t s
                        uint8_t *out, size_t capacity, size_t *needed);
 
 /* Finds evidence for fcbench_verify, and writes it: a line for each object. FCBENCH_YES: each of them is
- * an order, and fcbench_check accepts them, which is proved. FCBENCH_OPEN: some line is a reason or a
+ * an order, and fcbench_check accepts them, which is proved. FCBENCH_UNDECIDED: some line is a reason or a
  * search, or fcbench_check was refused memory. It never answers FCBENCH_NO. */
 uint32_t fcbench_find(const uint8_t *history, size_t history_length,
                       uint8_t *out, size_t capacity, size_t *needed);

@@ -57,7 +57,7 @@ static void answers(void) {
     status = fcbench_refute(bytes(old_read), strlen(old_read), bytes(reason + 2), strlen(reason + 2), FCBENCH_STEPS, NULL, 0, &needed);
     want(status == FCBENCH_NO, "the reason is accepted");
     status = fcbench_refute(bytes(queue), strlen(queue), bytes(reason + 2), strlen(reason + 2), FCBENCH_STEPS, NULL, 0, &needed);
-    want(status == FCBENCH_OPEN, "it shows nothing of the other history");
+    want(status == FCBENCH_UNDECIDED, "it shows nothing of the other history");
     status = fcbench_verify(bytes(old_read), strlen(old_read), bytes(reason + 2), strlen(reason + 2), FCBENCH_STEPS, NULL, 0, &needed);
     want(status == FCBENCH_NO, "it is evidence");
     free(lines);

@@ -19,7 +19,7 @@ enum class Verdict : std::uint32_t {
     Yes = FCBENCH_YES,
     No = FCBENCH_NO,
     Malformed = FCBENCH_MALFORMED,
-    Open = FCBENCH_OPEN,
+    Undecided = FCBENCH_UNDECIDED,
 };
 
 // A verdict and all of its lines. It owns the lines, and gives their memory back at its end.

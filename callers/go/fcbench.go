@@ -32,8 +32,8 @@ const (
 	No Verdict = 1
 	// Malformed says that a text is malformed.
 	Malformed Verdict = 2
-	// Open says that it is not decided: an object stays open, or memory was refused.
-	Open Verdict = 3
+	// Undecided says that it is not decided: an object stays open, or memory was refused.
+	Undecided Verdict = 3
 )
 
 // Answer is a verdict, and the lines that say why.

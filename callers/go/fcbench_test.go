@@ -35,7 +35,7 @@ func TestYes(t *testing.T) {
 	want(t, found, Yes, "{:object 0, :order [0 2]}\n")
 	want(t, Check(queueHistory, found.Lines), Yes, yesLines)
 	want(t, Verify(queueHistory, found.Lines), Yes, yesLines)
-	want(t, Verify(queueHistory, ""), Open, "; object 0: open\n")
+	want(t, Verify(queueHistory, ""), Undecided, "; object 0: open\n")
 }
 
 func TestNo(t *testing.T) {

@@ -18,12 +18,12 @@ PLACES = (f"{HERE}/../../crates/embedding/out/libfcbench.so", f"{HERE}/../../lib
 
 class Verdict(enum.IntEnum):
     """YES: the history is linearizable, which is proved. NO of judge, refute and verify: it is not, which is proved; of check: the
-    certificates are refused. OPEN: not decided, since an object stays open or memory was refused."""
+    certificates are refused. UNDECIDED: an object stays open, or memory was refused."""
 
     YES = 0
     NO = 1
     MALFORMED = 2
-    OPEN = 3
+    UNDECIDED = 3
 
 
 class Answer(typing.NamedTuple):

@@ -32,7 +32,7 @@ class Calls(unittest.TestCase):
         self.assertEqual(found, (Verdict.YES, "{:object 0, :order [0 2]}\n"))
         self.assertEqual(fcbench.check(QUEUE, found.lines).verdict, Verdict.YES)
         self.assertEqual(fcbench.verify(QUEUE, found.lines), (Verdict.YES, YES_LINES))
-        self.assertEqual(fcbench.verify(QUEUE, b""), (Verdict.OPEN, "; object 0: open\n"))
+        self.assertEqual(fcbench.verify(QUEUE, b""), (Verdict.UNDECIDED, "; object 0: open\n"))
 
     def test_no(self):
         answer = fcbench.judge(OLD_READ)
@@ -41,7 +41,7 @@ class Calls(unittest.TestCase):
         self.assertTrue(answer.lines.startswith("; object 0: impossible\n"))
         reason = answer.lines.splitlines()[-1].removeprefix("; ")
         self.assertEqual(fcbench.refute(OLD_READ, reason).verdict, Verdict.NO)
-        self.assertEqual(fcbench.refute(QUEUE, reason).verdict, Verdict.OPEN)
+        self.assertEqual(fcbench.refute(QUEUE, reason).verdict, Verdict.UNDECIDED)
         self.assertEqual(fcbench.verify(OLD_READ, reason).verdict, Verdict.NO)
         self.assertEqual(fcbench.verify(OLD_READ, fcbench.find(OLD_READ).lines), answer)
         self.assertEqual(fcbench.check(QUEUE, b""), (Verdict.NO, "no: C1 object 0 has no certificate\n"))
@@ -53,7 +53,7 @@ class Calls(unittest.TestCase):
         self.assertFalse(answer.is_yes())
         self.assertEqual([line[:11] for line in reasons.splitlines()], ["{:object 0,", "{:object 1,"], reasons)
         self.assertEqual(fcbench.refute(two, reasons, steps=fcbench.STEPS).verdict, Verdict.NO)
-        self.assertEqual(fcbench.refute(QUEUE, fcbench.judge(OLD_READ).reasons()).verdict, Verdict.OPEN)
+        self.assertEqual(fcbench.refute(QUEUE, fcbench.judge(OLD_READ).reasons()).verdict, Verdict.UNDECIDED)
         self.assertTrue(fcbench.judge(QUEUE).is_yes())
         self.assertEqual(fcbench.judge(QUEUE).reasons(), "")
 

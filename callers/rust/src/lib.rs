@@ -76,8 +76,8 @@ pub enum Verdict {
     No,
     /// A text is malformed.
     Malformed,
-    /// Not decided: an object stays open, or memory was refused.
-    Open,
+    /// An object stays open, or memory was refused.
+    Undecided,
 }
 
 impl Verdict {
@@ -86,7 +86,7 @@ impl Verdict {
             0 => Verdict::Yes,
             1 => Verdict::No,
             2 => Verdict::Malformed,
-            _ => Verdict::Open,
+            _ => Verdict::Undecided,
         }
     }
 }
@@ -97,7 +97,7 @@ impl Display for Verdict {
             Verdict::Yes => "yes",
             Verdict::No => "no",
             Verdict::Malformed => "malformed",
-            Verdict::Open => "not decided",
+            Verdict::Undecided => "undecided",
         })
     }
 }

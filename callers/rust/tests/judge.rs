@@ -36,7 +36,7 @@ fn a_no() {
     assert!(answer.lines.starts_with("; object 0: impossible\n"));
     let reason = answer.lines.lines().last().expect("a reason").trim_start_matches("; ");
     assert_eq!(refute(OLD_READ, reason).verdict, Verdict::No);
-    assert_eq!(refute(QUEUE, reason).verdict, Verdict::Open);
+    assert_eq!(refute(QUEUE, reason).verdict, Verdict::Undecided);
     assert_eq!(verify(OLD_READ, reason).verdict, Verdict::No);
     assert_eq!(verify(OLD_READ, find(OLD_READ).lines), answer);
     let refused = check(QUEUE, "");
@@ -54,7 +54,7 @@ fn the_reasons_of_a_no() {
     assert_eq!(reasons.lines().count(), 2, "{reasons}");
     assert!(refute(&two, &reasons).is_no());
     assert!(refute_with_steps(&two, &reasons, STEPS).is_no());
-    assert!(refute(QUEUE, judge(OLD_READ).reasons()).verdict == Verdict::Open);
+    assert!(refute(QUEUE, judge(OLD_READ).reasons()).verdict == Verdict::Undecided);
     assert_eq!(judge(QUEUE).reasons(), "");
 }
 
@@ -64,7 +64,7 @@ fn an_answer_in_a_message() {
     assert_eq!(judge(QUEUE).to_string(), format!("yes\n{YES_LINES}"));
     assert!(judge(OLD_READ).to_string().starts_with("no\n; object 0: impossible\n"));
     assert_eq!(judge("{:process 0").to_string(), "malformed\nmalformed history: E2 at byte 11\n");
-    assert!(refute(QUEUE, "").to_string().starts_with("not decided\n"));
+    assert!(refute(QUEUE, "").to_string().starts_with("undecided\n"));
 }
 
 /// A history without a map is a yes of no operations.
