@@ -6,10 +6,12 @@
 #include <pthread.h>
 #include <sched.h>
 #include <stdbool.h>
+#include <time.h>
 
-enum { THREADS = 4, CALLS = 50, MOST_OPERATIONS = 5, MOST_TURNS = 2000 };
+/* A thread waits no longer for others than PATIENCE, in seconds: only where one of them has died. */
+enum { THREADS = 4, CALLS = 50, MOST_OPERATIONS = 5, PATIENCE = 60 };
 
-/* Of the calls of a right queue on 4 processors, this share overlap another one. */
+/* Of the calls of a right queue more overlap another one: all but some of the thread that ends last. */
 static const double LEAST_OVERLAP = 0.5;
 
 static void want(bool holds, const char *what, const char *lines) {
@@ -24,26 +26,38 @@ static void want(bool holds, const char *what, const char *lines) {
 struct queue {
     bool has_race;
     int64_t values[THREADS * CALLS];
-    atomic_size_t head, tail, inside;
+    atomic_size_t head, tail, waiting, working;
+    time_t begun;
     pthread_mutex_t enqueuing, dequeuing;
 };
 
+static time_t seconds(void) {
+    struct timespec now;
+    clock_gettime(CLOCK_MONOTONIC, &now);
+    return now.tv_sec;
+}
+
+/* Waits until another thread is here too, or no other one is at work. While a thread waits, the others need not, so they go
+ * on and end. */
+static void wait_for_another(struct queue *queue) {
+    queue->waiting++;
+    while (queue->waiting < 2 && queue->working > 1 && seconds() - queue->begun < PATIENCE)
+        sched_yield();
+    queue->waiting--;
+}
+
+/* In a right queue each call waits at first, so that calls overlap on each machine. */
 static void enqueue(struct queue *queue, int64_t value) {
+    if (!queue->has_race)
+        wait_for_another(queue);
     pthread_mutex_lock(&queue->enqueuing);
     queue->values[queue->tail] = value;
     queue->tail++;
     pthread_mutex_unlock(&queue->enqueuing);
 }
 
-/* The race: while a thread is between the two, another one may come in and take the same value. A thread waits a while for
- * one, so that each run has the fault. */
-static void wait_for_another(struct queue *queue) {
-    queue->inside++;
-    for (int turn = 0; turn < MOST_TURNS && queue->inside < 2; turn++)
-        sched_yield();
-    queue->inside--;
-}
-
+/* The race: while a thread is between the two, another one may come in and take the same value. A thread waits for one, so
+ * each run has the fault: the first two that come in take the same. */
 static bool take(struct queue *queue, int64_t *value) {
     size_t head = queue->head;
     if (head == queue->tail)
@@ -58,6 +72,7 @@ static bool take(struct queue *queue, int64_t *value) {
 static bool dequeue(struct queue *queue, int64_t *value) {
     if (queue->has_race)
         return take(queue, value);
+    wait_for_another(queue);
     pthread_mutex_lock(&queue->dequeuing);
     bool is_some = take(queue, value);
     pthread_mutex_unlock(&queue->dequeuing);
@@ -69,13 +84,11 @@ static bool dequeue(struct queue *queue, int64_t *value) {
 struct client {
     struct queue *queue;
     struct journal *journal;
-    pthread_barrier_t *begin;
 };
 
 static void *work(void *own) {
     struct client *client = own;
     int64_t first = (int64_t)client->journal->process * CALLS;
-    pthread_barrier_wait(client->begin);
     for (int i = 0; i < CALLS; i++) {
         int64_t value = first + i;
         if (i % 2 == 0)
@@ -83,32 +96,32 @@ static void *work(void *own) {
         else
             JOURNAL_CALL(client->journal, 0, "dequeue", fcbench_nil(), dequeue(client->queue, &value) ? fcbench_number(value) : fcbench_nil());
     }
+    client->queue->working--;
     return NULL;
 }
 
-static struct queue *queue_with(bool has_race) {
+static struct queue *queue_with(bool has_race, size_t working) {
     static struct queue queue;
     queue.has_race = has_race;
-    queue.head = queue.tail = queue.inside = 0;
+    queue.head = queue.tail = queue.waiting = 0;
+    queue.working = working;
+    queue.begun = seconds();
     pthread_mutex_init(&queue.enqueuing, NULL);
     pthread_mutex_init(&queue.dequeuing, NULL);
     return &queue;
 }
 
 static void record(bool has_race, struct recorder *recorder) {
-    struct queue *queue = queue_with(has_race);
+    struct queue *queue = queue_with(has_race, THREADS);
     pthread_t threads[THREADS];
     struct client clients[THREADS];
-    pthread_barrier_t begin;
-    pthread_barrier_init(&begin, NULL, THREADS);
     recorder_open(recorder, THREADS);
     for (int i = 0; i < THREADS; i++) {
-        clients[i] = (struct client){queue, &recorder->journals[i], &begin};
+        clients[i] = (struct client){queue, &recorder->journals[i]};
         want(pthread_create(&threads[i], NULL, work, &clients[i]) == 0, "a thread is started", "");
     }
     for (int i = 0; i < THREADS; i++)
         pthread_join(threads[i], NULL);
-    pthread_barrier_destroy(&begin);
 }
 
 /* ---- the judgement */
@@ -124,8 +137,7 @@ static size_t lines_that_begin(const char *lines, const char *with) {
     return count;
 }
 
-/* It gives the share of the calls that overlapped another one. */
-static double judge_run(bool has_race) {
+static void judge_run(bool has_race) {
     struct recorder recorder;
     char lines[2048];
     size_t length, needed, at_once;
@@ -140,12 +152,12 @@ static double judge_run(bool has_race) {
     free(text);
     if (!has_race) {
         want(status == FCBENCH_YES, "the right queue is linearizable", lines);
-        return share;
+        want(share > LEAST_OVERLAP, "its calls overlap", "");
+        return;
     }
     size_t operations = lines_that_begin(lines, "; event");
     want(status == FCBENCH_NO, "the wrong queue is refuted", lines);
     want(0 < operations && operations <= MOST_OPERATIONS, "by a reason of few operations", lines);
-    return share;
 }
 
 /* The text of a recorder is as wanted, and a yes. It closes the recorder. */
@@ -185,7 +197,7 @@ static void pending_calls(void) {
 }
 
 static void the_example_at_the_head(void) {
-    struct queue *queue = queue_with(false);
+    struct queue *queue = queue_with(false, 1);
     size_t thread = 0, length;
     struct recorder recorder;
     recorder_open(&recorder, 4); // one journal for each of 4 threads
@@ -303,7 +315,6 @@ static void overlap(void) {
 
 int main(int count, char **words) {
     int runs = count > 1 ? atoi(words[1]) : 100;
-    double shares = 0;
     pending_calls();
     the_example_at_the_head();
     a_journal_that_is_lost();
@@ -313,10 +324,9 @@ int main(int count, char **words) {
     calls_that_are_known_when_they_returned();
     overlap();
     for (int run = 0; run < runs; run++) {
-        shares += judge_run(false);
+        judge_run(false);
         judge_run(true);
     }
-    want(runs < 10 || shares > LEAST_OVERLAP * runs, "calls overlap", "");
     printf("test_recorder: passed, %d runs of each\n", runs);
     return 0;
 }
