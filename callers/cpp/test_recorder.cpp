@@ -3,6 +3,7 @@
 //     test_recorder [RUNS]
 #include "fcbench.hpp"
 #include "recorder.hpp"
+#include <chrono>
 #include <cstdlib>
 #include <iostream>
 #include <mutex>
@@ -11,9 +12,13 @@
 #include <stdexcept>
 #include <thread>
 
-static constexpr int threads = 4, calls = 50, most_operations = 5, most_turns = 2000;
-// Of the calls of a right queue on 4 processors, this share overlap another one.
+using Clock = std::chrono::steady_clock;
+
+static constexpr int threads = 4, calls = 50, most_operations = 5;
+// Of the calls of a right queue more overlap another one: all but some of the thread that ends last.
 static constexpr double least_overlap = 0.5;
+// A thread waits no longer for others: only where one of them has died.
+static constexpr std::chrono::seconds patience(60);
 
 static void want(bool holds, const char *what, const std::string &lines) {
     if (!holds) {
@@ -25,19 +30,34 @@ static void want(bool holds, const char *what, const std::string &lines) {
 // Its dequeue reads the index of the head and then moves it.
 class Queue {
 public:
-    explicit Queue(bool has_race) : has_race_(has_race), values_(threads * calls) {}
+    Queue(bool has_race, int working) : has_race_(has_race), values_(threads * calls), working_(working) {}
 
+    // In a right queue each call waits at first, so that calls overlap on each machine.
     void enqueue(std::int64_t value) {
+        if (!has_race_) {
+            wait_for_another();
+        }
         std::lock_guard<std::mutex> lock(enqueuing_);
         values_[tail_] = value;
         tail_++;
     }
 
     std::optional<std::int64_t> dequeue() {
-        std::unique_lock<std::mutex> lock(dequeuing_, std::defer_lock);
-        if (!has_race_) {
-            lock.lock();
+        if (has_race_) {
+            return take();
         }
+        wait_for_another();
+        std::lock_guard<std::mutex> lock(dequeuing_);
+        return take();
+    }
+
+    // A thread calls it when it has made its last call.
+    void leave() { working_--; }
+
+private:
+    // The race: another thread may come in between and take the same value. A thread waits for one, so each run has the
+    // fault: the first two that come in take the same.
+    std::optional<std::int64_t> take() {
         const std::size_t head = head_;
         if (head == tail_) {
             return std::nullopt;
@@ -49,20 +69,21 @@ public:
         return values_[head];
     }
 
-private:
-    // The race: another thread may come in here and take the same value. A thread waits a while for one, so that each run
-    // has the fault.
+    // Waits until another thread is here too, or no other one is at work. While a thread waits, the others need not, so
+    // they go on and end.
     void wait_for_another() {
-        inside_++;
-        for (int turn = 0; turn < most_turns && inside_ < 2; turn++) {
+        waiting_++;
+        while (waiting_ < 2 && working_ > 1 && Clock::now() < deadline_) {
             std::this_thread::yield();
         }
-        inside_--;
+        waiting_--;
     }
 
     const bool has_race_;
     std::vector<std::int64_t> values_;
-    std::atomic<std::size_t> head_{0}, tail_{0}, inside_{0};
+    const Clock::time_point deadline_ = Clock::now() + patience;
+    std::atomic<std::size_t> head_{0}, tail_{0};
+    std::atomic<int> waiting_{0}, working_;
     std::mutex enqueuing_, dequeuing_;
 };
 
@@ -75,25 +96,19 @@ static void work(Queue &queue, fcbench::Journal &journal, std::int64_t first) {
             journal.call("dequeue", std::nullopt, [&] { return queue.dequeue(); });
         }
     }
+    queue.leave();
 }
 
 static std::pair<std::string, double> record(bool has_race) {
-    Queue queue(has_race);
+    Queue queue(has_race, threads);
     fcbench::Recorder recorder;
     std::vector<fcbench::Journal> journals;
     std::vector<std::thread> clients;
-    std::atomic<int> begun{0};
     for (int i = 0; i < threads; i++) {
         journals.push_back(recorder.journal());
     }
     for (int i = 0; i < threads; i++) {
-        clients.emplace_back([&, i] {
-            begun++;
-            while (begun < threads) {
-                std::this_thread::yield();
-            }
-            work(queue, journals[i], i * calls);
-        });
+        clients.emplace_back([&, i] { work(queue, journals[i], i * calls); });
     }
     for (std::thread &client : clients) {
         client.join();
@@ -112,18 +127,17 @@ static int operations_in(const std::string &lines) {
     return count;
 }
 
-// It gives the share of the calls that overlapped another one.
-static double judge_run(bool has_race) {
+static void judge_run(bool has_race) {
     const auto [history, share] = record(has_race);
     const auto answer = fcbench::judge(history);
     if (!has_race) {
         want(answer.is_yes(), "the right queue is linearizable", answer.lines());
-        return share;
+        want(share > least_overlap, "its calls overlap", "");
+        return;
     }
     const int operations = operations_in(answer.lines());
     want(answer.is_no(), "the wrong queue is refuted", answer.lines());
     want(0 < operations && operations <= most_operations, "by a reason of few operations", answer.lines());
-    return share;
 }
 
 // A call that did not return ends with :info, and its thread goes on as a new process.
@@ -146,7 +160,7 @@ static void pending_calls() {
 }
 
 static void the_example_at_the_head() {
-    Queue queue(false);
+    Queue queue(false, 1);
     fcbench::Recorder recorder;
     std::vector<fcbench::Journal> journals; // before the threads, one for each
     journals.push_back(recorder.journal());
@@ -419,11 +433,9 @@ int main(int count, char **words) {
     failed_calls_and_steps();
     values();
     a_set();
-    double shares = 0;
     for (int run = 0; run < runs; run++) {
-        shares += judge_run(false);
+        judge_run(false);
         judge_run(true);
     }
-    want(runs < 10 || shares > least_overlap * runs, "calls overlap", "");
     std::cout << "test_recorder: passed, " << runs << " runs of each\n";
 }
