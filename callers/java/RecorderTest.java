@@ -8,7 +8,8 @@ import java.util.Queue;
 import java.util.Set;
 import java.util.concurrent.ConcurrentHashMap;
 import java.util.concurrent.ConcurrentLinkedQueue;
-import java.util.concurrent.CyclicBarrier;
+import java.util.concurrent.TimeUnit;
+import java.util.concurrent.atomic.AtomicInteger;
 import java.util.concurrent.atomic.AtomicLong;
 
 /**
@@ -17,9 +18,11 @@ import java.util.concurrent.atomic.AtomicLong;
  * <pre>java RecorderTest PROGRAM RUNS FOLDER</pre>
  */
 public final class RecorderTest {
-    private static final int THREADS = 4, CALLS = 50, MOST_OPERATIONS = 5, MOST_TURNS = 2000;
-    /** Of the calls of a right queue on 4 processors, this share overlap another one. */
+    private static final int THREADS = 4, CALLS = 50, MOST_OPERATIONS = 5;
+    /** Of the calls of a right queue more overlap another one: all but some of the thread that ends last. */
     private static final double LEAST_OVERLAP = 0.5;
+    /** A thread waits no longer for others, in nanoseconds: only where one of them has died. */
+    private static final long PATIENCE = TimeUnit.SECONDS.toNanos(60);
 
     private static String program;
     private static Path folder;
@@ -31,47 +34,69 @@ public final class RecorderTest {
         }
     }
 
-    private interface Ends {
-        void add(long value);
+    /** A queue, where its threads wait for each other. */
+    private abstract static class Ends {
+        private final AtomicInteger waiting = new AtomicInteger(), working = new AtomicInteger(THREADS);
+        private final long begun = System.nanoTime();
 
-        Long poll();
+        abstract void add(long value);
+
+        abstract Long poll();
+
+        /**
+         * Waits until another thread is here too, or no other one is at work. While a thread waits, the others need not, so they go on and
+         * end.
+         */
+        final void waitForAnother() {
+            waiting.incrementAndGet();
+            while (waiting.get() < 2 && working.get() > 1 && System.nanoTime() - begun < PATIENCE) {
+                Thread.yield();
+            }
+            waiting.decrementAndGet();
+        }
+
+        /** A thread calls it when it has made its last call. */
+        final void leave() {
+            working.decrementAndGet();
+        }
     }
 
-    /** The poll of this queue looks at the head and removes it in two steps: another thread may take the same value in between. */
-    private static final class Racy implements Ends {
+    /**
+     * The poll of this queue looks at the head and removes it in two steps: another thread may take the same value in between. A thread
+     * waits for one, so each run has the fault: the first two that come in take the same.
+     */
+    private static final class Racy extends Ends {
         private final Queue<Long> values = new ConcurrentLinkedQueue<>();
-        private final AtomicLong inside = new AtomicLong();
 
         @Override
-        public void add(long value) {
+        void add(long value) {
             values.add(value);
         }
 
         @Override
-        public Long poll() {
+        Long poll() {
             Long head = values.peek();
-            inside.incrementAndGet();
-            for (int turn = 0; head != null && turn < MOST_TURNS && inside.get() < 2; turn++) {
-                Thread.yield();
-            }
-            inside.decrementAndGet();
             if (head != null) {
+                waitForAnother();
                 values.remove(head);
             }
             return head;
         }
     }
 
-    private static final class Right implements Ends {
+    /** Each call waits at first, so that calls overlap on each machine. */
+    private static final class Right extends Ends {
         private final ConcurrentLinkedQueue<Long> values = new ConcurrentLinkedQueue<>();
 
         @Override
-        public void add(long value) {
+        void add(long value) {
+            waitForAnother();
             values.add(value);
         }
 
         @Override
-        public Long poll() {
+        Long poll() {
+            waitForAnother();
             return values.poll();
         }
     }
@@ -85,25 +110,18 @@ public final class RecorderTest {
                 journal.call("dequeue", null, queue::poll);
             }
         }
+        queue.leave();
     }
 
     private static List<Recorder.Journal> record(Recorder recorder, Ends queue) throws Exception {
         List<Recorder.Journal> journals = new ArrayList<>();
         List<Thread> threads = new ArrayList<>();
-        CyclicBarrier begin = new CyclicBarrier(THREADS);
         for (int client = 0; client < THREADS; client++) {
             journals.add(recorder.journal());
         }
         for (int client = 0; client < THREADS; client++) {
             int own = client;
-            threads.add(new Thread(() -> {
-                try {
-                    begin.await();
-                } catch (Exception error) {
-                    throw new IllegalStateException(error);
-                }
-                work(queue, journals.get(own), own);
-            }));
+            threads.add(new Thread(() -> work(queue, journals.get(own), own)));
         }
         threads.forEach(Thread::start);
         for (Thread thread : threads) {
@@ -130,15 +148,14 @@ public final class RecorderTest {
     }
 
     private static void rightQueues(int runs) throws Exception {
-        double shares = 0;
         for (int run = 0; run < runs; run++) {
             Recorder recorder = new Recorder();
             List<Recorder.Journal> journals = record(recorder, new Right());
             Answer answer = judge(recorder.history(journals));
             want(answer.status == 0, "a ConcurrentLinkedQueue is linearizable", answer.lines);
-            shares += Recorder.overlap(journals).share;
+            Recorder.Overlap overlap = Recorder.overlap(journals);
+            want(overlap.share > LEAST_OVERLAP, "its calls overlap", overlap);
         }
-        want(shares > LEAST_OVERLAP * runs, "calls overlap", shares / runs);
     }
 
     private static void races(int runs) throws Exception {
