@@ -12,9 +12,11 @@ import fcbench
 from fcbench import Verdict
 from recorder import Failed, Recorder
 
-THREADS, CALLS, MOST_OPERATIONS, MOST_TURNS = 4, 50, 5, 50
-# Of the calls of a right queue on 4 processors, this share overlap another one.
+THREADS, CALLS, MOST_OPERATIONS = 4, 50, 5
+# Of the calls of a right queue more overlap another one: all but some of the thread that ends last.
 LEAST_OVERLAP = 0.5
+# A thread waits no longer for others, in seconds: only where one of them has died.
+PATIENCE = 60
 RUNS = int(os.environ.get("FCBENCH_RUNS", "100"))
 sys.setswitchinterval(0.00001)  # so that threads take turns often
 
@@ -23,59 +25,63 @@ class Queue:
     """Its dequeue reads the index of the head and then moves it."""
 
     def __init__(self, has_race):
-        self.values, self.head, self.inside, self.has_race = [], 0, 0, has_race
+        self.values, self.head, self.has_race = [], 0, has_race
+        self.waiting, self.working, self.deadline = 0, THREADS, time.monotonic() + PATIENCE
         self.enqueuing, self.dequeuing, self.counting = threading.Lock(), threading.Lock(), threading.Lock()
 
     def enqueue(self, value):
+        """In a right queue each call waits at first, so that calls overlap on each machine."""
+        if not self.has_race:
+            self.wait_for_another()
         with self.enqueuing:
             self.values.append(value)
 
     def dequeue(self):
         if self.has_race:
             return self.take()
+        self.wait_for_another()
         with self.dequeuing:
             return self.take()
 
     def take(self):
+        """The race: another thread may come in between and take the same value. A thread waits for one, so each run has the fault: the
+        first two that come in take the same."""
         head = self.head
         if head == len(self.values):
             return None
         if self.has_race:
             self.wait_for_another()
-        else:
-            time.sleep(0)
         self.head = head + 1
         return self.values[head]
 
-    def count(self, more):
+    def count(self, waiting=0, working=0):
         with self.counting:
-            self.inside += more
+            self.waiting += waiting
+            self.working += working
 
     def wait_for_another(self):
-        """The race: another thread may come in here and take the same value. A thread waits a while for one, so that each run has the
-        fault."""
-        self.count(1)
-        for _ in range(MOST_TURNS):
-            if self.inside > 1:
-                break
+        """Waits until another thread is here too, or no other one is at work. While a thread waits, the others need not, so they go on
+        and end."""
+        self.count(waiting=1)
+        while self.waiting < 2 and self.working > 1 and time.monotonic() < self.deadline:
             time.sleep(0.00005)
-        self.count(-1)
+        self.count(waiting=-1)
 
 
-def work(queue, journal, begin, client):
-    begin.wait()
+def work(queue, journal, client):
     for i in range(CALLS):
         value = client * CALLS + i
         if i % 2 == 0:
             journal.call("enqueue", value, lambda: queue.enqueue(value))
         else:
             journal.call("dequeue", None, queue.dequeue)
+    queue.count(working=-1)
 
 
 def record(has_race):
-    queue, recorder, begin = Queue(has_race), Recorder(), threading.Barrier(THREADS)
+    queue, recorder = Queue(has_race), Recorder()
     journals = [recorder.journal() for _ in range(THREADS)]
-    threads = [threading.Thread(target=work, args=(queue, journal, begin, it)) for it, journal in enumerate(journals)]
+    threads = [threading.Thread(target=work, args=(queue, journal, it)) for it, journal in enumerate(journals)]
     for thread in threads:
         thread.start()
     for thread in threads:
@@ -85,14 +91,12 @@ def record(has_race):
 
 class Queues(unittest.TestCase):
     def test_right(self):
-        shares = []
         for _ in range(RUNS):
             history, overlap = record(has_race=False)
             answer = fcbench.judge(history)
             self.assertEqual(answer.verdict, Verdict.YES, answer.lines)
             self.assertIn(overlap.at_once, range(1, THREADS + 1))
-            shares.append(overlap.share)
-        self.assertGreater(sum(shares), LEAST_OVERLAP * RUNS)
+            self.assertGreater(overlap.share, LEAST_OVERLAP)
 
     def test_race(self):
         for _ in range(RUNS):
