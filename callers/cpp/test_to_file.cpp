@@ -10,9 +10,12 @@ int main() {
     journals.push_back(recorder.journal());
     journals[0].call("write", -1, [&] { shared = -1; }); // before it a register contains nothing
     const auto work = [&](int client) {
-        for (--missing; missing > 0;) { // both begin together
-            std::this_thread::yield();
-        }
+        journals[client].call("read", std::nullopt, [&] {
+            for (--missing; missing > 0;) { // both begin together, inside of their first calls
+                std::this_thread::yield();
+            }
+            return shared.load();
+        });
         for (int value = client * 100; value < client * 100 + 100; ++value) {
             journals[client].call("write", value, [&] { shared = value; });
             journals[client].call("read", std::nullopt, [&] { return shared.load(); });

@@ -34,15 +34,19 @@ private:
 };
 
 static void work(Queue &queue, fcbench::Journal &journal, int client, std::atomic<int> &missing) {
-    for (--missing; missing > 0;) { // both begin together
-        std::this_thread::yield();
-    }
+    const auto dequeue = [&] {
+        int out;
+        return queue.try_dequeue(out) ? std::optional(out) : std::nullopt;
+    };
+    journal.call("dequeue", std::nullopt, [&] {
+        for (--missing; missing > 0;) { // both begin together, inside of their first calls
+            std::this_thread::yield();
+        }
+        return dequeue();
+    });
     for (int value = client * 100; value < client * 100 + 100; ++value) {
         journal.call("enqueue", value, [&] { queue.enqueue(value); });
-        journal.call("dequeue", std::nullopt, [&] {
-            int out;
-            return queue.try_dequeue(out) ? std::optional(out) : std::nullopt;
-        });
+        journal.call("dequeue", std::nullopt, dequeue);
     }
 }
 
@@ -61,7 +65,7 @@ int main() {
         shares += recorder.overlap(journals).share;
         const std::string history = recorder.history(journals);
         const fcbench::Answer answer = fcbench::judge(history);
-        if (!answer.is_yes() || answer.lines().rfind("yes: 400 operations", 0) != 0) {
+        if (!answer.is_yes() || answer.lines().rfind("yes: 402 operations", 0) != 0) {
             std::ofstream("queue.history.edn") << history;
             std::cerr << answer.lines();
             return 1;

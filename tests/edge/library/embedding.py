@@ -326,7 +326,7 @@ def without_the_library(program, report):
     os.mkdir(room)
     done(report, "C++: a recorder without the library is built", [*CPP, f"{SOURCES}/cpp/test_to_file.cpp", "-pthread", "-o", f"{room}/to_file"])
     done(report, "C++: it writes a history", [f"{room}/to_file"], FOLDER=room)
-    done(report, "C++: and the program judges it", [dispatcher(program), "judge", f"{room}/register.history.edn"], "yes: 401 operations, 1 objects\n")
+    done(report, "C++: and the program judges it", [dispatcher(program), "judge", f"{room}/register.history.edn"], "yes: 403 operations, 1 objects\n")
     for reply, status in (("static_cast<int *>(nullptr)", 1), ("true", 1), ("7", 0)):
         source = program.write("no_reply.cpp", NO_REPLY.replace("REPLY", reply))
         ran = subprocess.run([*CPP, f"-I{SOURCES}/cpp", "-fsyntax-only", f"{program.room}/{source}"], capture_output=True, text=True)
