@@ -11,11 +11,15 @@ from .running import SECONDS, Ran
 
 # A pseudo-terminal writes a carriage return before a line feed.
 UNDER_WAY = b"fcbench: under way\r\n"
-# A pause that makes a command take more than a second.
+# A pause that makes a command take more than a second. It is told before that.
 LONG = 1.4
+# So long it is waited for what is told, on a slow machine too.
+LATEST = 60
 # The most that a terminal may add to a short command. The program must add less than 0.05.
 MOST = 0.025
-TRIES = 15
+# The fewest and the most runs by which a time is told: other work on the machine only adds to it.
+FEWEST, TRIES = 15, 200
+LONG_TRIES = 5
 
 
 def read_all(end, got):
@@ -30,10 +34,11 @@ def read_all(end, got):
         got.append((time.monotonic(), piece))
 
 
-def on_terminal(program, words):
-    """Runs the program with a pseudo-terminal as standard error. Returns also the seconds at which it wrote there."""
+def on_terminal(program, words, got=None):
+    """Runs the program with a pseudo-terminal as standard error. Returns also the seconds at which it wrote there. What it writes is put into the
+    list, where one is given, as it comes."""
     own, its = os.openpty()
-    got = []
+    got = [] if got is None else got
     begun = time.monotonic()
     try:
         started = subprocess.Popen(
@@ -51,15 +56,32 @@ def on_terminal(program, words):
     return ran, [at - begun for at, _ in got]
 
 
+def feed_when_told(pipe, text, got):
+    """Writes a text to a named pipe when the terminal has got something."""
+    late = time.monotonic() + LATEST
+    while not got and time.monotonic() < late:
+        time.sleep(0.01)
+    feed(pipe, text, 100)
+
+
+def waits_until_it_tells(program):
+    """A command whose history comes when it has told something, and the seconds at which it did."""
+    pipe, got = f"{program.room}/late.edn", []
+    os.mkfifo(pipe)
+    late = threading.Thread(target=feed_when_told, args=(pipe, rows.OVERLAPPING.encode(), got))
+    late.start()
+    ran, times = on_terminal(program, ("check", "late.edn", CERTIFICATES), got)
+    end_feeder(pipe, late)
+    return ran, times
+
+
 def long_command(program, report):
     """A command of more than a second says once that it is under way, where standard error is a terminal."""
     program.write(CERTIFICATES, rows.order(1, 0, 4))
-    pipe = f"{program.room}/late.edn"
-    os.mkfifo(pipe)
-    late = threading.Timer(LONG, feed, (pipe, rows.OVERLAPPING.encode(), 100))
-    late.start()
-    ran, times = on_terminal(program, ("check", "late.edn", CERTIFICATES))
-    end_feeder(pipe, late)
+    for _ in range(LONG_TRIES):
+        ran, times = waits_until_it_tells(program)
+        if times and times[0] < LONG:
+            break
     report.answers("a long command on a terminal", ran, rows.THREE_YES, 0, UNDER_WAY)
     report.holds("it says so after a second", times and 0.9 < times[0] < LONG, times)
     files = ((HISTORY, rows.OVERLAPPING), (CERTIFICATES, rows.order(1, 0, 4)))
@@ -74,12 +96,12 @@ def short_command(program, report):
     program.write(HISTORY, rows.OVERLAPPING)
     program.write(CERTIFICATES, rows.order(1, 0, 4))
     for words in (("check", HISTORY, CERTIFICATES), ("run", "--clients", "1", "--calls", "500"), ("--help",)):
-        there, elsewhere = [], []
-        for _ in range(TRIES):
+        there, elsewhere, more = [], [], MOST
+        while len(there) < FEWEST or len(there) < TRIES and more >= MOST:
             elsewhere.append(program.run(*words))
             there.append(on_terminal(program, words)[0])
-        report.equal(f"{words[0]}: a short command is answered alike on a terminal", [elsewhere[0]] * TRIES, there)
-        more = min(it.seconds for it in there) - min(it.seconds for it in elsewhere)
+            more = min(it.seconds for it in there) - min(it.seconds for it in elsewhere)
+        report.equal(f"{words[0]}: a short command is answered alike on a terminal", [elsewhere[0]] * len(there), there)
         report.holds(f"{words[0]}: a short command takes no longer on a terminal", more < MOST, more)
 
 
