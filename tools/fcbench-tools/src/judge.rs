@@ -258,13 +258,16 @@ mod tests {
     #[test]
     fn a_finder_is_stopped_at_the_limit() {
         let order = "echo '{:object 0, :order [1 0 4]}'";
-        let finder = |script: String| Ok(shell(&script));
-        let endless = format!("{order}; exec sleep 1000");
-        assert_eq!(run_of(verifier(), finder(endless), Some(1)), Status::YES);
-        let late = format!("trap \"{order}; exit 3\" TERM; while :; do sleep 0.1; done");
-        assert_eq!(run_of(verifier(), finder(late), Some(1)), Status::YES);
-        let deaf = format!("{order}; trap '' TERM; while :; do sleep 0.1; done");
-        assert_eq!(run_of(verifier(), finder(deaf), Some(1)), Status::YES);
+        let goes_on = "while :; do sleep 0.1; done";
+        for script in [
+            format!("{order}; exec sleep 1000"),
+            format!("trap \"{order}; exit 3\" TERM; {goes_on}"),
+            format!("{order}; trap '' TERM; {goes_on}"),
+        ] {
+            // Where the machine is busy, the first limits may be over before the shell has begun.
+            let is_yes = |limit| run_of(verifier(), Ok(shell(&script)), Some(limit)) == Status::YES;
+            assert!([1, 4, 16].into_iter().any(is_yes), "{script}");
+        }
     }
 
     #[test]
