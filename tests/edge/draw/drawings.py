@@ -4,7 +4,6 @@ import itertools
 import json
 import os
 import re
-import resource
 import shutil
 import subprocess
 from dataclasses import replace
@@ -15,6 +14,7 @@ from .pages import Drawn
 from .situations import OF_EACH, OF_EACH_FORM, Case, checked, comes_too_late, example, extreme, forty_objects, generated, hostile, many_objects, never_put, of_two_values, old_values, options_and_faults, orders_of, situations
 from ..judge.like_recorded import played
 from ..running import EXAMPLES, SECONDS, at_once
+from ..times import processor_seconds
 
 CHECKS = f"{os.path.dirname(os.path.realpath(__file__))}/check_pages.mjs"
 PAGES = f"{EXAMPLES}/pages"
@@ -544,20 +544,12 @@ def with_value_twice(maps, at):
     return [*maps[:other], re.sub(r":value \d+", f":value {value}", maps[other]), *maps[other + 1 :]]
 
 
-def processor_seconds(program, *words):
-    """How long a processor works on a run. What else the machine does changes that least."""
-    spent = lambda: sum(resource.getrusage(resource.RUSAGE_CHILDREN)[:2])
-    begun = spent()
-    program.run(*words)
-    return spent() - begun
-
-
 # How often draw takes the instructions of judge, at most, and how often its processor time.
 MOST_INSTRUCTIONS, MOST_TIMES = 1.1, 1.2
 # What other work on the machine may add to the least time of draw, and not to that of judge, in seconds.
 NOISE = 0.02
 # The fewest and the most runs of each by which the time is told.
-FEWEST_RUNS, MOST_RUNS = 5, 20
+FEWEST_RUNS, MOST_RUNS = 5, 60
 
 
 def is_fast(with_page, without):

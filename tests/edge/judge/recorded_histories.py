@@ -2,9 +2,9 @@
 import gzip
 import os
 
-from ..draw.drawings import processor_seconds
 from ..verify.reasons import why_not_explained
 from ..running import EXAMPLES
+from ..times import least_seconds
 
 FOLDER = f"{EXAMPLES}/recorded"
 # What each is, and how many operations it has, of which none failed.
@@ -34,7 +34,7 @@ def recorded_histories(program, report):
     slowest = 0
     for name, text in texts.items():
         file = program.write(f"{name}.edn", text)
-        seconds = min(processor_seconds(program, "judge", file) for _ in range(2))
+        seconds = least_seconds(program, MOST_SECONDS, "judge", file)
         slowest = max(slowest, seconds)
         ran = program.run("judge", file)
         report.holds(f"recorded {name}: decided in {MOST_SECONDS} s", seconds <= MOST_SECONDS, seconds)

@@ -6,12 +6,12 @@ import subprocess
 import sys
 
 from .. import force
-from ..draw.drawings import processor_seconds
 from .long_histories import IDLE, PAIRS
 from ..verify.reasons import maps_of, value_of
 from ..rows import HISTORY
 from ..running import ROOT
 from ..texts import invoke, lines, ok
+from ..times import least_seconds
 
 # Queues, stacks and heaps that have an order, and why it is not easily found.
 VALUES = (
@@ -452,7 +452,7 @@ def pending_calls(program, report):
     slowest = 0
     for kind, words in GENERATED:
         name, expected = generated(program, kind, words)
-        seconds = min(processor_seconds(program, "judge", name) for _ in range(2))
+        seconds = least_seconds(program, MOST_SECONDS, "judge", name)
         slowest = max(slowest, seconds)
         report.answers(f"judge: a {kind} {words}", program.run("judge", name), expected["check"], expected["status"])
         report.holds(f"judge: a {kind} {words}: decided in {MOST_SECONDS} s", seconds <= MOST_SECONDS, seconds)
