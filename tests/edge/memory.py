@@ -297,10 +297,10 @@ def limit_time():
     resource.setrlimit(resource.RLIMIT_CPU, (SECONDS, SECONDS))
 
 
-def peak_of(program, *words, limit=limit_time):
+def peak_of(program, *words):
     """The status of a run, and how much memory each of its processes had at most, in KiB."""
     quiet = {"stdin": subprocess.DEVNULL, "stdout": subprocess.DEVNULL, "stderr": subprocess.DEVNULL}
-    run = subprocess.Popen(program.line(words), cwd=program.room, preexec_fn=limit, **quiet)
+    run = subprocess.Popen(program.line(words), cwd=program.room, preexec_fn=limit_time, **quiet)
     _, status, usage = os.wait4(run.pid, 0)
     run.returncode = os.waitstatus_to_exitcode(status)
     return run.returncode, usage.ru_maxrss
@@ -348,21 +348,13 @@ def bounded_memory_of_calls_at_once(program, report):
 
 # A stack of 500,000 calls over 5 values, 8 of them at once, some failed and some pending. It stays open, and takes the most memory of all kinds.
 LONG_STACK = ["--kind", "stack", "--calls", "500000", "--concurrency", "8", "--values", "5", "--fail", "0.05", "--info", "0.02", "--seed", "1"]
-# Seconds of the processor that it may take.
-LONG_SECONDS = 180
-
-
-def limit_long_time():
-    resource.setrlimit(resource.RLIMIT_CPU, (LONG_SECONDS, LONG_SECONDS))
-
-
 def bounded_memory_of_long_histories(program, report):
     """Neither does a judgement of a long history take more, beyond its text."""
     folder = f"{program.room}/long_stack"
     os.makedirs(folder)
     subprocess.run([sys.executable, f"{ROOT}/bench/gen.py", "history", folder, *LONG_STACK], check=True, stdout=subprocess.DEVNULL)
     history = f"{folder}/history.edn"
-    status, peak = peak_of(program, "judge", history, limit=limit_long_time)
+    status, peak = peak_of(program, "judge", history)
     beyond = peak - (os.path.getsize(history) >> 10)
     report.holds(f"memory: judge of a long stack: status {status}", status in (0, 3))
     report.holds(f"memory: judge of a long stack: {beyond} KiB beyond its text", beyond < MOST_KIB)

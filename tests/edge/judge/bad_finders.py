@@ -15,8 +15,8 @@ from ..verify.reasons import why_not_explained
 from ..running import at_once
 from ..texts import certificate, lines, one_process, order
 
-# A judgement whose finder goes on after it closed its output takes less.
-SOON = 30
+# A judgement whose finder goes on after it closed its output takes less, in seconds, on a slow machine too: the finder would go on for 1,000.
+SOON = 300
 
 
 @dataclass(frozen=True)

@@ -35,7 +35,8 @@ HELGRIND = ("valgrind", "--quiet", "--tool=helgrind", "--error-exitcode=9")
 PACKAGES = {"bash": "bash", "gcc": "gcc", "g++": "g++", "valgrind": "valgrind", "cargo": "cargo", "go": "golang", "clojure": "clojure", "javac": "default-jdk-headless", "zsh": "zsh", "fish": "fish"}
 # Runs of each recorder: of a right queue, and of a wrong one.
 RUNS = 100
-SECONDS = 240
+# What takes longer hangs, on a slow machine too.
+SECONDS = 1200
 # All callers together take less.
 MOST_SECONDS = 300
 # Where the libraries below are not proved yet, the library takes this long.

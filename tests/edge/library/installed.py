@@ -134,7 +134,7 @@ def zsh_completes(prefix, room, *words):
     return offered or re.findall(r"[^\s<]+(?=>)", said)
 
 
-def told(end, keys, until, seconds=20):
+def told(end, keys, until, seconds=120):
     """Types these keys on a terminal, and returns what came until this did."""
     os.write(end, keys.encode())
     came, late = b"", time.monotonic() + seconds
