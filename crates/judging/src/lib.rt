@@ -15,6 +15,7 @@ pub use decision::{judge, judge_alone};
 pub use edn::{In, Source};
 pub use file::NamedFile;
 pub use laws::{one_history, one_list_of_orders, valid_certificates_suffice};
+pub use pieces::history_by;
 pub use reading::{READ_LIMIT, ReadFault, read_text};
 pub use report::{Fault, KindCount, Summary, Verdict};
 pub use texts::{TextFailure, history_in};

@@ -49,9 +49,10 @@ fn history_in_pieces<R: Threads + Sync>(
     join_parts(alloc, parts)
 }
 
-/// As `history_in`, where a long text whose maps are in lines of their own is read by `workers`
-/// threads, at most `MAX_WORKERS`, each a piece of it. With 0 or 1 it starts no thread.
-pub(crate) fn history_by<R: Threads + Sync>(
+/// The history that a text denotes, or the first fault of the text, as `history_in` gives it. A text
+/// of 1 MB or more whose maps are in lines of their own is read by `workers` threads, at most 16, each
+/// a piece of it. With 0 or 1 it starts no thread.
+pub fn history_by<R: Threads + Sync>(
     rt: &R,
     alloc: Global,
     text: &[u8],
