@@ -91,14 +91,18 @@ def rows_of_tables(program, report):
 
 
 def every_number_of_workers(program, report):
-    """Each number of workers gives the same answer."""
+    """Each number of workers gives the same answer: of check; of verify, where the certificates are evidence, and which is yes where check says yes;
+    and of judge."""
     for number, (history, certificates, out) in enumerate(orders_to_find.OF_ALL_WORKERS):
         first = program.write(f"shared.{number}.history.edn", history)
         second = program.write(f"shared.{number}.certificates.edn", certificates)
-        run = lambda workers: program.run("check", "--workers", str(workers), first, second)
-        for workers, ran in zip(range(1, 17), at_once(run, range(1, 17))):
-            name = f"check: {workers} workers: {' '.join(certificates.split())}"
-            report.answers(name, ran, out, orders_to_find.STATUSES[out[:3]])
+        said, status = " ".join(certificates.split()), orders_to_find.STATUSES[out[:3]]
+        for words in (("check", first, second), ("verify", first, second), ("judge", first)):
+            one, *others = at_once(lambda workers: program.run(*words, "--workers", str(workers)), range(1, 17))
+            if words[0] == "check" or status == 0:
+                report.answers(f"{words[0]}: 1 workers: {said}", one, out, status)
+            for workers, ran in enumerate(others, 2):
+                report.equal(f"{words[0]}: {workers} workers: {said}", one, ran)
 
 
 def found_orders_are_valid(program, report):

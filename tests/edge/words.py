@@ -90,7 +90,12 @@ REFUSED_LINES = """
     verify --steps -1 h.edn e.edn
     verify h.edn e.edn --steps 1 --steps 2
     verify h.edn e.edn --first return
-    verify h.edn e.edn --workers 2
+    verify --workers 0 h.edn e.edn
+    verify h.edn e.edn --workers 17
+    verify h.edn e.edn --workers=many
+    verify h.edn e.edn --workers
+    verify h.edn e.edn --workers 2 --workers 2
+    verify --workers 2 h.edn
     draw
     draw h.edn c.edn d.edn
     draw --object -1 h.edn
@@ -221,6 +226,9 @@ ACCEPTED = (
     ("verify h.edn e.edn", *VERIFIED),
     ("verify h.edn --steps 7 e.edn", (rows.FIRST_WRITE_LAST, "{:object 0}"), "; object 0: out of steps after 7\n", 3),
     ("verify --steps=1000000000 h.edn e.edn", *VERIFIED),
+    ("verify h.edn e.edn --workers 16", *VERIFIED),
+    ("verify --workers=1 h.edn --steps 0 e.edn", *VERIFIED),
+    ("verify h.edn --workers +4 -- e.edn", *VERIFIED),
     ("verify -- -h.edn e.edn", *VERIFIED),
     ("run --kind=mutex --objects 1 --clients 1 --calls 0 --seed 0", (), "; yes: 0 operations, 0 objects\n", 0),
     ("simulate s.edn", *SIMULATED),
@@ -238,7 +246,7 @@ def help_texts(program, report):
         report.equal(f"{words[0]} names each command", [], lacks, ran.out)
     options = {"check": ("--workers",), "search": ("--steps", "--first"), "refute": ("--steps",)}
     options["run"] = ("--kind", "--objects", "--clients", "--calls", "--seed")
-    options.update(verify=("--steps",), find=("--seconds", "--steps", "--workers", "--summary"), draw=("--object", "--from", "--to", "--steps"))
+    options.update(verify=("--steps", "--workers"), find=("--seconds", "--steps", "--workers", "--summary"), draw=("--object", "--from", "--to", "--steps"))
     options["judge"] = (*options["find"], "--names")
     options["import"] = ("--names", "--independent", "--fail-is-reply", "--check-owners", "--initial")
     for command in (*COMMANDS, *OF_TOOLS):

@@ -80,10 +80,11 @@ IsLine v rows (Refute history reasons steps) =
     (v ≡ is.Refute) × IsFile (codes "HISTORY") rows (string_bytes history)
     × IsFile (codes "REASONS") rows (string_bytes reasons)
     × IsNumber STEPS (first_of (codes "steps") rows) steps
-IsLine v rows (Verify history evidence steps) =
+IsLine v rows (Verify history evidence steps workers) =
     (v ≡ is.Verify) × IsFile (codes "HISTORY") rows (string_bytes history)
     × IsFile (codes "EVIDENCE") rows (string_bytes evidence)
     × IsNumber STEPS (first_of (codes "steps") rows) steps
+    × IsNumber WORKERS (first_of (codes "workers") rows) workers
 IsLine v rows (Run options) = (v ≡ is.Run) × AreRunOptions rows options
 IsLine v rows (Simulate schedule) =
     (v ≡ is.Simulate) × IsFile (codes "SCHEDULE") rows (string_bytes schedule)

@@ -52,11 +52,12 @@ pub enum Line {
     },
     /// To check the orders and reasons in another file, from any source, on the history in a file,
     /// and to judge it by them, with at most this number of steps for a search of which that file
-    /// names no number.
+    /// names no number, and with this number of workers, from 1 to 16.
     Verify {
         history: String,
         evidence: String,
         steps: u32,
+        workers: u32,
     },
     /// To run clients, and to judge what they did.
     Run(RunOptions),

@@ -160,10 +160,12 @@ fn verify_of(alloc: Global, found: &ArgMatches<'_>) -> Result<Line, Unread>
 {
     let (history, evidence) = files_of(alloc, found, "EVIDENCE")?;
     let steps = number_of(found, "steps", STEPS)? as u32;
+    let workers = number_of(found, "workers", WORKERS)? as u32;
     Ok(Line::Verify {
         history,
         evidence,
         steps,
+        workers,
     })
 }
 

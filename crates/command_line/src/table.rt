@@ -156,11 +156,18 @@ pub const COMMANDS: [CommandRow; 6] = [
                 "a file of orders, reasons and searches for objects of the history",
             ),
         ],
-        &[(
-            "steps",
-            "the most steps of a search where the evidence names none, 0 to 1000000000 (default 1000000)",
-            Takes::Number(STEPS),
-        )],
+        &[
+            (
+                "steps",
+                "the most steps of a search where the evidence names none, 0 to 1000000000 (default 1000000)",
+                Takes::Number(STEPS),
+            ),
+            (
+                "workers",
+                "how many threads read the history, 1 to 16 (default 1)",
+                Takes::Number(WORKERS),
+            ),
+        ],
     ),
     (
         Verb::Run,

@@ -54,8 +54,8 @@ module _ (one one_after other other_after : Option (List ℕ)) where
   said_yes (Search h n o) status out (inl (a, b, r, q, inl done)) s y = (a, r, done.linearizable y)
   said_yes (Search h n o) status out (inl (a, b, r, q, inr memory)) s y = absurd (memory_not_yes status memory.0 y)
   said_yes (Refute h r n) status out (inl done) s y = absurd cc
-  said_yes (Verify h e n) status out (inl (a, b, r, q, inl done)) s y = (a, r, done.linearizable y)
-  said_yes (Verify h e n) status out (inl (a, b, r, q, inr memory)) s y = absurd (memory_not_yes status memory.0 y)
+  said_yes (Verify h e n w) status out (inl (a, b, r, q, inl done)) s y = (a, r, done.linearizable y)
+  said_yes (Verify h e n w) status out (inl (a, b, r, q, inr memory)) s y = absurd (memory_not_yes status memory.0 y)
   said_yes (Run o) status out (inl done) s y = absurd cc
   said_yes (Simulate h) status out (inl done) s y = absurd cc
 
@@ -68,8 +68,8 @@ module _ (one one_after other other_after : Option (List ℕ)) where
   said_no (Search h k o) status out (inl (a, b, r, q, inr memory)) s n = absurd (memory_not_no status memory.0 n)
   said_no (Refute h c k) status out (inl (a, b, r, q, inl done)) s n = (a, r, done.refuted n)
   said_no (Refute h c k) status out (inl (a, b, r, q, inr memory)) s n = absurd (memory_not_no status memory.0 n)
-  said_no (Verify h e k) status out (inl (a, b, r, q, inl done)) s n = (a, r, done.refuted n)
-  said_no (Verify h e k) status out (inl (a, b, r, q, inr memory)) s n = absurd (memory_not_no status memory.0 n)
+  said_no (Verify h e k w) status out (inl (a, b, r, q, inl done)) s n = (a, r, done.refuted n)
+  said_no (Verify h e k w) status out (inl (a, b, r, q, inr memory)) s n = absurd (memory_not_no status memory.0 n)
   said_no (Run o) status out (inl done) s n = absurd cc
   said_no (Simulate h) status out (inl done) s n = absurd cc
 

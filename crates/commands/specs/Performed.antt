@@ -29,7 +29,7 @@ IsPerformed (Search history steps order) first second status out =
     IsSearch first steps status out ⊎ IsOutOfMemory status out
 IsPerformed (Refute history reasons steps) first second status out =
     IsRefute first second steps status out ⊎ IsOutOfMemory status out
-IsPerformed (Verify history evidence steps) first second status out =
+IsPerformed (Verify history evidence steps workers) first second status out =
     IsVerificationIn steps first second status out
 IsPerformed (Run options) first second status out =
     IsRun options status out ⊎ IsOutOfMemory status out
@@ -43,7 +43,7 @@ abbrev pub says_yes : Line → Bool
 says_yes (Check history certs workers) = true
 says_yes (Search history steps order) = true
 says_yes (Refute history reasons steps) = false
-says_yes (Verify history evidence steps) = true
+says_yes (Verify history evidence steps workers) = true
 says_yes (Run options) = false
 says_yes (Simulate schedule) = false
 
@@ -52,7 +52,7 @@ abbrev pub says_no : Line → Bool
 says_no (Check history certs workers) = false
 says_no (Search history steps order) = true
 says_no (Refute history reasons steps) = true
-says_no (Verify history evidence steps) = true
+says_no (Verify history evidence steps workers) = true
 says_no (Run options) = false
 says_no (Simulate schedule) = false
 
@@ -63,7 +63,7 @@ abbrev pub has_first : Line → Bool
 has_first (Check history certs workers) = true
 has_first (Search history steps order) = true
 has_first (Refute history reasons steps) = true
-has_first (Verify history evidence steps) = true
+has_first (Verify history evidence steps workers) = true
 has_first (Run options) = false
 has_first (Simulate schedule) = true
 
@@ -71,7 +71,7 @@ abbrev pub has_second : Line → Bool
 has_second (Check history certs workers) = true
 has_second (Search history steps order) = false
 has_second (Refute history reasons steps) = true
-has_second (Verify history evidence steps) = true
+has_second (Verify history evidence steps workers) = true
 has_second (Run options) = false
 has_second (Simulate schedule) = false
 

@@ -55,10 +55,12 @@ pub fn perform<R: Threads + Wait + Sync, S: Sink>(
             reasons: _,
             steps,
         } => put_out(refute(alloc, first, second, *steps), sink),
+        // Without the workers: the library for C, which may start no thread, calls this `verify` too.
         Line::Verify {
             history: _,
             evidence: _,
             steps,
+            workers: _,
         } => put_out(verify(alloc, first, second, *steps), sink),
         Line::Run(options) => put_out(run(rt, alloc, *options), sink),
         Line::Simulate { .. } => put_out(play(alloc, first), sink),
@@ -138,7 +140,8 @@ pub fn perform_over<R: Threads + Wait + Sync, F: Source, G: Source, S: Sink>(
             history: _,
             evidence: _,
             steps,
-        } => verify_sources(alloc, first, second, *steps, sink),
+            workers,
+        } => verify_sources(rt, alloc, first, second, *steps, *workers, sink),
         _ => perform_on_texts(rt, alloc, line, first, second, sink),
     }
 }

@@ -8,16 +8,20 @@ use crate::put_out::put_out;
 use crate::sources::{Unread, stop};
 use edn::{Sink, Source};
 use history_commands::verify_history;
-use judging::{history_in, read_text};
+use judging::{history_by, read_text};
 use std::alloc::Global;
+use std::thread::Threads;
 
 /// Judges the history in one text by the evidence in another, writes the lines, and gives the exit
-/// status. The evidence is read when the history is made: who looks for it may work meanwhile.
-pub(crate) fn verify_sources<H: Source, E: Source, S: Sink>(
+/// status. The history's text is read by this many workers. The evidence is read when the history is
+/// made: who looks for it may work meanwhile.
+pub(crate) fn verify_sources<R: Threads + Sync, H: Source, E: Source, S: Sink>(
+    rt: &R,
     alloc: Global,
     history: &mut H,
     evidence: &mut E,
     steps: u32,
+    workers: u32,
     sink: &mut S,
 ) -> Result<u8, Unread>
     requires history { H.broken history.old ≡ false }
@@ -35,7 +39,7 @@ pub(crate) fn verify_sources<H: Source, E: Source, S: Sink>(
         Ok(text) => text,
         Err(fault) => return stop(fault, Unread::First, sink),
     };
-    let read = history_in(alloc, &text);
+    let read = history_by(rt, alloc, &text, workers);
     drop(text);
     let claims = match read_text(alloc, evidence) {
         Ok(text) => text,

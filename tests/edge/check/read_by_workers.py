@@ -10,6 +10,8 @@ import sys
 
 from ..running import ROOT, at_once
 
+# The commands that read a history by workers. Of orders as evidence verify answers the lines of check where it is yes, or the history is malformed.
+COMMANDS = ("check", "verify")
 # With one worker a text is one piece.
 WORKERS = ("1", "2", "3", "4", "7", "16")
 # The words of bench/gen.py: all six kinds with calls that fail or stay pending, as Jepsen writes; objects of which each has many operations;
@@ -42,18 +44,14 @@ def generated(program, name, words, seed):
     return texts[0], texts[1], json.loads(texts[2])["check"]
 
 
-def judged(program, name, history, certificates, workers=WORKERS):
-    """What check answers with each number of workers."""
-    files = program.write(f"{name}.history.edn", history), program.write(f"{name}.certificates.edn", certificates)
-    return at_once(lambda it: program.run("check", *files, "--workers", it), workers)
-
-
 def same_with_each(program, report, name, history, certificates, workers=WORKERS):
-    """The verdict is the same with each number of workers. Returns the one of a single worker."""
-    whole, *others = judged(program, "pieces", history, certificates, workers)
-    report.holds(f"pieces: {name}: one worker", whole.status in (0, 1, 2) and whole.out and not whole.err, whole)
-    for it, ran in zip(workers[1:], others):
-        report.equal(f"pieces: {name}: {it} workers", whole, ran)
+    """The verdict is the same with each number of workers, of check and of verify. Returns the one of a single worker."""
+    files = program.write("pieces.history.edn", history), program.write("pieces.certificates.edn", certificates)
+    lines = [(command, *files, "--workers", it) for command in COMMANDS for it in workers]
+    whole, *others = at_once(lambda it: program.run(*it), lines)
+    report.holds(f"pieces: {name}: one worker", whole.status in (0, 2) and whole.out and not whole.err, whole)
+    for (command, *_, it), ran in zip(lines[1:], others):
+        report.equal(f"pieces: {name}: {command}: {it} workers", whole, ran)
     return whole
 
 
@@ -127,23 +125,41 @@ def faults_at_seams(program, report):
         report.equal(f"pieces: {MOST_MAPS + more} maps: status", status, whole.status, whole)
 
 
+def judgements_of_long_texts(program, report):
+    """judge, of which both halves read by workers, answers the same with each number of workers: yes, no, and that a history is malformed."""
+    yes, _, lines = generated(program, "one queue", HISTORIES["one queue"], list(HISTORIES).index("one queue"))
+    no = yes + "".join(f"{{:process {OTHER[0]}, :type :{it}, :f :dequeue, :value {value}}}\n" for it, value in (("invoke", "nil"), ("ok", -1)))
+    for name, history, status in (("yes", yes, 0), ("no", no, 1), ("malformed", yes + "{:process 0}\n", 2)):
+        report.holds(f"pieces: judge: {name}: is long", len(history) >= LEAST_LENGTH, len(history))
+        file = program.write(f"{name}.history.edn", history)
+        one, *others = at_once(lambda it: program.run("judge", file, "--workers", it), WORKERS)
+        report.holds(f"pieces: judge: {name}: one worker", one.status == status and one.out and not one.err, one)
+        for workers, ran in zip(WORKERS[1:], others):
+            report.equal(f"pieces: judge: {name}: {workers} workers", one, ran)
+        if status == 0:
+            report.answers("pieces: judge: yes: verdict", one, lines, 0)
+
+
 def long_texts_are_read_in_pieces(program, report):
     """A verdict does not tell how the text was read, but the number of allocations does. Each of 16 workers makes several for its piece."""
     words = "--kind all --objects 12 --calls 5200 --concurrency 24 --processes 40 --time --index"
     history, certificates, lines = generated(program, "not long", words, 5)
     orders = program.write("pieces.certificates.edn", certificates)
-    counts = {}
-    for length in (LEAST_LENGTH - 1, LEAST_LENGTH):
-        name = program.write("pieces.history.edn", history + ";" * (length - len(history) - 1) + "\n")
-        for workers in ("1", "16"):
-            ran, allocations, _ = program.counts("check", name, orders, "--workers", workers)
-            report.answers(f"pieces: {length} bytes, {workers} workers", ran, lines, 0)
-            counts[length, workers] = allocations
-    few, many = (counts[LEAST_LENGTH + more, "16"] for more in (-1, 0))
-    whole, alone = (counts[LEAST_LENGTH + more, "1"] for more in (-1, 0))
-    report.holds("pieces: a long text is read in pieces by 16 workers", many >= few + 16 * 10, counts)
-    report.holds("pieces: a long text is read in one piece by one", abs(alone - whole) < 10, counts)
-    return f"{few} and {many} allocations"
+    counted = []
+    for command in COMMANDS:
+        counts = {}
+        for length in (LEAST_LENGTH - 1, LEAST_LENGTH):
+            name = program.write("pieces.history.edn", history + ";" * (length - len(history) - 1) + "\n")
+            for workers in ("1", "16"):
+                ran, allocations, _ = program.counts(command, name, orders, "--workers", workers)
+                report.answers(f"pieces: {command}: {length} bytes, {workers} workers", ran, lines, 0)
+                counts[length, workers] = allocations
+        few, many = (counts[LEAST_LENGTH + more, "16"] for more in (-1, 0))
+        whole, alone = (counts[LEAST_LENGTH + more, "1"] for more in (-1, 0))
+        report.holds(f"pieces: {command}: a long text is read in pieces by 16 workers", many >= few + 16 * 10, counts)
+        report.holds(f"pieces: {command}: a long text is read in one piece by one", abs(alone - whole) < 10, counts)
+        counted.append(f"{command}: {few} and {many} allocations")
+    return "; ".join(counted)
 
 
-PARTS = (valid_texts_in_pieces, faults_at_seams, long_texts_are_read_in_pieces)
+PARTS = (valid_texts_in_pieces, faults_at_seams, judgements_of_long_texts, long_texts_are_read_in_pieces)

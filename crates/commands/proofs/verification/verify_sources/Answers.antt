@@ -10,14 +10,7 @@ pub returns-clause-leaves : goal.returns-clause-leaves
 returns-clause-leaves g c =
     let h = c.deref.result.now in
     let e = c.deref-2.result.now in
-    let r = c.history_in-read.ensures in
-    let is_read : IsHistoryRead h c.history_in-read.result = record {
-      denotes = r.denotes;
-      only = r.only;
-      short = r.short;
-      stop = r.stop;
-      accepts = r.accepts;
-    } in
+    let is_read : IsHistoryRead h c.history_by-read.result = c.history_by-read.ensures in
     let first = subst
     (λ (x : List ℕ). WasRead read_limit (g.H.Source.remaining c.args.history.now)
     (g.H.Source.remaining c.read_text.new.source) x)
