@@ -91,7 +91,7 @@ impl<'a> Drawing<'a> {
         if let Some(certificates) = &self.certificates {
             return said_by(proved(&["check", path, &certificates.path], None), drop);
         }
-        said_by(verifier(path, steps), |input| {
+        said_by(verifier(path, steps, 1), |input| {
             if let Some(history) = &self.read {
                 self.decisions = decisions_on(history, steps);
             }

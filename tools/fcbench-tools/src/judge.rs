@@ -175,7 +175,8 @@ fn judged(command: &Judge) -> Result<Status, Status> {
     try_to_read(&history)?;
     let names = command.names.as_deref().map(names_in).transpose()?;
     let find = Find { history, ..command.find.clone() };
-    let Judged { answer, summary } = run(verifier(&find.history, find.steps), finder(&find), limit);
+    let verifier = verifier(&find.history, find.steps, find.workers);
+    let Judged { answer, summary } = run(verifier, finder(&find), limit);
     let Answer { status, lines } = answer?;
     let is_shortened = io::stdout().is_terminal() && !command.shows_all;
     Lines { names: names.as_ref(), is_shortened }.write(&lines).map_err(output_failed)?;

@@ -30,9 +30,10 @@ pub fn proved(words: &[&str], steps: Option<u64>) -> Command {
     command
 }
 
-/// `fcbench verify` of a history, which reads evidence from its standard input.
-pub fn verifier(history: &str, steps: Option<u64>) -> Command {
-    proved(&["verify", history, "/dev/stdin"], steps)
+/// `fcbench verify` of a history by this many workers, which reads evidence from its standard input.
+pub fn verifier(history: &str, steps: Option<u64>, workers: usize) -> Command {
+    let workers = workers.to_string();
+    proved(&["verify", history, "/dev/stdin", "--workers", &workers], steps)
 }
 
 /// The path by which both programs can read a history: that of its file, where it is named by a

@@ -94,6 +94,11 @@ const WORKERS: OptionOf = OptionOf::valued(
     "N",
     "how many threads look for evidence, 1 to 16 (default: one for each processor)",
 );
+const WORKERS_OF_BOTH: OptionOf = OptionOf::valued(
+    "--workers",
+    "N",
+    "how many threads look for evidence, and how many check it, 1 to 16 (default: one for each processor)",
+);
 
 pub const JUDGE: Syntax = Syntax {
     name: "judge",
@@ -121,7 +126,7 @@ pub const JUDGE: Syntax = Syntax {
             "print how much the operations overlap, and what is suspicious in the history",
         ),
         &STEPS,
-        &WORKERS,
+        &WORKERS_OF_BOTH,
     ],
 };
 
