@@ -18,11 +18,11 @@ fn status_of(ended: io::Result<ExitStatus>) -> Result<Status, Status> {
         Ok((_, Some(status))) => Ok(status),
         Ok((ended, None)) => {
             say(format_args!("the proved program did not end by itself: {ended}"));
-            Err(Status::OPEN)
+            Err(Status::UNDECIDED)
         }
         Err(error) => {
             say(format_args!("the proved program was lost: {error}"));
-            Err(Status::OPEN)
+            Err(Status::UNDECIDED)
         }
     }
 }
@@ -34,7 +34,7 @@ fn read_whole(mut printed: ChildStdout) -> Result<Vec<u8>, Status> {
         Ok(_) => Ok(lines),
         Err(error) => {
             say(format_args!("cannot read the answer of the proved program: {error}"));
-            Err(Status::UNREADABLE)
+            Err(Status::FAILED)
         }
     }
 }

@@ -23,7 +23,7 @@ fn said_by(mut program: Command, give: impl FnOnce(ChildStdin)) -> Result<Said, 
     let program = program.stdin(Stdio::piped()).stdout(Stdio::piped());
     let mut child = program.spawn().map_err(|error| {
         say(format_args!("the proved program cannot be started: {error}"));
-        Status::FAILED
+        Status::NO_VERIFIER
     })?;
     if let Some(input) = child.stdin.take() {
         give(input);
@@ -165,7 +165,7 @@ fn drawn(command: &Draw) -> Result<Status, Status> {
     }
     let Some(page) = drawing.page(&lines) else {
         say(format_args!("there is no page on this answer: {lines}"));
-        return Err(Status::FAILED);
+        return Err(Status::NO_VERIFIER);
     };
     put_out(&page)?;
     Ok(status)

@@ -14,7 +14,7 @@ use std::sync::mpsc::{RecvTimeoutError, channel};
 use std::thread::Builder;
 use std::time::Duration;
 
-/// How often it is looked whether the limit is over.
+/// How often the limit is checked.
 const BETWEEN_LOOKS: Duration = Duration::from_millis(10);
 
 /// The result of reading a file, or why there is none. The file - is standard input.
@@ -22,7 +22,7 @@ pub fn read_with<T>(path: &str, read: impl FnOnce(File) -> io::Result<T>) -> Res
     let file = if path == "-" { "/dev/stdin" } else { path };
     File::open(file).and_then(read).map_err(|error| {
         say(format_args!("cannot read {path}: {error}"));
-        Status::UNREADABLE
+        Status::FAILED
     })
 }
 
@@ -102,11 +102,11 @@ pub fn say_failures(decisions: &[Decision]) -> bool {
 fn status_of(decisions: &[Decision], all: usize) -> Status {
     let is_order = |it: &Decision| matches!(it.evidence, Evidence::Order(_));
     if say_failures(decisions) {
-        Status::FAILED
+        Status::NO_VERIFIER
     } else if decisions.len() == all && decisions.iter().all(is_order) {
         Status::YES
     } else {
-        Status::OPEN
+        Status::UNDECIDED
     }
 }
 
@@ -120,13 +120,13 @@ mod tests {
         let order = || found(Evidence::Order(Vec::new()));
         assert_eq!(status_of(&[], 0), Status::YES);
         assert_eq!(status_of(&[order()], 1), Status::YES);
-        assert_eq!(status_of(&[order(), found(Evidence::Open)], 2), Status::FAILED);
+        assert_eq!(status_of(&[order(), found(Evidence::Open)], 2), Status::NO_VERIFIER);
     }
 
     #[test]
     fn an_object_that_was_not_reached_is_status_3() {
         let order = Decision { object: 1, evidence: Evidence::Order(Vec::new()) };
-        assert_eq!(status_of(&[], 1), Status::OPEN);
-        assert_eq!(status_of(&[order], 2), Status::OPEN);
+        assert_eq!(status_of(&[], 1), Status::UNDECIDED);
+        assert_eq!(status_of(&[order], 2), Status::UNDECIDED);
     }
 }

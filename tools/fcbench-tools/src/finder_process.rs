@@ -3,7 +3,7 @@
 use crate::command_line::Find;
 use crate::limit::{Limit, PROGRESS};
 use crate::program::say;
-use crate::signals::ask_to_end;
+use crate::signals::send_sigterm;
 use crate::status::Status;
 use std::env;
 use std::io::{self, BufRead, BufReader, IsTerminal, Read};
@@ -13,11 +13,11 @@ use std::sync::mpsc::{Receiver, RecvTimeoutError, Sender, channel};
 use std::thread::{self, Builder, JoinHandle};
 use std::time::{Duration, Instant};
 
-/// How often it is looked whether the finder has ended, when the answer is there.
+/// How often, when the answer is there, it is checked whether the finder has ended.
 const LOOKS: u32 = 100;
 const BETWEEN_LOOKS: Duration = Duration::from_millis(1);
 
-/// How often it is looked whether the limit is over.
+/// How often the limit is checked.
 const BETWEEN_LIMITS: Duration = Duration::from_millis(10);
 
 /// How long a finder that was asked to end may write what it has.
@@ -51,7 +51,7 @@ pub fn finder(command: &Find) -> io::Result<Command> {
 
 /// Whether a finder ended as one that wrote all it found.
 fn has_found(ended: ExitStatus) -> bool {
-    let statuses = [Status::YES, Status::MALFORMED, Status::OPEN, Status::UNREADABLE];
+    let statuses = [Status::YES, Status::MALFORMED, Status::UNDECIDED, Status::FAILED];
     Status::of(ended).is_some_and(|status| statuses.contains(&status))
 }
 
@@ -81,11 +81,11 @@ fn end(finder: &mut Child, was_stopped: bool) {
 
 /// Stops a finder at the limit, and ends it when the answer is there, so that nothing can be received.
 /// One that is heard says itself that it is stopped.
-fn keep(finder: &mut Child, is_heard: bool, limit: Limit, answer: &Receiver<()>) {
+fn stop_at_limit(finder: &mut Child, is_heard: bool, limit: Limit, answer: &Receiver<()>) {
     let mut stopped = None;
     while answer.recv_timeout(BETWEEN_LIMITS) == Err(RecvTimeoutError::Timeout) {
         match stopped {
-            None if limit.is_over() && ask_to_end(finder) => {
+            None if limit.is_over() && send_sigterm(finder) => {
                 if !is_heard {
                     say(format_args!("the finder is stopped"));
                 }
@@ -100,8 +100,8 @@ fn keep(finder: &mut Child, is_heard: bool, limit: Limit, answer: &Receiver<()>)
     end(finder, stopped.is_some());
 }
 
-/// Hands on how far the finder is, and gives what it says of the history.
-fn hear(said: ChildStderr) -> String {
+/// Prints how far the finder is, and gives what it says of the history.
+fn forward_messages(said: ChildStderr) -> String {
     let mut summary = String::new();
     for line in BufReader::new(said.take(LONGEST_SUMMARY)).lines().map_while(Result::ok) {
         if line.contains(PROGRESS) {
@@ -124,11 +124,12 @@ impl Finder {
     /// Starts a finder that works until the limit at most.
     pub fn start(command: &mut Command, limit: Limit) -> io::Result<Finder> {
         let mut finder = command.spawn()?;
-        let hearing = finder.stderr.take().map(|said| Builder::new().spawn(|| hear(said)));
+        let hearing =
+            finder.stderr.take().map(|said| Builder::new().spawn(|| forward_messages(said)));
         let hearer = hearing.transpose()?;
         let is_heard = hearer.is_some();
         let (answer, answered) = channel();
-        let keeping = move || keep(&mut finder, is_heard, limit, &answered);
+        let keeping = move || stop_at_limit(&mut finder, is_heard, limit, &answered);
         let keeper = Builder::new().spawn(keeping)?;
         Ok(Finder { answer, keeper, hearer })
     }

@@ -45,7 +45,7 @@ pub fn import(command: &Import) -> Status {
         && let Err(error) = fs::write(path, names.to_string())
     {
         say(format_args!("cannot write {path}: {error}"));
-        return Status::UNREADABLE;
+        return Status::FAILED;
     }
     put_out(&text).map_or_else(|status| status, |()| Status::YES)
 }

@@ -9,11 +9,11 @@ use crate::finder_process::{Finder, finder};
 use crate::import::names_in;
 use crate::limit::Limit;
 use crate::program::{output_failed, path_for_both, put_out, say, verifier};
-use crate::signals::spare;
+use crate::signals::ignore_sigterm;
 use crate::status::Status;
 use crate::terminal::copy_shortened;
 use ::import::{Names, with_names};
-use finder::read_history;
+use finder::{OVERLAP, SILENT_PUTS, read_history};
 use pages::{Fault, Verdict, fault_lines};
 use std::fmt::Write as _;
 use std::fs::{self, File};
@@ -22,7 +22,7 @@ use std::process::{Command, Stdio};
 
 /// How the lines of an answer are printed.
 struct Lines<'a> {
-    /// The names in which they are told.
+    /// The names of the imported history, if there are some.
     names: Option<&'a Names>,
     /// Whether a part has at most 200 operations, as on a terminal.
     is_shortened: bool,
@@ -51,12 +51,13 @@ struct Judged {
 /// Runs the two programs, the finder's output being the verifier's input. SIGTERM stops the finder
 /// alone, as the limit does: the verifier then judges by what came.
 fn run(mut verifier: Command, finder: io::Result<Command>, limit: Limit) -> Judged {
-    let verifier = spare(&mut verifier).stdin(Stdio::piped()).stdout(Stdio::piped()).spawn();
+    let verifier =
+        ignore_sigterm(&mut verifier).stdin(Stdio::piped()).stdout(Stdio::piped()).spawn();
     let mut verifier = match verifier {
         Ok(verifier) => verifier,
         Err(error) => {
             say(format_args!("the proved program cannot be started: {error}"));
-            return Judged { answer: Err(Status::FAILED), summary: String::new() };
+            return Judged { answer: Err(Status::NO_VERIFIER), summary: String::new() };
         }
     };
     let evidence = verifier.stdin.take().map_or_else(Stdio::null, Stdio::from);
@@ -69,17 +70,17 @@ fn run(mut verifier: Command, finder: io::Result<Command>, limit: Limit) -> Judg
     Judged { answer, summary: finder.map(Finder::end).unwrap_or_default() }
 }
 
-/// Whether a warning is told: that hardly any operations overlap only of a yes, which then says little; and of puts that
-/// tell nothing only where it is no yes, since a right store may get a no by them.
+/// Whether a warning is printed: that hardly any operations overlap only with a yes, which then says little; and of puts that
+/// tell nothing only without a yes, since a right store may get a no by them.
 fn warns(warning: &str, is_yes: bool) -> bool {
     match is_yes {
-        true => !warning.contains("every :put "),
-        false => !warning.contains(" overlap"),
+        true => !warning.contains(SILENT_PUTS),
+        false => !warning.contains(OVERLAP),
     }
 }
 
-/// Tells the summary of a history, if it is asked for, and what is suspicious in it in any case. On a terminal the
-/// summary is told too.
+/// Prints the summary of a history, if it is asked for, and what is suspicious in it in any case. On a terminal it
+/// prints the summary too.
 fn summarize(summary: &str, is_yes: bool, is_printed: bool) -> Result<(), Status> {
     let lines = || summary.lines().filter_map(|line| line.strip_prefix("; "));
     if is_printed {
@@ -94,7 +95,7 @@ fn summarize(summary: &str, is_yes: bool, is_printed: bool) -> Result<(), Status
     Ok(())
 }
 
-/// The longest malformed text of which it is tried whether it can be imported.
+/// Longer malformed texts are not tried with `import`.
 const LONGEST_IMPORTED: usize = 1 << 24;
 
 /// The options by which a text that is malformed can be imported and judged, if it can.
@@ -117,8 +118,8 @@ fn quoted(path: &str) -> String {
     }
 }
 
-/// Reads the beginning of a file or folder. Where that fails, it is said why: the proved program says only that it does. What else a path
-/// may name is not read, since what is read of it may be missing then.
+/// Reads the beginning of a file or folder, and says why if that fails: the proved program says only that it does. Pipes and other files
+/// are not read, since what is read here would be missing there.
 fn try_to_read(history: &str) -> Result<(), Status> {
     let is_other = fs::metadata(history).is_ok_and(|it| !it.is_file() && !it.is_dir());
     if is_other {
@@ -253,7 +254,7 @@ mod tests {
     fn a_finder_that_never_ends_is_ended() {
         let verifier = shell("head -n 1 > /dev/null; exit 3");
         let finder = Ok(shell("echo 1; exec sleep 1000"));
-        assert_eq!(run_of(verifier, finder, None), Status::OPEN);
+        assert_eq!(run_of(verifier, finder, None), Status::UNDECIDED);
     }
 
     #[test]
@@ -274,7 +275,7 @@ mod tests {
     #[test]
     fn a_finder_that_cannot_be_started_gives_no_evidence() {
         for finder in [Ok(Command::new("/not/there")), Err(io::Error::other("lost"))] {
-            assert_eq!(run_of(verifier(), finder, None), Status::OPEN);
+            assert_eq!(run_of(verifier(), finder, None), Status::UNDECIDED);
         }
     }
 
@@ -282,10 +283,10 @@ mod tests {
     fn a_verifier_that_is_killed_answers_nothing() {
         let finder = || Ok(shell("echo '{:object 0, :order [1 0 4]}'"));
         for verifier in ["cat > /dev/null; kill -9 $$", "kill -9 $$"] {
-            assert_eq!(run_of(shell(verifier), finder(), None), Status::OPEN);
+            assert_eq!(run_of(shell(verifier), finder(), None), Status::UNDECIDED);
         }
         let missing = Command::new("/not/there");
-        assert_eq!(run_of(missing, finder(), None), Status::FAILED);
+        assert_eq!(run_of(missing, finder(), None), Status::NO_VERIFIER);
     }
 
     #[test]
@@ -304,6 +305,6 @@ mod tests {
     fn a_verifier_that_is_killed_after_its_lines_has_no_answer() {
         let verifier = shell("echo yes: 3 operations, 1 objects; kill -9 $$");
         let judged = run(verifier, Ok(shell("")), Limit::begin(None));
-        assert_eq!(judged.answer.err(), Some(Status::OPEN));
+        assert_eq!(judged.answer.err(), Some(Status::UNDECIDED));
     }
 }

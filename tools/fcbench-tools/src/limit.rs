@@ -1,7 +1,7 @@
-//! How long evidence is looked for, and what is told of it meanwhile.
+//! The time limit of the search for evidence, and its progress messages.
 
 use crate::program::note;
-use crate::signals::{is_asked_to_end, note_the_end};
+use crate::signals::{catch_sigterm, got_sigterm};
 use std::time::{Duration, Instant};
 
 /// When the search for evidence began, and its most seconds, if they are given. SIGTERM ends it too.
@@ -14,7 +14,7 @@ pub struct Limit {
 impl Limit {
     /// The search begins now.
     pub fn begin(seconds: Option<u64>) -> Limit {
-        note_the_end();
+        catch_sigterm();
         Limit { begun: Instant::now(), seconds }
     }
 
@@ -22,21 +22,21 @@ impl Limit {
         self.begun.elapsed()
     }
 
-    /// Whether no more evidence is to be looked for.
+    /// Whether the search must end.
     pub fn is_over(&self) -> bool {
         let is_late = |seconds| self.elapsed() >= Duration::from_secs(seconds);
-        is_asked_to_end() || self.seconds.is_some_and(is_late)
+        got_sigterm() || self.seconds.is_some_and(is_late)
     }
 }
 
-/// What the lines of standard error have that say how far `find` is.
+/// What is in each progress message of `find`.
 pub const PROGRESS: &str = "objects done: ";
 
-/// Tells how far `find` is, after 2, 4, 8 seconds, and so on.
+/// Prints how far `find` is, after 2, 4, 8 seconds, and so on.
 pub struct Progress {
     limit: Limit,
     all: usize,
-    /// When it is told next, if it is told.
+    /// When it is printed next, if it is printed.
     next: Option<Duration>,
 }
 
@@ -51,7 +51,7 @@ impl Progress {
         note(format_args!("; {before}{PROGRESS}{done} of {all}, after {seconds} s"));
     }
 
-    /// Tells how many objects are done, if it is time for that.
+    /// Prints how many objects are done, if it is time for that.
     pub fn tell_in_time(&mut self, done: usize) {
         if let Some(next) = self.next.filter(|next| self.limit.elapsed() >= *next) {
             self.tell("", done);
@@ -59,7 +59,7 @@ impl Progress {
         }
     }
 
-    /// Tells how many objects were done, if these are not all.
+    /// Prints how many objects were done, if these are not all.
     pub fn tell_at_the_end(&self, done: usize) {
         if done < self.all {
             self.tell("stopped, ", done);

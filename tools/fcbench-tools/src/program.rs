@@ -42,7 +42,7 @@ pub fn path_for_both(history: &str) -> Result<String, Status> {
     let kind = fs::metadata(history).map(|it| it.file_type());
     if history == "-" || kind.is_ok_and(|kind| kind.is_fifo() || kind.is_socket()) {
         say(format_args!("cannot read {history}: it is read twice, so write it to a file"));
-        return Err(Status::UNREADABLE);
+        return Err(Status::FAILED);
     }
     if history.starts_with('-') {
         // Else the proved program takes it for an option.
@@ -56,7 +56,7 @@ pub fn path_for_both(history: &str) -> Result<String, Status> {
 /// Says that the output failed. The status of that.
 pub fn output_failed(error: io::Error) -> Status {
     say(format_args!("the output failed: {error}"));
-    Status::UNREADABLE
+    Status::FAILED
 }
 
 /// Writes a text to standard output, or says why not.

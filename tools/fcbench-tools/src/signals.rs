@@ -28,20 +28,20 @@ extern "C" fn note(_: c_int) {
     IS_ASKED.store(true, Ordering::Relaxed);
 }
 
-/// From now on SIGTERM ends this program no more, but is noted.
-pub fn note_the_end() {
+/// From now on SIGTERM does not end this program: `got_sigterm` says whether it came.
+pub fn catch_sigterm() {
     // Sound: the handler has the type that the C library calls, and does nothing but an atomic store,
     // which is allowed at any moment. If the C library refuses it, SIGTERM ends the program as before.
     unsafe { signal(SIGTERM, note as *const () as usize) };
 }
 
 /// Whether SIGTERM came.
-pub fn is_asked_to_end() -> bool {
+pub fn got_sigterm() -> bool {
     IS_ASKED.load(Ordering::Relaxed)
 }
 
 /// SIGTERM will not end the program of this command.
-pub fn spare(command: &mut Command) -> &mut Command {
+pub fn ignore_sigterm(command: &mut Command) -> &mut Command {
     let ignore = || match unsafe { signal(SIGTERM, SIG_IGN) } {
         SIG_ERR => Err(io::Error::last_os_error()),
         _ => Ok(()),
@@ -52,7 +52,7 @@ pub fn spare(command: &mut Command) -> &mut Command {
 }
 
 /// Sends SIGTERM to a program that was started. Whether it was still running.
-pub fn ask_to_end(child: &mut Child) -> bool {
+pub fn send_sigterm(child: &mut Child) -> bool {
     let is_running = matches!(child.try_wait(), Ok(None));
     if is_running && let Ok(process) = c_int::try_from(child.id()) {
         // Sound: two numbers are handed over. The process is this child, and no other that got its

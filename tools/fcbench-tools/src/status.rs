@@ -12,18 +12,18 @@ impl Status {
     /// The text is malformed.
     pub const MALFORMED: Status = Status(2);
     /// It is not decided.
-    pub const OPEN: Status = Status(3);
+    pub const UNDECIDED: Status = Status(3);
     /// A file could not be read, or the output failed.
-    pub const UNREADABLE: Status = Status(4);
+    pub const FAILED: Status = Status(4);
     /// The command line is wrong.
     pub const USAGE: Status = Status(64);
     /// The proved program could not be started, or there is no page on its answer; or the finder
     /// failed.
-    pub const FAILED: Status = Status(70);
+    pub const NO_VERIFIER: Status = Status(70);
 
-    /// Whether a command that ends so has printed an answer: yes, no, malformed, or open.
+    /// Whether a command that ends so has printed an answer: yes, no, malformed, or undecided.
     pub fn is_answer(self) -> bool {
-        self.0 <= Status::OPEN.0
+        self.0 <= Status::UNDECIDED.0
     }
 
     /// That of a program that ended by itself. `None`: a signal ended it.

@@ -48,4 +48,4 @@ pub use reasons::{
     Undone,
 };
 pub use search::First;
-pub use statistics::{Statistics, warnings};
+pub use statistics::{OVERLAP, SILENT_PUTS, Statistics, warnings};

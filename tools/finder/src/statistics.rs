@@ -168,6 +168,11 @@ fn named(word: &str, all: &[u32]) -> Option<String> {
     }
 }
 
+/// Words of two warnings, by which `judge` knows them again: it prints the first only with a yes, and the
+/// second only without one.
+pub const OVERLAP: &str = " overlap";
+pub const SILENT_PUTS: &str = "every :put replied nil";
+
 /// What is suspicious in a history, in words.
 pub fn warnings(history: &History) -> Vec<String> {
     let statistics = Statistics::of(history);
@@ -182,9 +187,9 @@ pub fn warnings(history: &History) -> Vec<String> {
     }
     if statistics.is_sequential() {
         let few = match statistics.overlapping {
-            0 => "no two operations overlap".to_owned(),
+            0 => format!("no two operations{OVERLAP}"),
             some => {
-                format!("only {some} of {} operations overlap another one", statistics.operations)
+                format!("only {some} of {} operations{OVERLAP} another one", statistics.operations)
             }
         };
         all.push(format!(
@@ -208,7 +213,7 @@ pub fn warnings(history: &History) -> Vec<String> {
     let silent: Vec<u32> = silent.map(|it| it.object).collect();
     if let Some(objects) = named("object", &silent) {
         all.push(format!(
-            "{objects}: every :put replied nil, which says that the key had no value, also where it was put before. Unless these are \
+            "{objects}: {SILENT_PUTS}, which says that the key had no value, also where it was put before. Unless these are \
              puts if absent: if your store does not tell the earlier value, make each key a register, an object of its own"
         ));
     }

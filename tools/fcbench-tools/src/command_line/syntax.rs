@@ -14,24 +14,24 @@ pub enum Value {
 
 /// An option, and what help says of it.
 #[derive(Debug)]
-pub struct OptionOf {
+pub struct OptionSpec {
     pub name: &'static str,
     pub value: Value,
     about: &'static str,
 }
 
-impl OptionOf {
-    const fn flag(name: &'static str, about: &'static str) -> OptionOf {
-        OptionOf { name, value: Value::Nothing, about }
+impl OptionSpec {
+    const fn flag(name: &'static str, about: &'static str) -> OptionSpec {
+        OptionSpec { name, value: Value::Nothing, about }
     }
 
-    const fn valued(name: &'static str, value: &'static str, about: &'static str) -> OptionOf {
-        OptionOf { name, value: Value::Needed(value), about }
+    const fn valued(name: &'static str, value: &'static str, about: &'static str) -> OptionSpec {
+        OptionSpec { name, value: Value::Needed(value), about }
     }
 }
 
 /// The option with its value.
-impl Display for OptionOf {
+impl Display for OptionSpec {
     fn fmt(&self, f: &mut Formatter<'_>) -> fmt::Result {
         f.write_str(self.name)?;
         match self.value {
@@ -49,7 +49,7 @@ pub struct Syntax {
     pub about: &'static str,
     pub file: &'static str,
     pub other_file: Option<&'static str>,
-    pub options: &'static [&'static OptionOf],
+    pub options: &'static [&'static OptionSpec],
 }
 
 impl Syntax {
@@ -64,7 +64,7 @@ impl Syntax {
     }
 
     /// Its option of this name.
-    pub fn option(&self, name: &str) -> Option<&'static OptionOf> {
+    pub fn option(&self, name: &str) -> Option<&'static OptionSpec> {
         self.options.iter().find(|it| it.name == name).copied()
     }
 }
@@ -84,17 +84,17 @@ impl Display for Syntax {
     }
 }
 
-const STEPS: OptionOf = OptionOf::valued(
+const STEPS: OptionSpec = OptionSpec::valued(
     "--steps",
     "N",
     "the most steps of the last search of an object, 0 to 1000000000 (default 1000000, or 100 for each operation if that is more)",
 );
-const WORKERS: OptionOf = OptionOf::valued(
+const WORKERS: OptionSpec = OptionSpec::valued(
     "--workers",
     "N",
     "how many threads look for evidence, 1 to 16 (default: one for each processor)",
 );
-const WORKERS_OF_BOTH: OptionOf = OptionOf::valued(
+const WORKERS_OF_BOTH: OptionSpec = OptionSpec::valued(
     "--workers",
     "N",
     "how many threads look for evidence, and how many check it, 1 to 16 (default: one for each processor)",
@@ -106,22 +106,22 @@ pub const JUDGE: Syntax = Syntax {
     file: "HISTORY",
     other_file: None,
     options: &[
-        &OptionOf::flag(
+        &OptionSpec::flag(
             "--all",
             "show all operations of a part on a terminal, and not 200 at most",
         ),
-        &OptionOf::valued(
+        &OptionSpec::valued(
             "--names",
             "FILE",
             "print the answer with the names of this table, which import wrote",
         ),
-        &OptionOf::valued(
+        &OptionSpec::valued(
             "--seconds",
             "N",
             "stop looking for evidence after N seconds, 1 to 1000000, and answer what was found by then, as at SIGTERM.\n\
              The answer comes when the verifier has read the history and checked that: mostly a second later",
         ),
-        &OptionOf::flag(
+        &OptionSpec::flag(
             "--summary",
             "print how much the operations overlap, and what is suspicious in the history",
         ),
@@ -136,16 +136,16 @@ pub const FIND: Syntax = Syntax {
     file: "HISTORY",
     other_file: None,
     options: &[
-        &OptionOf::flag(
+        &OptionSpec::flag(
             "--progress",
             "print on standard error how many objects are done, after 2, 4, 8 seconds, and so on",
         ),
-        &OptionOf::valued(
+        &OptionSpec::valued(
             "--seconds",
             "N",
             "stop after N seconds, 1 to 1000000, and write what was found by then, as at SIGTERM",
         ),
-        &OptionOf::flag(
+        &OptionSpec::flag(
             "--summary",
             "print on standard error how much the operations overlap, and what is suspicious in the history",
         ),
@@ -160,16 +160,16 @@ pub const DRAW: Syntax = Syntax {
     file: "HISTORY",
     other_file: Some("CERTIFICATES"),
     options: &[
-        &OptionOf::valued("--object", "N", "draw this object alone"),
-        &OptionOf::valued("--from", "N", "draw the events from this one on"),
-        &OptionOf::valued("--to", "N", "draw the events before this one"),
-        &OptionOf::valued(
+        &OptionSpec::valued("--object", "N", "draw this object alone"),
+        &OptionSpec::valued("--from", "N", "draw the events from this one on"),
+        &OptionSpec::valued("--to", "N", "draw the events before this one"),
+        &OptionSpec::valued(
             "--names",
             "FILE",
             "draw the page with the names of this table, which import wrote: then --from and --to\n\
              count the events as the page does",
         ),
-        &OptionOf::valued("--steps", "N", "as for judge"),
+        &OptionSpec::valued("--steps", "N", "as for judge"),
     ],
 };
 
@@ -179,27 +179,27 @@ pub const IMPORT: Syntax = Syntax {
     file: "HISTORY",
     other_file: None,
     options: &[
-        &OptionOf::valued(
+        &OptionSpec::valued(
             "--names",
             "FILE",
             "write a table of the names that became numbers to this file",
         ),
-        &OptionOf::flag(
+        &OptionSpec::flag(
             "--independent",
             "values are tuples [key value] of jepsen.independent (default: where they cannot be anything else)",
         ),
-        &OptionOf {
+        &OptionSpec {
             name: "--fail-is-reply",
             value: Value::AfterEquals("ERRORS"),
             about: "a :fail whose :error is one of these is a reply of nil, and of a :cas one of false:\n\
                     one error, as :drained, or a set, as '#{:drained \"no job\"}' (default: :empty and :not-found).\n\
                     nil stands for no :error, except of :read and :get",
         },
-        &OptionOf::flag(
+        &OptionSpec::flag(
             "--check-owners",
             "the owner that a client releases must be the one that it acquired (default: owners are ignored)",
         ),
-        &OptionOf::valued(
+        &OptionSpec::valued(
             "--initial",
             "VALUE",
             "what each register contains at first, or a map of objects or keys with their values: '{:x 0, :y 5}'",
@@ -219,7 +219,11 @@ impl Commands {
 
 impl Display for Commands {
     fn fmt(&self, f: &mut Formatter<'_>) -> fmt::Result {
-        writeln!(f, "the commands of fcbench that find, draw and import\n\n{}\n", Commands::USAGE)?;
+        writeln!(
+            f,
+            "the commands judge, find, draw and import of fcbench\n\n{}\n",
+            Commands::USAGE
+        )?;
         writeln!(f, "Commands:")?;
         COMMANDS.iter().try_for_each(|it| writeln!(f, "  {:6} {}", it.name, it.about))
     }
