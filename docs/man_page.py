@@ -1,5 +1,5 @@
 #!/usr/bin/env python3
-"""Writes the manual page fcbench(1), which is docs/formats.md in roff, to standard output.
+"""Writes the manual page fcbench(1), which is three pages of docs/ in roff, to standard output.
 
     docs/man_page.py > fcbench.1
     docs/man_page.py | man -l -"""
@@ -8,7 +8,7 @@ import re
 import sys
 
 ROOT = os.path.dirname(os.path.dirname(os.path.realpath(__file__)))
-HEAD = """.\\" Made by docs/man_page.py from docs/formats.md
+HEAD = """.\\" Made by docs/man_page.py from docs/commands.md, docs/formats.md and docs/import.md
 .TH FCBENCH 1 "" "fcbench" "User Commands"
 .SH NAME
 fcbench \\- judges histories of concurrent objects
@@ -105,9 +105,18 @@ def roff(kind, rows):
         yield from (".PP", line(" ".join(row.strip() for row in rows)))
 
 
+# The pages, the first of which begins with all commands. What another one begins with is a section with its title.
+PAGES = ("commands", "formats", "import")
+
+
+def text_of(name):
+    with open(f"{ROOT}/docs/{name}.md") as file:
+        text = file.read()
+    return text.partition("\n")[2] if name == PAGES[0] else f"#{text}"
+
+
 def page():
-    with open(f"{ROOT}/docs/formats.md") as file:
-        text = file.read().partition("\n")[2]
+    text = "\n".join(map(text_of, PAGES))
     synopsis = re.findall(r"^    (fcbench .*)$", text.partition("\n## ")[0], re.M)
     out = [HEAD.rstrip("\n")]
     for number, words in enumerate(synopsis):

@@ -1,4 +1,4 @@
-"""The table of exit statuses in docs/formats.md: each of its cells has an example here that ends so, and no other status has one."""
+"""The table of exit statuses in docs/commands.md: each of its cells has an example here that ends so, and no other status has one."""
 import re
 
 from . import rows
@@ -108,8 +108,8 @@ EXAMPLES = {
 
 
 def in_table():
-    """The statuses of each command that docs/formats.md has, by the first name in its row."""
-    with open(f"{ROOT}/docs/formats.md", encoding="utf-8") as file:
+    """The statuses of each command that docs/commands.md has, by the first name in its row."""
+    with open(f"{ROOT}/docs/commands.md", encoding="utf-8") as file:
         text = file.read().partition("\n## Exit statuses\n")[2].partition("\n## ")[0]
     head, _, *those = re.findall(r"^\|(.*)\|$", text, re.M)
     statuses = [int(it) for it in head.split("|")[1:]]

@@ -145,11 +145,13 @@ def told(end, keys, until, seconds=120):
 
 
 def manual(page, report):
-    """The manual has each section of docs/formats.md, and roff has nothing to say of it."""
+    """The manual has each section of three pages, and roff has nothing to say of it."""
     with open(page) as file:
         text = file.read()
-    with open(f"{ROOT}/docs/formats.md") as file:
-        heads = re.findall(r"^## (.*)$", file.read(), re.M)
+    heads = []
+    for name in ("commands", "formats", "import"):
+        with open(f"{ROOT}/docs/{name}.md") as file:
+            heads += re.findall(r"^## (.*)$", file.read(), re.M)
     report.equal("installed: sections of the manual", [], [it for it in heads if f'.SH "{it}"' not in text.replace("\\-", "-")])
     if shutil.which("groff"):
         ran = subprocess.run(["groff", "-man", "-ww", "-z", "-Tutf8", page], capture_output=True, text=True)
