@@ -18,7 +18,7 @@ WORD = re.compile(r"[^\s(){}\[\],;.λ]+")
 CLAUSES = {"history": ("model.Linearizable.IsLinearizable", "events.Events.denoted", "events.Events.kind_at", "model.Orders.events"),
            "judge": ("judging.Texts.IsLinearizableText",),
            # What the lines of verify say of an object that is impossible.
-           "reason": ("verifying.Decisions.IsRefutation",)}
+           "reason": ("verifying.Decisions.IsShownReason",)}
 
 
 class Module:

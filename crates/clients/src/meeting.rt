@@ -28,7 +28,7 @@ fn meet_on_all(
 }
 
 /// The client meets another that has made its calls, on each object, and learns of its end.
-pub(crate) fn part(
+pub(crate) fn meet_and_retire(
     desk: &Desk<AnyObject>,
     own: Client<AnyObject>,
     other: Client<AnyObject>,

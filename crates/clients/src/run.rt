@@ -7,7 +7,7 @@ ghost use Rattle.clients.specs.Made.{HasWorked, IsNew, IsDeskFor, IsDone, Closed
 ghost use Rattle.clients.specs.Made.{AreNew};
 
 use crate::Workload;
-use crate::meeting::part;
+use crate::meeting::meet_and_retire;
 use crate::room::reserve_logs;
 use crate::worker::work;
 use model::Kind;
@@ -133,7 +133,7 @@ fn run_all<'a, R: Threads + Wait + Sync, G: Gate>(
                 let Some(worker) = workers.pop() else {
                     unreachable!()
                 };
-                own = part(desk, own, worker.join(rt));
+                own = meet_and_retire(desk, own, worker.join(rt));
             }
             Ok(own)
         },

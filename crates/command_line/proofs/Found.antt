@@ -15,12 +15,12 @@ use Rattle.clap.specs.declared.error.kind.ErrorKind.TheVariants.{OutOfMemory}
 use Rattle.clap.specs.declared.parser.matches.ArgMatches.{ArgMatches}
 use Rattle.clap.specs.declared.parser.matches.ArgMatches.TheViews.{out-ArgMatches, out-SubCommand}
 use Rattle.command_line.specs.Command.{command}
-use Rattle.command_line.specs.Lines.{AskFor, Finds, IsFault, IsFor, IsLine, IsRead, IsRefused, verb_named}
+use Rattle.command_line.specs.Lines.{AskFor, Finds, IsFault, IsFor, IsLine, IsRead, AreWordsRefused, verb_named}
 use Rattle.command_line.specs.declared.asking.Line.{Line}
 use Rattle.command_line.specs.declared.asking.LineFault.{LineFault}
 use Rattle.command_line.specs.declared.asking.LineFault.TheVariants as said
-use Rattle.command_line.specs.declared.lines.Unread.{Unread}
-use Rattle.command_line.specs.declared.lines.Unread.TheVariants.{NoMemory, Words, Value}
+use Rattle.command_line.specs.declared.lines.NoLine.{NoLine}
+use Rattle.command_line.specs.declared.lines.NoLine.TheVariants.{NoMemory, Words, Value}
 use Rattle.command_line.specs.declared.table.Verb.{Verb}
 
 -- ---- what was found
@@ -63,11 +63,11 @@ module _ (m : Option (Text × List Row)) (name : Text) (rows : List Row) (entere
         let v : f.verb ≡ verb = cc (n, named) in
         none l (subst (λ w. IsLine w rows l) v (subst (λ rs. IsLine f.verb rs l) s.1 f.line_is))
 
-    pub finds : (r : Result Line Unread) → IsRead verb rows r → IfOk r (Finds m)
+    pub finds : (r : Result Line NoLine) → IsRead verb rows r → IfOk r (Finds m)
     finds (Ok l) is = record { name = name; rows = rows; entered = entered; verb = verb; named = named; line_is = is }
     finds (Err u) none = tt
 
-    pub finds_none : (r : Result Line Unread) → IsRead verb rows r
+    pub finds_none : (r : Result Line NoLine) → IsRead verb rows r
         → IfErr r (λ u. u ≢ NoMemory → (l : Line) → Finds m l → ⊥)
     finds_none (Ok l) is = tt
     finds_none (Err u) none = λ other. no_line (none other)
@@ -106,7 +106,7 @@ module _ (a : App) (words : List Text) (is : a ≡ command) where
       pub asked : (l : Line) → Finds (subcommand_rows_of m) l → AskFor words l
       asked l f = record { faultless = faultless; finds = subst (λ o. Finds o l) found f }
 
-      unfit : (f : LineFault) → ((l : Line) → Finds (subcommand_rows_of m) l → ⊥) → (f ≢ said.NoMemory → IsRefused f)
+      unfit : (f : LineFault) → ((l : Line) → Finds (subcommand_rows_of m) l → ⊥) → (f ≢ said.NoMemory → AreWordsRefused f)
           → IsFault words f
       unfit (said.Help t) none refuses = absurd (refuses (λ e. cc))
       unfit (said.Refused t) none refuses =
@@ -114,8 +114,8 @@ module _ (a : App) (words : List Text) (is : a ≡ command) where
           { faultless = faultless; none = λ l f. none l (subst (λ o. Finds o l) (sym found) f); refused = tt }))
       unfit said.NoMemory none refuses = inl refl
 
-      pub not_read : (u : Unread) (f : LineFault) → (u ≡ NoMemory → f ≡ said.NoMemory)
-          → (f ≢ said.NoMemory → IsRefused f)
+      pub not_read : (u : NoLine) (f : LineFault) → (u ≡ NoMemory → f ≡ said.NoMemory)
+          → (f ≢ said.NoMemory → AreWordsRefused f)
           → (u ≢ NoMemory → (l : Line) → Finds (subcommand_rows_of m) l → ⊥) → IsFault words f
       not_read NoMemory f memory refuses none = inl (memory refl)
       not_read Words f memory refuses none = unfit f (none (λ e. cc)) refuses

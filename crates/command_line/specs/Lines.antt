@@ -25,8 +25,8 @@ use Rattle.command_line.specs.declared.asking.Line.TheVariants.{Check, Search, R
 use Rattle.command_line.specs.declared.asking.Line.TheVariants.{Run, Simulate}
 use Rattle.command_line.specs.declared.asking.LineFault.{LineFault}
 use Rattle.command_line.specs.declared.asking.LineFault.TheVariants.{Help, Refused, NoMemory}
-use Rattle.command_line.specs.declared.lines.Unread.{Unread}
-use Rattle.command_line.specs.declared.lines.Unread.TheVariants as unread
+use Rattle.command_line.specs.declared.lines.NoLine.{NoLine}
+use Rattle.command_line.specs.declared.lines.NoLine.TheVariants as unread
 use Rattle.command_line.specs.declared.asking.RunOptions.{RunOptions}
 use Rattle.command_line.specs.declared.table.Bounds.{Bounds}
 use Rattle.command_line.specs.declared.table.TheConstants.{WORKERS, STEPS, OBJECTS, CLIENTS, CALLS}
@@ -94,7 +94,7 @@ abbrev pub rows_in : ArgMatches → List Row
 rows_in m = rows_of (found_of m)
 
 -- the line of this command that was read, or there is none, unless memory was refused
-abbrev pub IsRead : Verb → List Row → Result Line Unread → Type 0
+abbrev pub IsRead : Verb → List Row → Result Line NoLine → Type 0
 IsRead v rows r =
     MatchResult r (IsLine v rows) (λ u. u ≢ unread.NoMemory → (line : Line) → IsLine v rows line → ⊥)
 
@@ -130,17 +130,17 @@ IsFor k (Refused text) = (k ≢ OutOfMemory) × (IsHelp k → ⊥)
 IsFor k NoMemory = ⊤
 
 -- the words are refused
-abbrev pub IsRefused : LineFault → Type 0
-IsRefused (Help text) = ⊥
-IsRefused (Refused text) = ⊤
-IsRefused NoMemory = ⊥
+abbrev pub AreWordsRefused : LineFault → Type 0
+AreWordsRefused (Help text) = ⊥
+AreWordsRefused (Refused text) = ⊤
+AreWordsRefused NoMemory = ⊥
 
 -- clap has no fault to find with the words, but what it finds in them fits no line, and they are
 -- refused
 pub record IsUnfit (words : List Text) (fault : LineFault) : Type 0 where
   pub faultless : fault_of command words ≡ []
   pub none : (line : Line) → Finds (subcommand_of command words) line → ⊥
-  pub refused : IsRefused fault
+  pub refused : AreWordsRefused fault
 
 -- Memory was refused, or clap refuses the words with an error of a kind for which the fault is, or
 -- what it finds in them fits no line.

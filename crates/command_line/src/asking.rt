@@ -9,7 +9,7 @@ use seq_objects::Kinds;
 use std::alloc::{AllocError, AllocFailed};
 use thiserror::Error as ErrorText;
 
-/// What a run is to be of.
+/// The options of `run`.
 #[derive(Clone, Copy)]
 pub struct RunOptions {
     pub kinds: Kinds,
@@ -17,7 +17,7 @@ pub struct RunOptions {
     pub objects: u32,
     /// How many clients, from 1 to 32.
     pub clients: u32,
-    /// How many calls each client is to make, at most 10,000.
+    /// How many calls each client makes, at most 10,000.
     pub calls: u32,
     /// What the calls are drawn from.
     pub seed: u64,
@@ -26,7 +26,7 @@ pub struct RunOptions {
     ghost few_calls: { calls ≤ CALLS.most },
 }
 
-/// What the words ask for.
+/// A command, its files and its options.
 #[derive(Drop)]
 pub enum Line {
     /// To judge the history in one file by the certificates in another, with this number of
@@ -67,7 +67,7 @@ pub enum Line {
     },
 }
 
-/// Why the words ask for nothing.
+/// Why there is no command: help was asked for, the words are wrong, or memory was refused.
 #[derive(Debug, Drop, ErrorText)]
 pub enum LineFault {
     /// They ask for help: this text.

@@ -5,7 +5,7 @@ ghost use Rattle.clap.specs.Values.{kind_of};
 ghost use Rattle.command_line.specs.Lines as spec;
 
 use crate::asking::LineFault;
-use crate::lines::Unread;
+use crate::lines::NoLine;
 use crate::table::Takes;
 use clap::Error;
 use clap::error::ErrorKind;
@@ -32,8 +32,8 @@ pub(crate) fn fault_of(alloc: Global, error: &Error) -> LineFault
 }
 
 /// What is said of a value that `clap` lets pass.
-fn reason_of(alloc: Global, unread: &Unread) -> Result<String, AllocError> {
-    let Unread::Value(name, takes) = unread else {
+fn reason_of(alloc: Global, unread: &NoLine) -> Result<String, AllocError> {
+    let NoLine::Value(name, takes) = unread else {
         return String::from_str(alloc, "error: these words are no command\n");
     };
     match takes {
@@ -47,11 +47,11 @@ fn reason_of(alloc: Global, unread: &Unread) -> Result<String, AllocError> {
 }
 
 /// Says why what was found fits no line.
-pub(crate) fn explain(alloc: Global, unread: &Unread) -> LineFault
-    ensures memory { unread.now ≡ Unread.NoMemory → result ≡ LineFault.NoMemory }
-    ensures refused { result ≢ LineFault.NoMemory → spec.IsRefused result }
+pub(crate) fn explain(alloc: Global, unread: &NoLine) -> LineFault
+    ensures memory { unread.now ≡ NoLine.NoMemory → result ≡ LineFault.NoMemory }
+    ensures refused { result ≢ LineFault.NoMemory → spec.AreWordsRefused result }
 {
-    if matches!(unread, Unread::NoMemory) {
+    if matches!(unread, NoLine::NoMemory) {
         return LineFault::NoMemory;
     }
     match reason_of(alloc, unread) {

@@ -7,7 +7,7 @@ ghost use Rattle.clap.specs.Words.{first_of, subcommand_rows_of};
 ghost use Rattle.command_line.specs.Lines.{rows_in};
 ghost use Rattle.command_line.specs.declared.asking.Line.{Line};
 ghost use Rattle.command_line.specs.declared.asking.RunOptions.{RunOptions};
-ghost use Rattle.command_line.specs.declared.lines.Unread.TheVariants.{NoMemory};
+ghost use Rattle.command_line.specs.declared.lines.NoLine.TheVariants.{NoMemory};
 ghost use Rattle.search.specs.declared.trials.TryFirst.{TryFirst};
 ghost use Rattle.seq_objects.specs.declared.kinds.Kinds.{Kinds};
 
@@ -21,9 +21,9 @@ use search::TryFirst;
 use seq_objects::{Kinds, kinds_named};
 use std::alloc::{AllocError, Global};
 
-/// Why the words ask for no line.
+/// Why the words give no command.
 #[derive(Drop)]
-pub(crate) enum Unread {
+pub(crate) enum NoLine {
     NoMemory,
     /// They are not those of a command.
     Words,
@@ -31,11 +31,11 @@ pub(crate) enum Unread {
     Value(&'static str, Takes),
 }
 
-impl From<AllocError> for Unread {
+impl From<AllocError> for NoLine {
     ghost from_gives = { λ _ u. u ≡ NoMemory };
 
-    fn from(_e: AllocError) -> Unread {
-        Unread::NoMemory
+    fn from(_e: AllocError) -> NoLine {
+        NoLine::NoMemory
     }
 }
 
@@ -47,7 +47,7 @@ fn value_of<'a>(found: &ArgMatches<'a>, name: &str) -> Option<&'a str>
 }
 
 /// The number of the option with this name and these bounds.
-fn number_of(found: &ArgMatches<'_>, name: &'static str, bounds: Bounds) -> Result<u64, Unread>
+fn number_of(found: &ArgMatches<'_>, name: &'static str, bounds: Bounds) -> Result<u64, NoLine>
     requires { (bounds.least ≤ bounds.default) × (bounds.default ≤ bounds.most) }
     ensures is { IfOk result (spec.IsNumber bounds (first_of name.entry.now (rows_in found.now))) }
     ensures within { IfOk result (λ n. (bounds.least ≤ n) × (n ≤ bounds.most)) }
@@ -58,13 +58,13 @@ fn number_of(found: &ArgMatches<'_>, name: &'static str, bounds: Bounds) -> Resu
         None => Ok(bounds.default),
         Some(text) => match text.parse::<u64>() {
             Ok(number) if bounds.least <= number && number <= bounds.most => Ok(number),
-            _ => Err(Unread::Value(name, Takes::Number(bounds))),
+            _ => Err(NoLine::Value(name, Takes::Number(bounds))),
         },
     }
 }
 
 /// Which operation a search is to try first.
-fn first_of(found: &ArgMatches<'_>) -> Result<TryFirst, Unread>
+fn first_of(found: &ArgMatches<'_>) -> Result<TryFirst, NoLine>
     ensures is { IfOk result (spec.IsFirst (first_of (codes "first") (rows_in found.now))) }
     ensures none { IfErr result (λ _. (first : TryFirst) →
         spec.IsFirst (first_of (codes "first") (rows_in found.now)) first → ⊥) }
@@ -73,12 +73,12 @@ fn first_of(found: &ArgMatches<'_>) -> Result<TryFirst, Unread>
         None => Ok(TryFirst::LeastNumber),
         Some("number") => Ok(TryFirst::LeastNumber),
         Some("return") => Ok(TryFirst::LeastReturn),
-        Some(_) => Err(Unread::Value("first", Takes::First)),
+        Some(_) => Err(NoLine::Value("first", Takes::First)),
     }
 }
 
 /// The kinds that a run is to have.
-fn kinds_of(found: &ArgMatches<'_>) -> Result<Kinds, Unread>
+fn kinds_of(found: &ArgMatches<'_>) -> Result<Kinds, NoLine>
     ensures is { IfOk result (spec.IsKinds (first_of (codes "kind") (rows_in found.now))) }
     ensures none { IfErr result (λ _. (kinds : Kinds) →
         spec.IsKinds (first_of (codes "kind") (rows_in found.now)) kinds → ⊥) }
@@ -87,29 +87,29 @@ fn kinds_of(found: &ArgMatches<'_>) -> Result<Kinds, Unread>
         None => Ok(Kinds::One(Kind::Queue)),
         Some(name) => match kinds_named(name.as_bytes()) {
             Some(kinds) => Ok(kinds),
-            None => Err(Unread::Value("kind", Takes::Kind)),
+            None => Err(NoLine::Value("kind", Takes::Kind)),
         },
     }
 }
 
 /// The file of this argument.
-fn file_of(alloc: Global, found: &ArgMatches<'_>, name: &str) -> Result<String, Unread>
+fn file_of(alloc: Global, found: &ArgMatches<'_>, name: &str) -> Result<String, NoLine>
     ensures is { IfOk result (λ s. spec.IsFile name.now (rows_in found.now) (string_bytes s)) }
-    ensures none { IfErr result (λ u. u ≢ Unread.NoMemory →
+    ensures none { IfErr result (λ u. u ≢ NoLine.NoMemory →
         (t : List ℕ) → spec.IsFile name.now (rows_in found.now) t → ⊥) }
 {
     match value_of(found, name) {
         Some(file) => Ok(String::from_str(alloc, file)?),
-        None => Err(Unread::Words),
+        None => Err(NoLine::Words),
     }
 }
 
 /// The history's file, and the file of this argument.
-fn files_of(alloc: Global, found: &ArgMatches<'_>, second: &str) -> Result<(String, String), Unread>
+fn files_of(alloc: Global, found: &ArgMatches<'_>, second: &str) -> Result<(String, String), NoLine>
     ensures is { IfOk result (λ r.
         spec.IsFile (codes "HISTORY") (rows_in found.now) (string_bytes r.0)
         × spec.IsFile second.now (rows_in found.now) (string_bytes r.1)) }
-    ensures none { IfErr result (λ u. u ≢ Unread.NoMemory →
+    ensures none { IfErr result (λ u. u ≢ NoLine.NoMemory →
         (t v : List ℕ) → spec.IsFile (codes "HISTORY") (rows_in found.now) t →
         spec.IsFile second.now (rows_in found.now) v → ⊥) }
 {
@@ -118,7 +118,7 @@ fn files_of(alloc: Global, found: &ArgMatches<'_>, second: &str) -> Result<(Stri
     Ok((history, file))
 }
 
-fn check_of(alloc: Global, found: &ArgMatches<'_>) -> Result<Line, Unread>
+fn check_of(alloc: Global, found: &ArgMatches<'_>) -> Result<Line, NoLine>
     ensures { spec.IsRead Verb.Check (rows_in found.now) result }
 {
     let (history, certs) = files_of(alloc, found, "CERTS")?;
@@ -130,7 +130,7 @@ fn check_of(alloc: Global, found: &ArgMatches<'_>) -> Result<Line, Unread>
     })
 }
 
-fn search_of(alloc: Global, found: &ArgMatches<'_>) -> Result<Line, Unread>
+fn search_of(alloc: Global, found: &ArgMatches<'_>) -> Result<Line, NoLine>
     ensures { spec.IsRead Verb.Search (rows_in found.now) result }
 {
     let history = file_of(alloc, found, "HISTORY")?;
@@ -143,7 +143,7 @@ fn search_of(alloc: Global, found: &ArgMatches<'_>) -> Result<Line, Unread>
     })
 }
 
-fn refute_of(alloc: Global, found: &ArgMatches<'_>) -> Result<Line, Unread>
+fn refute_of(alloc: Global, found: &ArgMatches<'_>) -> Result<Line, NoLine>
     ensures { spec.IsRead Verb.Refute (rows_in found.now) result }
 {
     let (history, reasons) = files_of(alloc, found, "REASONS")?;
@@ -155,7 +155,7 @@ fn refute_of(alloc: Global, found: &ArgMatches<'_>) -> Result<Line, Unread>
     })
 }
 
-fn verify_of(alloc: Global, found: &ArgMatches<'_>) -> Result<Line, Unread>
+fn verify_of(alloc: Global, found: &ArgMatches<'_>) -> Result<Line, NoLine>
     ensures { spec.IsRead Verb.Verify (rows_in found.now) result }
 {
     let (history, evidence) = files_of(alloc, found, "EVIDENCE")?;
@@ -169,8 +169,8 @@ fn verify_of(alloc: Global, found: &ArgMatches<'_>) -> Result<Line, Unread>
     })
 }
 
-/// What a run is to be of.
-fn options_of(found: &ArgMatches<'_>) -> Result<RunOptions, Unread>
+/// The options of `run`.
+fn options_of(found: &ArgMatches<'_>) -> Result<RunOptions, NoLine>
     ensures is { IfOk result (spec.AreRunOptions (rows_in found.now)) }
     ensures none { IfErr result (λ _. (o : RunOptions) →
         spec.AreRunOptions (rows_in found.now) o → ⊥) }
@@ -189,13 +189,13 @@ fn options_of(found: &ArgMatches<'_>) -> Result<RunOptions, Unread>
     })
 }
 
-fn run_of(found: &ArgMatches<'_>) -> Result<Line, Unread>
+fn run_of(found: &ArgMatches<'_>) -> Result<Line, NoLine>
     ensures { spec.IsRead Verb.Run (rows_in found.now) result }
 {
     Ok(Line::Run(options_of(found)?))
 }
 
-fn simulate_of(alloc: Global, found: &ArgMatches<'_>) -> Result<Line, Unread>
+fn simulate_of(alloc: Global, found: &ArgMatches<'_>) -> Result<Line, NoLine>
     ensures { spec.IsRead Verb.Simulate (rows_in found.now) result }
 {
     let schedule = file_of(alloc, found, "SCHEDULE")?;
@@ -203,7 +203,7 @@ fn simulate_of(alloc: Global, found: &ArgMatches<'_>) -> Result<Line, Unread>
 }
 
 /// The line of this command with what is given.
-fn line_of(alloc: Global, verb: Verb, found: &ArgMatches<'_>) -> Result<Line, Unread>
+fn line_of(alloc: Global, verb: Verb, found: &ArgMatches<'_>) -> Result<Line, NoLine>
     ensures { spec.IsRead verb (rows_in found.now) result }
 {
     match verb {
@@ -217,16 +217,16 @@ fn line_of(alloc: Global, verb: Verb, found: &ArgMatches<'_>) -> Result<Line, Un
 }
 
 /// The line of the command that was found.
-pub(crate) fn read_line(alloc: Global, matches: &ArgMatches<'_>) -> Result<Line, Unread>
+pub(crate) fn read_line(alloc: Global, matches: &ArgMatches<'_>) -> Result<Line, NoLine>
     ensures is { IfOk result (spec.Finds (subcommand_rows_of matches.now)) }
-    ensures none { IfErr result (λ u. u ≢ Unread.NoMemory →
+    ensures none { IfErr result (λ u. u ≢ NoLine.NoMemory →
         (l : Line) → spec.Finds (subcommand_rows_of matches.now) l → ⊥) }
 {
     let Some((name, found)) = matches.subcommand() else {
-        return Err(Unread::Words);
+        return Err(NoLine::Words);
     };
     match verb_named(name) {
         Some(verb) => line_of(alloc, verb, found),
-        None => Err(Unread::Words),
+        None => Err(NoLine::Words),
     }
 }

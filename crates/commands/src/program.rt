@@ -68,7 +68,7 @@ pub fn perform<R: Threads + Wait + Sync, S: Sink>(
 }
 
 /// Reads the files of a command, and does it.
-fn perform_on_texts<R: Threads + Wait + Sync, F: Source, G: Source, S: Sink>(
+fn perform_on_sources<R: Threads + Wait + Sync, F: Source, G: Source, S: Sink>(
     rt: &R,
     alloc: Global,
     line: &Line,
@@ -142,6 +142,6 @@ pub fn perform_over<R: Threads + Wait + Sync, F: Source, G: Source, S: Sink>(
             steps,
             workers,
         } => verify_sources(rt, alloc, first, second, *steps, *workers, sink),
-        _ => perform_on_texts(rt, alloc, line, first, second, sink),
+        _ => perform_on_sources(rt, alloc, line, first, second, sink),
     }
 }

@@ -11,7 +11,7 @@ use std::alloc::AllocError;
 /// Writes the lines, and gives the exit status.
 fn send<S: Sink>(lines: &[u8], status: Status, sink: &mut S) -> u8
     requires working { S.broken sink.old ≡ false }
-    requires other { status ≢ Status.Failed }
+    requires not_failed { status ≢ Status.Failed }
     ensures leaves { Leaves (IsExactly status lines.now)
         (S.sent sink.old) result (S.sent sink.new) (S.broken sink.new) }
 {

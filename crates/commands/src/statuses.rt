@@ -6,7 +6,7 @@ ghost use Rattle.commands.specs.Statuses as spec;
 use command_line::LineFault;
 use history_commands::Status;
 
-/// How the program ends where the words ask for nothing: well, where they ask for help.
+/// The exit status where there is no command: `Yes` if help was asked for.
 pub fn status_of_fault(fault: &LineFault) -> Status
     ensures { result ≡ spec.status_of_fault fault.now }
 {

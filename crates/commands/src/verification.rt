@@ -13,8 +13,8 @@ use std::alloc::Global;
 use std::thread::Threads;
 
 /// Judges the history in one text by the evidence in another, writes the lines, and gives the exit
-/// status. The history's text is read by this many workers. The evidence is read when the history is
-/// made: who looks for it may work meanwhile.
+/// status. The history's text is read by this many workers. The evidence is read after
+/// the history, so that the finder can go on working meanwhile.
 pub(crate) fn verify_sources<R: Threads + Sync, H: Source, E: Source, S: Sink>(
     rt: &R,
     alloc: Global,

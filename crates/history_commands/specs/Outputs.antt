@@ -34,8 +34,8 @@ status_of verdict.NoMemory = OutOfMemory
 -- how a command on the objects of a history ends: with no, where one is impossible, and with yes,
 -- where each has an order
 abbrev pub status_by : Bool → Bool → Status
-status_by is_one_impossible are_all_found =
-    if is_one_impossible then No else if are_all_found then Yes else Undecided
+status_by is_any_impossible are_all_found =
+    if is_any_impossible then No else if are_all_found then Yes else Undecided
 
 -- How a command ends that answers this on the objects of a history: with no, where one is
 -- impossible, and with yes, where each has an order.

@@ -23,11 +23,11 @@ use Rattle.verifying.specs.declared.fault.ClaimTextFault.{ClaimTextFault}
 use Rattle.verifying.specs.declared.fault.ClaimTextFault.TheVariants.{Text, Forms}
 use Rattle.verifying.specs.Denotes.{Denotes}
 use Rattle.verifying.specs.Texts.{IsTextFault}
-use Rattle.verifying.specs.declared.decision.Refuted.{Refuted}
+use Rattle.verifying.specs.declared.decision.ShownReason.{ShownReason}
 use Rattle.verifying.specs.declared.decision.Decision.{Decision}
 use Rattle.verifying.specs.declared.decision.Decision.TheVariants.{Order, Impossible, OutOfSteps}
 use Rattle.verifying.specs.declared.decision.Decision.TheVariants.{NoMemory, Open}
-use Rattle.verifying.specs.Decisions.{AreDecisionsOn, IsRefutation, certificates_in}
+use Rattle.verifying.specs.Decisions.{AreDecisionsOn, IsShownReason, certificates_in}
 use Rattle.verifying.specs.Decisions.{is_impossible, is_order}
 use Rattle.report.specs.declared.verdict.Summary.{Summary}
 use Rattle.report.specs.declared.verdict.Verdict.{Verdict}
@@ -81,7 +81,7 @@ note_line (Some note) = codes "; " ++ (note.items ++ codes "\n")
 
 -- The lines on an object of which no order is valid: that it is so, the sentence, the operations of
 -- the part of which no order is valid, and the reason that names it.
-abbrev pub impossible_lines : List Event → ℕ → Refuted → List ℕ
+abbrev pub impossible_lines : List Event → ℕ → ShownReason → List ℕ
 impossible_lines es x f =
     ((codes "; object " ++ decimal x) ++ codes ": impossible\n")
     ++ (note_line f.note
@@ -106,8 +106,8 @@ verified_status answers = status_on is_impossible is_order answers
 -- text.
 pub record IsExplained (es : List Event) (text : List ℕ) : Type 0 where
   pub object : ℕ
-  pub refuted : Refuted
-  pub holds : IsRefutation object (kind_at es object) (calls_on object (denoted es)) refuted
+  pub refuted : ShownReason
+  pub holds : IsShownReason object (kind_at es object) (calls_on object (denoted es)) refuted
   pub before : List ℕ
   pub after : List ℕ
   pub lines : text ≡ before ++ (impossible_lines es object refuted ++ after)

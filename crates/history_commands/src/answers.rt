@@ -37,7 +37,7 @@ pub(crate) trait Answer {
 }
 
 /// Whether some object is impossible.
-fn is_one_impossible<A: Answer>(answers: &[(u32, A)]) -> bool
+fn is_any_impossible<A: Answer>(answers: &[(u32, A)]) -> bool
     ensures { result ≡ list_any (λ a. A.impossible a.1) answers.now }
 {
     answers.iter().any(|answer| answer.1.is_impossible())
@@ -79,7 +79,7 @@ pub(crate) fn output_of<A: Answer>(
 {
     let text = text_of(alloc, history, answers)?;
     Ok(Output {
-        status: status_by(is_one_impossible(answers), are_all_found(answers)),
+        status: status_by(is_any_impossible(answers), are_all_found(answers)),
         text,
     })
 }

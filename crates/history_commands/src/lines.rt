@@ -46,8 +46,12 @@ fn push_object(text: &mut Vec<u8>, object: u32) -> Result<(), AllocError>
     push_natural(text, u64::from(object))
 }
 
-/// The line that says why an object has no certificate.
-pub(crate) fn push_note(text: &mut Vec<u8>, object: u32, note: &[u8]) -> Result<(), AllocError>
+/// Appends `; object X`, and then this text.
+pub(crate) fn push_object_line(
+    text: &mut Vec<u8>,
+    object: u32,
+    note: &[u8],
+) -> Result<(), AllocError>
     ensures { OnOk result (text.new.items ≡ text.old.items
         ++ ((codes "; object " ++ decimal object) ++ note.now)) }
 {

@@ -228,7 +228,7 @@ fn is_impossible(answer: &Refutation) -> bool
 }
 
 /// Whether some reason shows that the history is not linearizable.
-fn is_one_impossible(answers: &[Refutation]) -> bool
+fn is_any_impossible(answers: &[Refutation]) -> bool
     ensures { result ≡ list_any (λ r. is_impossible r) answers.now }
 {
     answers.iter().any(|answer| is_impossible(answer))
@@ -246,7 +246,7 @@ fn answer_reasons(
 {
     let answers = refute_all(alloc, history, reasons, u64::from(steps))?;
     Ok(Output {
-        status: status_by(is_one_impossible(&answers), false),
+        status: status_by(is_any_impossible(&answers), false),
         text: text_of(alloc, history, steps, reasons, &answers)?,
     })
 }

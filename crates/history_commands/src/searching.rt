@@ -5,7 +5,7 @@ ghost use Rattle.history_commands.specs.Searches.{AreSearched, IsSearch};
 
 use crate::answers::{Answer, output_of};
 use crate::comments::certificates_text;
-use crate::lines::{push_note, push_steps};
+use crate::lines::{push_object_line, push_steps};
 use crate::output::{Output, verdict_output};
 use crate::texts::history_of;
 use history::History;
@@ -42,10 +42,10 @@ impl Answer for Search {
                 let line = certificates_text(alloc, std::slice::from_ref(certificate))?;
                 text.extend_from_slice(&line)
             }
-            SearchOutcome::Impossible => push_note(text, object, b": impossible\n"),
+            SearchOutcome::Impossible => push_object_line(text, object, b": impossible\n"),
             SearchOutcome::OutOfSteps => push_steps(text, object, self.steps),
-            SearchOutcome::TooLarge => push_note(text, object, b": too large\n"),
-            SearchOutcome::NoMemory => push_note(text, object, b": out of memory\n"),
+            SearchOutcome::TooLarge => push_object_line(text, object, b": too large\n"),
+            SearchOutcome::NoMemory => push_object_line(text, object, b": out of memory\n"),
         }
     }
 }

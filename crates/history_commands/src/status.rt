@@ -45,7 +45,7 @@ impl Status {
 /// How a command ends with this verdict.
 pub fn status_of(verdict: &Verdict) -> Status
     ensures is { result ≡ spec.status_of verdict.now }
-    ensures other { result ≢ Status.Failed }
+    ensures not_failed { result ≢ Status.Failed }
 {
     match verdict {
         Verdict::Yes(_) => Status::Yes,
@@ -57,11 +57,11 @@ pub fn status_of(verdict: &Verdict) -> Status
 
 /// How a command on the objects of a history ends: with no, where one is impossible, and with yes,
 /// where each has an order.
-pub(crate) fn status_by(is_one_impossible: bool, are_all_found: bool) -> Status
-    ensures is { result ≡ spec.status_by is_one_impossible are_all_found }
-    ensures other { result ≢ Status.Failed }
+pub(crate) fn status_by(is_any_impossible: bool, are_all_found: bool) -> Status
+    ensures is { result ≡ spec.status_by is_any_impossible are_all_found }
+    ensures not_failed { result ≢ Status.Failed }
 {
-    if is_one_impossible {
+    if is_any_impossible {
         Status::No
     } else if are_all_found {
         Status::Yes

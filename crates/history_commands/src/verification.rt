@@ -16,7 +16,7 @@ ghost use Rattle.history_commands.specs.Verified.{IsOfText, IsVerdictBy, IsVerif
 ghost use Rattle.history_commands.specs.Verified.{impossible_lines, note_line};
 
 use crate::answers::{Answer, are_all_found, output_of};
-use crate::lines::{line_with_place, push_note, push_steps};
+use crate::lines::{line_with_place, push_object_line, push_steps};
 use crate::output::{Output, verdict_output};
 use crate::status::Status;
 use edn::{FaultKind, push_natural};
@@ -27,7 +27,8 @@ use reason_report::{push_operations, push_reason};
 use report::{Verdict, verdict_on_check};
 use std::alloc::{AllocError, Global};
 use verifying::{
-    Claim, ClaimFaultKind, ClaimTextFault, Decision, Refuted, decide_by_claims, read_claims_text,
+    Claim, ClaimFaultKind, ClaimTextFault, Decision, ShownReason, decide_by_claims,
+    read_claims_text,
 };
 
 /// The code of what is wrong with an element.
@@ -41,7 +42,7 @@ fn code_of(kind: ClaimFaultKind) -> &'static [u8]
     }
 }
 
-/// The line of a fault of an element.
+/// The line that says what is wrong with an element of the evidence.
 fn form_fault_line(alloc: Global, kind: ClaimFaultKind, form: usize) -> Result<Vec<u8>, AllocError>
     ensures { IfOk result (λ v. v.items ≡ codes "malformed evidence: "
         ++ (spec.code_of kind ++ (codes " at form " ++ (decimal form ++ codes "\n")))) }
@@ -55,7 +56,7 @@ fn form_fault_line(alloc: Global, kind: ClaimFaultKind, form: usize) -> Result<V
     Ok(text)
 }
 
-/// The line of a fault of the text of claims.
+/// The line that says what is wrong with the evidence.
 fn fault_line(alloc: Global, fault: ClaimTextFault) -> Result<Vec<u8>, AllocError>
     ensures { IfOk result (λ v. v.items ≡ spec.evidence_fault_line fault) }
 {
@@ -96,7 +97,7 @@ fn refuse_evidence(alloc: Global, fault: ClaimTextFault) -> Result<Output, Alloc
 }
 
 /// The line of the sentence that was claimed with a reason, if there is one.
-fn push_claimed_note(text: &mut Vec<u8>, note: &Option<Vec<u8>>) -> Result<(), AllocError>
+fn push_note(text: &mut Vec<u8>, note: &Option<Vec<u8>>) -> Result<(), AllocError>
     ensures { OnOk result (text.new.items ≡ text.old.items ++ note_line note.now) }
 {
     let Some(note) = note else {
@@ -114,13 +115,13 @@ fn push_impossible(
     text: &mut Vec<u8>,
     history: &History,
     object: u32,
-    refuted: &Refuted,
+    refuted: &ShownReason,
 ) -> Result<(), AllocError>
     ensures { OnOk result (text.new.items ≡ text.old.items
         ++ impossible_lines history.now object refuted.now) }
 {
-    push_note(text, object, b": impossible\n")?;
-    push_claimed_note(text, &refuted.note)?;
+    push_object_line(text, object, b": impossible\n")?;
+    push_note(text, &refuted.note)?;
     push_operations(text, true, history, &refuted.part)?;
     push_reason(alloc, text, true, &refuted.reason)
 }
@@ -157,8 +158,8 @@ impl Answer for Decision {
                 push_impossible(alloc, text, history, object, refuted)
             }
             Decision::OutOfSteps(steps) => push_steps(text, object, *steps),
-            Decision::NoMemory => push_note(text, object, b": out of memory\n"),
-            Decision::Open => push_note(text, object, b": open\n"),
+            Decision::NoMemory => push_object_line(text, object, b": out of memory\n"),
+            Decision::Open => push_object_line(text, object, b": open\n"),
         }
     }
 }

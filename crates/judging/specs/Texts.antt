@@ -62,16 +62,16 @@ pub record DenoteOnly (h c : List ℕ) (es : List Event) (cs : List Certificate)
       → map certificate_meaning.reading_of ds ≡ map certificate_meaning.reading_of cs
 
 -- the fault is that memory was refused
-abbrev pub WantsMemory : Fault → Type 0
-WantsMemory (HistoryText e) = e.kind ≡ edn_kind.NoMemory
-WantsMemory (HistoryMaps f) = f.kind ≡ history_kind.NoMemory
-WantsMemory (CertificateText e) = e.kind ≡ edn_kind.NoMemory
-WantsMemory (CertificateForms f) = f.kind ≡ certificate_kind.NoMemory
+abbrev pub IsNoMemory : Fault → Type 0
+IsNoMemory (HistoryText e) = e.kind ≡ edn_kind.NoMemory
+IsNoMemory (HistoryMaps f) = f.kind ≡ history_kind.NoMemory
+IsNoMemory (CertificateText e) = e.kind ≡ edn_kind.NoMemory
+IsNoMemory (CertificateForms f) = f.kind ≡ certificate_kind.NoMemory
 
 -- Reading stops by an allocation failure where that is the fault, and nowhere else.
 abbrev pub IsFailureOf : Fault → TextFailure → Type 0
-IsFailureOf fault (Faulty f) = (f ≡ fault) × ¬ (WantsMemory fault)
-IsFailureOf fault NoMemory = WantsMemory fault
+IsFailureOf fault (Faulty f) = (f ≡ fault) × ¬ (IsNoMemory fault)
+IsFailureOf fault NoMemory = IsNoMemory fault
 
 -- The text is not too long, and spells forms of which this is the first fault.
 abbrev pub SpellsWithFault : {F : Type 0} → (List Datum → F → Type 0) → List ℕ → F → Type 0

@@ -5,7 +5,7 @@ ghost use Rattle.events.specs.declared.event.Event.{Event};
 ghost use Rattle.certificate.specs.declared.Certificate.{Certificate};
 ghost use Rattle.certificate.specs.Denotes.{AreDistinct, reading_of};
 ghost use Rattle.edn_reader.specs.Sound.{IsShort};
-ghost use Rattle.judging.specs.Texts.{DenotesHistory, DenotesCertificates, WantsMemory};
+ghost use Rattle.judging.specs.Texts.{DenotesHistory, DenotesCertificates, IsNoMemory};
 ghost use Rattle.judging.specs.Texts.{IsFailureOf, IsHistoryFault, IsCertificatesFault};
 ghost use Rattle.judging.specs.Texts.{IsHistoryRead};
 ghost use Rattle.judging.specs.Verdicts.{AreBothRead};
@@ -39,8 +39,8 @@ impl From<TextFailure> for Verdict {
 }
 
 /// Whether the fault is that memory was refused.
-fn wants_memory(fault: &Fault) -> bool
-    ensures { MatchBool result (WantsMemory fault.now) (¬ (WantsMemory fault.now)) }
+fn is_no_memory(fault: &Fault) -> bool
+    ensures { MatchBool result (IsNoMemory fault.now) (¬ (IsNoMemory fault.now)) }
 {
     match fault {
         Fault::HistoryText(e) => matches!(e.kind, FaultKind::NoMemory),
@@ -54,7 +54,7 @@ fn wants_memory(fault: &Fault) -> bool
 fn failure_of_fault(fault: Fault) -> TextFailure
     ensures { IsFailureOf fault result }
 {
-    if wants_memory(&fault) {
+    if is_no_memory(&fault) {
         TextFailure::NoMemory
     } else {
         TextFailure::Faulty(fault)

@@ -2,7 +2,7 @@
 
 use history::read_history_text;
 use projection::{Count, Counted, Cut};
-use refutation::{Doubt, Evidence, Reason, Refutation, Trial, refute_all};
+use refutation::{Basis, Doubt, Reason, Refutation, Trial, refute_all};
 use search::TryFirst;
 use std::alloc::{AllocError, Global};
 use std::test::Fail;
@@ -19,7 +19,7 @@ const TWO_HOLD: &[u8] = b"
     {:process 0 :type :ok :f :acquire}";
 
 /// A reason by the window between two numbers; from 0 there is no suffix.
-fn reason(alloc: Global, from: u32, end: u32, evidence: Evidence) -> Result<Reason, AllocError> {
+fn reason(alloc: Global, from: u32, end: u32, basis: Basis) -> Result<Reason, AllocError> {
     let mut cuts = Vec::new(alloc);
     if from > 0 {
         cuts.push(Cut::From(from))?;
@@ -28,7 +28,7 @@ fn reason(alloc: Global, from: u32, end: u32, evidence: Evidence) -> Result<Reas
     Ok(Reason {
         object: 0,
         cuts,
-        evidence,
+        basis,
     })
 }
 
@@ -41,8 +41,8 @@ fn doubt_of(answer: &Refutation, size: usize) -> Option<&Doubt> {
 }
 
 /// The search of a part, with a limit of its own or without one.
-fn search_in(steps: Option<u32>) -> Evidence {
-    Evidence::Search(Trial {
+fn search_in(steps: Option<u32>) -> Basis {
+    Basis::Search(Trial {
         first: TryFirst::LeastNumber,
         steps,
     })
@@ -51,7 +51,7 @@ fn search_in(steps: Option<u32>) -> Evidence {
 /// The commands tell the doubt, and not the part.
 #[test]
 fn a_part_is_handed_out_with_a_doubt(rt: HostRuntime) -> Result<(), Fail> {
-    let free = Evidence::Counting(Count {
+    let free = Basis::Counting(Count {
         counted: Counted::Free,
         from: 4,
     });

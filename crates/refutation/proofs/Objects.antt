@@ -59,7 +59,7 @@ refutes Not answers all some = all some.1 (in_from_contains answers some.1 (some
 pub answered : (objects : List ObjectCalls) (i : ℕ) (o : ObjectCalls) (reason : Reason) (answer : Result Refutation AllocError) → i < length objects
     → o ≡ get_or objects i o → o.object ≡ reason.object → IfOk answer (λ r. is_impossible r ≡ true → IsNoneValid o.kind (calls_of o.ops))
     → IfOk answer (λ r. IfPart r (IsNamedPart reason.cuts.items o.object o.kind (calls_of o.ops)))
-    → IfOk answer (λ r. IfImpossible r (λ part. IsShownBy reason.evidence part × HasNoValidOrder part)) → IfOk answer (λ r. IfNotShown r (IsDoubt reason.evidence))
+    → IfOk answer (λ r. IfImpossible r (λ part. IsShownBy reason.basis part × HasNoValidOrder part)) → IfOk answer (λ r. IfNotShown r (IsDoubt reason.basis))
     → IfOk answer (λ r. r ≡ NoPart → (part : List Call) → NamesPart reason.cuts.items (calls_of o.ops) part → ⊥)
     → IfOk answer (λ r. r ≢ OtherObject → (p : ObjectCalls) × Contains objects p × (p.object ≡ reason.object) × IsAnswerOn p.kind (calls_of p.ops) reason r)
 answered objects i o reason (Ok r) lt is e none part shown doubt refused = λ own. (

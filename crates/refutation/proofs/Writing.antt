@@ -32,19 +32,19 @@ use Rattle.projection.specs.declared.counting.Counted.{Counted}
 use Rattle.projection.specs.declared.counting.Counted.TheVariants as counted
 use Rattle.search.specs.declared.trials.TryFirst.{TryFirst}
 use Rattle.search.specs.declared.trials.TryFirst.TheVariants.{LeastNumber, LeastReturn}
-use Rattle.refutation.specs.declared.reason.Evidence.{Evidence}
-use Rattle.refutation.specs.declared.reason.Evidence.TheVariants.{Search, Counting, Ahead}
+use Rattle.refutation.specs.declared.reason.Basis.{Basis}
+use Rattle.refutation.specs.declared.reason.Basis.TheVariants.{Search, Counting, Ahead}
 use Rattle.refutation.specs.declared.reason.Reason.{Reason}
 use Rattle.refutation.specs.Denotes as spec
 use Rattle.refutation.specs.Denotes.{max_number, integers_with, numbers_with, values_in}
-use Rattle.refutation.specs.Denotes.{numbers_in, cut_in, cuts_with, evidence_in, reason_in}
+use Rattle.refutation.specs.Denotes.{numbers_in, cut_in, cuts_with, basis_in, reason_in}
 use Rattle.refutation.specs.Denotes.{reason_with, CutSeen, seen_values, seen_cut, seen}
 use Rattle.refutation.specs.Lines.{integers_text, naturals_text, values_text, numbers_text}
 use Rattle.refutation.specs.Lines.{cut_text, cuts_text, counted_text}
-use Rattle.refutation.specs.Lines.{evidence_text, search_text, line_of, lines_of, AreInRange}
+use Rattle.refutation.specs.Lines.{basis_text, search_text, line_of, lines_of, AreInRange}
 use Rattle.refutation.specs.Lines.{SpellsReasons}
 use Rattle.refutation.specs.Written.{AreNumberKeys, AreTypedValues, IsTypedCut}
-use Rattle.refutation.specs.Written.{AreTypedSteps, IsTypedCounted, IsTypedEvidence, IsTypedReason}
+use Rattle.refutation.specs.Written.{AreTypedSteps, IsTypedCounted, IsTypedBasis, IsTypedReason}
 use Rattle.refutation.proofs.Rising.{put_next}
 
 -- ---- the forms that are written
@@ -116,17 +116,17 @@ search_entries first steps = entry (codes "search")
     (dictionary (entry (codes "first") (atom (keyword (first_word first))) (steps_entries steps)))
     no_entries
 
-abbrev pub evidence_entries : Evidence → Entries
-evidence_entries (Search trial) = search_entries trial.first trial.steps
-evidence_entries (Counting c) = entry (codes "count")
+abbrev pub basis_entries : Basis → Entries
+basis_entries (Search trial) = search_entries trial.first trial.steps
+basis_entries (Counting c) = entry (codes "count")
     (dictionary (counted_entries c.counted c.from)) no_entries
-evidence_entries (Ahead number from) = entry (codes "count")
+basis_entries (Ahead number from) = entry (codes "count")
     (dictionary (ahead_entries (from == 0) number from)) no_entries
 
 abbrev pub datum_of : Reason → Datum
 datum_of r = dictionary (entry (codes "object") (atom (integer (pos r.object)))
     (entry (codes "cuts") (vector (items_of (cuts_data r.cuts.items)))
-    (evidence_entries r.evidence)))
+    (basis_entries r.basis)))
 
 abbrev pub data_of : List Reason → List Datum
 data_of rs = map datum_of rs
@@ -235,26 +235,26 @@ ahead_is_text false number n =
     ∙ sym (append-nil
     ((decimal number ++ (codes ", :from " ++ (decimal n ++ []))) ++ codes "}")))
 
-evidence_is_text : (e : Evidence) → evidence_text e ≡ entries_text false (evidence_entries e)
-evidence_is_text (Search trial) = search_is_text trial.first trial.steps
-evidence_is_text (Counting c) =
+basis_is_text : (e : Basis) → basis_text e ≡ entries_text false (basis_entries e)
+basis_is_text (Search trial) = search_is_text trial.first trial.steps
+basis_is_text (Counting c) =
     ap (λ t. codes ", :count {" ++ t) (counted_is_text c.counted c.from)
     ∙ sym (ap (λ t. codes ", :count {" ++ t) (append-nil
     (entries_text true (counted_entries c.counted c.from) ++ codes "}")))
-evidence_is_text (Ahead number from) = ahead_is_text (from == 0) number from
+basis_is_text (Ahead number from) = ahead_is_text (from == 0) number from
 
 line_is_text : (r : Reason) → line_of r ≡ text_of (datum_of r) ++ 10 ∷ []
 line_is_text r =
     let x = decimal r.object in
     let pairs = λ (c : List ℕ). λ (e : List ℕ). codes ", :cuts [" ++ ((c ++ codes "]") ++ e) in
     let cuts = items_text true (items_of (cuts_data r.cuts.items)) in
-    let evidence = entries_text false (evidence_entries r.evidence) in
-    ap (λ t. codes "{:object " ++ ((x ++ pairs t (evidence_text r.evidence)) ++ codes "}\n"))
+    let basis = entries_text false (basis_entries r.basis) in
+    ap (λ t. codes "{:object " ++ ((x ++ pairs t (basis_text r.basis)) ++ codes "}\n"))
     (cuts_are_items true r.cuts.items)
     ∙ (ap (λ t. codes "{:object " ++ ((x ++ pairs cuts t) ++ codes "}\n"))
-    (evidence_is_text r.evidence)
+    (basis_is_text r.basis)
     ∙ sym (ap (λ t. codes "{:object " ++ t)
-    (append_assoc (x ++ pairs cuts evidence) (codes "}") (codes "\n"))))
+    (append_assoc (x ++ pairs cuts basis) (codes "}") (codes "\n"))))
 
 lines_are_texts : (rs : List Reason) → lines_of rs ≡ edn.lines_of (data_of rs)
 lines_are_texts [] = refl
@@ -351,11 +351,11 @@ lacks_search k LeastReturn None other = (other, tt)
 lacks_search k LeastNumber (Some n) other = (other, tt)
 lacks_search k LeastReturn (Some n) other = (other, tt)
 
-lacks_evidence : (k : List ℕ) (e : Evidence) → (k ≡ codes "count" → ⊥) → (k ≡ codes "search" → ⊥)
-    → Lacks k (evidence_entries e)
-lacks_evidence k (Search trial) count search = lacks_search k trial.first trial.steps search
-lacks_evidence k (Counting c) count search = (count, tt)
-lacks_evidence k (Ahead number from) count search = (count, tt)
+lacks_basis : (k : List ℕ) (e : Basis) → (k ≡ codes "count" → ⊥) → (k ≡ codes "search" → ⊥)
+    → Lacks k (basis_entries e)
+lacks_basis k (Search trial) count search = lacks_search k trial.first trial.steps search
+lacks_basis k (Counting c) count search = (count, tt)
+lacks_basis k (Ahead number from) count search = (count, tt)
 
 first_is_not_steps : codes "first" ≡ codes "steps" → ⊥
 first_is_not_steps h = let first : 102 ≡ 115 = ap (λ k. get_or k 0 0) h in absurd (omega (arith, first))
@@ -370,10 +370,10 @@ ahead_fits : (at_first : Bool) (number n : ℕ) → EntriesFit 14 (ahead_entries
 ahead_fits true number n = (tt, tt, tt)
 ahead_fits false number n = ((λ h. cc, tt), tt, (tt, tt, tt))
 
-evidence_fits : (e : Evidence) → EntriesFit 15 (evidence_entries e)
-evidence_fits (Search trial) = search_fits trial.first trial.steps
-evidence_fits (Counting c) = (tt, (lit< tt, counted_fits c.counted c.from), tt)
-evidence_fits (Ahead number from) = (tt, (lit< tt, ahead_fits (from == 0) number from), tt)
+basis_fits : (e : Basis) → EntriesFit 15 (basis_entries e)
+basis_fits (Search trial) = search_fits trial.first trial.steps
+basis_fits (Counting c) = (tt, (lit< tt, counted_fits c.counted c.from), tt)
+basis_fits (Ahead number from) = (tt, (lit< tt, ahead_fits (from == 0) number from), tt)
 
 object_is_not_search : codes "object" ≡ codes "search" → ⊥
 object_is_not_search h = let first : 111 ≡ 115 = ap (λ k. get_or k 0 0) h in absurd (omega (arith, first))
@@ -382,12 +382,12 @@ datum_fits : (r : Reason) → Fits max_open (datum_of r)
 datum_fits r = (
   lit< tt,
   (
-    (λ h. cc, lacks_evidence (codes "object") r.evidence (λ h. cc) object_is_not_search),
+    (λ h. cc, lacks_basis (codes "object") r.basis (λ h. cc) object_is_not_search),
     tt,
     (
-      lacks_evidence (codes "cuts") r.evidence (λ h. cc) (λ h. cc),
+      lacks_basis (codes "cuts") r.basis (λ h. cc) (λ h. cc),
       (lit< tt, cuts_fit r.cuts.items),
-      evidence_fits r.evidence,
+      basis_fits r.basis,
     ),
   ),
 )
@@ -479,11 +479,11 @@ unfolding is_name
 ahead_in_profile true number n h k = (refl, number_in_profile number h, tt)
 ahead_in_profile false number n h k = (refl, number_in_profile number h, from_in_profile n k)
 
-evidence_in_profile : (e : Evidence) → IsTypedEvidence e → EntriesInProfile (evidence_entries e)
+basis_in_profile : (e : Basis) → IsTypedBasis e → EntriesInProfile (basis_entries e)
 unfolding is_name
-evidence_in_profile (Search trial) t = search_in_profile trial.first trial.steps t
-evidence_in_profile (Counting c) t = (refl, counted_in_profile c.counted c.from t.0 t.1, tt)
-evidence_in_profile (Ahead number from) t =
+basis_in_profile (Search trial) t = search_in_profile trial.first trial.steps t
+basis_in_profile (Counting c) t = (refl, counted_in_profile c.counted c.from t.0 t.1, tt)
+basis_in_profile (Ahead number from) t =
     (refl, ahead_in_profile (from == 0) number from t.0 t.1, tt)
 
 datum_in_profile : (r : Reason) → r.object ≤ 65535 → IsTypedReason r → InProfile (datum_of r)
@@ -494,7 +494,7 @@ datum_in_profile r small t = (
   (
     refl,
     cuts_in_profile r.cuts.items t.0,
-    evidence_in_profile r.evidence
+    basis_in_profile r.basis
         t.1,
   ),
 )
@@ -593,7 +593,7 @@ cuts_read before (c ∷ cs) t =
     ∙ ap Some (append_assoc before (seen_cut c ∷ []) (map seen_cut cs)))
 
 counted_read : (c : Counted) (n : ℕ) → n ≤ max_number
-    → spec.evidence_of (counted_entries c n) ≡ Some (Counting (record { counted = c; from = n }))
+    → spec.basis_of (counted_entries c n) ≡ Some (Counting (record { counted = c; from = n }))
 counted_read (counted.Value v) n h = ap (spec.count_with (Some (counted.Value v))) (number_read n h)
 counted_read (counted.Entry k v) n h = ap (spec.count_with (Some (counted.Entry k v)))
     (number_read n h)
@@ -603,7 +603,7 @@ counted_read counted.Held n h = ap (spec.count_with (Some counted.Held)) (number
 counted_read counted.Free n h = ap (spec.count_with (Some counted.Free)) (number_read n h)
 
 search_read : (first : TryFirst) (steps : Option ℕ) → AreTypedSteps steps
-    → evidence_in (value_at (codes "count") (search_entries first steps))
+    → basis_in (value_at (codes "count") (search_entries first steps))
     (value_at (codes "search") (search_entries first steps))
     ≡ Some (Search (record { first = first; steps = steps }))
 search_read LeastNumber None t = refl
@@ -614,7 +614,7 @@ search_read LeastReturn (Some n) t =
     ap (λ v. spec.search_with (Some LeastReturn) (option_map (λ m. Some m) v)) (number_read n t)
 
 ahead_read : (at_first : Bool) (number n : ℕ) → (n == 0) ≡ at_first → number ≤ max_number
-    → n ≤ max_number → spec.evidence_of (ahead_entries at_first number n) ≡ Some (Ahead number n)
+    → n ≤ max_number → spec.basis_of (ahead_entries at_first number n) ≡ Some (Ahead number n)
 ahead_read true number n is h k =
     ap (λ v. spec.ahead_with v (Some 0)) (number_read number h)
     ∙ ap (λ m. Some (Ahead number m)) (zero_is n is)
@@ -625,24 +625,24 @@ ahead_read false number n is h k =
     ap (λ v. spec.ahead_with v (spec.number_in (Some (atom (integer (pos n))))))
     (number_read number h) ∙ ap (spec.ahead_with (Some number)) (number_read n k)
 
-evidence_read : (e : Evidence) → IsTypedEvidence e
-    → evidence_in (value_at (codes "count") (evidence_entries e))
-    (value_at (codes "search") (evidence_entries e)) ≡ Some e
-evidence_read (Search trial) t = search_read trial.first trial.steps t
-evidence_read (Counting c) t = counted_read c.counted c.from t.1
-evidence_read (Ahead number from) t = ahead_read (from == 0) number from refl t.0 t.1
+basis_read : (e : Basis) → IsTypedBasis e
+    → basis_in (value_at (codes "count") (basis_entries e))
+    (value_at (codes "search") (basis_entries e)) ≡ Some e
+basis_read (Search trial) t = search_read trial.first trial.steps t
+basis_read (Counting c) t = counted_read c.counted c.from t.1
+basis_read (Ahead number from) t = ahead_read (from == 0) number from refl t.0 t.1
 
 datum_denotes : (r : Reason) → r.object ≤ 65535 → IsTypedReason r → reason_in (datum_of r)
     ≡ Some (seen r)
 datum_denotes r small t =
     let cuts = cuts_with [] (items_of (cuts_data r.cuts.items)) in
-    let evidence = evidence_in (value_at (codes "count") (evidence_entries r.evidence))
-    (value_at (codes "search") (evidence_entries r.evidence)) in
-    ap (λ b. reason_with (if b then Some r.object else None) cuts evidence)
+    let basis = basis_in (value_at (codes "count") (basis_entries r.basis))
+    (value_at (codes "search") (basis_entries r.basis)) in
+    ap (λ b. reason_with (if b then Some r.object else None) cuts basis)
     (le-leb r.object 65535 small)
-    ∙ (ap (λ v. reason_with (Some r.object) v evidence) (cuts_read [] r.cuts.items t.0)
+    ∙ (ap (λ v. reason_with (Some r.object) v basis) (cuts_read [] r.cuts.items t.0)
     ∙ ap (λ v. reason_with (Some r.object) (Some (map seen_cut r.cuts.items)) v)
-    (evidence_read r.evidence t.1))
+    (basis_read r.basis t.1))
 
 -- ---- the lines
 

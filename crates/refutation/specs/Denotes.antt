@@ -17,8 +17,8 @@ use Rattle.projection.specs.declared.counting.Counted.{Counted}
 use Rattle.projection.specs.declared.counting.Counted.TheVariants as counted
 use Rattle.search.specs.declared.trials.TryFirst.{TryFirst}
 use Rattle.search.specs.declared.trials.TryFirst.TheVariants.{LeastNumber, LeastReturn}
-use Rattle.refutation.specs.declared.reason.Evidence.{Evidence}
-use Rattle.refutation.specs.declared.reason.Evidence.TheVariants.{Search, Counting, Ahead}
+use Rattle.refutation.specs.declared.reason.Basis.{Basis}
+use Rattle.refutation.specs.declared.reason.Basis.TheVariants.{Search, Counting, Ahead}
 use Rattle.refutation.specs.declared.reason.Reason.{Reason}
 
 -- ---- what a reason says, apart from how sets are in memory
@@ -39,7 +39,7 @@ pub data CutSeen : Type 0 where
 pub record ReasonSeen : Type 0 where
   pub object : ℕ
   pub cuts : List CutSeen
-  pub evidence : Evidence
+  pub basis : Basis
 
 abbrev pub seen_values : Values → KeptValues
 seen_values All = every
@@ -55,7 +55,7 @@ seen_cut (Entry key values other numbers) =
     entry_cell key (seen_values values) other numbers.keys
 
 abbrev pub seen : Reason → ReasonSeen
-seen r = record { object = r.object; cuts = map seen_cut r.cuts.items; evidence = r.evidence }
+seen r = record { object = r.object; cuts = map seen_cut r.cuts.items; basis = r.basis }
 
 -- ---- numbers and sets
 
@@ -167,7 +167,7 @@ cuts_in None = Some []
 cuts_in (Some (vector ds)) = cuts_with [] ds
 cuts_in (Some other) = None
 
--- ---- evidence
+-- ---- basis
 
 -- What is counted: a value, alone or under a key; no value under a key; a mutex that is held, or
 -- free.
@@ -184,7 +184,7 @@ abbrev pub start_in : Option Datum → Option ℕ
 start_in None = Some 0
 start_in (Some d) = number_in (Some d)
 
-abbrev pub count_with : Option Counted → Option ℕ → Option Evidence
+abbrev pub count_with : Option Counted → Option ℕ → Option Basis
 count_with (Some c) (Some n) = Some (Counting (record { counted = c; from = n }))
 count_with c n = None
 
@@ -193,18 +193,18 @@ counted_of es =
     counted_with (optional_int_at (codes "key") es) (optional_int_at (codes "value") es)
     (is_some (value_at (codes "held") es)) (is_some (value_at (codes "free") es))
 
-abbrev pub ahead_with : Option ℕ → Option ℕ → Option Evidence
+abbrev pub ahead_with : Option ℕ → Option ℕ → Option Basis
 ahead_with (Some number) (Some start) = Some (Ahead number start)
 ahead_with number start = None
 
 -- what was ahead of the removal with this number, if there is a value; else what is counted
-abbrev pub count_from : Option Datum → Option Counted → Option ℕ → Option Evidence
+abbrev pub count_from : Option Datum → Option Counted → Option ℕ → Option Basis
 count_from None what start = count_with what start
 count_from (Some d) what start = ahead_with (number_in (Some d)) start
 
 -- The count that a map names. With the key :ahead no other key matters, except :from.
-abbrev pub evidence_of : Entries → Option Evidence
-evidence_of es =
+abbrev pub basis_of : Entries → Option Basis
+basis_of es =
     count_from (value_at (codes "ahead") es) (counted_of es)
     (start_in (value_at (codes "from") es))
 
@@ -221,27 +221,27 @@ abbrev pub steps_in : Option Datum → Option (Option ℕ)
 steps_in None = Some None
 steps_in (Some d) = option_map (λ n. Some n) (number_in (Some d))
 
-abbrev pub search_with : Option TryFirst → Option (Option ℕ) → Option Evidence
+abbrev pub search_with : Option TryFirst → Option (Option ℕ) → Option Basis
 search_with (Some first) (Some steps) = Some (Search (record { first = first; steps = steps }))
 search_with first steps = None
 
 -- how a part is searched
-abbrev pub search_in : Option Datum → Option Evidence
+abbrev pub search_in : Option Datum → Option Basis
 search_in None = search_with (Some LeastNumber) (Some None)
 search_in (Some (dictionary es)) =
     search_with (first_in (value_at (codes "first") es)) (steps_in (value_at (codes "steps") es))
 search_in (Some other) = None
 
 -- a count, or without one a search
-abbrev pub evidence_in : Option Datum → Option Datum → Option Evidence
-evidence_in None search = search_in search
-evidence_in (Some (dictionary es)) search = evidence_of es
-evidence_in (Some other) search = None
+abbrev pub basis_in : Option Datum → Option Datum → Option Basis
+basis_in None search = search_in search
+basis_in (Some (dictionary es)) search = basis_of es
+basis_in (Some other) search = None
 
 -- ---- reasons
 
-abbrev pub reason_with : Option ℕ → Option (List CutSeen) → Option Evidence → Option ReasonSeen
-reason_with (Some x) (Some cs) (Some e) = Some (record { object = x; cuts = cs; evidence = e })
+abbrev pub reason_with : Option ℕ → Option (List CutSeen) → Option Basis → Option ReasonSeen
+reason_with (Some x) (Some cs) (Some e) = Some (record { object = x; cuts = cs; basis = e })
 reason_with x cs e = None
 
 -- The reason that a form is, if it is one: a map whose :object is a number from 0 to 65,535, whose
@@ -251,7 +251,7 @@ abbrev pub reason_in : Datum → Option ReasonSeen
 reason_in (dictionary es) =
     reason_with (object_in (natural_in (value_at (codes "object") es)))
     (cuts_in (value_at (codes "cuts") es))
-    (evidence_in (value_at (codes "count") es) (value_at (codes "search") es))
+    (basis_in (value_at (codes "count") es) (value_at (codes "search") es))
 reason_in other = None
 
 -- The forms are these reasons, one by one and in order.

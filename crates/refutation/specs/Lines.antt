@@ -16,8 +16,8 @@ use Rattle.projection.specs.declared.counting.Counted.{Counted}
 use Rattle.projection.specs.declared.counting.Counted.TheVariants as counted
 use Rattle.search.specs.declared.trials.TryFirst.{TryFirst}
 use Rattle.search.specs.declared.trials.TryFirst.TheVariants.{LeastNumber, LeastReturn}
-use Rattle.refutation.specs.declared.reason.Evidence.{Evidence}
-use Rattle.refutation.specs.declared.reason.Evidence.TheVariants.{Search, Counting, Ahead}
+use Rattle.refutation.specs.declared.reason.Basis.{Basis}
+use Rattle.refutation.specs.declared.reason.Basis.TheVariants.{Search, Counting, Ahead}
 use Rattle.refutation.specs.declared.reason.Reason.{Reason}
 use Rattle.refutation.specs.Denotes.{Denotes}
 
@@ -73,7 +73,7 @@ abbrev pub cuts_text : Bool → List Cut → List ℕ
 cuts_text first [] = []
 cuts_text first (c ∷ cs) = (between first (codes " ") ++ cut_text c) ++ cuts_text false cs
 
--- ---- evidence
+-- ---- basis
 
 abbrev pub counted_text : Counted → List ℕ
 counted_text (counted.Value v) = codes ":value " ++ signed_decimal v
@@ -111,10 +111,10 @@ search_text LeastNumber None = []
 search_text LeastReturn None = codes ", :search {:first :return}"
 
 -- a count, or how the part is searched
-abbrev pub evidence_text : Evidence → List ℕ
-evidence_text (Search trial) = search_text trial.first trial.steps
-evidence_text (Counting c) = count_text c
-evidence_text (Ahead number from) = ahead_text number from
+abbrev pub basis_text : Basis → List ℕ
+basis_text (Search trial) = search_text trial.first trial.steps
+basis_text (Counting c) = count_text c
+basis_text (Ahead number from) = ahead_text number from
 
 -- ---- reasons
 
@@ -126,7 +126,7 @@ all_cuts_text cs = codes ", :cuts [" ++ (cuts_text true cs ++ codes "]")
 abbrev pub open_reason_text : Reason → List ℕ
 open_reason_text r =
     (codes "{:object " ++ decimal r.object)
-    ++ (all_cuts_text r.cuts.items ++ evidence_text r.evidence)
+    ++ (all_cuts_text r.cuts.items ++ basis_text r.basis)
 
 -- the line of a reason, as {:object 0, :cuts [{:until 120}]}
 abbrev pub line_of : Reason → List ℕ

@@ -10,8 +10,8 @@ use Rattle.projection.specs.declared.cutting.Cut.{Cut}
 use Rattle.projection.specs.Ahead.{IsBlocked}
 use Rattle.projection.specs.Counts.{IsOverdrawn}
 use Rattle.projection.specs.Cuts.{NamesPart, NoneFailed, part_kind}
-use Rattle.refutation.specs.declared.reason.Evidence.{Evidence}
-use Rattle.refutation.specs.declared.reason.Evidence.TheVariants.{Search, Counting, Ahead}
+use Rattle.refutation.specs.declared.reason.Basis.{Basis}
+use Rattle.refutation.specs.declared.reason.Basis.TheVariants.{Search, Counting, Ahead}
 use Rattle.refutation.specs.declared.reason.Reason.{Reason}
 use Rattle.refutation.specs.declared.refuting.Doubt.{Doubt}
 use Rattle.refutation.specs.declared.refuting.Doubt.TheVariants.{Possible, NotExceeded, OutOfSteps}
@@ -52,40 +52,40 @@ abbrev pub steps_or : Option ℕ → ℕ → ℕ
 steps_or None limit = limit
 steps_or (Some n) limit = n
 
-abbrev pub steps_of : Evidence → ℕ → ℕ
+abbrev pub steps_of : Basis → ℕ → ℕ
 steps_of (Search trial) limit = steps_or trial.steps limit
 steps_of (Counting count) limit = limit
 steps_of (Ahead number from) limit = limit
 
-abbrev pub IsSearch : Evidence → Type 0
+abbrev pub IsSearch : Basis → Type 0
 IsSearch (Search trial) = ⊤
 IsSearch (Counting count) = ⊥
 IsSearch (Ahead number from) = ⊥
 
 -- a count does not show that the part has no valid order
-abbrev pub IsNotExceeded : Evidence → ObjectCalls → Type 0
+abbrev pub IsNotExceeded : Basis → ObjectCalls → Type 0
 IsNotExceeded (Search trial) part = ⊥
 IsNotExceeded (Counting count) part =
     IsOverdrawn part.kind count (calls_of part.ops) → ⊥
 IsNotExceeded (Ahead number from) part = IsBlocked number from (calls_of part.ops) → ⊥
 
--- Why the evidence does not show that the part has no valid order. A count has one answer alone.
-abbrev pub IsDoubt : Evidence → ObjectCalls → Doubt → Type 0
-IsDoubt evidence part (Possible order) =
-    IsSearch evidence × IsValidOrder part.kind (calls_of part.ops) order.items
-IsDoubt evidence part NotExceeded = IsNotExceeded evidence part
-IsDoubt evidence part OutOfSteps = IsSearch evidence
-IsDoubt evidence part NoMemory =
-    IsSearch evidence × Any (λ call. IsSome call.returned) (calls_of part.ops)
+-- Why the basis does not show that the part has no valid order. A count has one answer alone.
+abbrev pub IsDoubt : Basis → ObjectCalls → Doubt → Type 0
+IsDoubt basis part (Possible order) =
+    IsSearch basis × IsValidOrder part.kind (calls_of part.ops) order.items
+IsDoubt basis part NotExceeded = IsNotExceeded basis part
+IsDoubt basis part OutOfSteps = IsSearch basis
+IsDoubt basis part NoMemory =
+    IsSearch basis × Any (λ call. IsSome call.returned) (calls_of part.ops)
 
 -- no order of the part's operations is valid
 abbrev pub HasNoValidOrder : ObjectCalls → Type 0
 HasNoValidOrder part = IsNoneValid part.kind (calls_of part.ops)
 
--- What the evidence shows of a part: a search, that no order of it is valid; a count, that a
+-- What the basis shows of a part: a search, that no order of it is valid; a count, that a
 -- content was taken away more often than it can have been there, or that more values definitely
 -- were ahead of what a removal found than other calls can have taken out before it.
-abbrev pub IsShownBy : Evidence → ObjectCalls → Type 0
+abbrev pub IsShownBy : Basis → ObjectCalls → Type 0
 IsShownBy (Search trial) part = HasNoValidOrder part
 IsShownBy (Counting count) part = IsOverdrawn part.kind count (calls_of part.ops)
 IsShownBy (Ahead number from) part = IsBlocked number from (calls_of part.ops)
@@ -106,11 +106,11 @@ pub record IsAnswerOn (kind : Kind) (calls : List Call) (reason : Reason)
   pub impossible : is_impossible answer ≡ true → IsNoneValid kind calls
   -- what is handed out is a part with the calls that the reason names
   pub part : IfPart answer (IsNamedPart reason.cuts.items reason.object kind calls)
-  -- it is impossible only where the reason's evidence shows it of that part, and no order of the
+  -- it is impossible only where the reason's basis shows it of that part, and no order of the
   -- part is valid
   pub shown : IfImpossible answer (λ part.
-      IsShownBy reason.evidence part × HasNoValidOrder part)
-  pub not_shown : IfNotShown answer (IsDoubt reason.evidence)
+      IsShownBy reason.basis part × HasNoValidOrder part)
+  pub not_shown : IfNotShown answer (IsDoubt reason.basis)
   pub no_part : answer ≡ refutation.NoPart → (part : List Call)
       → NamesPart reason.cuts.items calls part → ⊥
 

@@ -12,8 +12,8 @@ use Rattle.projection.specs.declared.cutting.Cut.TheVariants.{From, Until, Witho
 use Rattle.projection.specs.declared.cutting.Cut.TheVariants.{Entry}
 use Rattle.projection.specs.declared.counting.Counted.{Counted}
 use Rattle.projection.specs.declared.counting.Counted.TheVariants as counted
-use Rattle.refutation.specs.declared.reason.Evidence.{Evidence}
-use Rattle.refutation.specs.declared.reason.Evidence.TheVariants.{Search, Counting, Ahead}
+use Rattle.refutation.specs.declared.reason.Basis.{Basis}
+use Rattle.refutation.specs.declared.reason.Basis.TheVariants.{Search, Counting, Ahead}
 use Rattle.refutation.specs.declared.reason.Reason.{Reason}
 use Rattle.refutation.specs.Denotes.{max_number}
 
@@ -51,10 +51,10 @@ abbrev pub AreTypedSteps : Option ℕ → Type 0
 AreTypedSteps None = Unit {0}
 AreTypedSteps (Some n) = n ≤ max_number
 
-abbrev pub IsTypedEvidence : Evidence → Type 0
-IsTypedEvidence (Search trial) = AreTypedSteps trial.steps
-IsTypedEvidence (Counting c) = IsTypedCounted c.counted × (c.from ≤ max_number)
-IsTypedEvidence (Ahead number from) = (number ≤ max_number) × (from ≤ max_number)
+abbrev pub IsTypedBasis : Basis → Type 0
+IsTypedBasis (Search trial) = AreTypedSteps trial.steps
+IsTypedBasis (Counting c) = IsTypedCounted c.counted × (c.from ≤ max_number)
+IsTypedBasis (Ahead number from) = (number ≤ max_number) × (from ≤ max_number)
 
 abbrev pub IsTypedReason : Reason → Type 0
-IsTypedReason r = AllByRecursion IsTypedCut r.cuts.items × IsTypedEvidence r.evidence
+IsTypedReason r = AllByRecursion IsTypedCut r.cuts.items × IsTypedBasis r.basis

@@ -5,9 +5,9 @@
 #![tactic(auto)]
 
 mod all;
+mod basis;
 mod cut;
 mod cut_writer;
-mod evidence;
 mod fault;
 mod laws;
 mod reader;
@@ -25,7 +25,7 @@ pub use laws::{
     part_is_not_linearizable,
 };
 pub use reader::{read_reasons, reason_in};
-pub use reason::{Evidence, Reason, Trial};
+pub use reason::{Basis, Reason, Trial};
 pub use refuting::{Doubt, Refutation, refute};
 pub use text_reader::read_reasons_text;
 pub use writer::write_reasons;

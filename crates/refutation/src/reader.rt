@@ -8,8 +8,8 @@ ghost use Rattle.refutation.specs.Denotes.{Denotes};
 ghost use Rattle.refutation.specs.Faults.{IsFault, IsFirstFault, IsSoundBefore};
 
 use crate::Reason;
+use crate::basis::basis;
 use crate::cut::cuts;
-use crate::evidence::evidence;
 use crate::fault::{ReasonFault, ReasonFaultKind};
 use edn::Form;
 use edn_fields::value_at;
@@ -33,11 +33,11 @@ pub fn reason_in(alloc: Global, form: &Form) -> Result<Option<Reason>, AllocErro
         return Ok(None);
     };
     let counted = value_at(entries, b"count");
-    match evidence(counted, value_at(entries, b"search")) {
-        Some(evidence) => Ok(Some(Reason {
+    match basis(counted, value_at(entries, b"search")) {
+        Some(basis) => Ok(Some(Reason {
             object,
             cuts,
-            evidence,
+            basis,
         })),
         None => Ok(None),
     }

@@ -16,7 +16,7 @@ pub struct Trial {
 
 /// What is to show that no order of a part is valid.
 #[derive(Clone, Copy, Debug, PartialEq, Eq)]
-pub enum Evidence {
+pub enum Basis {
     /// The search for an order of the part.
     Search(Trial),
     /// A count over the part of how often a content was set and taken away: see
@@ -28,7 +28,7 @@ pub enum Evidence {
     Ahead { number: u32, from: u32 },
 }
 
-impl Evidence {
+impl Basis {
     ghost use Rattle.refutation.specs.Refutations.{steps_of};
 
     /// How many steps a search may take, where it may take `limit` if the reason gives no number.
@@ -36,7 +36,7 @@ impl Evidence {
         ensures { result ≡ steps_of self limit }
     {
         match self {
-            Evidence::Search(
+            Basis::Search(
                 Trial {
                     first: _,
                     steps: Some(steps),
@@ -53,5 +53,5 @@ impl Evidence {
 pub struct Reason {
     pub object: u32,
     pub cuts: Vec<Cut>,
-    pub evidence: Evidence,
+    pub basis: Basis,
 }

@@ -8,7 +8,7 @@ ghost use Rattle.projection.specs.Cuts.{NamesPart};
 ghost use Rattle.refutation.specs.Refutations.{is_impossible, IfImpossible, IfNotShown};
 ghost use Rattle.refutation.specs.Refutations.{IfPart, IsDoubt, IsNamedPart, HasNoValidOrder, IsShownBy};
 
-use crate::reason::{Evidence, Reason, Trial};
+use crate::reason::{Basis, Reason, Trial};
 use events::ObjectHistory;
 use projection::{Count, is_blocked, is_overdrawn, part_by};
 use search::{Attempt, Outcome, find_order_of_any_size};
@@ -45,9 +45,9 @@ pub enum Refutation {
 /// What the search answers of a part; `None`: no order of it is valid.
 fn doubt_of_search(alloc: Global, part: &ObjectHistory, trial: Trial, limit: u64) -> Option<Doubt>
     ensures shown { result ≡ None → IsNoneValid part.now.kind (calls_of part.now.ops) }
-    ensures doubt { IfSome result (IsDoubt (Evidence.Search trial) part.now) }
+    ensures doubt { IfSome result (IsDoubt (Basis.Search trial) part.now) }
 {
-    let limit = Evidence::Search(trial).steps(limit);
+    let limit = Basis::Search(trial).steps(limit);
     let Attempt { outcome, .. } = find_order_of_any_size(alloc, part, trial.first, limit);
     match outcome {
         Outcome::Found(order) => Some(Doubt::Possible(order)),
@@ -59,9 +59,9 @@ fn doubt_of_search(alloc: Global, part: &ObjectHistory, trial: Trial, limit: u64
 
 /// What the count answers of a part; `None`: it is exceeded, so that no order of the part is valid.
 fn doubt_of_count(part: &ObjectHistory, count: Count) -> Option<Doubt>
-    ensures exceeded { result ≡ None → IsShownBy (Evidence.Counting count) part.now }
+    ensures exceeded { result ≡ None → IsShownBy (Basis.Counting count) part.now }
     ensures shown { result ≡ None → IsNoneValid part.now.kind (calls_of part.now.ops) }
-    ensures doubt { IfSome result (IsDoubt (Evidence.Counting count) part.now) }
+    ensures doubt { IfSome result (IsDoubt (Basis.Counting count) part.now) }
 {
     if is_overdrawn(part, count) {
         return None;
@@ -72,9 +72,9 @@ fn doubt_of_count(part: &ObjectHistory, count: Count) -> Option<Doubt>
 /// What the count of what was ahead of a removal answers of a part; `None`: it is exceeded, so that
 /// no order of the part is valid.
 fn doubt_of_ahead(part: &ObjectHistory, number: u32, from: u32) -> Option<Doubt>
-    ensures exceeded { result ≡ None → IsShownBy (Evidence.Ahead number from) part.now }
+    ensures exceeded { result ≡ None → IsShownBy (Basis.Ahead number from) part.now }
     ensures shown { result ≡ None → IsNoneValid part.now.kind (calls_of part.now.ops) }
-    ensures doubt { IfSome result (IsDoubt (Evidence.Ahead number from) part.now) }
+    ensures doubt { IfSome result (IsDoubt (Basis.Ahead number from) part.now) }
 {
     if is_blocked(part, number, from) {
         return None;
@@ -82,16 +82,16 @@ fn doubt_of_ahead(part: &ObjectHistory, number: u32, from: u32) -> Option<Doubt>
     Some(Doubt::NotExceeded)
 }
 
-/// What the evidence answers of a part; `None`: it shows that no order of the part is valid.
-fn doubt_of(alloc: Global, part: &ObjectHistory, evidence: Evidence, limit: u64) -> Option<Doubt>
-    ensures evidence { result ≡ None → IsShownBy evidence part.now }
+/// What the basis answers of a part; `None`: it shows that no order of the part is valid.
+fn doubt_of(alloc: Global, part: &ObjectHistory, basis: Basis, limit: u64) -> Option<Doubt>
+    ensures basis { result ≡ None → IsShownBy basis part.now }
     ensures shown { result ≡ None → IsNoneValid part.now.kind (calls_of part.now.ops) }
-    ensures doubt { IfSome result (IsDoubt evidence part.now) }
+    ensures doubt { IfSome result (IsDoubt basis part.now) }
 {
-    match evidence {
-        Evidence::Search(trial) => doubt_of_search(alloc, part, trial, limit),
-        Evidence::Counting(count) => doubt_of_count(part, count),
-        Evidence::Ahead { number, from } => doubt_of_ahead(part, number, from),
+    match basis {
+        Basis::Search(trial) => doubt_of_search(alloc, part, trial, limit),
+        Basis::Counting(count) => doubt_of_count(part, count),
+        Basis::Ahead { number, from } => doubt_of_ahead(part, number, from),
     }
 }
 
@@ -112,11 +112,11 @@ pub fn refute(
     // What is handed out is the part that the reason names.
     ensures part { IfOk result (λ r. IfPart r (IsNamedPart reason.now.cuts.items
         history.now.object history.now.kind (calls_of history.now.ops))) }
-    // Impossible is answered only where the evidence shows it of that part: a count is exceeded. No
+    // Impossible is answered only where the basis shows it of that part: a count is exceeded. No
     // order of the part is valid.
     ensures shown { IfOk result (λ r. IfImpossible r (λ part.
-        IsShownBy reason.now.evidence part × HasNoValidOrder part)) }
-    ensures not_shown { IfOk result (λ r. IfNotShown r (IsDoubt reason.now.evidence)) }
+        IsShownBy reason.now.basis part × HasNoValidOrder part)) }
+    ensures not_shown { IfOk result (λ r. IfNotShown r (IsDoubt reason.now.basis)) }
     ensures no_part { IfOk result (λ r. r ≡ Refutation.NoPart → (part : List Call)
         → NamesPart reason.now.cuts.items (calls_of history.now.ops) part → ⊥) }
     ensures other_object { IfOk result (λ r. r ≡ Refutation.OtherObject
@@ -130,7 +130,7 @@ pub fn refute(
     let Some(part) = part_by(alloc, history, &reason.cuts)? else {
         return Ok(Refutation::NoPart);
     };
-    match doubt_of(alloc, &part, reason.evidence, limit) {
+    match doubt_of(alloc, &part, reason.basis, limit) {
         None => Ok(Refutation::Impossible(part)),
         Some(doubt) => Ok(Refutation::NotShown { part, doubt }),
     }

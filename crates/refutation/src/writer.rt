@@ -7,12 +7,12 @@ ghost use Rattle.edn_reader.specs.Text.{IsInt64};
 ghost use Rattle.refutation.specs.Denotes.{max_number};
 ghost use Rattle.refutation.specs.Lines as text;
 ghost use Rattle.refutation.specs.Lines.{AreInRange, SpellsReasons};
-ghost use Rattle.refutation.specs.Written.{AreTypedSteps, IsTypedCounted, IsTypedEvidence};
+ghost use Rattle.refutation.specs.Written.{AreTypedSteps, IsTypedCounted, IsTypedBasis};
 ghost use Rattle.refutation.specs.Written.{IsTypedReason};
 
 use crate::cut_writer::write_cuts;
 use crate::set_writer::{write_integer_after, write_number_after};
-use crate::{Evidence, Reason, Trial};
+use crate::{Basis, Reason, Trial};
 use edn::{Failed, Sink, WriteFault, write_bytes};
 use projection::{Count, Counted};
 use search::TryFirst;
@@ -134,16 +134,16 @@ fn write_search<S: Sink>(trial: Trial, sink: &mut S) -> Result<(), Failed>
 }
 
 /// A count, or how the part is searched.
-fn write_evidence<S: Sink>(evidence: Evidence, sink: &mut S) -> Result<(), Failed>
+fn write_basis<S: Sink>(basis: Basis, sink: &mut S) -> Result<(), Failed>
     requires { S.broken sink.old ≡ false }
     ensures sent { Writes result (S.sent sink.old) (S.sent sink.new) (S.broken sink.new)
-        (text.evidence_text evidence) }
-    ensures typed { OnOk result (IsTypedEvidence evidence) }
+        (text.basis_text basis) }
+    ensures typed { OnOk result (IsTypedBasis basis) }
 {
-    match evidence {
-        Evidence::Search(trial) => write_search(trial, sink),
-        Evidence::Counting(count) => write_count(count, sink),
-        Evidence::Ahead { number, from } => write_ahead(number, from, sink),
+    match basis {
+        Basis::Search(trial) => write_search(trial, sink),
+        Basis::Counting(count) => write_count(count, sink),
+        Basis::Ahead { number, from } => write_ahead(number, from, sink),
     }
 }
 
@@ -156,7 +156,7 @@ fn write_open_reason<S: Sink>(reason: &Reason, sink: &mut S) -> Result<(), Faile
 {
     write_number_after(b"{:object ", reason.object, sink)?;
     write_cuts(&reason.cuts, sink)?;
-    write_evidence(reason.evidence, sink)
+    write_basis(reason.basis, sink)
 }
 
 /// The line of a reason.

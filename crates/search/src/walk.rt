@@ -66,16 +66,16 @@ fn least_return(trials: &Trials, undone: &Undone) -> u32
     least
 }
 
-/// With this operation in the order, how many are owed.
-fn one_less(left: usize, end: &End) -> usize
+/// How many returned operations are still missing once this one is in the order.
+fn owed_after(left: usize, end: &End) -> usize
     requires { 0 < left }
     ensures { left ≡ (if is_some (return_of end.now) then result + 1 else result) }
 {
     if end.has_returned() { left - 1 } else { left }
 }
 
-/// With this operation no longer in the order, how many are owed.
-fn one_more(left: usize, end: &End) -> usize
+/// How many returned operations are missing once this one is out of the order again.
+fn owed_before(left: usize, end: &End) -> usize
     requires { left ≤ max_places }
     ensures { result ≡ (if is_some (return_of end.now) then left + 1 else left) }
 {
@@ -198,7 +198,7 @@ impl State {
             high: self.high,
             digest: self.digest,
         })?;
-        self.left = one_less(self.left, &item.end);
+        self.left = owed_after(self.left, &item.end);
         if self.left == 0 {
             return Ok(true);
         }
@@ -270,7 +270,7 @@ impl State {
         self.dead.remember_if_some(alloc, pair)?;
         self.object.undo(level.undo)?;
         self.undone.put_back(level.place);
-        self.left = one_more(self.left, &trials.items[level.place as usize].end);
+        self.left = owed_before(self.left, &trials.items[level.place as usize].end);
         self.digest = level.digest;
         self.high = level.high;
         self.window = level.window;

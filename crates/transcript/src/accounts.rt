@@ -9,7 +9,7 @@ ghost use Rattle.recorder.specs.Histories.{AreEventsOf, IsRecordOf, journals_in,
 ghost use Rattle.recorder.specs.Histories.{max_tickets};
 ghost use Rattle.checker.specs.declared.refusal.Refusal.{Refusal};
 ghost use Rattle.transcript.specs.Lines as spec;
-ghost use Rattle.transcript.specs.Accounts.{AreCertificatesOf, IsAccepted, IsRefused};
+ghost use Rattle.transcript.specs.Accounts.{AreCertificatesOf, IsAccepted, IsRecordRefused};
 ghost use Rattle.transcript.specs.Written.{IsHistoryText};
 
 use crate::line::{Line, lines_of};
@@ -135,7 +135,7 @@ pub fn check_record<S: SeqObject>(alloc: Global, account: &Record<S>) -> Result<
         (logs_in S.op_in S.reply_in account.now)
         → IfErr result (λ e. e ≡ Refusal.NoMemory) }
     ensures checked { IfErr result (λ e. e ≢ Refusal.NoMemory →
-        IsRefused (journals_in S.op_in S.reply_in account.now)
+        IsRecordRefused (journals_in S.op_in S.reply_in account.now)
         (logs_in S.op_in S.reply_in account.now) e) }
     ensures valid { OnOk result
         (IsAccepted (journals_in S.op_in S.reply_in account.now)

@@ -10,10 +10,10 @@ use Rattle.refutation.specs.declared.refuting.Doubt.TheVariants.{Possible}
 use Rattle.refutation.specs.Refutations.{HasNoValidOrder, IsDoubt, IsNamedPart, IsShownBy}
 use Rattle.verifying.specs.declared.claim.Claim.TheVariants as claim
 use Rattle.verifying.specs.declared.decision.Decision.TheVariants as decision
-use Rattle.verifying.specs.Decisions.{IsAnswer, IsRefusedReason}
+use Rattle.verifying.specs.Decisions.{IsAnswer, IsUntrueReason}
 
 module _ (kind : Kind) (calls : List Call) (limit : ℕ) (r : Reason) (note : Option (Vec ℕ)) where
-  pub is_refused : IsRefusedReason kind calls r → IsAnswer r.object kind calls limit (claim.Reason r note) decision.Open
+  pub is_refused : IsUntrueReason kind calls r → IsAnswer r.object kind calls limit (claim.Reason r note) decision.Open
   is_refused refused = record {
     order = tt;
     impossible = tt;
@@ -24,11 +24,11 @@ module _ (kind : Kind) (calls : List Call) (limit : ℕ) (r : Reason) (note : Op
   }
 
   pub has_an_order : (part : ObjectCalls) (order : Vec ℤ) → IsNamedPart r.cuts.items r.object kind calls part
-      → IsDoubt r.evidence part (Possible order)
+      → IsDoubt r.basis part (Possible order)
       → IsAnswer r.object kind calls limit (claim.Reason r note) decision.Open
   has_an_order part order named doubt = is_refused (inr (part, named, inl (order, doubt)))
 
-  pub is_shown_by : (part : ObjectCalls) → IsNamedPart r.cuts.items r.object kind calls part → IsShownBy r.evidence part
+  pub is_shown_by : (part : ObjectCalls) → IsNamedPart r.cuts.items r.object kind calls part → IsShownBy r.basis part
       → HasNoValidOrder part → IsNoneValid kind calls
       → IsAnswer r.object kind calls limit (claim.Reason r note)
       (decision.Impossible record { reason = r; part = part; note = note })

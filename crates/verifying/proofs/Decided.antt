@@ -19,7 +19,7 @@ use Rattle.verifying.specs.Denotes.{object_of}
 use Rattle.verifying.specs.declared.decision.Decision.{Decision}
 use Rattle.verifying.specs.declared.decision.Decision.TheVariants.{Order, Impossible, OutOfSteps}
 use Rattle.verifying.specs.declared.decision.Decision.TheVariants.{NoMemory, Open}
-use Rattle.verifying.specs.Decisions.{certificate_in, IfImpossible, IsDecision, IsOrderOf, IsRefutation, IsRefused}
+use Rattle.verifying.specs.Decisions.{certificate_in, IfImpossible, IsDecision, IsOrderOf, IsShownReason, IsUntrue}
 use Rattle.verifying.specs.Decisions.{LacksOrder, Searches, is_impossible, is_order}
 
 -- a decision, with its arguments in the order of `Certifies`
@@ -35,7 +35,7 @@ certifies claims limit x kind calls NoMemory c h e = absurd (cc e)
 certifies claims limit x kind calls Open c h e = absurd (cc e)
 
 none_valid : (x : ℕ) (kind : Kind) (calls : List Call) (d : Decision)
-    → IfImpossible d (IsRefutation x kind calls) → is_impossible d ≡ true → IsNoneValid kind calls
+    → IfImpossible d (IsShownReason x kind calls) → is_impossible d ≡ true → IsNoneValid kind calls
 none_valid x kind calls (Order c) h e = absurd (cc e)
 none_valid x kind calls (Impossible f) h e = h.impossible
 none_valid x kind calls (OutOfSteps n) h e = absurd (cc e)
@@ -44,7 +44,7 @@ none_valid x kind calls Open h e = absurd (cc e)
 
 -- what is decided impossible is refuted
 refutes : {claims : List Claim} {limit x : ℕ} {kind : Kind} {calls : List Call} (d : Decision)
-    → IsDecision claims limit x kind calls d → IfImpossible d (IsRefutation x kind calls)
+    → IsDecision claims limit x kind calls d → IfImpossible d (IsShownReason x kind calls)
 refutes (Order c) h = tt
 refutes (Impossible f) h = h.impossible.0
 refutes (OutOfSteps n) h = tt
@@ -76,7 +76,7 @@ by_none kind calls (claim.Reason r said) none valid = valid
 
 -- a claim that is not true, or asks for a search, is none
 by_refusal : (kind : Kind) (calls : List Call) (x : ℕ) (e : Claim)
-    → (object_of e ≡ x → IsRefused kind calls e ⊎ Searches e) → object_of e ≡ x → IsOrderOf kind calls e → ⊥
+    → (object_of e ≡ x → IsUntrue kind calls e ⊎ Searches e) → object_of e ≡ x → IsOrderOf kind calls e → ⊥
 by_refusal kind calls x (claim.Order c) unshown on valid =
     elim (unshown on) [ inl refused ↦ refused valid | inr asks ↦ asks ]
 by_refusal kind calls x (claim.Reason r said) unshown on valid = valid

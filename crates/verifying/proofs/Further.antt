@@ -8,10 +8,10 @@ use Rattle.certificate.specs.declared.Certificate.{Certificate}
 use Rattle.verifying.specs.declared.claim.Claim.{Claim}
 use Rattle.verifying.specs.declared.claim.Claim.TheVariants as claim
 use Rattle.verifying.specs.Denotes.{object_of}
-use Rattle.verifying.specs.declared.decision.Refuted.{Refuted}
+use Rattle.verifying.specs.declared.decision.ShownReason.{ShownReason}
 use Rattle.verifying.specs.declared.decision.Decision.{Decision}
 use Rattle.verifying.specs.declared.decision.Decision.TheVariants.{Order, Impossible, OutOfSteps, NoMemory, Open}
-use Rattle.verifying.specs.Decisions.{IfOrder, IfImpossible, IfOutOfSteps, IsAnswer, IsDecision, IsRefused, Searches}
+use Rattle.verifying.specs.Decisions.{IfOrder, IfImpossible, IfOutOfSteps, IsAnswer, IsDecision, IsUntrue, Searches}
 use Rattle.verifying.specs.Decisions.{is_open, is_shown}
 
 -- ---- lists that are longer by one
@@ -34,7 +34,7 @@ if_order (OutOfSteps n) P Q f h = tt
 if_order NoMemory P Q f h = tt
 if_order Open P Q f h = tt
 
-if_impossible : (d : Decision) (P Q : Refuted → Type 0) → ((r : Refuted) → P r → Q r) → IfImpossible d P
+if_impossible : (d : Decision) (P Q : ShownReason → Type 0) → ((r : ShownReason) → P r → Q r) → IfImpossible d P
     → IfImpossible d Q
 if_impossible (Order c) P Q f h = tt
 if_impossible (Impossible r) P Q f h = f r h
@@ -51,8 +51,8 @@ if_out_of_steps Open P Q f h = tt
 
 module _ (cs : List Claim) (e : Claim) (limit x : ℕ) (kind : Kind) (calls : List Call) where
   -- what was decided stays where one more claim on the object does not contradict it
-  keeps : (d : Decision) → (is_shown d ≡ false → object_of e ≡ x → IsRefused kind calls e ⊎ Searches e)
-      → (d ≡ Open → object_of e ≡ x → IsRefused kind calls e)
+  keeps : (d : Decision) → (is_shown d ≡ false → object_of e ≡ x → IsUntrue kind calls e ⊎ Searches e)
+      → (d ≡ Open → object_of e ≡ x → IsUntrue kind calls e)
       → IsDecision cs limit x kind calls d → IsDecision (cs ++ e ∷ []) limit x kind calls d
   keeps d unshown refused h = record {
     order = if_order d _ _ (λ c p. (p.0, any_more _ cs e p.1)) h.order;
@@ -60,9 +60,9 @@ module _ (cs : List Claim) (e : Claim) (limit x : ℕ) (kind : Kind) (calls : Li
         h.impossible;
     out_of_steps = if_out_of_steps d _ _ (λ n p. any_more _ cs e p) h.out_of_steps;
     memory = λ is. any_more _ cs e (h.memory is);
-    unshown = λ none. All-push (λ e. object_of e ≡ x → IsRefused kind calls e ⊎ Searches e) cs e (h.unshown none)
+    unshown = λ none. All-push (λ e. object_of e ≡ x → IsUntrue kind calls e ⊎ Searches e) cs e (h.unshown none)
         (unshown none);
-    refused = λ is. All-push (λ e. object_of e ≡ x → IsRefused kind calls e) cs e (h.refused is) (refused is);
+    refused = λ is. All-push (λ e. object_of e ≡ x → IsUntrue kind calls e) cs e (h.refused is) (refused is);
   }
 
   pub shown_stays : (d : Decision) → is_shown d ≡ true → IsDecision cs limit x kind calls d
@@ -91,11 +91,11 @@ module _ (cs : List Claim) (e : Claim) (limit x : ℕ) (kind : Kind) (calls : Li
     impossible = if_impossible next _ _ (λ r p. (p.0, subst_claim r p.1)) a.impossible;
     out_of_steps = if_out_of_steps next _ _ (λ n p. any_last _ cs e (own, p)) a.out_of_steps;
     memory = λ same. any_last _ cs e (own, a.memory same);
-    unshown = λ not. All-push (λ e. object_of e ≡ x → IsRefused kind calls e ⊎ Searches e) cs e (h.unshown none)
+    unshown = λ not. All-push (λ e. object_of e ≡ x → IsUntrue kind calls e ⊎ Searches e) cs e (h.unshown none)
         (λ o. a.unshown not);
     refused = λ same. absurd (cc (sym is ∙ ap is_open same));
   }
     where
-      subst_claim : (r : Refuted) → e ≡ claim.Reason r.reason r.note
+      subst_claim : (r : ShownReason) → e ≡ claim.Reason r.reason r.note
           → Contains (cs ++ e ∷ []) (claim.Reason r.reason r.note)
       subst_claim r same = subst (λ (k : Claim). Contains (cs ++ e ∷ []) k) same (last cs e)

@@ -21,7 +21,7 @@ use Rattle.refutation.specs.Refutations.{IsShownBy, steps_of}
 use Rattle.verifying.specs.declared.claim.Claim.{Claim}
 use Rattle.verifying.specs.declared.claim.Claim.TheVariants as claim
 use Rattle.verifying.specs.Denotes.{object_of}
-use Rattle.verifying.specs.declared.decision.Refuted.{Refuted}
+use Rattle.verifying.specs.declared.decision.ShownReason.{ShownReason}
 use Rattle.verifying.specs.declared.decision.Decision.{Decision}
 use Rattle.verifying.specs.declared.decision.Decision.TheVariants.{Order, Impossible, OutOfSteps}
 use Rattle.verifying.specs.declared.decision.Decision.TheVariants.{NoMemory, Open}
@@ -44,7 +44,7 @@ IfOrder NoMemory P = ⊤
 IfOrder Open P = ⊤
 
 -- where no order is valid, this holds of what shows it
-abbrev pub IfImpossible : Decision → (Refuted → Type 0) → Type 0
+abbrev pub IfImpossible : Decision → (ShownReason → Type 0) → Type 0
 IfImpossible (Order c) P = ⊤
 IfImpossible (Impossible f) P = P f
 IfImpossible (OutOfSteps n) P = ⊤
@@ -93,7 +93,7 @@ is_shown Open = false
 -- the claim asks for the search of the whole object
 abbrev pub AsksForSearch : Claim → Type 0
 AsksForSearch (claim.Order c) = ⊥
-AsksForSearch (claim.Reason r _) = (r.cuts.items ≡ []) × IsSearch r.evidence
+AsksForSearch (claim.Reason r _) = (r.cuts.items ≡ []) × IsSearch r.basis
 
 -- the order is claimed, or a search of the whole object is asked for
 abbrev pub Orders : Certificate → Claim → Type 0
@@ -102,26 +102,26 @@ Orders c e = (e ≡ claim.Order c) ⊎ AsksForSearch e
 -- a search of at most this many steps is asked for, of a part or of the whole
 abbrev pub SearchesIn : ℕ → ℕ → Claim → Type 0
 SearchesIn limit n (claim.Order c) = ⊥
-SearchesIn limit n (claim.Reason r _) = IsSearch r.evidence × (n ≡ steps_of r.evidence limit)
+SearchesIn limit n (claim.Reason r _) = IsSearch r.basis × (n ≡ steps_of r.basis limit)
 
 -- the claim asks for a search, of a part or of the whole
 abbrev pub Searches : Claim → Type 0
 Searches (claim.Order c) = ⊥
-Searches (claim.Reason r _) = IsSearch r.evidence
+Searches (claim.Reason r _) = IsSearch r.basis
 
--- The cuts of the reason name no part, or its evidence does not hold of the part: the part has a
+-- The cuts of the reason name no part, or its basis does not hold of the part: the part has a
 -- valid order, or its count is not exceeded.
-abbrev pub IsRefusedReason : Kind → List Call → Reason → Type 0
-IsRefusedReason kind calls r =
+abbrev pub IsUntrueReason : Kind → List Call → Reason → Type 0
+IsUntrueReason kind calls r =
     ((part : List Call) → NamesPart r.cuts.items calls part → ⊥)
     ⊎ ((part : ObjectCalls) × IsNamedPart r.cuts.items r.object kind calls part
-    × (((order : _) × IsDoubt r.evidence part (Possible order))
-    ⊎ IsDoubt r.evidence part NotExceeded))
+    × (((order : _) × IsDoubt r.basis part (Possible order))
+    ⊎ IsDoubt r.basis part NotExceeded))
 
 -- the claim is not true of an object of this kind and these calls
-abbrev pub IsRefused : Kind → List Call → Claim → Type 0
-IsRefused kind calls (claim.Order c) = IsValidOrder kind calls c.order.items → ⊥
-IsRefused kind calls (claim.Reason r _) = IsRefusedReason kind calls r
+abbrev pub IsUntrue : Kind → List Call → Claim → Type 0
+IsUntrue kind calls (claim.Order c) = IsValidOrder kind calls c.order.items → ⊥
+IsUntrue kind calls (claim.Reason r _) = IsUntrueReason kind calls r
 
 -- the claim is an order that is valid for an object of this kind and these calls
 abbrev pub IsOrderOf : Kind → List Call → Claim → Type 0
@@ -136,11 +136,11 @@ pub record LacksOrder (es : List Event) (claims : List Claim) : Type 0 where
       → IsOrderOf (kind_at es object) (calls_on object (denoted es)) e → ⊥) claims
 
 -- What shows that no order of the calls of an object is valid: the reason names a part, and its
--- evidence holds of the part, which has no valid order.
-pub record IsRefutation (x : ℕ) (kind : Kind) (calls : List Call) (f : Refuted) : Type 0 where
+-- basis holds of the part, which has no valid order.
+pub record IsShownReason (x : ℕ) (kind : Kind) (calls : List Call) (f : ShownReason) : Type 0 where
   pub named : f.reason.object ≡ x
   pub part : IsNamedPart f.reason.cuts.items x kind calls f.part
-  pub shown : IsShownBy f.reason.evidence f.part
+  pub shown : IsShownBy f.reason.basis f.part
   pub no_order : HasNoValidOrder f.part
   pub impossible : IsNoneValid kind calls
 
@@ -151,11 +151,11 @@ pub record IsAnswer (x : ℕ) (kind : Kind) (calls : List Call) (limit : ℕ) (e
     : Type 0 where
   pub order : IfOrder d (λ c. IsFor x kind calls c × Orders c e)
   pub impossible : IfImpossible d (λ f.
-      IsRefutation x kind calls f × (e ≡ claim.Reason f.reason f.note))
+      IsShownReason x kind calls f × (e ≡ claim.Reason f.reason f.note))
   pub out_of_steps : IfOutOfSteps d (λ n. SearchesIn limit n e)
   pub memory : d ≡ NoMemory → Searches e
-  pub unshown : is_shown d ≡ false → IsRefused kind calls e ⊎ Searches e
-  pub refused : d ≡ Open → IsRefused kind calls e
+  pub unshown : is_shown d ≡ false → IsUntrue kind calls e ⊎ Searches e
+  pub refused : d ≡ Open → IsUntrue kind calls e
 
 -- What is decided of an object, with its kind and calls, by claims, where a search for which none of
 -- them names a number of steps takes at most `limit`.
@@ -166,7 +166,7 @@ pub record IsDecision (claims : List Claim) (limit x : ℕ) (kind : Kind) (calls
       IsFor x kind calls c × Any (λ e. (object_of e ≡ x) × Orders c e) claims)
   -- the reason is claimed, and shows that no order is valid
   pub impossible : IfImpossible d (λ f.
-      IsRefutation x kind calls f × Contains claims (claim.Reason f.reason f.note))
+      IsShownReason x kind calls f × Contains claims (claim.Reason f.reason f.note))
   -- a claim on the object asks for a search with this limit (that it took the steps is not said)
   pub out_of_steps : IfOutOfSteps d (λ n.
       Any (λ e. (object_of e ≡ x) × SearchesIn limit n e) claims)
@@ -174,9 +174,9 @@ pub record IsDecision (claims : List Claim) (limit x : ℕ) (kind : Kind) (calls
   pub memory : d ≡ NoMemory → Any (λ e. (object_of e ≡ x) × Searches e) claims
   -- where nothing is shown each claim on the object is not true, or asks for a search
   pub unshown : is_shown d ≡ false
-      → All (λ e. object_of e ≡ x → IsRefused kind calls e ⊎ Searches e) claims
+      → All (λ e. object_of e ≡ x → IsUntrue kind calls e ⊎ Searches e) claims
   -- it is open only where no claim on the object is true
-  pub refused : d ≡ Open → All (λ e. object_of e ≡ x → IsRefused kind calls e) claims
+  pub refused : d ≡ Open → All (λ e. object_of e ≡ x → IsUntrue kind calls e) claims
 
 -- a decision on the object with this number, in the history that the events denote
 abbrev pub IsDecisionOn : List Event → List Claim → ℕ → ℕ → Decision → Type 0

@@ -9,7 +9,7 @@ use refutation::Reason;
 /// A reason that shows that an object has no valid order, the part that it names, of which no order
 /// is valid, and the sentence that was claimed with it, of which nothing is checked.
 #[derive(Drop)]
-pub struct Refuted {
+pub struct ShownReason {
     pub reason: Reason,
     pub part: ObjectHistory,
     pub note: Option<Vec<u8>>,
@@ -21,7 +21,7 @@ pub enum Decision {
     /// A certificate, whose order is valid.
     Order(Certificate),
     /// No order of the operations is valid, and this shows it.
-    Impossible(Refuted),
+    Impossible(ShownReason),
     /// No claim is shown. A search gave no answer within its limit, which is this many steps.
     OutOfSteps(u64),
     /// No claim is shown. A search was refused memory.

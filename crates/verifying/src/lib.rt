@@ -14,7 +14,7 @@ mod text_reader;
 
 pub use all::decide_by_claims;
 pub use claim::Claim;
-pub use decision::{Decision, Refuted};
+pub use decision::{Decision, ShownReason};
 pub use fault::{ClaimFault, ClaimFaultKind, ClaimTextFault};
 pub use reader::read_claims;
 pub use text_reader::read_claims_text;

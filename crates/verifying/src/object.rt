@@ -11,7 +11,7 @@ ghost use Rattle.verifying.specs.declared.claim.Claim.TheVariants as claim;
 ghost use Rattle.verifying.specs.Denotes.{object_of};
 
 use crate::Claim;
-use crate::decision::{Decision, Refuted};
+use crate::decision::{Decision, ShownReason};
 use certificate::Certificate;
 use checker::{Refusal, check_object};
 use events::ObjectHistory;
@@ -43,7 +43,7 @@ fn decide_by_order(
 fn decide_by_doubt(reason: &Reason, limit: u64, doubt: Doubt) -> Decision
     ensures { (kind : Kind) (calls : List Call) (note : Option (Vec ℕ)) (part : ObjectCalls)
         → IsNamedPart reason.now.cuts.items reason.now.object kind calls part
-        → IsDoubt reason.now.evidence part doubt
+        → IsDoubt reason.now.basis part doubt
         → IsAnswer reason.now.object kind calls limit (claim.Reason reason.now note) result }
 {
     match doubt {
@@ -51,7 +51,7 @@ fn decide_by_doubt(reason: &Reason, limit: u64, doubt: Doubt) -> Decision
             object: reason.object,
             order,
         }),
-        Doubt::OutOfSteps => Decision::OutOfSteps(reason.evidence.steps(limit)),
+        Doubt::OutOfSteps => Decision::OutOfSteps(reason.basis.steps(limit)),
         Doubt::NoMemory => Decision::NoMemory,
         Doubt::Possible(_) => Decision::Open,
         Doubt::NotExceeded => Decision::Open,
@@ -73,7 +73,11 @@ fn decide_by_reason(
         (calls_of history.now.ops) limit (claim.Reason reason note)) }
 {
     match refute(alloc, history, &reason, limit)? {
-        Refutation::Impossible(part) => Ok(Decision::Impossible(Refuted { reason, part, note })),
+        Refutation::Impossible(part) => Ok(Decision::Impossible(ShownReason {
+            reason,
+            part,
+            note,
+        })),
         Refutation::NotShown { part: _, doubt } => Ok(decide_by_doubt(&reason, limit, doubt)),
         Refutation::NoPart | Refutation::OtherObject => Ok(Decision::Open),
     }

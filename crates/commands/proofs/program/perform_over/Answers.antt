@@ -26,11 +26,11 @@ returns-in-Verify-clause-refuted g c = IfOk-weaker c.verify_sources.result _ _
 
 pub returns-in_default : goal.returns-in_default
 returns-in_default g c =
-    let k = c.perform_on_texts.ensures in
+    let k = c.perform_on_sources.ensures in
     record {
-      linearizable = IfOk-weaker c.perform_on_texts.result _ _
+      linearizable = IfOk-weaker c.perform_on_sources.result _ _
           (λ number left. shows_yes _ _ _ _ c.args.line.now left) k.performs;
-      refuted = IfOk-weaker c.perform_on_texts.result _ _
+      refuted = IfOk-weaker c.perform_on_sources.result _ _
           (λ number left. shows_no _ _ _ _ c.args.line.now left) k.performs;
       performs = k.performs;
       unread = k.unread;

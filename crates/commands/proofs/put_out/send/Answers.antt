@@ -3,7 +3,7 @@ use Rattle.commands.proofs.put_out.send.Goals as goal
 
 pub returns-in-Ok : goal.returns-in-Ok
 returns-in-Ok g c = let e = c.in-Ok.ensures.sent.0 in
-    record { leaves = rw c.number.ensures (wrote_all c.args.status c.args.lines.now c.requires.other e.0 e.1) }
+    record { leaves = rw c.number.ensures (wrote_all c.args.status c.args.lines.now c.requires.not_failed e.0 e.1) }
 
 pub returns-in-Err : goal.returns-in-Err
 returns-in-Err g c = let e = c.in-Err.ensures.sent.1 in

@@ -9,4 +9,4 @@ returns-in-None-clause-impossible c e =
     part.shows (c.doubt_of.ensures.shown c.in-None.is)
 
 pub returns-in-None-clause-shown : goal.returns-in-None-clause-shown
-returns-in-None-clause-shown c = (c.doubt_of.ensures.evidence c.in-None.is, c.doubt_of.ensures.shown c.in-None.is)
+returns-in-None-clause-shown c = (c.doubt_of.ensures.basis c.in-None.is, c.doubt_of.ensures.shown c.in-None.is)

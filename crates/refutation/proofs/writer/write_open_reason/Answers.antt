@@ -4,8 +4,8 @@ use Rattle.std.specs.List.{AllByRecursion}
 use Rattle.std.specs.Io.KnownBytes.{Appends}
 use Rattle.edn.specs.Sent.{WritesPrefix}
 use Rattle.edn.proofs.Fronts.{front_of_first, three_2, fails, sends_third}
-use Rattle.refutation.specs.Lines.{evidence_text, all_cuts_text}
-use Rattle.refutation.specs.Written.{IsTypedCut, IsTypedEvidence, IsTypedReason}
+use Rattle.refutation.specs.Lines.{basis_text, all_cuts_text}
+use Rattle.refutation.specs.Written.{IsTypedCut, IsTypedBasis, IsTypedReason}
 use Rattle.refutation.proofs.Sending.{on_ok_with}
 use Rattle.refutation.proofs.writer.write_open_reason.Goals as goal
 
@@ -32,11 +32,11 @@ returns-clause-sent g c =
     (g.S.Sink.sent c.write_cuts.new.sink) (all_cuts_text c.args.reason.now.cuts.items) =
     search rules in
     sends_third _ _ _ _ _ _ (codes "{:object " ++ decimal c.args.reason.now.object)
-    (all_cuts_text c.args.reason.now.cuts.items) (evidence_text c.args.reason.now.evidence)
-    c.in_ok-write_number_after.ensures.sent.0.0 p1 c.write_evidence.ensures.sent
+    (all_cuts_text c.args.reason.now.cuts.items) (basis_text c.args.reason.now.basis)
+    c.in_ok-write_number_after.ensures.sent.0.0 p1 c.write_basis.ensures.sent
 
 pub returns-clause-typed : goal.returns-clause-typed
 returns-clause-typed g c =
     let cuts : AllByRecursion IsTypedCut c.args.reason.now.cuts.items = search rules in
-    on_ok_with c.write_evidence.result (IsTypedEvidence c.args.reason.now.evidence)
-    (IsTypedReason c.args.reason.now) c.write_evidence.ensures.typed (λ h. (cuts, h))
+    on_ok_with c.write_basis.result (IsTypedBasis c.args.reason.now.basis)
+    (IsTypedReason c.args.reason.now) c.write_basis.ensures.typed (λ h. (cuts, h))

@@ -6,12 +6,12 @@ use Rattle.checker.specs.declared.refusal.Refusal.{Refusal}
 use Rattle.checker.specs.declared.refusal.Refusal.TheVariants.{NoMemory}
 use Rattle.checker.specs.Refusals.{IsFirstRefusal}
 use Rattle.recorder.specs.Histories.{AreEventsOf, journals_in, logs_in}
-use Rattle.transcript.specs.Accounts.{AreCertificatesOf, IsRefused}
+use Rattle.transcript.specs.Accounts.{AreCertificatesOf, IsRecordRefused}
 use Rattle.transcript.proofs.Accepting.{are_valid}
 use Rattle.transcript.proofs.accounts.check_record.Goals as goal
 
 refused : {A : Type 0} (journals : ℕ → List AnyEvent) (logs : ℕ → List AnyEntry) (es : List Event) (cs : List Certificate) → AreEventsOf journals es
-    → AreCertificatesOf journals logs cs → (r : Result A Refusal) → IfErr r (IsFirstRefusal es cs) → IfErr r (λ e. e ≢ NoMemory → IsRefused journals logs e)
+    → AreCertificatesOf journals logs cs → (r : Result A Refusal) → IfErr r (IsFirstRefusal es cs) → IfErr r (λ e. e ≢ NoMemory → IsRecordRefused journals logs e)
 refused journals logs es cs are h (Ok a) i = tt
 refused journals logs es cs are h (Err e) i = λ _. record { events = es; certificates = cs; are_events = are; are_certificates = h; first = i }
 

@@ -19,7 +19,7 @@ returns-in-Impossible c =
     c.in-Impossible.is e.part in
     let own = subst (λ (x : ℕ). IsNamedPart cuts x h.kind (calls_of h.ops) c.in-Impossible.part) (sym c.requires)
     named in
-    let shown = subst (λ (v : Refutation). IfImpossible v (λ part. IsShownBy r.evidence part × HasNoValidOrder part))
+    let shown = subst (λ (v : Refutation). IfImpossible v (λ part. IsShownBy r.basis part × HasNoValidOrder part))
     c.in-Impossible.is e.shown in
     let none = e.impossible (ap (λ (v : Refutation). is_impossible v) c.in-Impossible.is) in
     subst (λ (x : ℕ). IsAnswer x h.kind (calls_of h.ops) c.args.limit (claim.Reason r c.args.note)
@@ -35,7 +35,7 @@ returns-in-NotShown c =
     c.in-NotShown.is e.part in
     let own = subst (λ (x : ℕ). IsNamedPart r.cuts.items x h.kind (calls_of h.ops) c.in-NotShown.part) (sym c.requires)
     named in
-    let doubt = subst (λ (v : Refutation). IfNotShown v (IsDoubt r.evidence)) c.in-NotShown.is e.not_shown in
+    let doubt = subst (λ (v : Refutation). IfNotShown v (IsDoubt r.basis)) c.in-NotShown.is e.not_shown in
     subst (λ (x : ℕ). IsAnswer x h.kind (calls_of h.ops) c.args.limit (claim.Reason r c.args.note)
     c.decide_by_doubt.result)
     c.requires

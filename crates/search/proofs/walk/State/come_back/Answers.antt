@@ -10,8 +10,8 @@ use Rattle.search.proofs.Levels.{befores_more}
 use Rattle.search.proofs.Generations.{remembered_some}
 use Rattle.search.proofs.walk.State.come_back.Goals as goal
 
-pub one_more-self-requires : goal.one_more-self-requires
-one_more-self-requires c =
+pub owed_before-self-requires : goal.owed_before-self-requires
+owed_before-self-requires c =
     let items = c.args.trials.now.items.items in
     let l = count_le (owes (call_at items) (places (reverse c.args.self.now.levels.items))) (length items) in
     omega (arith, c.requires.search.walk.counts, c.requires.trials.few, l)
@@ -43,13 +43,13 @@ returns-clause-search c = λ e.
     let inside : level.place + 1 < length c.put_back.new.self.next.items = omega arith in
     let walk = back_walk t.items.items c.index.result.now (empty t.kind) a.levels.items c.pop.new.self.items level _
     (befores (reverse c.pop.new.self.items) before) before before (content_of a.object) a.undone.next.items a.undone.before.items
-    c.put_back.new.self.next.items c.put_back.new.self.before.items a.high a.at a.window a.left c.index-2.result.now c.one_more-self.result
+    c.put_back.new.self.next.items c.put_back.new.self.before.items a.high a.at a.window a.left c.index-2.result.now c.owed_before-self.result
     c.in-Some.ensures.items befores_are c.requires.search.walk c.requires.dead_here
     refl c.put_back.ensures.next c.put_back.ensures.before (c.index-2.ensures ∙ get_or_default c.put_back.new.self.next.items (level.place + 1) _ 0 inside)
-    (ap as_call c.index.ensures ∙ call_read t.items.items level.place _ p.1) c.one_more-self.ensures in
+    (ap as_call c.index.ensures ∙ call_read t.items.items level.place _ p.1) c.owed_before-self.ensures in
     record {
       walk = subst (λ x. IsWalk (length t.items.items) (call_at t.items.items) (empty t.kind) (reverse c.pop.new.self.items)
           (befores (reverse c.pop.new.self.items) x) (position x c.put_back.new.self.next.items c.put_back.new.self.before.items level.high) (turn c.index-2.result.now
-          level.window c.one_more-self.result)) (sym c.in_ok-undo.ensures) walk;
+          level.window c.owed_before-self.result)) (sym c.in_ok-undo.ensures) walk;
       dead = remembered_some t a.dead _ _ c.requires.search.dead c.in_ok-pair.ensures c.in_ok-remember_if_some.ensures;
     }

@@ -83,11 +83,11 @@ returns-then-self-eq0-clause-over c u =
     c.max-high.result c.args.step.reply w c.requires.at c.requires.in_time c.requires.does c.requires.agrees (omega arith) (omega arith) refl refl
     refl c.in_ok-push.ensures.items more c.take_out.ensures.next c.take_out.ensures.before in
     let owed = owed_less t.items.items c.index-item.result.now (empty t.kind) a.levels.items c.push.new.self.items lv
-    (befores (reverse a.levels.items) before) before a.undone.next.items a.undone.before.items a.high a.at a.window a.left c.one_less-self.result w
-    c.requires.at (ap as_call c.index-item.ensures ∙ call_read t.items.items a.at _ c.requires.at) refl c.in_ok-push.ensures.items c.one_less-self.ensures in
+    (befores (reverse a.levels.items) before) before a.undone.next.items a.undone.before.items a.high a.at a.window a.left c.owed_after-self.result w
+    c.requires.at (ap as_call c.index-item.ensures ∙ call_read t.items.items a.at _ c.requires.at) refl c.in_ok-push.ensures.items c.owed_after-self.ensures in
     over_now (length t.items.items) (call_at t.items.items) (empty t.kind) c.push.new.self.items
     (befores (reverse c.push.new.self.items) (content_of a.object)) (content_of a.object) c.take_out.new.self.next.items
-    c.take_out.new.self.before.items c.max-high.result c.one_less-self.result stack owed c.if-self-eq0.true
+    c.take_out.new.self.before.items c.max-high.result c.owed_after-self.result stack owed c.if-self-eq0.true
 
 pub least_return-least-requires-clause-linked : goal.least_return-least-requires-clause-linked
 least_return-least-requires-clause-linked c =
@@ -123,8 +123,8 @@ returns-clause-search c u =
     c.max-high.result c.args.step.reply w c.requires.at c.requires.in_time c.requires.does c.requires.agrees (omega arith) (omega arith) refl refl
     refl c.in_ok-push.ensures.items more c.take_out.ensures.next c.take_out.ensures.before in
     let owed = owed_less t.items.items c.index-item.result.now (empty t.kind) a.levels.items c.push.new.self.items lv
-    (befores (reverse a.levels.items) before) before a.undone.next.items a.undone.before.items a.high a.at a.window a.left c.one_less-self.result w
-    c.requires.at (ap as_call c.index-item.ensures ∙ call_read t.items.items a.at _ c.requires.at) refl c.in_ok-push.ensures.items c.one_less-self.ensures in
+    (befores (reverse a.levels.items) before) before a.undone.next.items a.undone.before.items a.high a.at a.window a.left c.owed_after-self.result w
+    c.requires.at (ap as_call c.index-item.ensures ∙ call_read t.items.items a.at _ c.requires.at) refl c.in_ok-push.ensures.items c.owed_after-self.ensures in
     let room = (without_within (length t.items.items) (call_at t.items.items) (empty t.kind) (reverse a.levels.items)
     (befores (reverse a.levels.items) before) before a.undone.next.items a.undone.before.items c.take_out.new.self.next.items
     c.take_out.new.self.before.items a.high a.at a.window a.left w c.requires.at c.take_out.ensures.next c.take_out.ensures.before).here_next in
@@ -140,6 +140,6 @@ returns-clause-search c u =
       walk = onward (length t.items.items) (call_at t.items.items) (empty t.kind) (reverse c.push.new.self.items)
           (befores (reverse c.push.new.self.items) (content_of a.object)) (content_of a.object) c.take_out.new.self.next.items
           c.take_out.new.self.before.items c.max-high.result c.index.result.now (record { least = c.least_return-least.result; pending = c.pending_after-pending.result })
-          c.one_less-self.result stack first window owed c.if-self-eq0.false;
+          c.owed_after-self.result stack first window owed c.if-self-eq0.false;
       dead = c.requires.search.dead;
     }

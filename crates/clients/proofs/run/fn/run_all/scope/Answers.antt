@@ -49,8 +49,8 @@ work-own-requires-after_bounds g c κs within =
     let low : length c.pop-2.new.self.items < length w.calls = omega (arith, one.1, so_far.left, so_far.started) in
     is_new d w (length c.pop-2.new.self.items) c.in-Some-pop.own one.0 so_far.desk low
 
-pub part-own-requires : goal.part-own-requires
-part-own-requires g c =
+pub meet_and_retire-own-requires : goal.meet_and_retire-own-requires
+meet_and_retire-own-requires g c =
     let d = c.captures.desk.now in let so_far = c.loop-2.invariant in let worker = c.in-Some-pop-2.worker in
     let here = all_but_last (λ h k. h.promise.0.now ≡ d) c.pop-in-loop-2.new.self.items c.loop-2.workers.items worker
     c.in-Some-pop-2.ensures.items so_far.desks in
@@ -63,9 +63,9 @@ loop-2-preserved g c =
     let here = all_but_last (λ h k. h.promise.0.now ≡ d) before c.loop-2.workers.items worker items so_far.desks in
     let long = ap length items ∙ length-append before (worker ∷ []) in
     record {
-      own = c.part-own.ensures.desk ∙ so_far.own;
-      kept = keeps_on c.work-own.result.knows c.loop-2.own.knows c.part-own.result.knows so_far.kept
-          c.part-own.ensures.kept;
+      own = c.meet_and_retire-own.ensures.desk ∙ so_far.own;
+      kept = keeps_on c.work-own.result.knows c.loop-2.own.knows c.meet_and_retire-own.result.knows so_far.kept
+          c.meet_and_retire-own.ensures.kept;
       left = omega (arith, long, so_far.left);
       desks = here.1;
       met = λ w made all.
@@ -79,8 +79,8 @@ loop-2-preserved g c =
           (λ (t : DeskSeen × Work × ℕ). HasWorked t.0 t.1 t.2 c.join.result) (λ i. (desk i, work i, number i))
           c.join.ensures in (
             there.1,
-            met_more w c.loop-2.own c.part-own.result c.loop-2.counter h.1 c.part-own.ensures.kept
-                (c.part-own.ensures.met w c.loop-2.counter made worked),
+            met_more w c.loop-2.own c.meet_and_retire-own.result c.loop-2.counter h.1 c.meet_and_retire-own.ensures.kept
+                (c.meet_and_retire-own.ensures.met w c.loop-2.counter made worked),
           );
     }
 

@@ -1,4 +1,4 @@
-//! The evidence of a reason, from a form.
+//! The basis of a reason, from a form.
 
 ghost use Rattle.std.specs.Prelude.{◌≡◌, Option, option_map, codes};
 ghost use Rattle.edn_fields.specs.Fields.{value_at};
@@ -8,7 +8,7 @@ ghost use Rattle.refutation.specs.Denotes as spec;
 
 use crate::cut::optional_int_at;
 use crate::sets::number;
-use crate::{Evidence, Trial};
+use crate::{Basis, Trial};
 use edn::{Form, Name};
 use edn_fields::{is_same, value_at};
 use projection::{Count, Counted};
@@ -41,30 +41,30 @@ fn start(form: Option<&Form>) -> Option<u32>
 }
 
 /// The count of a content that the pairs of a map name.
-fn count_of(entries: &[(Name, Form)]) -> Option<Evidence>
+fn count_of(entries: &[(Name, Form)]) -> Option<Basis>
     ensures { result ≡ spec.count_with (spec.counted_of (entries_of (pair_views entries.now)))
         (spec.start_in (value_at (codes "from") (entries_of (pair_views entries.now)))) }
 {
     let counted = counted(entries)?;
     let from = start(value_at(entries, b"from"))?;
-    Some(Evidence::Counting(Count { counted, from }))
+    Some(Basis::Counting(Count { counted, from }))
 }
 
 /// The count of what was ahead of the removal of a number, from a number on.
-fn ahead(removal: Option<&Form>, from: Option<&Form>) -> Option<Evidence>
+fn ahead(removal: Option<&Form>, from: Option<&Form>) -> Option<Basis>
     ensures { result ≡ spec.ahead_with
         (spec.number_in (option_map (λ f. view f.now) removal.entry))
         (spec.start_in (option_map (λ f. view f.now) from.entry)) }
 {
     let number = number(removal)?;
     let from = start(from)?;
-    Some(Evidence::Ahead { number, from })
+    Some(Basis::Ahead { number, from })
 }
 
 /// The count that the pairs of a map name. With the key `:ahead` no other key matters, except
 /// `:from`.
-fn evidence_of(entries: &[(Name, Form)]) -> Option<Evidence>
-    ensures { result ≡ spec.evidence_of (entries_of (pair_views entries.now)) }
+fn basis_of(entries: &[(Name, Form)]) -> Option<Basis>
+    ensures { result ≡ spec.basis_of (entries_of (pair_views entries.now)) }
 {
     let removal = value_at(entries, b"ahead");
     match removal {
@@ -101,23 +101,23 @@ fn steps(form: Option<&Form>) -> Option<Option<u32>>
 }
 
 /// The search that the pairs of a map describe.
-fn search_of(entries: &[(Name, Form)]) -> Option<Evidence>
+fn search_of(entries: &[(Name, Form)]) -> Option<Basis>
     ensures { result ≡ spec.search_with
         (spec.first_in (value_at (codes "first") (entries_of (pair_views entries.now))))
         (spec.steps_in (value_at (codes "steps") (entries_of (pair_views entries.now)))) }
 {
     let first = first(value_at(entries, b"first"))?;
     let steps = steps(value_at(entries, b"steps"))?;
-    Some(Evidence::Search(Trial { first, steps }))
+    Some(Basis::Search(Trial { first, steps }))
 }
 
 /// How a part is searched.
 #[tactic(auto, using(edn_reader::proofs::Pairs::map_view))]
-fn search(form: Option<&Form>) -> Option<Evidence>
+fn search(form: Option<&Form>) -> Option<Basis>
     ensures { result ≡ spec.search_in (option_map (λ f. view f.now) form.entry) }
 {
     match form {
-        None => Some(Evidence::Search(Trial {
+        None => Some(Basis::Search(Trial {
             first: TryFirst::LeastNumber,
             steps: None,
         })),
@@ -126,15 +126,15 @@ fn search(form: Option<&Form>) -> Option<Evidence>
     }
 }
 
-/// The evidence of a reason: a count, or where the map names none a search.
+/// The basis of a reason: a count, or where the map names none a search.
 #[tactic(auto, using(edn_reader::proofs::Pairs::map_view))]
-pub(crate) fn evidence(count: Option<&Form>, searched: Option<&Form>) -> Option<Evidence>
-    ensures { result ≡ spec.evidence_in (option_map (λ f. view f.now) count.entry)
+pub(crate) fn basis(count: Option<&Form>, searched: Option<&Form>) -> Option<Basis>
+    ensures { result ≡ spec.basis_in (option_map (λ f. view f.now) count.entry)
         (option_map (λ f. view f.now) searched.entry) }
 {
     match count {
         None => search(searched),
-        Some(Form::Map(entries)) => evidence_of(entries),
+        Some(Form::Map(entries)) => basis_of(entries),
         Some(_) => None,
     }
 }

@@ -2,7 +2,7 @@ use Rattle.std.proofs.Common.{◌≡◌, ◌∷◌, [], ◌∙◌, ap, subst, sy
 use Rattle.desk_invariant.specs.Views.{end_notice, after_notice}
 use Rattle.clients.specs.Made.{HasMet, Keeps}
 use Rattle.clients.proofs.Meetings.{has_met, keeps_on, keeps_told}
-use Rattle.clients.proofs.meeting.part.Goals as goal
+use Rattle.clients.proofs.meeting.meet_and_retire.Goals as goal
 
 pub returns-clause-kept : goal.returns-clause-kept
 returns-clause-kept c =
