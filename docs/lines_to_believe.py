@@ -2,10 +2,12 @@
 """Counts the lines of definitions that a clause of a contract names, itself or through another definition.
 
     docs/lines_to_believe.py [NAME]
+    docs/lines_to_believe.py --twice
 
 NAME is a definition of specs/, as judging.Texts.IsLinearizableText. With no NAME it prints the counts that README.md and
 docs/definitions.md give. Comments, blank lines and imports do not count, nor do enums and structs of the code, which it counts
-apart, nor the words of the standard library. Words that come from proofs/ do not count either: those that are met are listed."""
+apart, nor the words of the standard library. Words that come from proofs/ do not count either: those that are met are listed.
+With --twice it lists the names that several crates define, each with these crates."""
 import collections
 import glob
 import os
@@ -172,7 +174,21 @@ def closure(known, names):
     return seen, declared, unread
 
 
+def names_of_several():
+    """The public names that several crates define, each with these crates."""
+    crates = collections.defaultdict(set)
+    for path, module in modules().items():
+        for name in module.lines.keys() - {None, "mod"}:
+            if re.search(rf"\bpub (?:record |data )?{re.escape(name)}(?= |$)", module.lines[name][0]):
+                crates[name].add(path.partition(".")[0])
+    return {name: sorted(those) for name, those in sorted(crates.items()) if len(those) > 1}
+
+
 def main(names):
+    if names == ["--twice"]:
+        for name, those in names_of_several().items():
+            print(f"{name}: {', '.join(those)}")
+        return
     known = modules()
     for clause, begin in ({"": names} if names else CLAUSES).items():
         seen, declared, unread = closure(known, begin)
