@@ -86,7 +86,7 @@ abbrev pub refutation_lines : List Event → ℕ → ℕ → Reason → Refutati
 refutation_lines es whole limit reason (Impossible part) =
     shown_line whole reason part ++ operations_text false es part.ops
 refutation_lines es whole limit reason (NotShown part why) =
-    object_text reason ++ doubt_text (steps_of reason.evidence limit) why
+    object_text reason ++ doubt_text (steps_of reason.basis limit) why
 refutation_lines es whole limit reason NoPart =
     object_text reason ++ codes ": not shown: the cuts name no part\n"
 refutation_lines es whole limit reason OtherObject =

@@ -165,7 +165,7 @@ fn push_answer_on(
         }
         Refutation::NotShown { part: _, doubt } => {
             push_object(text, reason)?;
-            push_doubt(text, reason.evidence.steps(u64::from(steps)), doubt)
+            push_doubt(text, reason.basis.steps(u64::from(steps)), doubt)
         }
         Refutation::NoPart => push_unfit(text, reason, b": not shown: the cuts name no part\n"),
         Refutation::OtherObject => {
