@@ -16,7 +16,7 @@ use Rattle.recorder.specs.Records.{Recorded}
 use Rattle.report.specs.declared.verdict.Summary.{Summary}
 use Rattle.certificate.specs.declared.Certificate.{Certificate}
 use Rattle.transcript.specs.Written.{IsHistoryText}
-use Rattle.transcript.specs.Accounts.{AreCertificatesOf, IsAccepted, IsRefused}
+use Rattle.transcript.specs.Accounts.{AreCertificatesOf, IsAccepted, IsRecordRefused}
 use Rattle.report.specs.Lines.{verdict_text}
 use Rattle.report.specs.declared.verdict.Verdict.{Verdict}
 use Rattle.report.specs.declared.verdict.Verdict.TheVariants.{Yes, No, Malformed, NoMemory}
@@ -48,7 +48,7 @@ HaveCounts journals s = (es : List Event) × AreEventsOf journals es × AreCount
 -- counts are those of its history; or this is their first refusal.
 abbrev pub Says : (ℕ → List AnyEvent) → (ℕ → List AnyEntry) → Verdict → Type 0
 Says journals logs (Yes s) = IsAccepted journals logs × HaveCounts journals s
-Says journals logs (No r) = IsRefused journals logs r
+Says journals logs (No r) = IsRecordRefused journals logs r
 Says journals logs (Malformed f) = ⊥
 Says journals logs NoMemory = ⊤
 
