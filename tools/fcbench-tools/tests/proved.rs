@@ -74,11 +74,13 @@ fn judge_answers_what_the_proved_program_answers() {
 }
 
 #[test]
-fn judge_passes_steps_on() {
+fn judge_passes_steps_and_workers_on() {
     let program = script("steps", "#!/bin/sh\ncat > /dev/null\nprintf '%s ' \"$@\"\nexit 3\n");
     let history = example("queue.history.edn");
-    let (status, lines, _) = said(&run(&program, &["judge", &history, "--steps", "17"]));
-    assert_eq!((status, lines), (3, format!("verify {history} /dev/stdin --steps 17 ")));
+    let words = ["judge", &history, "--steps", "17", "--workers", "3"];
+    let (status, lines, _) = said(&run(&program, &words));
+    let wanted = format!("verify {history} /dev/stdin --workers 3 --steps 17 ");
+    assert_eq!((status, lines), (3, wanted));
 }
 
 #[test]
