@@ -5,12 +5,12 @@ import time
 
 from .check import malformed_texts
 from .judge import orders_to_find
-from . import rows
+from . import worked_rows
 from .run import schedules, workloads
 from .verify import worked_evidence
-from .rows import CERTIFICATES, HISTORY
+from .worked_rows import CERTIFICATES, HISTORY
 from .running import EXAMPLES, OF_TOOLS, at_once
-from .texts import certificate, invoke, lines, ok
+from .text_writers import certificate, invoke, lines, ok
 
 
 # Two calls each of acquire and release, and no fifth.
@@ -71,7 +71,7 @@ def through_pipes(program, files, words, size=7, pause=0.0, **how):
 def worked_rows(program, report):
     """Each row on plain files, with reads of one byte, on named pipes, and where it is a check with four workers. The tools read a history
     twice, so theirs is no pipe."""
-    for row in rows.ROWS + worked_evidence.ROWS:
+    for row in worked_rows.ROWS + worked_evidence.ROWS:
         in_files(program, report, row)
         if row.words[0] == "check":
             in_files(program, report, row, "--workers", "4")
@@ -84,7 +84,7 @@ def worked_rows(program, report):
 
 def rows_of_tables(program, report):
     """Each malformed text, order, count of steps and schedule, on plain files; a check also with two workers, which read side by side."""
-    for row in malformed_texts.ROWS + orders_to_find.ROWS + rows.STEPS + schedules.ROWS:
+    for row in malformed_texts.ROWS + orders_to_find.ROWS + worked_rows.STEPS + schedules.ROWS:
         in_files(program, report, row)
         if row.words[0] == "check":
             in_files(program, report, row, "--workers", "2")
@@ -107,7 +107,7 @@ def every_number_of_workers(program, report):
 
 def found_orders_are_valid(program, report):
     """Of each history that is answered yes by its certificates, judge answers the same, and check by what search and find put out."""
-    for row in rows.YES:
+    for row in worked_rows.YES:
         history = program.write(HISTORY, row.texts[0])
         report.answers(f"judge alone: {row.name}", program.run("judge", "--steps", "0", history), row.out, 0)
         for command in ("search", "find"):
@@ -123,7 +123,7 @@ def long_history(program, report):
     program.write(HISTORY, pair * 500_000)
     program.write(CERTIFICATES, lines(certificate(0, *range(0, 1_000_000, 2))))
     ran = program.run("check", HISTORY, CERTIFICATES)
-    out = rows.yes(500000, 1, "queue: 1 objects, 500000 operations")
+    out = worked_rows.yes(500000, 1, "queue: 1 objects, 500000 operations")
     report.answers("check: a million maps", ran, out, 0)
     program.write(HISTORY, pair * 500_000 + lines(invoke(0, "enqueue", 1)))
     ran = program.run("check", HISTORY, CERTIFICATES)
@@ -133,8 +133,8 @@ def long_history(program, report):
 def maps_of_no_client(program, report):
     """A map counts whether or not it is a client's: each can be the last of a million, and none comes after them."""
     other, others = "{:process :x}\n", "{:process :x}\n" * 999_999
-    popped = lines(certificate(0, 999_999)), rows.yes(1, 1, "stack: 1 objects, 1 operations")
-    for last, certificates, out in (("{:process :nemesis}", "", rows.yes(0, 0)), ("{:process 0 :type :invoke :f :pop}", *popped)):
+    popped = lines(certificate(0, 999_999)), worked_rows.yes(1, 1, "stack: 1 objects, 1 operations")
+    for last, certificates, out in (("{:process :nemesis}", "", worked_rows.yes(0, 0)), ("{:process 0 :type :invoke :f :pop}", *popped)):
         program.write(CERTIFICATES, certificates)
         program.write(HISTORY, others + last)
         report.answers(f"check: {last} after 999,999 maps", program.run("check", HISTORY, CERTIFICATES), out, 0)
@@ -145,7 +145,7 @@ def maps_of_no_client(program, report):
 
 def beginnings(program, report):
     """Each beginning of a history and of its certificates is answered, with a line and the status of it."""
-    history, certificates = rows.TWO_QUEUES, rows.TWO_ORDERS
+    history, certificates = worked_rows.TWO_QUEUES, worked_rows.TWO_ORDERS
     statuses = {b"yes: ": 0, b"no: C": 1, b"malfo": 2}
 
     def run(cut):

@@ -3,7 +3,7 @@ import functools
 import random
 from dataclasses import dataclass
 
-from . import texts
+from . import text_writers
 from .verify.reasons import NEXT, maps_of, value_of
 
 FUNCTIONS = {
@@ -63,7 +63,7 @@ class Made:
     order: list
 
     def text(self):
-        return texts.lines(*self.maps)
+        return text_writers.lines(*self.maps)
 
 
 def argument_for(rng, f, values):
@@ -86,7 +86,7 @@ def made(kind, seed, calls=12, processes=3, values=4, on=0):
                 f = rng.choice(FUNCTIONS[kind])
                 argument = argument_for(rng, f, values)
                 running[process] = [len(maps), f, argument, None]
-                maps.append(texts.invoke(process, f, argument, on))
+                maps.append(text_writers.invoke(process, f, argument, on))
                 begun += 1
             continue
         number, f, argument, done = running[process]
@@ -97,15 +97,15 @@ def made(kind, seed, calls=12, processes=3, values=4, on=0):
                 running[process][3] = taken
                 order.append(number)
             elif rng.random() < 0.3:
-                maps.append(texts.fail(process, f, argument, on))
+                maps.append(text_writers.fail(process, f, argument, on))
                 del running[process]
             continue
         del running[process]
         if rng.random() < 0.07:
-            maps.append(texts.info(process, f, argument, on))
+            maps.append(text_writers.info(process, f, argument, on))
             names[place] = max(names) + 1
         else:
-            maps.append(texts.ok(process, f, done[1], on))
+            maps.append(text_writers.ok(process, f, done[1], on))
     return Made(kind, maps, order)
 
 
@@ -125,7 +125,7 @@ def spoilt(kind, seed):
     reply = rng.choice((None, 0, 1, 2, 77))
     if call.f == "cas":
         reply = False if call.reply is not False else call.argument
-    maps[call.at] = texts.ok(call.process, call.f, reply, call.on)
+    maps[call.at] = text_writers.ok(call.process, call.f, reply, call.on)
     return maps
 
 
@@ -135,12 +135,12 @@ def long_search(seed, on=None):
     rng = random.Random(f"long search {seed}")
     others = made(rng.choice(tuple(FUNCTIONS)), f"beside {seed}", calls=rng.choice((0, 0, 5, 12)), on=0).maps if on is None else []
     on, writers = (1 if others else on or 0), rng.sample(range(100, 200), rng.randrange(12, 15))
-    maps = [texts.invoke(it, "write", it, on) for it in writers]
-    maps += [texts.ok(it, "write", it, on) for it in writers]
+    maps = [text_writers.invoke(it, "write", it, on) for it in writers]
+    maps += [text_writers.ok(it, "write", it, on) for it in writers]
     checks = rng.sample(writers[1:], len(writers) - 1)
-    maps += [it for of in checks for it in (texts.invoke(200, "cas", (of, 7), on), texts.ok(200, "cas", False, on))]
+    maps += [it for of in checks for it in (text_writers.invoke(200, "cas", (of, 7), on), text_writers.ok(200, "cas", False, on))]
     if rng.random() < 0.5:
-        maps += [texts.invoke(201, "read", None, on), texts.info(201, "read", None, on)]
+        maps += [text_writers.invoke(201, "read", None, on), text_writers.info(201, "read", None, on)]
     place = rng.randrange(len(maps) + 1)
     return maps[:place] + others + maps[place:]
 
@@ -183,6 +183,6 @@ def faulty(sort, kind, seed):
     for number, reply in wrong_replies(rng, sort, calls, replies).items():
         call = calls[number]
         argument = (reply[0], call.argument[1]) if sort == "own value" and call.f == "cas" and reply not in (False, None) else call.argument
-        maps[number] = texts.invoke(call.process, call.f, argument, call.on)
-        maps[call.at] = texts.ok(call.process, call.f, reply, call.on)
+        maps[number] = text_writers.invoke(call.process, call.f, argument, call.on)
+        maps[call.at] = text_writers.ok(call.process, call.f, reply, call.on)
     return Made(kind, maps, right.order)

@@ -9,10 +9,10 @@ import sys
 from dataclasses import dataclass
 
 from .verify import reasons, worked_evidence
-from . import rows
+from . import worked_rows
 from .run import workloads
 from .answers import is_accepted
-from .rows import HISTORY
+from .worked_rows import HISTORY
 from .running import EXAMPLES, OF_TOOLS, ROOT, SECONDS, Program, at_once
 
 OUT = b"out of memory\n"
@@ -88,12 +88,12 @@ def of_example(*words):
 
 def cases():
     """Every allocation of each worked row of the proved program and of runs of two clients, and some of examples and of longer ones."""
-    for it in rows.ROWS + worked_evidence.ROWS:
+    for it in worked_rows.ROWS + worked_evidence.ROWS:
         if len(it.texts[0]) < LONG and it.words[0] not in OF_TOOLS:
             yield of_row(it)
-    for name, history, *_ in (it for it in rows.NOT_LINEARIZABLE if len(it[1]) < LONG):
-        yield of_row(rows.verify(name, history, "{:object 0} {:object 3}", "", 1), stride=3)
-    yield of_row(next(it for it in rows.YES if it.texts[0] == rows.TWO_QUEUES), "--workers", "4")
+    for name, history, *_ in (it for it in worked_rows.NOT_LINEARIZABLE if len(it[1]) < LONG):
+        yield of_row(worked_rows.verify(name, history, "{:object 0} {:object 3}", "", 1), stride=3)
+    yield of_row(next(it for it in worked_rows.YES if it.texts[0] == worked_rows.TWO_QUEUES), "--workers", "4")
     yield Case(" ".join(ONE_CLIENT), ONE_CLIENT)
     for kind in workloads.KINDS_OF_A_RUN:
         words = ("run", "--kind", kind, "--clients", "2", "--calls", "3")
@@ -104,9 +104,9 @@ def cases():
     yield from examples()
     words = ("run", "--clients", "1", "--calls", "20", "--objects", "5", "--kind", "mixed")
     yield Case(" ".join(words), words, stride=5)
-    history = rows.one_process(*[("insert", 1, 1)] * 200)
-    yield of_row(rows.check("a longer history", history, rows.order(*range(0, 400, 2)), "", 0), stride=5)
-    yield of_row(rows.search("a longer history", history, "", 0), stride=5)
+    history = worked_rows.one_process(*[("insert", 1, 1)] * 200)
+    yield of_row(worked_rows.check("a longer history", history, worked_rows.order(*range(0, 400, 2)), "", 0), stride=5)
+    yield of_row(worked_rows.search("a longer history", history, "", 0), stride=5)
     yield Case("help", ("--help",), stride=3)
     yield Case("refused words", ("check", "one word"), stride=3)
 
@@ -215,7 +215,7 @@ def refused_memory(program, report):
 
 
 # Histories that the tools judge without memory: two that are linearizable, and two that are not.
-OF_THE_TOOLS = (rows.OVERLAPPING, rows.TWO_QUEUES, rows.THREE_VALUES, rows.ONE_OF_TWO)
+OF_THE_TOOLS = (worked_rows.OVERLAPPING, worked_rows.TWO_QUEUES, worked_rows.THREE_VALUES, worked_rows.ONE_OF_TWO)
 # How many allocations of each are refused, at most.
 MOST_REFUSED = 60
 

@@ -3,12 +3,12 @@ import os
 import resource
 import signal
 
-from . import rows
+from . import worked_rows
 from .run import schedules
 from .verify import worked_evidence
 from .answers import MUTEX_TWICE
 from .check.unreadable_files import AS_NOBODY, good_runs, proved_runs, write_good
-from .rows import CERTIFICATES, EVIDENCE, HISTORY
+from .worked_rows import CERTIFICATES, EVIDENCE, HISTORY
 from .running import OF_TOOLS, at_once
 
 RUN = ("run", "--clients", "2", "--calls", "5")
@@ -47,9 +47,9 @@ def failing_output(program, report):
 
 def output_cut_short(program, report):
     """Of an output that takes n bytes and then fails, these bytes were written, and the status is 4."""
-    program.write(HISTORY, rows.ENQUEUE_DEQUEUE)
-    program.write(CERTIFICATES, rows.order(0, 2))
-    whole = rows.QUEUE_YES.encode()
+    program.write(HISTORY, worked_rows.ENQUEUE_DEQUEUE)
+    program.write(CERTIFICATES, worked_rows.order(0, 2))
+    whole = worked_rows.QUEUE_YES.encode()
 
     def limit(room):
         signal.signal(signal.SIGXFSZ, signal.SIG_IGN)
@@ -66,16 +66,16 @@ def output_cut_short(program, report):
 
 
 # Evidence whose answers are cut.
-CLAIMS = (rows.order(1, 0, 4), rows.TWO_OF_THREE, worked_evidence.COUNTED, worked_evidence.WHOLE)
+CLAIMS = (worked_rows.order(1, 0, 4), worked_rows.TWO_OF_THREE, worked_evidence.COUNTED, worked_evidence.WHOLE)
 
 
 def cut_rows():
     """Rows whose outputs are cut after each of their bytes: findings, verifications, records, and one of each other command. In a judgement the
     output of the finder would be cut too."""
     given = [it for it in worked_evidence.ROWS if it.words[0] == "verify" and it.texts[1] in (*CLAIMS, "7")]
-    given += [it for it in rows.SIMULATIONS if it.texts[0] in (rows.SERVED_BY_ANOTHER, "")]
+    given += [it for it in worked_rows.SIMULATIONS if it.texts[0] in (worked_rows.SERVED_BY_ANOTHER, "")]
     given += [it for it in schedules.ROWS if it.out == schedules.TWO_CLIENTS]
-    for it in (*rows.FINDINGS, *given):
+    for it in (*worked_rows.FINDINGS, *given):
         if len(it.texts[0]) < 2000:
             yield it.words, it.files(), it.out
     yield ("run", "--kind", "mutex", "--clients", "1", "--calls", "5"), (), MUTEX_TWICE
@@ -106,8 +106,8 @@ def short_writes(program, report):
 
 def no_thread(program, report):
     """Where no thread can be started, a run says so. A check by several workers does all in its own thread."""
-    program.write(HISTORY, rows.TWO_QUEUES)
-    program.write(CERTIFICATES, rows.TWO_ORDERS)
+    program.write(HISTORY, worked_rows.TWO_QUEUES)
+    program.write(CERTIFICATES, worked_rows.TWO_ORDERS)
     how = {"preexec_fn": lambda: resource.setrlimit(resource.RLIMIT_NPROC, (1, 1))}
     if os.geteuid() == 0:
         # The superuser may start any number.
@@ -116,9 +116,9 @@ def no_thread(program, report):
     one = program.run("run", "--clients", "1", "--calls", "0", **how)
     report.answers("run: one client needs no thread", one, "; yes: 0 operations, 0 objects\n", 0)
     ran = program.run("check", "--workers", "2", HISTORY, CERTIFICATES, **how)
-    report.answers("check: no thread can be started", ran, rows.QUEUES_YES, 0)
-    program.write(EVIDENCE, rows.TWO_ORDERS)
-    report.answers("verify: no thread can be started", program.run("verify", HISTORY, EVIDENCE, **how), rows.QUEUES_YES, 0)
+    report.answers("check: no thread can be started", ran, worked_rows.QUEUES_YES, 0)
+    program.write(EVIDENCE, worked_rows.TWO_ORDERS)
+    report.answers("verify: no thread can be started", program.run("verify", HISTORY, EVIDENCE, **how), worked_rows.QUEUES_YES, 0)
     ran = program.run("judge", HISTORY, **how)
     said = b"fcbench: the proved program cannot be started: "
     report.holds("judge: no process can be started", (ran.status, ran.out) == (70, b"") and ran.err.startswith(said), ran)

@@ -1,24 +1,24 @@
 """The table of exit statuses in docs/commands.md: each of its cells has an example here that ends so, and no other status has one."""
 import re
 
-from . import rows
-from .rows import CERTIFICATES, EVIDENCE, HISTORY, REASONS, SCHEDULE
+from . import worked_rows
+from .worked_rows import CERTIFICATES, EVIDENCE, HISTORY, REASONS, SCHEDULE
 from .running import ROOT
 
 # The text of each file.
 FILES = {
-    HISTORY: rows.OVERLAPPING,
-    CERTIFICATES: rows.order(1, 0, 4),
-    EVIDENCE: rows.order(1, 0, 4),
-    SCHEDULE: rows.SERVED_BY_ANOTHER,
-    "no.edn": rows.OUT_OF_ORDER,
-    "bad.edn": rows.AFTER_INFO,
-    "long.edn": rows.FIRST_WRITE_LAST,
-    "other.edn": rows.order(0, 1, 4),
+    HISTORY: worked_rows.OVERLAPPING,
+    CERTIFICATES: worked_rows.order(1, 0, 4),
+    EVIDENCE: worked_rows.order(1, 0, 4),
+    SCHEDULE: worked_rows.SERVED_BY_ANOTHER,
+    "no.edn": worked_rows.OUT_OF_ORDER,
+    "bad.edn": worked_rows.AFTER_INFO,
+    "long.edn": worked_rows.FIRST_WRITE_LAST,
+    "other.edn": worked_rows.order(0, 1, 4),
     "empty.edn": "",
-    "three.edn": rows.THREE_VALUES,
-    REASONS: rows.TWO_OF_THREE,
-    "waits.edn": rows.lines(rows.ONE_CLIENT),
+    "three.edn": worked_rows.THREE_VALUES,
+    REASONS: worked_rows.TWO_OF_THREE,
+    "waits.edn": worked_rows.lines(worked_rows.ONE_CLIENT),
     "names.edn": "{:value 1, :is :a} {:value 2, :is :a}",
 }
 FULL = "/dev/full"

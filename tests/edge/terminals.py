@@ -4,9 +4,9 @@ import subprocess
 import threading
 import time
 
-from . import rows
+from . import worked_rows
 from .answers import end_feeder, feed, through_pipes
-from .rows import CERTIFICATES, HISTORY
+from .worked_rows import CERTIFICATES, HISTORY
 from .running import SECONDS, Ran
 
 # A pseudo-terminal writes a carriage return before a line feed.
@@ -68,7 +68,7 @@ def waits_until_it_tells(program):
     """A command whose history comes when it has told something, and the seconds at which it did."""
     pipe, got = f"{program.room}/late.edn", []
     os.mkfifo(pipe)
-    late = threading.Thread(target=feed_when_told, args=(pipe, rows.OVERLAPPING.encode(), got))
+    late = threading.Thread(target=feed_when_told, args=(pipe, worked_rows.OVERLAPPING.encode(), got))
     late.start()
     ran, times = on_terminal(program, ("check", "late.edn", CERTIFICATES), got)
     end_feeder(pipe, late)
@@ -77,24 +77,24 @@ def waits_until_it_tells(program):
 
 def long_command(program, report):
     """A command of more than a second says once that it is under way, where standard error is a terminal."""
-    program.write(CERTIFICATES, rows.order(1, 0, 4))
+    program.write(CERTIFICATES, worked_rows.order(1, 0, 4))
     for _ in range(LONG_TRIES):
         ran, times = waits_until_it_tells(program)
         if times and times[0] < LONG:
             break
-    report.answers("a long command on a terminal", ran, rows.THREE_YES, 0, UNDER_WAY)
+    report.answers("a long command on a terminal", ran, worked_rows.THREE_YES, 0, UNDER_WAY)
     report.holds("it says so after a second", times and 0.9 < times[0] < LONG, times)
-    files = ((HISTORY, rows.OVERLAPPING), (CERTIFICATES, rows.order(1, 0, 4)))
-    pause = LONG / len(rows.OVERLAPPING)
+    files = ((HISTORY, worked_rows.OVERLAPPING), (CERTIFICATES, worked_rows.order(1, 0, 4)))
+    pause = LONG / len(worked_rows.OVERLAPPING)
     ran = through_pipes(program, files, ("check", HISTORY, CERTIFICATES), 1, pause)
-    report.answers("a long command elsewhere says nothing", ran, rows.THREE_YES, 0)
+    report.answers("a long command elsewhere says nothing", ran, worked_rows.THREE_YES, 0)
     report.holds("it was a long one", ran.seconds > 1.1, ran)
 
 
 def short_command(program, report):
     """A short command says nothing on a terminal, and takes no longer there."""
-    program.write(HISTORY, rows.OVERLAPPING)
-    program.write(CERTIFICATES, rows.order(1, 0, 4))
+    program.write(HISTORY, worked_rows.OVERLAPPING)
+    program.write(CERTIFICATES, worked_rows.order(1, 0, 4))
     for words in (("check", HISTORY, CERTIFICATES), ("run", "--clients", "1", "--calls", "500"), ("--help",)):
         there, elsewhere, more = [], [], MOST
         while len(there) < FEWEST or len(there) < TRIES and more >= MOST:

@@ -4,8 +4,8 @@ import re
 import shutil
 import subprocess
 
-from . import rows
-from .rows import CERTIFICATES, HISTORY
+from . import worked_rows
+from .worked_rows import CERTIFICATES, HISTORY
 from .running import OF_TOOLS, ROOT
 
 COMMANDS = ("check", "search", "refute", "verify", "run", "simulate")
@@ -172,18 +172,18 @@ NAMED = {
 }
 
 # What the files of command lines hold, and what is answered of them.
-CHECKED = (rows.OVERLAPPING, rows.order(1, 0, 4)), rows.THREE_YES, 0
-FOUND = (rows.OVERLAPPING,), rows.order(1, 0, 4), 0
-JUDGED = (rows.OVERLAPPING,), rows.THREE_YES, 0
+CHECKED = (worked_rows.OVERLAPPING, worked_rows.order(1, 0, 4)), worked_rows.THREE_YES, 0
+FOUND = (worked_rows.OVERLAPPING,), worked_rows.order(1, 0, 4), 0
+JUDGED = (worked_rows.OVERLAPPING,), worked_rows.THREE_YES, 0
 # Each of its 23 operations returned, so no order is found in fewer steps than these.
-SEARCHED = (rows.FIRST_WRITE_LAST,), rows.yes(23, 1, "register: 1 objects, 23 operations"), 0
-REFUTED = (rows.THREE_VALUES, rows.TWO_OF_THREE), rows.refutation(3, 4, rows.ENQUEUE_1, rows.ENQUEUE_2, rows.DEQUEUE_2), 1
-VERIFIED = (rows.OVERLAPPING, rows.order(1, 0, 4)), rows.THREE_YES, 0
-SIMULATED = (rows.SERVED_BY_ANOTHER,), rows.SERVED_LINES, 0
+SEARCHED = (worked_rows.FIRST_WRITE_LAST,), worked_rows.yes(23, 1, "register: 1 objects, 23 operations"), 0
+REFUTED = (worked_rows.THREE_VALUES, worked_rows.TWO_OF_THREE), worked_rows.refutation(3, 4, worked_rows.ENQUEUE_1, worked_rows.ENQUEUE_2, worked_rows.DEQUEUE_2), 1
+VERIFIED = (worked_rows.OVERLAPPING, worked_rows.order(1, 0, 4)), worked_rows.THREE_YES, 0
+SIMULATED = (worked_rows.SERVED_BY_ANOTHER,), worked_rows.SERVED_LINES, 0
 
 
 def out_of_steps(steps):
-    return (rows.FIRST_WRITE_LAST,), f"; object 0: out of steps after {steps}\n", 3
+    return (worked_rows.FIRST_WRITE_LAST,), f"; object 0: out of steps after {steps}\n", 3
 
 
 # Command lines with the texts of their files in order, the output and the status. An option is anywhere before `--`, and its
@@ -200,8 +200,8 @@ ACCEPTED = (
     ("search --steps=7 h.edn", *out_of_steps(7)),
     ("search --steps 7 -- h.edn", *out_of_steps(7)),
     ("search h.edn --steps 1000000000", *FOUND),
-    ("search h.edn --first number", (rows.RETURNS_CROSSED,), rows.order(0, 1), 0),
-    ("search h.edn --first return", (rows.RETURNS_CROSSED,), rows.order(1, 0), 0),
+    ("search h.edn --first number", (worked_rows.RETURNS_CROSSED,), worked_rows.order(0, 1), 0),
+    ("search h.edn --first return", (worked_rows.RETURNS_CROSSED,), worked_rows.order(1, 0), 0),
     ("find h.edn", *FOUND),
     ("find --workers 16 --steps=0 h.edn", *FOUND),
     ("find -- -h.edn", *FOUND),
@@ -217,14 +217,14 @@ ACCEPTED = (
     ("refute h.edn r.edn", *REFUTED),
     (
         "refute h.edn --steps 7 r.edn",
-        (rows.FIRST_WRITE_LAST, "{:object 0}"),
+        (worked_rows.FIRST_WRITE_LAST, "{:object 0}"),
         "object 0: not shown: out of steps after 7\n",
         3,
     ),
     ("refute --steps=1000000000 h.edn r.edn", *REFUTED),
     ("refute -- -h.edn r.edn", *REFUTED),
     ("verify h.edn e.edn", *VERIFIED),
-    ("verify h.edn --steps 7 e.edn", (rows.FIRST_WRITE_LAST, "{:object 0}"), "; object 0: out of steps after 7\n", 3),
+    ("verify h.edn --steps 7 e.edn", (worked_rows.FIRST_WRITE_LAST, "{:object 0}"), "; object 0: out of steps after 7\n", 3),
     ("verify --steps=1000000000 h.edn e.edn", *VERIFIED),
     ("verify h.edn e.edn --workers 16", *VERIFIED),
     ("verify --workers=1 h.edn --steps 0 e.edn", *VERIFIED),
@@ -328,7 +328,7 @@ def limits(program, report):
     program.write("empty.edn", "")
     for steps in ("0", "1000000000"):
         report.answers(f"search --steps {steps}", program.run("search", "--steps", steps, "empty.edn"), "", 0)
-    program.write("one.edn", rows.OVERLAPPING)
+    program.write("one.edn", worked_rows.OVERLAPPING)
     ran = program.run("draw", "--object", "4", "one.edn")
     is_told = ran.err == b"fcbench: warning: --object 4: the history has no such object\n"
     report.holds("draw --object 4, which is not there", (ran.status, is_told) == (0, True) and ran.out, ran.err)
@@ -339,8 +339,8 @@ def limits(program, report):
 
 def dispatched(program, report):
     """The script that is installed as fcbench sends each command line to the program whose command it is."""
-    program.write(HISTORY, rows.OVERLAPPING)
-    program.write(CERTIFICATES, rows.order(1, 0, 4))
+    program.write(HISTORY, worked_rows.OVERLAPPING)
+    program.write(CERTIFICATES, worked_rows.order(1, 0, 4))
     env = {**os.environ, "FCBENCH": program.path, "FCBENCH_TOOLS": program.tools}
     script = lambda *words: subprocess.run([DISPATCH, *words], cwd=program.room, env=env, capture_output=True)  # noqa: E731
     lines = [("judge", HISTORY), ("find", HISTORY), ("draw", HISTORY), ("search", HISTORY), ("verify", HISTORY, CERTIFICATES)]

@@ -1,8 +1,8 @@
 """Malformed texts, with the codes and the places that must be named.
 
 Each code and each place is worked out from the tables of docs/formats.md and docs/machine.md."""
-from .. import rows
-from ..rows import judge, malformed, malformed_certificates, search, simulate
+from .. import worked_rows
+from ..worked_rows import judge, malformed, malformed_certificates, search, simulate
 
 UNFINISHED = "{:process 0, :type :invoke"
 BUSY = "{:process 0, :type :invoke, :f :dequeue} {:process 0, :type :invoke, :f :dequeue}"
@@ -126,6 +126,6 @@ ROWS = [
     judge("a text that spells no forms", UNFINISHED, "malformed history: E2 at byte 26\n", 2, "--steps", "7"),
     judge("a number alone", "7", "malformed history: H1 at map 0\n", 2, "--steps", "7"),
     judge("two calls of one process", BUSY, "malformed history: H5 at map 1\n", 2, "--steps", "7"),
-    *[simulate(name, rows.ONE_CLIENT + " " + text, f"malformed schedule: {fault}\n", 2) for name, text, fault in STEPS],
+    *[simulate(name, worked_rows.ONE_CLIENT + " " + text, f"malformed schedule: {fault}\n", 2) for name, text, fault in STEPS],
     *[simulate(name, text, f"malformed schedule: {fault}\n", 2) for name, text, fault in HEADERS],
 ]

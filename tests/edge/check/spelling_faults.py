@@ -3,7 +3,7 @@
 Each is worked out from the rules of docs/formats.md. A history is read with the beginnings of its values alone, certificates beside the
 numbers of their orders, and reasons as whole forms."""
 from ..running import at_once
-from ..texts import lines, ok
+from ..text_writers import lines, ok
 
 # A text and its first fault.
 TEXTS = (

@@ -1,9 +1,9 @@
 """Files that are long, that cannot be read, or that come in pieces."""
 import os
 
-from .. import rows
+from .. import worked_rows
 from ..answers import through_pipes
-from ..rows import CERTIFICATES, EVIDENCE, HISTORY, REASONS, SCHEDULE
+from ..worked_rows import CERTIFICATES, EVIDENCE, HISTORY, REASONS, SCHEDULE
 from ..running import OF_TOOLS, Program, Report
 
 LONGEST = 268_435_456
@@ -44,24 +44,24 @@ def is_named(ran, name):
 
 def write_good(program):
     """Writes the texts of a history that is linearizable, its certificates, which are evidence too, a reason and a schedule."""
-    program.write(HISTORY, rows.OVERLAPPING)
-    program.write(CERTIFICATES, rows.order(1, 0, 4))
-    program.write(EVIDENCE, rows.order(1, 0, 4))
-    program.write(REASONS, rows.TWO_OF_THREE)
-    program.write(SCHEDULE, rows.SERVED_BY_ANOTHER)
+    program.write(HISTORY, worked_rows.OVERLAPPING)
+    program.write(CERTIFICATES, worked_rows.order(1, 0, 4))
+    program.write(EVIDENCE, worked_rows.order(1, 0, 4))
+    program.write(REASONS, worked_rows.TWO_OF_THREE)
+    program.write(SCHEDULE, worked_rows.SERVED_BY_ANOTHER)
 
 
 def good_runs():
     """Runs on good files whose answer rests on what the files hold: words, files that are read, output, status."""
-    history, certificates = (HISTORY, rows.OVERLAPPING), (CERTIFICATES, rows.order(1, 0, 4))
-    yield ("check", HISTORY, CERTIFICATES), (history, certificates), rows.THREE_YES, 0
-    yield ("search", HISTORY), (history,), rows.order(1, 0, 4), 0
-    yield ("find", HISTORY), (history,), rows.order(1, 0, 4), 0
-    yield ("judge", HISTORY), (history,), rows.THREE_YES, 0
-    refuted = next(it for it in rows.REFUTATIONS if it.name == "refute: two of three values")
+    history, certificates = (HISTORY, worked_rows.OVERLAPPING), (CERTIFICATES, worked_rows.order(1, 0, 4))
+    yield ("check", HISTORY, CERTIFICATES), (history, certificates), worked_rows.THREE_YES, 0
+    yield ("search", HISTORY), (history,), worked_rows.order(1, 0, 4), 0
+    yield ("find", HISTORY), (history,), worked_rows.order(1, 0, 4), 0
+    yield ("judge", HISTORY), (history,), worked_rows.THREE_YES, 0
+    refuted = next(it for it in worked_rows.REFUTATIONS if it.name == "refute: two of three values")
     yield ("refute", HISTORY, REASONS), refuted.files(), refuted.out, 1
-    yield ("verify", HISTORY, EVIDENCE), (history, (EVIDENCE, rows.order(1, 0, 4))), rows.THREE_YES, 0
-    yield ("simulate", SCHEDULE), ((SCHEDULE, rows.SERVED_BY_ANOTHER),), rows.SERVED_LINES, 0
+    yield ("verify", HISTORY, EVIDENCE), (history, (EVIDENCE, worked_rows.order(1, 0, 4))), worked_rows.THREE_YES, 0
+    yield ("simulate", SCHEDULE), ((SCHEDULE, worked_rows.SERVED_BY_ANOTHER),), worked_rows.SERVED_LINES, 0
 
 
 def proved_runs():
@@ -94,7 +94,7 @@ def unreadable(program: Program, report: Report):
     ran = program.run("check", "bad.edn", "missing.edn")
     message = "fcbench: cannot read missing.edn\n"
     report.answers("check: files are read before anything is judged", ran, "", 4, message)
-    secret = program.write("secret.edn", rows.OVERLAPPING)
+    secret = program.write("secret.edn", worked_rows.OVERLAPPING)
     os.chmod(f"{program.room}/{secret}", 0)
     # The superuser may read every file, so then the program runs as another user.
     how = AS_NOBODY if os.geteuid() == 0 else {}
@@ -141,9 +141,9 @@ MOST_READS = 12
 
 def failing_reads_of_tools(program, report):
     """Where any one read of each process fails, find and draw name the file. judge ends with 4, or says what verify says of the evidence that came."""
-    program.write(HISTORY, rows.OVERLAPPING)
+    program.write(HISTORY, worked_rows.OVERLAPPING)
     whole = program.run("judge", HISTORY)
-    report.answers("judge, with no read that fails", whole, rows.THREE_YES, 0)
+    report.answers("judge, with no read that fails", whole, worked_rows.THREE_YES, 0)
     for words in (("find", HISTORY), ("draw", HISTORY)):
         good = program.run(*words)
         # What the number of processors is comes from a file too.
@@ -167,12 +167,12 @@ def failing_reads_of_long_texts(program, report):
     """Where any one read of a long history fails, it is named, with one worker and with several: no read is tried again."""
     maps = "".join(f"{{:process 0, :type :{it}, :f :write, :value {n}}}\n" for n in range(12_000) for it in ("invoke", "ok"))
     program.write(HISTORY, maps)
-    program.write(CERTIFICATES, rows.order(*range(0, 24_000, 2)))
+    program.write(CERTIFICATES, worked_rows.order(*range(0, 24_000, 2)))
     report.holds("a long history", len(maps) >= 1_000_000, len(maps))
     for workers in ("1", "4"):
         words = "check", HISTORY, CERTIFICATES, "--workers", workers
         ran, _, reads = program.counts(*words)
-        report.answers(f"check, {workers} workers, a long history", ran, rows.yes(12_000, 1, "register: 1 objects, 12000 operations"), 0)
+        report.answers(f"check, {workers} workers, a long history", ran, worked_rows.yes(12_000, 1, "register: 1 objects, 12000 operations"), 0)
         report.holds(f"check, {workers} workers: a long history comes in pieces", reads > 10, reads)
         each_read_fails(program, report, words, (HISTORY, CERTIFICATES), reads)
 
@@ -184,7 +184,7 @@ def in_pieces(program, report):
             ran = through_pipes(program, files, words, size, 0.0002 * size)
             report.answers(f"{' '.join(words)}, through pipes in pieces of {size}", ran, out, status)
     ran = through_pipes(program, ((HISTORY, ""), (CERTIFICATES, "")), ("check", HISTORY, CERTIFICATES))
-    report.answers("check: two empty pipes", ran, rows.yes(0, 0), 0)
+    report.answers("check: two empty pipes", ran, worked_rows.yes(0, 0), 0)
     # Two programs read the history of judge and draw, so it is no pipe.
     os.mkfifo(f"{program.room}/pipe.edn")
     for words in (("judge", "pipe.edn"), ("draw", "pipe.edn"), ("judge", "-"), ("draw", "-")):
@@ -226,23 +226,23 @@ def too_long(program, report):
 
 def longest(program, report):
     """A history of the greatest length, whose last map is at its end, counts to its last byte. So does evidence."""
-    text = rows.OVERLAPPING.encode()
+    text = worked_rows.OVERLAPPING.encode()
     head, _, last = text.rstrip(b"\n").rpartition(b"\n")
-    program.write(CERTIFICATES, rows.order(1, 0, 4))
+    program.write(CERTIFICATES, worked_rows.order(1, 0, 4))
     with open(f"{program.room}/longest.edn", "wb") as file:
         file.write(head + b"\n" + b" " * (LONGEST - len(head) - 1 - len(last)) + last)
     ran = program.run("check", "longest.edn", CERTIFICATES)
-    report.answers("check: a history of the greatest length", ran, rows.THREE_YES, 0)
+    report.answers("check: a history of the greatest length", ran, worked_rows.THREE_YES, 0)
     with open(f"{program.room}/longest.edn", "ab") as file:
         file.write(b" ")
     ran = program.run("check", "longest.edn", CERTIFICATES)
     report.answers("check: a history one byte longer", ran, "malformed history: E10 at byte 0\n", 2)
-    program.write(HISTORY, rows.OVERLAPPING)
-    evidence = rows.order(1, 0, 4).encode()
+    program.write(HISTORY, worked_rows.OVERLAPPING)
+    evidence = worked_rows.order(1, 0, 4).encode()
     with open(f"{program.room}/longest.edn", "wb") as file:
         file.write(b" " * (LONGEST - len(evidence)) + evidence)
     ran = program.run("verify", HISTORY, "longest.edn")
-    report.answers("verify: evidence of the greatest length", ran, rows.THREE_YES, 0)
+    report.answers("verify: evidence of the greatest length", ran, worked_rows.THREE_YES, 0)
     with open(f"{program.room}/longest.edn", "ab") as file:
         file.write(b" ")
     ran = program.run("verify", HISTORY, "longest.edn")
@@ -254,7 +254,7 @@ def same_file_twice(program, report):
     """One file can serve as both texts."""
     program.write(HISTORY, "")
     ran = program.run("check", HISTORY, HISTORY)
-    report.answers("check: one file twice", ran, rows.yes(0, 0), 0)
+    report.answers("check: one file twice", ran, worked_rows.yes(0, 0), 0)
 
 
 PARTS = (unreadable, failing_reads, failing_reads_of_tools, failing_reads_of_long_texts, in_pieces, too_long, longest, same_file_twice)

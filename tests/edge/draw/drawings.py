@@ -8,13 +8,13 @@ import shutil
 import subprocess
 from dataclasses import replace
 
-from . import details, marked, pages, sentences
-from .. import histories, rows, texts
+from . import fault_places, pages, sentences, tables_and_boxes
+from .. import histories, text_writers, worked_rows
 from .pages import Drawn
-from .situations import OF_EACH, OF_EACH_FORM, Case, checked, comes_too_late, example, extreme, forty_objects, generated, hostile, many_objects, never_put, of_two_values, old_values, options_and_faults, orders_of, situations
+from .drawn_inputs import OF_EACH, OF_EACH_FORM, Case, checked, comes_too_late, example, extreme, forty_objects, generated, hostile, many_objects, never_put, of_two_values, old_values, options_and_faults, orders_of, situations
 from ..judge.like_recorded import played
 from ..running import EXAMPLES, SECONDS, at_once
-from ..times import processor_seconds
+from ..timing import processor_seconds
 
 CHECKS = f"{os.path.dirname(os.path.realpath(__file__))}/check_pages.mjs"
 PAGES = f"{EXAMPLES}/pages"
@@ -22,7 +22,7 @@ MOST_BYTES = 1_000_000
 # The most lines of judge or check on a page, and the most bytes of one that is not cut.
 MOST_LINES, LONGEST_LINE = 60, 2_000
 VERDICTS = ("yes", "impossible", "open", "C1", "C2", "C3", "C4", "C5", "C6", "C7", "C9")
-HISTORY, CERTIFICATES = rows.HISTORY, rows.CERTIFICATES
+HISTORY, CERTIFICATES = worked_rows.HISTORY, worked_rows.CERTIFICATES
 
 
 def text_of(history):
@@ -81,7 +81,7 @@ def wanted_of(case, told, path):
         "answer": answer,
         "code": None if case.options else code_of(told),
         "rank": refused_rank(case, told) if answer == "no" and not case.options else None,
-        "reason": sorted(details.reason_of(told.out.decode())[0]) if answer == "impossible" else [],
+        "reason": sorted(tables_and_boxes.reason_of(told.out.decode())[0]) if answer == "impossible" else [],
         "shows": list(case.shows),
         "isWhole": not case.options,
         "loads": case.loads,
@@ -144,7 +144,7 @@ def checks_of(case, page, told, orders):
     yield "vague", lambda: sentences.why_vague(page)
     yield "first", lambda: sentences.why_first_false(page)
     yield "counts", lambda: sentences.why_counts_false(page, history)
-    yield from ((name, lambda check=check: check(shown)) for name, check in details.CHECKS.items())
+    yield from ((name, lambda check=check: check(shown)) for name, check in tables_and_boxes.CHECKS.items())
     if page.answer == "open":
         yield "open", lambda: sentences.why_open_false(page, history, told.out.decode())
     if page.answer == "yes":
@@ -163,7 +163,7 @@ def why_wrong(case, drawn, told, orders):
     """What is wrong with a page, or None."""
     if drawn.err and drawn.err != absent_object(case):
         return f"it says {drawn.err}"
-    return details.first_of(check() for _, check in checks_of(case, Drawn(drawn.out), told, orders))
+    return tables_and_boxes.first_of(check() for _, check in checks_of(case, Drawn(drawn.out), told, orders))
 
 
 def shown_of(case, page, told, orders):
@@ -173,7 +173,7 @@ def shown_of(case, page, told, orders):
         # The longest order is that of the table, which is checked.
         orders = page.orders()
     stretch = [int(options[it]) if it in options else None for it in ("--from", "--to")]
-    return details.Shown(page, text_of(case.history), orders, told.out.decode(), stretch)
+    return tables_and_boxes.Shown(page, text_of(case.history), orders, told.out.decode(), stretch)
 
 
 def look(program, report, case):
@@ -240,7 +240,7 @@ exec {program} "$@"
 def page_without_memory(program, report):
     """What the browser is to find on a page of a history where memory is refused to the proved program: that of the first allocation that leads
     to one."""
-    history, certificates = program.write(HISTORY, rows.OVERLAPPING), program.write(CERTIFICATES, texts.order(1, 0, 4))
+    history, certificates = program.write(HISTORY, worked_rows.OVERLAPPING), program.write(CERTIFICATES, text_writers.order(1, 0, 4))
     _, count, _ = program.counts("check", history, certificates)
     for at in range(1, count + 1):
         without = f"{program.room}/{program.write('without_memory', WITHOUT_MEMORY.format(at=at, faults=program.faults, program=program.path))}"
@@ -306,11 +306,11 @@ def drawn_faults(program, report):
             files.append(program.write(certificates, faulty.text))
         drawn = program.run("draw", *files)
         try:
-            return faulty, drawn.status == 2 and marked.why_page_wrong(Drawn(drawn.out), faulty)
+            return faulty, drawn.status == 2 and fault_places.why_page_wrong(Drawn(drawn.out), faulty)
         except Exception as error:  # A page that can't be read is wrong.
             return faulty, f"{type(error).__name__}: {error} {drawn}"
 
-    for faulty, wrong in at_once(draw, list(enumerate((*marked.faulty_texts(OF_EACH), *marked.longest_texts())))):
+    for faulty, wrong in at_once(draw, list(enumerate((*fault_places.faulty_texts(OF_EACH), *fault_places.longest_texts())))):
         counts[faulty.code] = counts.get(faulty.code, 0) + 1
         report.equal(f"draw: {faulty.line()}: {faulty.text[-300:]}", None, wrong)
     return f"{sum(counts.values())} pages, {len(counts)} faults"
@@ -443,11 +443,11 @@ def falsified():
     """Pages, and what is made false on each."""
     for stem, those in FALSIFIED.items():
         yield example(stem, stem in ("wrong_reply", "no_certificate")), those
-    yield Case("a put finds an old value", texts.one_process(*dict(old_values())["a put"])), FALSIFIED_OLD_VALUE
+    yield Case("a put finds an old value", text_writers.one_process(*dict(old_values())["a put"])), FALSIFIED_OLD_VALUE
     yield never_put(), FALSIFIED_NEVER_PUT
     yield comes_too_late(), FALSIFIED_TOO_LATE
     yield checked("a queue of 60 processes", played(("queue",), 120, 60)), FALSIFIED_SIXTY_LANES
-    yield Case("a short search", texts.lines(*histories.long_search(1)), None, ("--steps", "1")), FALSIFIED_OPEN
+    yield Case("a short search", text_writers.lines(*histories.long_search(1)), None, ("--steps", "1")), FALSIFIED_OPEN
     yield Case("a reason of 3 902 operations", of_two_values(2_600, 1)), FALSIFIED_LONG_REASON
 
 
@@ -499,7 +499,7 @@ def falsified_styles(program, report):
         return
     queue = played(("queue",), 600, 4)
     order = queue.orders[0]
-    twice = Case("an entry that stands twice", queue.text(), texts.order(*order[:70], order[30], *order[70:]))
+    twice = Case("an entry that stands twice", queue.text(), text_writers.order(*order[:70], order[30], *order[70:]))
     cases = {"postgres_queue": example("postgres_queue", False), "forty objects": replace(forty_objects(), loads=0), twice.name: twice}
     drawn = {name: run(program, case) for name, case in cases.items()}
     wanted = {}
@@ -522,10 +522,10 @@ def rounds(processes, maps, on=None):
     while len(made) < maps:
         count = min(processes, (maps - len(made)) // 4)
         begun, values = len(made), range(value, value + count)
-        made += [texts.invoke(it, "enqueue", value + it, on) for it in range(count)]
-        made += [texts.ok(it, "enqueue", value + it, on) for it in range(count)]
-        made += [texts.invoke(it, "dequeue", None, on) for it in range(count)]
-        made += [texts.ok(it, "dequeue", own, on) for it, own in enumerate(values)]
+        made += [text_writers.invoke(it, "enqueue", value + it, on) for it in range(count)]
+        made += [text_writers.ok(it, "enqueue", value + it, on) for it in range(count)]
+        made += [text_writers.invoke(it, "dequeue", None, on) for it in range(count)]
+        made += [text_writers.ok(it, "dequeue", own, on) for it, own in enumerate(values)]
         order += [*range(begun, begun + count), *range(begun + 2 * count, begun + 3 * count)]
         value += count
     return made, order
@@ -571,21 +571,21 @@ def least_seconds(program, name):
 def large_cases():
     """Histories of 500,000 operations, of 1,000 processes and of 65,536 objects, with and without a wrong reply."""
     maps, order = rounds(12, 1_000_000)
-    whole, its_order = texts.lines(*maps), texts.order(*order)
-    wrong, twice = texts.lines(*with_wrong_reply(maps, 600_000)), texts.lines(*with_value_twice(maps, 600_000))
+    whole, its_order = text_writers.lines(*maps), text_writers.order(*order)
+    wrong, twice = text_writers.lines(*with_wrong_reply(maps, 600_000)), text_writers.lines(*with_value_twice(maps, 600_000))
     yield Case("500 000 operations", whole, its_order, reads=False)
     yield Case("500 000 operations judged", whole, reads=False)
     yield Case("500 000 operations of which one is wrong", wrong, its_order, reads=False, says=("c6",))
     yield Case("500 000 operations without an order", wrong, reads=False, says=("never_put",))
     yield Case("500 000 operations with a value taken twice", twice, reads=False, says=("too_often",))
     maps, order = rounds(1000, 40_000)
-    yield Case("1 000 processes", texts.lines(*maps), texts.order(*order))
-    yield Case("1 000 processes, one wrong", texts.lines(*with_wrong_reply(maps, 20_000)), texts.order(*order), says=("c6",))
-    yield Case("1 000 processes without an order", texts.lines(*with_value_twice(maps, 20_000)), says=("too_often",))
+    yield Case("1 000 processes", text_writers.lines(*maps), text_writers.order(*order))
+    yield Case("1 000 processes, one wrong", text_writers.lines(*with_wrong_reply(maps, 20_000)), text_writers.order(*order), says=("c6",))
+    yield Case("1 000 processes without an order", text_writers.lines(*with_value_twice(maps, 20_000)), says=("too_often",))
     yield Case("a reason of 4 000 operations", of_two_values(2_000, 12), reads=False, says=("general",))
-    many = [it for on in range(65_536) for it in (texts.invoke(0, "push", on, on), texts.ok(0, "push", on, on))]
-    yield Case("65 536 objects", texts.lines(*many), reads=False)
-    yield Case("65 536 objects, the last one alone", texts.lines(*many), None, ("--object", "65535"), reads=False)
+    many = [it for on in range(65_536) for it in (text_writers.invoke(0, "push", on, on), text_writers.ok(0, "push", on, on))]
+    yield Case("65 536 objects", text_writers.lines(*many), reads=False)
+    yield Case("65 536 objects, the last one alone", text_writers.lines(*many), None, ("--object", "65535"), reads=False)
 
 
 def large_drawings(program, report):
@@ -599,11 +599,11 @@ def rounds_of_a_map(processes, maps):
     made, value = [], 0
     before = dict.fromkeys(range(processes))
     while len(made) < maps:
-        made += [texts.invoke(it, "put", (it, value + it)) for it in range(processes)]
-        made += [texts.ok(it, "put", before[it]) for it in range(processes)]
+        made += [text_writers.invoke(it, "put", (it, value + it)) for it in range(processes)]
+        made += [text_writers.ok(it, "put", before[it]) for it in range(processes)]
         before = {it: value + it for it in range(processes)}
-        made += [texts.invoke(it, "get", it) for it in range(processes)]
-        made += [texts.ok(it, "get", before[it]) for it in range(processes)]
+        made += [text_writers.invoke(it, "get", it) for it in range(processes)]
+        made += [text_writers.ok(it, "get", before[it]) for it in range(processes)]
         value += processes
     return made
 
@@ -618,12 +618,12 @@ def cost_of_drawings(program, report):
     """A page takes at most 1.1 times the instructions of judge, and 1.2 times its time, of a queue, of a map, and of a queue without an order."""
     told = []
     for name, maps in histories_of_cost(100_000).items() if shutil.which("valgrind") else ():
-        file = program.write(f"{name}.{HISTORY}", texts.lines(*maps))
+        file = program.write(f"{name}.{HISTORY}", text_writers.lines(*maps))
         with_page, without = program.instructions("draw", file), program.instructions("judge", file)
         report.holds(f"draw: {name}: it takes at most {MOST_INSTRUCTIONS} times the instructions of judge", with_page <= MOST_INSTRUCTIONS * without, (with_page, without))
         told.append(f"{name} {with_page / without:.2f} times the instructions")
     for name, maps in histories_of_cost(1_000_000).items():
-        with_page, without = least_seconds(program, program.write(f"{name}.{HISTORY}", texts.lines(*maps)))
+        with_page, without = least_seconds(program, program.write(f"{name}.{HISTORY}", text_writers.lines(*maps)))
         report.holds(f"draw: {name}: it takes at most {MOST_TIMES} times the time of judge", is_fast(with_page, without), (with_page, without))
         told.append(f"{name} {with_page:.2f} of {without:.2f} s, {with_page / without:.2f} times")
     return "; ".join(told)

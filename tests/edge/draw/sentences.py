@@ -5,7 +5,7 @@ import re
 from ..histories import KIND_OF, calls_of
 from .pages import REF, found, spelled
 from ..verify.reasons import NEXT, OPEN, has_order, maps_of
-from ..texts import value
+from ..text_writers import value
 
 PUT = {"queue": "enqueue", "stack": "push", "heap": "insert", "register": "write", "map": "put", "mutex": "acquire"}
 PUTS = ("enqueue", "push", "insert", "write", "put", "cas")

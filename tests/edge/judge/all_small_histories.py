@@ -2,7 +2,7 @@
 import itertools
 import re
 
-from .. import force
+from .. import brute_force
 
 PUTS_AND_TAKES = {"queue": ("enqueue", "dequeue"), "stack": ("push", "pop"), "heap": ("insert", "extract-min")}
 
@@ -88,7 +88,7 @@ def searched_by_force(program, report):
     """A search in either order of trying answers on all histories of at most four operations as a search by brute force does."""
     counts = []
     for name, calls in SEARCHED.items():
-        histories = force.Sorted()
+        histories = brute_force.Sorted()
         for size in (2, 4, 6, 8):
             for turns in itertools.product((0, 1), repeat=size):
                 # Process 0 begins, and both have an even number of maps.
@@ -107,15 +107,15 @@ def search_both_sorts(program, report, name, histories):
     """Searches in both orders of trying."""
     for first in ("number", "return"):
         words = ("search", "--first", first, "--steps", "1000000")
-        of_others = lambda history, count: force.of_each(program, f"{name}, by {first}, without an order", words, history, count, "impossible", 1)  # noqa: B023
+        of_others = lambda history, count: brute_force.of_each(program, f"{name}, by {first}, without an order", words, history, count, "impossible", 1)  # noqa: B023
         both_sorts(program, report, f"{name}, by {first}", histories, words, of_others)
 
 
 def both_sorts(program, report, name, histories, words, of_others, more="", maps_of_more=0):
     """An order is put out of each history that has one, which check accepts. At the others another function looks."""
-    look = lambda history, _, count: force.of_orders(program, name, words, history, count)
-    force.on_texts(program, report, histories.texts(True, more, maps_of_more), look)
-    force.on_texts(program, report, histories.texts(False, more, maps_of_more), lambda history, _, count: of_others(history, count))
+    look = lambda history, _, count: brute_force.of_orders(program, name, words, history, count)
+    brute_force.on_texts(program, report, histories.texts(True, more, maps_of_more), look)
+    brute_force.on_texts(program, report, histories.texts(False, more, maps_of_more), lambda history, _, count: of_others(history, count))
 
 
 # ---- find: three processes
@@ -178,13 +178,13 @@ def found_by_force(program, report):
     """All histories of at most three operations, and some of four and five that are drawn: find finds an order where there is one."""
     counts = []
     for kind, calls in FOUND.items():
-        histories, chance = force.Sorted(), None
+        histories, chance = brute_force.Sorted(), None
         for size in (1, 2, 3):
             for turns in filter(are_turns, itertools.product(range(3), repeat=2 * size)):
                 for chosen in itertools.product(calls, repeat=size):
                     histories.add(history_of(turns, chosen))
         for size in (4, 5):
-            chance = force.Chance(2026)
+            chance = brute_force.Chance(2026)
             for _ in range(DRAWS):
                 turns = digits(chance.below(3 ** (2 * size)), 3, 2 * size)
                 if are_turns(turns):
@@ -198,7 +198,7 @@ def found_by_force(program, report):
 
 def find_both_sorts(program, report, name, histories, more="", maps_of_more=0):
     """Looks for orders of histories that have one, and of those that have none."""
-    of_others = lambda history, count: force.of_no_orders(program, name, history, count)
+    of_others = lambda history, count: brute_force.of_no_orders(program, name, history, count)
     both_sorts(program, report, name, histories, ("find",), of_others, more, maps_of_more)
 
 
@@ -241,7 +241,7 @@ ALL = (
     ("mutex", 2, 4, False, 27_306, 15_481),
 )
 # How many histories are judged at a time.
-LOT = 4 * force.MOST_OBJECTS
+LOT = 4 * brute_force.MOST_OBJECTS
 WHOLE = re.compile(rb":cuts \[\]\}$", re.M)
 
 
@@ -256,9 +256,9 @@ class Every:
     the first step. Of two histories in which only the values 1 and 2 are exchanged the one that names 1 first can be taken alone."""
 
     def __init__(self, calls, operations, of_two, take):
-        self.calls, self.steps, self.take, self.histories = calls, 2 * operations, take, force.Sorted()
+        self.calls, self.steps, self.take, self.histories = calls, 2 * operations, take, brute_force.Sorted()
         self.count, self.without, self.text_of = 0, 0, {}
-        self.go_on("", 0, operations, (None, None), force.NOTHING_DONE, not of_two)
+        self.go_on("", 0, operations, (None, None), brute_force.NOTHING_DONE, not of_two)
         self.take_lot()
 
     def take_lot(self):
@@ -266,15 +266,15 @@ class Every:
         lot, without = self.histories.counts()
         self.count, self.without = self.count + lot, self.without + without
         self.take(self.histories)
-        self.histories = force.Sorted()
+        self.histories = brute_force.Sorted()
 
     def step(self, text, maps, left, waiting, state, is_named, event):
         """Goes on after one more map, unless it is the first to name a value, and names 2."""
         if event not in self.text_of:
-            self.text_of[event] = force.template([event])
+            self.text_of[event] = brute_force.template([event])
         first = None if is_named else first_value(event[3])
         if first != 2:
-            self.go_on(text + self.text_of[event], maps + 1, left, waiting, force.after(state, *event), is_named or first == 1)
+            self.go_on(text + self.text_of[event], maps + 1, left, waiting, brute_force.after(state, *event), is_named or first == 1)
 
     def go_on(self, text, maps, left, waiting, state, is_named):
         if maps:
@@ -308,12 +308,12 @@ def judge_both_sorts(program, report, name, histories):
     def impossible(history, _, count):
         ran = program.run(*words, history)
         said = b"".join(it for it in ran.out.splitlines(True) if it.startswith(b"; object "))
-        differs = force.difference(force.all_say(count, "impossible"), said)
+        differs = brute_force.difference(brute_force.all_say(count, "impossible"), said)
         reasons = ran.out.count(b"\n; {:object "), len(WHOLE.findall(ran.out))
         return [(f"{name}, without an order", (1, b"", None, (count, 0)), (ran.status, ran.err, differs, reasons))]
 
-    force.on_texts(program, report, histories.texts(True), valid)
-    force.on_texts(program, report, histories.texts(False), impossible)
+    brute_force.on_texts(program, report, histories.texts(True), valid)
+    brute_force.on_texts(program, report, histories.texts(False), impossible)
 
 
 def judged_by_force(program, report):
@@ -348,7 +348,7 @@ def drawn(calls, chance, operations):
 def judged_at_random(program, report):
     """Of a thousand histories of a kind that are drawn, a reason is found for each that has no valid order."""
     for kind, calls in JUDGED.items():
-        histories, chance = force.Sorted(), force.Chance(2026)
+        histories, chance = brute_force.Sorted(), brute_force.Chance(2026)
         for _ in range(1000):
             events = drawn(calls, chance, 4)
             if events:

@@ -9,11 +9,11 @@ import re
 import time
 from dataclasses import dataclass
 
-from .. import rows
+from .. import worked_rows
 from ..verify import worked_evidence
 from ..verify.reasons import why_not_explained
 from ..running import at_once
-from ..texts import certificate, lines, one_process, order
+from ..text_writers import certificate, lines, one_process, order
 
 # A judgement whose finder goes on after it closed its output takes less, in seconds, on a slow machine too: the finder would go on for 1,000.
 SOON = 300
@@ -40,21 +40,21 @@ class Judged:
 OLD_VALUE = one_process(("write", 1, 1), ("write", 2, 2), ("read", None, 1))
 ALL_STEPS = worked_evidence.searched("return", 1000)
 HISTORIES = (
-    Judged("enqueues that overlap", rows.OVERLAPPING, 0, order(1, 0, 4)),
-    Judged("two queues", rows.TWO_QUEUES, 0, rows.TWO_ORDERS),
-    Judged("a mutex that is passed on", rows.MUTEX, 0, order(0, 3, 2)),
-    Judged("a heap", rows.HEAP, 0, order(*range(0, 14, 2))),
-    Judged("a register", rows.REGISTER, 0, order(0, 2, 4, 6)),
-    Judged("a map", rows.MAP, 0, order(0, 2, 4, 6, 8)),
-    Judged("a pending enqueue", rows.PENDING, 0, order(0, 1)),
-    Judged("a search that finds an order", rows.RETURNS_CROSSED, 0, ALL_STEPS),
+    Judged("enqueues that overlap", worked_rows.OVERLAPPING, 0, order(1, 0, 4)),
+    Judged("two queues", worked_rows.TWO_QUEUES, 0, worked_rows.TWO_ORDERS),
+    Judged("a mutex that is passed on", worked_rows.MUTEX, 0, order(0, 3, 2)),
+    Judged("a heap", worked_rows.HEAP, 0, order(*range(0, 14, 2))),
+    Judged("a register", worked_rows.REGISTER, 0, order(0, 2, 4, 6)),
+    Judged("a map", worked_rows.MAP, 0, order(0, 2, 4, 6, 8)),
+    Judged("a pending enqueue", worked_rows.PENDING, 0, order(0, 1)),
+    Judged("a search that finds an order", worked_rows.RETURNS_CROSSED, 0, ALL_STEPS),
     Judged("no object", "", 0, ""),
-    Judged("a malformed history", rows.AFTER_INFO, 2, order(0)),
-    Judged("the second of three values", rows.THREE_VALUES, 1, rows.TWO_OF_THREE + "\n"),
+    Judged("a malformed history", worked_rows.AFTER_INFO, 2, order(0)),
+    Judged("the second of three values", worked_rows.THREE_VALUES, 1, worked_rows.TWO_OF_THREE + "\n"),
     Judged("a value taken twice", worked_evidence.TWICE, 1, worked_evidence.COUNTED + "\n"),
-    Judged("a queue of two that is wrong", rows.ONE_OF_TWO, 1, "{:object 0, :cuts []}\n" + lines(certificate(1, 0))),
-    Judged("a search that finds no order", rows.OUT_OF_ORDER, 1, ALL_STEPS),
-    Judged("a free mutex that is released", rows.RELEASE_OF_A_FREE_MUTEX, 1, "{:object 0, :cuts []}\n"),
+    Judged("a queue of two that is wrong", worked_rows.ONE_OF_TWO, 1, "{:object 0, :cuts []}\n" + lines(certificate(1, 0))),
+    Judged("a search that finds no order", worked_rows.OUT_OF_ORDER, 1, ALL_STEPS),
+    Judged("a free mutex that is released", worked_rows.RELEASE_OF_A_FREE_MUTEX, 1, "{:object 0, :cuts []}\n"),
     Judged("an old value", OLD_VALUE, 1, "{:object 0, :cuts []}\n"),
 )
 
@@ -100,7 +100,7 @@ WRONG = {
     "orders without their first entry": (entries(lambda those: those[1:]), "perhaps"),
     "orders with their last entry twice": (entries(lambda those: those + those[-1:]), "perhaps"),
     "orders of the maps after": (entries(lambda those: [moved(it) for it in those]), "perhaps"),
-    "orders of huge numbers": (entries(lambda those: [f"{it}{rows.LARGEST}" for it in those]), "perhaps"),
+    "orders of huge numbers": (entries(lambda those: [f"{it}{worked_rows.LARGEST}" for it in those]), "perhaps"),
     "empty orders": (lambda evidence: "".join(f"{certificate(it)}\n" for it in range(2)), "perhaps"),
     "numbers of other maps": (replaced(r"\d+", lambda found: moved(found[0])), "perhaps"),
     "a count of 1": (lambda evidence: "{:object 0, :cuts [], :count {:value 1, :from 0}}", "perhaps"),
@@ -238,7 +238,7 @@ def dying_finders(program, report):
 
 
 # Two that are linearizable, two that are not, and a malformed one.
-FEW = tuple(it for it in HISTORIES if it.text in (rows.OVERLAPPING, rows.TWO_QUEUES, rows.THREE_VALUES, worked_evidence.TWICE, rows.AFTER_INFO))
+FEW = tuple(it for it in HISTORIES if it.text in (worked_rows.OVERLAPPING, worked_rows.TWO_QUEUES, worked_rows.THREE_VALUES, worked_evidence.TWICE, worked_rows.AFTER_INFO))
 
 
 def endless_finders(program, report):

@@ -4,7 +4,7 @@ The malformed histories are those that testers of stores wrote, one after anothe
 import os
 import subprocess
 
-from .. import rows
+from .. import worked_rows
 
 # What an event has beside its process and type, and what is said of it.
 OF_EVENTS = (
@@ -161,7 +161,7 @@ def summaries(program, report):
 
 def out_of_steps(program, report):
     """Where the steps of a search did not suffice, a line on standard error says what to do."""
-    path = program.write("long.edn", rows.FIRST_WRITE_LAST)
+    path = program.write("long.edn", worked_rows.FIRST_WRITE_LAST)
     for steps, wanted in (("7", 1), ("1000000", 0)):
         ran = subprocess.run(program.line(("judge", "--steps", steps, path)), capture_output=True, cwd=program.room, check=False)
         said = [it for it in ran.stderr.decode().splitlines() if it.startswith("fcbench: out of steps: --steps N lets the search take longer; docs/tutorial.md says ")]

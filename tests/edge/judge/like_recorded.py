@@ -3,7 +3,7 @@ a nemesis. Objects that are right have an order too; faulty ones are made faulty
 import random
 from dataclasses import dataclass, field
 
-from .. import texts
+from .. import text_writers
 from ..histories import FUNCTIONS, calls_of
 from ..verify.reasons import NEXT
 
@@ -19,7 +19,7 @@ class Played:
     orders: dict = field(default_factory=dict)
 
     def text(self):
-        return texts.lines(*self.maps)
+        return text_writers.lines(*self.maps)
 
     def certificates(self, change=None):
         """The orders as a text, that of the first object changed."""
@@ -27,7 +27,7 @@ class Played:
         if change:
             first = min(orders)
             orders[first] = change(orders[first])
-        return texts.lines(*[texts.certificate(on, *order) for on, order in orders.items()])
+        return text_writers.lines(*[text_writers.certificate(on, *order) for on, order in orders.items()])
 
     def by_return(self):
         """For each object its calls that returned, in the order in which they did so."""
@@ -198,14 +198,14 @@ class Play:
         process = self.names[place]
         on, f, argument = self.wishes.next(process)
         number = len(self.played.maps)
-        self.played.maps.append(texts.invoke(process, f, argument, on))
+        self.played.maps.append(text_writers.invoke(process, f, argument, on))
         call = self.system.call(number, process, on, f, argument)
         self.running[place] = [call, process, on, f, argument, self.begun, 0]
         self.begun += 1
 
     def end(self, place, kind, reply=None):
         _, process, on, f, argument, _, _ = self.running.pop(place)
-        write = {"ok": texts.ok, "fail": texts.fail, "info": texts.info}[kind]
+        write = {"ok": text_writers.ok, "fail": text_writers.fail, "info": text_writers.info}[kind]
         self.played.maps.append(write(process, f, reply if kind == "ok" else argument, on))
         if kind == "info":
             self.names[place] = max(self.names) + 1

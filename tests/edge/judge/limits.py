@@ -6,8 +6,8 @@ import signal
 import subprocess
 import time
 
-from .. import texts
-from ..rows import yes
+from .. import text_writers
+from ..worked_rows import yes
 from ..running import SECONDS, Ran, at_once
 from ..terminals import on_terminal
 from ..verify import worked_evidence
@@ -21,17 +21,17 @@ def register(on):
     """The maps of a register that has one order, which is hard to find: of writes at once the one that returned first is the last, since none of
     the other values was there when they were looked for."""
     process = on * 100
-    writes = [(texts.invoke(process + it, "write", it, on), texts.ok(process + it, "write", it, on)) for it in range(WRITES)]
-    looked = [call for it in range(WRITES - 1, 0, -1) for call in (texts.invoke(process, "cas", (it, -1), on), texts.ok(process, "cas", False, on))]
+    writes = [(text_writers.invoke(process + it, "write", it, on), text_writers.ok(process + it, "write", it, on)) for it in range(WRITES)]
+    looked = [call for it in range(WRITES - 1, 0, -1) for call in (text_writers.invoke(process, "cas", (it, -1), on), text_writers.ok(process, "cas", False, on))]
     return [*(begun for begun, _ in writes), *(ended for _, ended in writes), *looked]
 
 
 def long_history(first):
     """A text of many such registers, and before them an object 0 of these maps."""
-    return first + texts.lines(*[it for on in range(1, OBJECTS) for it in register(on)])
+    return first + text_writers.lines(*[it for on in range(1, OBJECTS) for it in register(on)])
 
 
-YES = texts.lines(texts.invoke(0, "enqueue", 1, 0), texts.ok(0, "enqueue", 1, 0))
+YES = text_writers.lines(text_writers.invoke(0, "enqueue", 1, 0), text_writers.ok(0, "enqueue", 1, 0))
 LONG = (Judged("a long history", long_history(YES), 3, ""), Judged("a long history that is wrong", long_history(worked_evidence.TWICE), 1, ""))
 DONE = rb"objects done: (\d+) of (\d+), after \d+ s\n"
 STOPPED = b"fcbench: the finder is stopped\n"
@@ -117,7 +117,7 @@ def stopped_finds(program, report):
     said = re.fullmatch(b"; stopped, " + DONE, ran.err)
     is_whole = re.fullmatch(rb"({:object \d+, :order \[[\d ]+\]}\n)+", ran.out)
     report.holds("find: --seconds", ran.status == 3 and said and is_whole and ran.out.count(b"\n") == int(said[1]), ran)
-    one, none = program.write("one.edn", texts.lines(*register(0))), program.write("none.edn", "")
+    one, none = program.write("one.edn", text_writers.lines(*register(0))), program.write("none.edn", "")
     calls = 2 * WRITES - 1
     report.answers("judge: a limit that is not reached", program.run("judge", "--seconds", "100", one), yes(calls, 1, f"register: 1 objects, {calls} operations"), 0)
     report.answers("judge: a limit, and no object", program.run("judge", "--seconds", "1", none), yes(0, 0), 0)

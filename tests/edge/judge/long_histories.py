@@ -4,10 +4,10 @@ kind of the object is left to find an order.
 The numbers by chance are those of a generator whose multiplier and increment are told, so that the histories are always the same."""
 import itertools
 
-from .. import force
-from ..rows import HISTORY
+from .. import brute_force
+from ..worked_rows import HISTORY
 from .all_small_histories import find_both_sorts
-from ..texts import invoke, lines, ok
+from ..text_writers import invoke, lines, ok
 
 KINDS = ("queue", "stack", "heap", "register", "map", "mutex")
 # Two calls, one after the other, that leave a new object as it is.
@@ -27,7 +27,7 @@ PAIRS = 2_049
 def idle_calls(kind):
     """The maps of 4,098 calls of a process of its own, and how many there are."""
     events = [it for f, argument in IDLE[kind] for it in ((89, "invoke", f, argument), (89, "ok", f, None))]
-    return force.template(events) * PAIRS, len(events) * PAIRS
+    return brute_force.template(events) * PAIRS, len(events) * PAIRS
 
 
 # ---- calls in the order in which the object did them
@@ -135,7 +135,7 @@ def some_pending(chance, events):
 
 
 def repeated_values(kind):
-    chance = force.Chance(2026)
+    chance = brute_force.Chance(2026)
     for turn in range(150):
         calls = first_comes_last(chance, cell_calls(chance, kind, 3 + turn % 8))
         yield some_pending(chance, history_of(chance, calls))
@@ -148,14 +148,14 @@ def each_value_once(kind, chance):
 
 def of_two_values(kind, pending):
     """Histories over two values; of the calls some do not return, if they may be pending."""
-    chance = force.Chance(37)
+    chance = brute_force.Chance(37)
     for turn in range(100):
         events = history_of(chance, first_comes_last(chance, calls_below(chance, kind, 4 + turn % 8, 2)))
         yield some_pending(chance, events) if pending else events
 
 
 def sorted_of(those):
-    histories = force.Sorted()
+    histories = brute_force.Sorted()
     for events in those:
         histories.add(events)
     return histories
@@ -173,7 +173,7 @@ def two_values(kind, pending):
 
 def drawn_are_found(program, report):
     """Where a short history that is drawn has an order, find finds it."""
-    chance = force.Chance(2026)
+    chance = brute_force.Chance(2026)
     for kind in KINDS:
         histories = sorted_of(each_value_once(kind, chance))
         has_between(report, f"find: drawn histories of a {kind}", histories, 40, 150)
@@ -186,7 +186,7 @@ def drawn_are_found(program, report):
 
 def found_after_idle_calls(program, report):
     """The same after more calls than a search takes, and where values repeat."""
-    sorts = [(it, "", each_value_once(it, force.Chance(2026)), 40, 150) for it in KINDS]
+    sorts = [(it, "", each_value_once(it, brute_force.Chance(2026)), 40, 150) for it in KINDS]
     sorts += [(it, ", where values repeat", repeated_values(it), 40, 150) for it in ("register", "map")]
     sorts += [(it, " over two values", of_two_values(it, False), 25, 100) for it in NAMES]
     sorts += [(it, " over two values with pending calls", of_two_values(it, True), 25, 100) for it in NAMES]
@@ -203,14 +203,14 @@ def found_after_idle_calls(program, report):
 
 def long_ones_are_found(program, report):
     """An order is found of five thousand calls."""
-    chance = force.Chance(2026)
+    chance = brute_force.Chance(2026)
     long = [(kind, history_of(chance, calls_in_order(chance, kind, 5000))) for kind in KINDS]
-    chance = force.Chance(37)
+    chance = brute_force.Chance(37)
     long.append(("stack over five values", history_of(chance, calls_below(chance, "stack", 5000, 5))))
     for kind, events in long:
         text = lines(*[{"invoke": invoke, "ok": ok}[of](process, f, value) for process, of, f, value in events])
-        look = lambda history, _, count: force.of_orders(program, f"find: five thousand calls of a {kind}", ("find",), history, count)
-        force.on_texts(program, report, [(text, 1)], look)
+        look = lambda history, _, count: brute_force.of_orders(program, f"find: five thousand calls of a {kind}", ("find",), history, count)
+        brute_force.on_texts(program, report, [(text, 1)], look)
 
 
 PARTS = (drawn_are_found, found_after_idle_calls, long_ones_are_found)

@@ -1,8 +1,8 @@
 """Orders of operations, and what check says of them; and orders that find must find.
 
 The expected values are worked out by hand from the definitions of the objects and of a valid order."""
-from ..rows import check, find, yes
-from ..texts import certificate, fail, invoke, lines, ok, one_process, order
+from ..worked_rows import check, find, yes
+from ..text_writers import certificate, fail, invoke, lines, ok, one_process, order
 
 # In these a value that is nil is not written.
 

@@ -4,8 +4,8 @@ A number in a sentence is that of a map. What the part says is checked by all or
 import re
 
 from ..verify.reasons import explained_in, why_not_explained
-from ..rows import HISTORY, OUT_OF_ORDER
-from ..texts import fail, invoke, lines, ok, one_process
+from ..worked_rows import HISTORY, OUT_OF_ORDER
+from ..text_writers import fail, invoke, lines, ok, one_process
 
 # What a sentence says after the pattern: where the part begins, and the first event that leaves no order.
 AFTER = re.compile(r"(?<=.); (?:before that, event |event \d+ is the first|the first event) ?.*$")

@@ -4,7 +4,7 @@ import os
 
 from ..verify.reasons import why_not_explained
 from ..running import EXAMPLES
-from ..times import least_seconds
+from ..timing import least_seconds
 
 FOLDER = f"{EXAMPLES}/recorded"
 # What each is, and how many operations it has, of which none failed.

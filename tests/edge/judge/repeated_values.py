@@ -5,13 +5,13 @@ import os
 import subprocess
 import sys
 
-from .. import force
+from .. import brute_force
 from .long_histories import IDLE, PAIRS
 from ..verify.reasons import maps_of, value_of
-from ..rows import HISTORY
+from ..worked_rows import HISTORY
 from ..running import ROOT
-from ..texts import invoke, lines, ok
-from ..times import least_seconds
+from ..text_writers import invoke, lines, ok
+from ..timing import least_seconds
 
 # Queues, stacks and heaps that have an order, and why it is not easily found.
 VALUES = (
@@ -386,7 +386,7 @@ def idle_calls(kind):
 
 def is_valid(history):
     """Whether some order of a history is valid, by force."""
-    return force.has_order([(it["process"], it["type"][1:], it["f"][1:], value_of(it.get("value"))) for it in maps_of(history)])
+    return brute_force.has_order([(it["process"], it["type"][1:], it["f"][1:], value_of(it.get("value"))) for it in maps_of(history)])
 
 
 def repeated_values(program, report):
@@ -413,14 +413,14 @@ def is_judged(program, report, name, valid):
 def is_searched(program, report, name, valid):
     """Whether an order is put out that check accepts, or else that there is none."""
     words = ("search",)
-    told = force.of_orders(program, name, words, HISTORY, 1) if valid else force.of_each(program, name, words, HISTORY, 1, "impossible", 1)
+    told = brute_force.of_orders(program, name, words, HISTORY, 1) if valid else brute_force.of_each(program, name, words, HISTORY, 1, "impossible", 1)
     for it in told:
         report.equal(*it)
 
 
 def is_found(program, report, name, valid):
     """Whether an order is put out that check accepts, or else no order."""
-    told = force.of_orders(program, name, ("find",), HISTORY, 1) if valid else force.of_no_orders(program, name, HISTORY, 1)
+    told = brute_force.of_orders(program, name, ("find",), HISTORY, 1) if valid else brute_force.of_no_orders(program, name, HISTORY, 1)
     for it in told:
         report.equal(*it)
 

@@ -8,7 +8,7 @@ import subprocess
 import sys
 
 from ..running import EXAMPLES, ROOT, Program, Ran, at_once
-from ..times import slowness
+from ..timing import slowness
 
 SOURCES = f"{ROOT}/callers"
 OUT = f"{ROOT}/crates/embedding/out"

@@ -1,7 +1,7 @@
 """Schedules, and the records that come of them.
 
 The expected values are worked out by hand from the definition of the machine, docs/machine.md."""
-from ..rows import simulate
+from ..worked_rows import simulate
 
 # Two clients at one queue.
 QUEUE = "{:kind :queue, :objects 1, :clients 2, :quota 4}\n"

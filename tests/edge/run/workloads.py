@@ -1,5 +1,5 @@
 """The calls of a run's clients, and what a run of one client puts out. This is written from the rules, apart from the program."""
-from ..texts import certificate, invoke, lines, ok
+from ..text_writers import certificate, invoke, lines, ok
 
 OPERATIONS = {
     "queue": ("enqueue", "dequeue"),

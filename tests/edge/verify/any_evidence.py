@@ -4,12 +4,12 @@ import random
 import re
 import threading
 
-from .. import force, histories, rows
+from .. import brute_force, histories, worked_rows
 from ..judge import orders_to_find
 from .reasons import maps_of, value_of, why_not_explained
-from ..rows import EVIDENCE, HISTORY, REASONS
+from ..worked_rows import EVIDENCE, HISTORY, REASONS
 from ..running import EXAMPLES, at_once
-from ..texts import certificate, lines
+from ..text_writers import certificate, lines
 
 # How many made histories there are of each kind, and how often the evidence of each is spoilt.
 OF_EACH, SPOILT = 20, 6
@@ -26,7 +26,7 @@ WORDS = (
 
 def has_order(text):
     """Whether the history of one object has a valid order, by trying all."""
-    return force.has_order([(it["process"], it["type"][1:], it["f"][1:], value_of(it.get("value"))) for it in maps_of(text)])
+    return brute_force.has_order([(it["process"], it["type"][1:], it["f"][1:], value_of(it.get("value"))) for it in maps_of(text)])
 
 
 def why_wrong(program, history, valid, ran):
@@ -123,7 +123,7 @@ def any_bytes(program, report):
     texts = [rng.randbytes(rng.choice((1, 3, 10, 100, 10_000))) for _ in range(RANDOM)]
     texts += [" ".join(rng.choice(WORDS) for _ in range(rng.choice((2, 5, 20, 200)))).encode() for _ in range(RANDOM)]
     texts += [f"{{:object 0 {' '.join(rng.choice(WORDS) for _ in range(rng.choice((2, 4, 6))))}}}".encode() for _ in range(RANDOM)]
-    of = ((rows.OVERLAPPING, True), (rows.OUT_OF_ORDER, False))
+    of = ((worked_rows.OVERLAPPING, True), (worked_rows.OUT_OF_ORDER, False))
     cases = [(history, valid, text) for text in texts for history, valid in of]
     for (history, valid, text), ran in zip(cases, at_once(lambda it: verified(program, it[0], it[2]), cases)):
         report.equal(f"verify: {text[:200]!r} of {history!r}", None, why_wrong(program, history, valid, ran))
@@ -135,7 +135,7 @@ def any_bytes(program, report):
 
 def as_check(program, report):
     """By the certificates of each row of check verify answers yes where check does. Where check refuses an order, verify leaves its object open."""
-    for row in (*rows.YES, *rows.NO, *orders_to_find.ROWS):
+    for row in (*worked_rows.YES, *worked_rows.NO, *orders_to_find.ROWS):
         if row.words[0] != "check":
             continue
         history, certificates = row.texts
@@ -154,7 +154,7 @@ def as_check(program, report):
 
 def as_refute(program, report):
     """By the reasons of each row of refute verify says no where refute does."""
-    for row in rows.REFUTATIONS:
+    for row in worked_rows.REFUTATIONS:
         if "malformed reasons" in row.out or row.words[0] != "refute":
             continue
         files = program.write(HISTORY, row.texts[0]), program.write(EVIDENCE, row.texts[1])
@@ -175,7 +175,7 @@ def as_refute(program, report):
 
 def found_evidence(program, report):
     """What judge says is what verify says by what find puts out, of each history that is not linearizable and of each example."""
-    texts = [(name, history, options) for name, history, *options in rows.NOT_LINEARIZABLE]
+    texts = [(name, history, options) for name, history, *options in worked_rows.NOT_LINEARIZABLE]
     for name in sorted(os.listdir(EXAMPLES)):
         if name.endswith(".history.edn"):
             with open(f"{EXAMPLES}/{name}", "rb") as file:
@@ -199,15 +199,15 @@ def found_evidence(program, report):
 def many_claims(program, report):
     """Evidence of many claims, and of many objects, is checked claim by claim."""
     wrong = lines(*[certificate(0, it) for it in range(20_000)])
-    ran = verified(program, rows.OVERLAPPING, wrong + rows.order(1, 0, 4))
-    report.answers("verify: a valid order after 20,000 wrong ones", ran, rows.THREE_YES, 0)
-    ran = verified(program, rows.THREE_VALUES, wrong)
+    ran = verified(program, worked_rows.OVERLAPPING, wrong + worked_rows.order(1, 0, 4))
+    report.answers("verify: a valid order after 20,000 wrong ones", ran, worked_rows.THREE_YES, 0)
+    ran = verified(program, worked_rows.THREE_VALUES, wrong)
     report.answers("verify: 20,000 wrong orders", ran, "; object 0: open\n", 3)
     history = lines(*[f"{{:process {on}, :type :{of}, :f :push, :value 1, :object {on}}}" for on in range(3_000) for of in ("invoke", "ok")])
     claims = [certificate(on, 2 * on) for on in range(3_000)]
     random.Random("many claims").shuffle(claims)
     ran = verified(program, history, lines(*claims))
-    report.answers("verify: 3,000 objects", ran, rows.yes(3_000, 3_000, "stack: 3000 objects, 3000 operations"), 0)
+    report.answers("verify: 3,000 objects", ran, worked_rows.yes(3_000, 3_000, "stack: 3000 objects, 3000 operations"), 0)
     missing = claims.pop()
     ran = verified(program, history, lines(*claims))
     on = re.search(r":object (\d+)", missing)[1]

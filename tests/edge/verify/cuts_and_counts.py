@@ -1,8 +1,8 @@
 """Parts of histories by cuts, and counts over parts: each rule on the histories that a laxer one would take for impossible."""
 from ..answers import in_files
 from .reasons import why_not_shown
-from ..rows import HISTORY, REASONS, refute
-from ..texts import invoke, lines, ok
+from ..worked_rows import HISTORY, REASONS, refute
+from ..text_writers import invoke, lines, ok
 
 # Histories of one object each. A number in a cut is that of a map.
 

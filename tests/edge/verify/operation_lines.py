@@ -1,7 +1,7 @@
 """The lines of the operations of a part: what each kind of call says, what is pending, and what is counted as another call."""
 from ..answers import in_files
-from ..rows import HISTORY, refute
-from ..texts import fail, invoke, lines, ok
+from ..worked_rows import HISTORY, refute
+from ..text_writers import fail, invoke, lines, ok
 
 # In each of these a call gives what was never put in: at the end, or at the beginning.
 

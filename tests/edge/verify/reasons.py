@@ -7,9 +7,9 @@ import os
 import re
 import threading
 
-from .. import rows
+from .. import worked_rows
 from ..running import EXAMPLES
-from ..texts import lines
+from ..text_writers import lines
 
 VALUE = r"nil|false|-?\d+|\[-?\d+ -?\d+\]"
 TOLD = re.compile(
@@ -288,14 +288,14 @@ def why_not_explained(program, history, ran):
 
 def explanations(program, report):
     """Where judge says that an object is impossible, the operations that it tells are of the history and have no valid order."""
-    cases = [(name, history, options) for name, history, *options in rows.NOT_LINEARIZABLE]
+    cases = [(name, history, options) for name, history, *options in worked_rows.NOT_LINEARIZABLE]
     for name in sorted(os.listdir(EXAMPLES)):
         stem, _, kind = name.partition(".")
         if kind == "refuted":
             with open(f"{EXAMPLES}/{stem}.history.edn") as file:
                 cases.append((f"example {stem}", file.read(), ()))
     for name, history, options in cases:
-        ran = program.run("judge", *options, program.write(rows.HISTORY, history))
+        ran = program.run("judge", *options, program.write(worked_rows.HISTORY, history))
         report.equal(f"judge: {name}: why it is not linearizable", None, why_not_explained(program, history, ran), ran)
     report.holds("histories that are not linearizable are tried", len(cases) > 10, cases)
 

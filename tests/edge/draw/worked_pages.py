@@ -2,8 +2,8 @@
 looked at in a browser."""
 import re
 
-from ..rows import CERTIFICATES, ENQUEUE_DEQUEUE, FAILED, OUT_OF_ORDER, OVERLAPPING
-from ..texts import order
+from ..worked_rows import CERTIFICATES, ENQUEUE_DEQUEUE, FAILED, OUT_OF_ORDER, OVERLAPPING
+from ..text_writers import order
 
 # A history, the order of its object or none, the class of the page, and some of the texts that it has.
 PAGES = (

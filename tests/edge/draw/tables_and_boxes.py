@@ -8,7 +8,7 @@ from ..histories import KIND_OF, Call, calls_of
 from .pages import REF, classes, found, spelled
 from ..verify.reasons import IMPOSSIBLE, TOLD, maps_of, value_of
 from .sentences import FEW_NAMED, FORMS, Said, Walked, grouped, label_of, number_in, why_bars_false
-from ..texts import value
+from ..text_writers import value
 
 # The most events of an object that is drawn whole, and how many of a larger one without a focus are drawn.
 WHOLE, FIRST, MOST = 160, 160, 400

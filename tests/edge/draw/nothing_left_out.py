@@ -4,10 +4,10 @@ import random
 import re
 
 from .. import histories
-from .details import shown_counts, stretches_of
+from .tables_and_boxes import shown_counts, stretches_of
 from .drawings import at_once, run
 from .pages import Drawn
-from .situations import Case
+from .drawn_inputs import Case
 from ..judge.like_recorded import played
 
 # How many pages are looked at. 500 are by tests/run --pages 500.

@@ -4,7 +4,7 @@ import random
 import re
 from dataclasses import dataclass
 
-from .. import histories, texts
+from .. import histories, text_writers
 from ..histories import FUNCTIONS, calls_of
 from .pages import found, spelled
 from .sentences import grouped, label_of, why_bars_false
@@ -87,7 +87,7 @@ def other_function(rng, kind, f):
 
 def before_of(maps, at):
     """The calls in the maps before one, in which none of the later maps completes an operation."""
-    return calls_of(texts.lines(*maps[:at]))[0]
+    return calls_of(text_writers.lines(*maps[:at]))[0]
 
 
 def whole(rng, code, maps, at, faulty, said, earlier=()):
@@ -118,7 +118,7 @@ def no_operation(rng, made):
 
 def unknown_function(rng, made):
     at = rng.randrange(len(made.maps) + 1)
-    faulty = texts.invoke(991, rng.choice(("peek", "size", "x" * 50)), 1)
+    faulty = text_writers.invoke(991, rng.choice(("peek", "size", "x" * 50)), 1)
     return whole(rng, "H2", made.maps, at, faulty, " names a function that is none of the fourteen.")
 
 
@@ -138,7 +138,7 @@ def other_kind(rng, made):
     at = rng.randrange(1, len(made.maps) + 1)
     kind = rng.choice([it for it in FUNCTIONS if it != made.kind])
     f = FUNCTIONS[kind][0]
-    faulty = texts.invoke(991, f, ARGUMENTS.get(f), 0)
+    faulty = text_writers.invoke(991, f, ARGUMENTS.get(f), 0)
     first = before_of(made.maps, at)[0]
     said = f" calls a function of another kind on an object that ⟨0|{label_of(first)}⟩ made a {made.kind}."
     return whole(rng, "H4", made.maps, at, faulty, said, (0, "The object’s first event, "))
@@ -150,7 +150,7 @@ def busy(rng, made):
     at = rng.choice(places)
     call = rng.choice(outstanding(before_of(made.maps, at), at))
     f = rng.choice(FUNCTIONS[made.kind])
-    faulty = texts.invoke(call.process, f, ARGUMENTS.get(f), 0)
+    faulty = text_writers.invoke(call.process, f, ARGUMENTS.get(f), 0)
     said = f" invokes an operation of process {call.process}, and ⟨{call.number}|{label_of(call)}⟩ of that process is still outstanding."
     return whole(rng, "H5", made.maps, at, faulty, said, (call.number, "The operation that is outstanding, event "))
 
@@ -159,7 +159,7 @@ def stray(rng, made):
     at = rng.randrange(len(made.maps) + 1)
     process = idle(before_of(made.maps, at), at)
     f = rng.choice(FUNCTIONS[made.kind])
-    faulty = texts.ok(process, f, REPLIES.get(f), 0)
+    faulty = text_writers.ok(process, f, REPLIES.get(f), 0)
     return whole(rng, "H6", made.maps, at, faulty, f" completes an operation of process {process}, which has none outstanding.")
 
 
@@ -168,7 +168,7 @@ def mismatch(rng, made):
     at = rng.choice([at for at in range(1, len(made.maps) + 1) if outstanding(calls, at)])
     call = rng.choice(outstanding(before_of(made.maps, at), at))
     f = other_function(rng, made.kind, call.f)
-    faulty = texts.ok(call.process, f, REPLIES.get(f), 0)
+    faulty = text_writers.ok(call.process, f, REPLIES.get(f), 0)
     said = f" completes an operation of process {call.process}, but with another :f or :object than ⟨{call.number}|{label_of(call)}⟩, which is outstanding."
     return whole(rng, "H7", made.maps, at, faulty, said, (call.number, "What the process invoked, event "))
 
@@ -177,11 +177,11 @@ def after_info(rng, made):
     maps = list(made.maps)
     f = FUNCTIONS[made.kind][0]
     begun = rng.randrange(len(maps) + 1)
-    maps[begun:begun] = [texts.invoke(992, f, ARGUMENTS.get(f), 0), texts.info(992, f, ARGUMENTS.get(f), 0)]
+    maps[begun:begun] = [text_writers.invoke(992, f, ARGUMENTS.get(f), 0), text_writers.info(992, f, ARGUMENTS.get(f), 0)]
     at = rng.randrange(begun + 2, len(maps) + 1)
     call = before_of(maps, at)[begun]
     g = rng.choice(FUNCTIONS[made.kind])
-    faulty = texts.invoke(992, g, ARGUMENTS.get(g), 0)
+    faulty = text_writers.invoke(992, g, ARGUMENTS.get(g), 0)
     said = (
         f" is of process 992, which the :info at event {call.at} closed: ⟨{call.number}|{label_of(call)}⟩ may have happened or not, so what "
         "it does next must be of another process."
@@ -289,7 +289,7 @@ def not_in_profile(rng, made):
 
 
 def forms_of(rng, made):
-    return [texts.certificate(0, *made.order), *[texts.certificate(it) for it in range(1, rng.choice((1, 2, 5)))]]
+    return [text_writers.certificate(0, *made.order), *[text_writers.certificate(it) for it in range(1, rng.choice((1, 2, 5)))]]
 
 
 def of_forms(rng, code, forms, at, faulty, said, earlier=None):
@@ -311,7 +311,7 @@ def certificate_twice(rng, made):
     forms = forms_of(rng, made)
     at = rng.randrange(1, len(forms) + 1)
     first = rng.randrange(at)
-    return of_forms(rng, "K2", forms, at, texts.certificate(first, 1, 2), " is a second certificate for the same object.", first)
+    return of_forms(rng, "K2", forms, at, text_writers.certificate(first, 1, 2), " is a second certificate for the same object.", first)
 
 
 SORTS = (
@@ -353,8 +353,8 @@ def longest_texts():
         rng = random.Random(f"too many {kind}")
         made = histories.made(kind, "too many", calls=12)
         beside = [OF_NEMESIS] * (MOST_MAPS - len(made.maps))
-        faulty = rng.choice((OF_NEMESIS, texts.invoke(991, FUNCTIONS[kind][0], 1)))
-        text = texts.lines(*made.maps, *beside, faulty).encode()
+        faulty = rng.choice((OF_NEMESIS, text_writers.invoke(991, FUNCTIONS[kind][0], 1)))
+        text = text_writers.lines(*made.maps, *beside, faulty).encode()
         end = len(text) - 1
         said = f"The text can be read, but it is no history. Event {MOST_MAPS} is one too many: a history has at most 1,000,000."
         yield made, Faulty("H9", text, MOST_MAPS, (end - len(faulty), end), (said,))

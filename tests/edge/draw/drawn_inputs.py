@@ -4,7 +4,7 @@ import random
 import re
 from dataclasses import dataclass
 
-from .. import histories, rows, texts
+from .. import histories, text_writers, worked_rows
 from ..judge import like_recorded
 from ..judge.like_recorded import ExpiringLock, LaggingRegister, RacyQueue, RacyRegister, ShardedQueue, played
 from ..running import EXAMPLES
@@ -104,35 +104,35 @@ def orders_of(certificates):
 
 def found_orders(program, name, history):
     """The orders that are found for a history."""
-    return orders_of(program.run("find", program.write(f"{name}.{rows.HISTORY}", history)).out)
+    return orders_of(program.run("find", program.write(f"{name}.{worked_rows.HISTORY}", history)).out)
 
 
-WRONG_TURN = texts.one_process(("enqueue", 1, 1), ("enqueue", 2, 2), ("enqueue", 3, 3), ("dequeue", None, 1), ("dequeue", None, 3), ("dequeue", None, 2))
-WRONG_REPLY_OF_A_QUEUE = texts.one_process(*[("enqueue", it, it) for it in range(20)], ("dequeue", None, 7))
-WRONG_REPLY_OF_A_MAP = texts.one_process(("put", (1, 10), None), ("put", (2, 20), None), ("get", 1, 20))
+WRONG_TURN = text_writers.one_process(("enqueue", 1, 1), ("enqueue", 2, 2), ("enqueue", 3, 3), ("dequeue", None, 1), ("dequeue", None, 3), ("dequeue", None, 2))
+WRONG_REPLY_OF_A_QUEUE = text_writers.one_process(*[("enqueue", it, it) for it in range(20)], ("dequeue", None, 7))
+WRONG_REPLY_OF_A_MAP = text_writers.one_process(("put", (1, 10), None), ("put", (2, 20), None), ("get", 1, 20))
 # The only one that puts in what the operation returned is the operation.
-OWN_VALUE_OF_A_CAS = texts.one_process(("write", 1, 1), ("cas", (5, 5), (5, 5)))
-OWN_VALUE_OF_A_PUT = texts.one_process(("put", (2, 5), None), ("put", (1, 5), 5))
-PUT_AGAIN = texts.one_process(("put", (1, 5), None), ("del", 1, 5), ("put", (1, 5), 5))
+OWN_VALUE_OF_A_CAS = text_writers.one_process(("write", 1, 1), ("cas", (5, 5), (5, 5)))
+OWN_VALUE_OF_A_PUT = text_writers.one_process(("put", (2, 5), None), ("put", (1, 5), 5))
+PUT_AGAIN = text_writers.one_process(("put", (1, 5), None), ("del", 1, 5), ("put", (1, 5), 5))
 # The second 5 is taken out by the pending one.
-TAKEN_BY_A_PENDING_ONE = texts.lines(
-    *texts.one_process(("enqueue", 5, 5), ("dequeue", None, 5), ("enqueue", 5, 5)).splitlines(),
-    texts.invoke(1, "dequeue"),
-    texts.info(1, "dequeue"),
-    texts.invoke(0, "dequeue"),
-    texts.ok(0, "dequeue", 5),
+TAKEN_BY_A_PENDING_ONE = text_writers.lines(
+    *text_writers.one_process(("enqueue", 5, 5), ("dequeue", None, 5), ("enqueue", 5, 5)).splitlines(),
+    text_writers.invoke(1, "dequeue"),
+    text_writers.info(1, "dequeue"),
+    text_writers.invoke(0, "dequeue"),
+    text_writers.ok(0, "dequeue", 5),
 )
-WRONG_REPLY_OF_AN_ENQUEUE = texts.one_process(("enqueue", 7, 7), ("enqueue", 1, 2))
-ACQUIRED_TWICE = texts.one_process(("acquire", None, None), ("release", None, None), ("acquire", None, None), ("acquire", None, None))
-BUSY = texts.lines(
-    texts.invoke(0, "write", 1),
-    texts.invoke(1, "read"),
-    texts.ok(0, "write", 1),
-    texts.ok(1, "read", 1),
-    texts.invoke(0, "read"),
-    texts.invoke(1, "write", 2),
-    texts.invoke(0, "write", 3),
-    texts.ok(0, "read", 1),
+WRONG_REPLY_OF_AN_ENQUEUE = text_writers.one_process(("enqueue", 7, 7), ("enqueue", 1, 2))
+ACQUIRED_TWICE = text_writers.one_process(("acquire", None, None), ("release", None, None), ("acquire", None, None), ("acquire", None, None))
+BUSY = text_writers.lines(
+    text_writers.invoke(0, "write", 1),
+    text_writers.invoke(1, "read"),
+    text_writers.ok(0, "write", 1),
+    text_writers.ok(1, "read", 1),
+    text_writers.invoke(0, "read"),
+    text_writers.invoke(1, "write", 2),
+    text_writers.invoke(0, "write", 3),
+    text_writers.ok(0, "read", 1),
 )
 NOT_CLOSED = "{:process 0, :type :invoke, :f :enqueue, :value 1}\n{:process 0, :type :ok, :f :enqueue, :value 1\n{:process 0, :type :invoke, :f :dequeue}\n"
 MIXED = ("queue", "stack", "heap", "register", "map") * 2
@@ -163,7 +163,7 @@ def comes_too_late():
 def never_put():
     """A map under whose greatest key a value is seen that was never put there. Labels have no room for the values."""
     calls = [("put", (LEAST, GREATEST), None), ("put", (LEAST, LEAST), GREATEST), ("get", GREATEST, LEAST)]
-    return Case("a value that was never put", texts.one_process(*calls), says=("general",))
+    return Case("a value that was never put", text_writers.one_process(*calls), says=("general",))
 
 
 def of_no(program):
@@ -173,27 +173,27 @@ def of_no(program):
     yield comes_too_late()
     queue = played(("queue",), 600, 4)
     order = queue.orders[0]
-    yield Case("an entry that is no operation", queue.text(), texts.order(*order[:40], 999_999, *order[40:]), says=("c3 beyond",))
-    yield Case("an entry that stands twice", queue.text(), texts.order(*order[:70], order[30], *order[70:]), says=("c4",))
+    yield Case("an entry that is no operation", queue.text(), text_writers.order(*order[:40], 999_999, *order[40:]), says=("c3 beyond",))
+    yield Case("an entry that stands twice", queue.text(), text_writers.order(*order[:70], order[30], *order[70:]), says=("c4",))
     racy = played(("queue",), 400, 4, RacyQueue)
-    by_return = texts.order(*racy.by_return()[0])
+    by_return = text_writers.order(*racy.by_return()[0])
     yield Case("a racy queue in the order of returns", racy.text(), by_return, says=("c6 taken",))
     paused = paused_map()
     calls, _ = histories.calls_of(paused)
     order = wrong_at(calls, found_orders(program, "paused", paused)[0], 640)
-    yield Case("a map that was paused, in a spoilt order", paused, texts.order(*order), says=("c6",))
+    yield Case("a map that was paused, in a spoilt order", paused, text_writers.order(*order), says=("c6",))
     mutex = played(("mutex",), 400, 4)
     calls, _ = histories.calls_of(mutex.text())
     order = mutex.certificates(lambda it: without_acquire(calls, it, 198))
     yield Case("a mutex of 400 without an acquire", mutex.text(), order, says=("c9 free since",))
-    yield Case("a queue gives another value", WRONG_REPLY_OF_A_QUEUE, texts.order(*range(0, 42, 2)), says=("c6 turn",))
-    yield Case("a map gives another value", WRONG_REPLY_OF_A_MAP, texts.order(0, 2, 4))
-    yield Case("a cas finds what it sets", OWN_VALUE_OF_A_CAS, texts.order(0, 2), says=("c6 no other",))
-    yield Case("a put finds what it puts", OWN_VALUE_OF_A_PUT, texts.order(0, 2), says=("c6 no other",))
-    yield Case("a put finds what was deleted", PUT_AGAIN, texts.order(0, 2, 4))
-    yield Case("a value that a pending operation took out", TAKEN_BY_A_PENDING_ONE, texts.order(0, 2, 4, 6, 8), says=("c6 taken",))
-    yield Case("an enqueue returns another value", WRONG_REPLY_OF_AN_ENQUEUE, texts.order(0, 2))
-    yield Case("a mutex is acquired twice", ACQUIRED_TWICE, texts.order(0, 2, 4, 6), says=("c9 held",))
+    yield Case("a queue gives another value", WRONG_REPLY_OF_A_QUEUE, text_writers.order(*range(0, 42, 2)), says=("c6 turn",))
+    yield Case("a map gives another value", WRONG_REPLY_OF_A_MAP, text_writers.order(0, 2, 4))
+    yield Case("a cas finds what it sets", OWN_VALUE_OF_A_CAS, text_writers.order(0, 2), says=("c6 no other",))
+    yield Case("a put finds what it puts", OWN_VALUE_OF_A_PUT, text_writers.order(0, 2), says=("c6 no other",))
+    yield Case("a put finds what was deleted", PUT_AGAIN, text_writers.order(0, 2, 4))
+    yield Case("a value that a pending operation took out", TAKEN_BY_A_PENDING_ONE, text_writers.order(0, 2, 4, 6, 8), says=("c6 taken",))
+    yield Case("an enqueue returns another value", WRONG_REPLY_OF_AN_ENQUEUE, text_writers.order(0, 2))
+    yield Case("a mutex is acquired twice", ACQUIRED_TWICE, text_writers.order(0, 2, 4, 6), says=("c9 held",))
 
 
 def of_two_values(count, processes, put="enqueue", take="dequeue"):
@@ -205,17 +205,17 @@ def of_two_values(count, processes, put="enqueue", take="dequeue"):
     at = next(it for it in range(count // 2, count) if taken[it] != taken[it + 1])
     taken[at], taken[at + 1] = taken[at + 1], taken[at]
     calls = [(put, it, it) for it in values] + [(take, None, it) for it in taken]
-    return texts.lines(*[line for place, call in enumerate(calls) for line in one_call(place % processes, *call)])
+    return text_writers.lines(*[line for place, call in enumerate(calls) for line in one_call(place % processes, *call)])
 
 
 def one_call(process, f, argument, reply):
-    return texts.invoke(process, f, argument), texts.ok(process, f, reply)
+    return text_writers.invoke(process, f, argument), text_writers.ok(process, f, reply)
 
 
 def taken_again(count):
     """A history of a queue in which one value is put in n times, and taken out once more."""
     calls = [("enqueue", 7, 7), ("dequeue", None, 7)] * count + [("dequeue", None, 7)]
-    return texts.one_process(*calls)
+    return text_writers.one_process(*calls)
 
 
 def old_values():
@@ -239,7 +239,7 @@ def old_values():
 def of_impossible():
     """Histories without an order, of faulty objects."""
     for name, calls in old_values():
-        yield Case(f"{name} finds an old value", texts.one_process(*calls), says=("out_of_date",))
+        yield Case(f"{name} finds an old value", text_writers.one_process(*calls), says=("out_of_date",))
     yield Case("a value taken out 301 times", taken_again(300), says=("too_often",))
     yield Case("a reason of 100 operations of 40 processes", of_two_values(50, 40), says=("general",))
     yield Case("a reason of 5 200 operations", of_two_values(2_600, 1), says=("general",))
@@ -258,9 +258,9 @@ def of_impossible():
 def of_open():
     """Histories of which nothing is found in so few steps."""
     for seed in range(3):
-        yield Case(f"a short search {seed}", texts.lines(*histories.long_search(seed)), None, ("--steps", str(seed)), says=("left_open",))
+        yield Case(f"a short search {seed}", text_writers.lines(*histories.long_search(seed)), None, ("--steps", str(seed)), says=("left_open",))
     register = played(("register",), 1000, 8, lost=10, values=5)
-    yield Case("a register of 1 000 that is open", register.text() + texts.lines(*histories.long_search(1, 1)), None, ("--steps", "0"), says=("left_open",))
+    yield Case("a register of 1 000 that is open", register.text() + text_writers.lines(*histories.long_search(1, 1)), None, ("--steps", "0"), says=("left_open",))
 
 
 def situations(program):
@@ -291,8 +291,8 @@ def options_and_faults():
     for stem in ("bad_number", "failed", "pending", "heap", "map", "mutex", "queue", "register", "stack"):
         yield example(stem)
         yield example(stem, False)
-    yield Case("an object without an order and one with", WRONG_TURN + texts.lines(texts.invoke(5, "push", 1, 4), texts.ok(5, "push", 1, 4)))
-    for it in rows.MALFORMED:
+    yield Case("an object without an order and one with", WRONG_TURN + text_writers.lines(text_writers.invoke(5, "push", 1, 4), text_writers.ok(5, "push", 1, 4)))
+    for it in worked_rows.MALFORMED:
         yield Case(it.name, *it.texts[:2])
 
 
@@ -305,9 +305,9 @@ def hostile():
     history += f"{{:process :{'n' * 64}, :type :info, :f :{'f' * 64}}}\n"
     yield Case("long strings and keywords in keys that are ignored", history, reads=False)
     shows = ("</script><script>alert(1)</script>&amp;", "あ", "\U0001f600", "\\x1b", "→")
-    both = texts.lines(texts.invoke(GREATEST, "push", 1), texts.ok(GREATEST, "push", 1), texts.invoke(1_000_000, "pop"), texts.ok(1_000_000, "pop", 1))
-    yield Case("long numbers of processes", both, texts.order(0, 2))
-    yield Case("a faulty map of a process with a long number", both + texts.lines(texts.ok(GREATEST - 1, "pop", 1)))
+    both = text_writers.lines(text_writers.invoke(GREATEST, "push", 1), text_writers.ok(GREATEST, "push", 1), text_writers.invoke(1_000_000, "pop"), text_writers.ok(1_000_000, "pop", 1))
+    yield Case("long numbers of processes", both, text_writers.order(0, 2))
+    yield Case("a faulty map of a process with a long number", both + text_writers.lines(text_writers.ok(GREATEST - 1, "pop", 1)))
     bad = f"; {said}\n{{:process 0, :type :invoke, :f :pop, :note {said[:-1]}\x1b\t<b>\"}}\n{{:process 0, :type :invoke, :f :pop, :note {said[:-1]}\x1b\t<b>\"}}\n"
     yield Case("a faulty map with markup", bad, shows=shows)
     yield Case("a fault in a line of markup", f"{{:process {said} <b>}}\n", shows=("</script><script>alert(1)</script>&amp;",))
@@ -322,28 +322,28 @@ def extreme():
     pairs = ((LEAST, GREATEST), (GREATEST, LEAST))
     register = [("write", LEAST, LEAST), ("cas", pairs[0], pairs[0]), ("read", None, GREATEST), ("cas", pairs[0], False), ("cas", pairs[1], pairs[1])]
     of_map = [("put", (LEAST, GREATEST), None), ("put", (LEAST, LEAST), GREATEST), ("put", pairs[1], None), ("get", LEAST, LEAST), ("del", GREATEST, LEAST)]
-    yield Case("a register with values at the limits", texts.one_process(*register), texts.order(*range(0, 10, 2)))
-    yield Case("a map with keys and values at the limits", texts.one_process(*of_map), texts.order(*range(0, 10, 2)))
+    yield Case("a register with values at the limits", text_writers.one_process(*register), text_writers.order(*range(0, 10, 2)))
+    yield Case("a map with keys and values at the limits", text_writers.one_process(*of_map), text_writers.order(*range(0, 10, 2)))
     for name, calls in (("register", register), ("map", of_map)):
-        yield Case(f"a {name} with values at the limits judged", texts.one_process(*calls))
+        yield Case(f"a {name} with values at the limits judged", text_writers.one_process(*calls))
         f, argument, reply = calls[-1]
         wrong = [*calls[:-1], (f, argument, False if f == "cas" else GREATEST)]
-        yield Case(f"a {name} with values at the limits, one wrong", texts.one_process(*wrong), texts.order(*range(0, 10, 2)), says=("c6",))
-        yield Case(f"a {name} with values at the limits, impossible", texts.one_process(*wrong))
+        yield Case(f"a {name} with values at the limits, one wrong", text_writers.one_process(*wrong), text_writers.order(*range(0, 10, 2)), says=("c6",))
+        yield Case(f"a {name} with values at the limits, impossible", text_writers.one_process(*wrong))
     for put, take in (("enqueue", "dequeue"), ("push", "pop"), ("insert", "extract-min")):
         values = [GREATEST - it for it in range(12)] + [LEAST + it for it in range(12)]
         calls = [(put, it, it) for it in values] + [(take, None, values[5])]
-        yield Case(f"24 values of 64 bits, {take}", texts.one_process(*calls), texts.order(*range(0, 50, 2)), says=("c6",))
-        yield Case(f"24 values of 64 bits, {take}, judged", texts.one_process(*calls))
+        yield Case(f"24 values of 64 bits, {take}", text_writers.one_process(*calls), text_writers.order(*range(0, 50, 2)), says=("c6",))
+        yield Case(f"24 values of 64 bits, {take}, judged", text_writers.one_process(*calls))
 
 
 def many_objects():
     """As many objects as are drawn, with five-digit numbers, and operations with the longest values."""
     maps, orders = [], []
     for on in range(65_536 - 600, 65_536):
-        orders.append(texts.certificate(on, len(maps)))
-        maps += [texts.invoke(GREATEST - on, "put", (LEAST, LEAST + on), on), texts.ok(GREATEST - on, "put", None, on)]
-    return Case("600 objects", texts.lines(*maps), texts.lines(*orders))
+        orders.append(text_writers.certificate(on, len(maps)))
+        maps += [text_writers.invoke(GREATEST - on, "put", (LEAST, LEAST + on), on), text_writers.ok(GREATEST - on, "put", None, on)]
+    return Case("600 objects", text_writers.lines(*maps), text_writers.lines(*orders))
 
 
 def forty_objects():
@@ -363,7 +363,7 @@ def mutated(rng, made, code):
         return ""
     place = rng.randrange(len(order))
     if code == "C2":
-        return texts.lines(texts.certificate(0, *order), texts.certificate(3))
+        return text_writers.lines(text_writers.certificate(0, *order), text_writers.certificate(3))
     if code == "C3":
         numbers = [-1, len(made.maps) + 5] + [it.at for it in calls.values() if it.at is not None] + [n for n, it in calls.items() if it.end == "fail"]
         order.insert(place, rng.choice(numbers))
@@ -374,7 +374,7 @@ def mutated(rng, made, code):
     if code in ("C5", "C6", "C9"):
         other = rng.randrange(len(order))
         order[place], order[other] = order[other], order[place]
-    return texts.order(*order)
+    return text_writers.order(*order)
 
 
 def without_one(rng, made):
@@ -393,11 +393,11 @@ def given_back_twice(seed):
     calls = [(rng.randrange(3), f) for _ in range(rng.randrange(2, 20)) for f in ("acquire", "release")]
     at = 0 if seed < OF_EACH_FORM else rng.randrange(1, len(calls) // 2 + 1) * 2
     calls.insert(at, (3, "release"))
-    maps = [write(process, f) for process, f in calls for write in (texts.invoke, texts.ok)]
+    maps = [write(process, f) for process, f in calls for write in (text_writers.invoke, text_writers.ok)]
     if at > 0 and rng.random() < 0.5:
         # It overlaps the one before.
         maps[2 * at - 1], maps[2 * at] = maps[2 * at], maps[2 * at - 1]
-    return texts.lines(*maps)
+    return text_writers.lines(*maps)
 
 
 def of_faults():
@@ -408,7 +408,7 @@ def of_faults():
                 made = histories.faulty(sort, kind, seed)
                 yield Case(f"{sort} {kind} {seed}", made.text())
                 if made.order:
-                    yield Case(f"{sort} {kind} {seed} checked", made.text(), texts.order(*made.order))
+                    yield Case(f"{sort} {kind} {seed} checked", made.text(), text_writers.order(*made.order))
     for seed in range(20):
         yield Case(f"sharded {seed}", played(("queue",), 24, 3, ShardedQueue, seed=seed).text())
         yield Case(f"a mutex that is given back twice {seed}", given_back_twice(seed))
@@ -416,7 +416,7 @@ def of_faults():
     for seed in range(60):
         rng = random.Random(f"without one {seed}")
         made = histories.made(rng.choice(tuple(histories.FUNCTIONS)), f"without {seed}", calls=20, processes=rng.choice((1, 2, 3)), values=1000)
-        yield Case(f"without one {seed}", made.text(), texts.order(*without_one(rng, made)))
+        yield Case(f"without one {seed}", made.text(), text_writers.order(*without_one(rng, made)))
 
 
 def of_several_objects():
@@ -430,7 +430,7 @@ def of_several_objects():
         yield Case(f"several {seed}", made.text(), made.certificates(lambda _, order=order: order))
         yield Case(f"several {seed} without", made.text(), None, ("--object", str(rng.choice((0, 1, 2)))))
     for seed in range(8):
-        yield Case(f"no operations {seed}", texts.lines(*[like_recorded.nemesis("stop") for _ in range(seed)]), rng.choice((None, "")))
+        yield Case(f"no operations {seed}", text_writers.lines(*[like_recorded.nemesis("stop") for _ in range(seed)]), rng.choice((None, "")))
 
 
 def generated():
@@ -442,13 +442,13 @@ def generated():
         rng = random.Random(f"generated {seed}")
         kind = kinds[seed % len(kinds)]
         made = histories.made(kind, seed, calls=rng.choice((4, 9, 20, 45)), processes=rng.choice((2, 3, 5)))
-        yield Case(f"generated {kind} {seed}", made.text(), rng.choice((None, texts.order(*made.order))))
+        yield Case(f"generated {kind} {seed}", made.text(), rng.choice((None, text_writers.order(*made.order))))
         for code in ("C1", "C2", "C3", "C4", "C5", "C6", "C7"):
             other = histories.made(kind if code != "C6" else kinds[seed % 5], seed, calls=rng.choice((4, 9, 20, 45)), processes=rng.choice((1, 2, 3)))
             yield Case(f"generated {code} {kind} {seed}", other.text(), mutated(rng, other, code))
         mutex = histories.made("mutex", seed, calls=12, processes=2)
         yield Case(f"generated C9 {seed}", mutex.text(), mutated(rng, mutex, "C9"))
         for kind in kinds:
-            yield Case(f"spoilt {kind} {seed}", texts.lines(*histories.spoilt(kind, seed)))
+            yield Case(f"spoilt {kind} {seed}", text_writers.lines(*histories.spoilt(kind, seed)))
     for seed in range(OF_EACH + 10):
-        yield Case(f"a long search {seed}", texts.lines(*histories.long_search(seed)), None, ("--steps", str(seed % 3)))
+        yield Case(f"a long search {seed}", text_writers.lines(*histories.long_search(seed)), None, ("--steps", str(seed % 3)))

@@ -1,10 +1,10 @@
 """What decorates a page: times, what a nemesis does, and the names of a history that was imported. No answer depends on them."""
 import re
 
-from . import situations
+from . import drawn_inputs
 from .pages import Drawn, found
-from .. import texts
-from ..rows import OVERLAPPING
+from .. import text_writers
+from ..worked_rows import OVERLAPPING
 from ..judge.imported_histories import JSON, STORE
 from ..judge.like_recorded import ExpiringLock, played
 
@@ -94,11 +94,11 @@ def ticks_of(line):
 
 def timed_ticks(program, report):
     """A number stands above its own time, also where events are close and where the operations of a reason are drawn alone."""
-    puts = [it(process, "enqueue", process) for it in (texts.invoke, texts.ok) for process in range(8)]
-    takings = [texts.invoke(process, "dequeue") for process in range(2)]
+    puts = [it(process, "enqueue", process) for it in (text_writers.invoke, text_writers.ok) for process in range(8)]
+    takings = [text_writers.invoke(process, "dequeue") for process in range(2)]
     for name, taken in (("yes", (7, 6)), ("no", (7, 7))):
-        maps = [*puts, *takings, *(texts.ok(process, "dequeue", value) for process, value in enumerate(taken))]
-        timed = texts.lines(*[f"{it[:-1]}, :time {number * 10**9}}}" for number, it in enumerate(maps)])
+        maps = [*puts, *takings, *(text_writers.ok(process, "dequeue", value) for process, value in enumerate(taken))]
+        timed = text_writers.lines(*[f"{it[:-1]}, :time {number * 10**9}}}" for number, it in enumerate(maps)])
         page = Drawn(program.run("draw", program.write("ticks.edn", timed)).out)
         rows = [ticks_of(line) for line in lines_of(page)]
         report.holds(f"draw: times: under their numbers, {name}", all(numbers == times for numbers, times in rows), rows)
@@ -112,9 +112,9 @@ def timed_ticks(program, report):
 
 def nemesis_room(program, report):
     """Long names of what a nemesis does do not push operations apart, and 60 marks after the last operation take no lines of their own."""
-    calls = [texts.invoke(0, "write", 1), texts.ok(0, "write", 1), texts.invoke(0, "read"), texts.ok(0, "read", 1)]
+    calls = [text_writers.invoke(0, "write", 1), text_writers.ok(0, "write", 1), text_writers.invoke(0, "read"), text_writers.ok(0, "read", 1)]
     mark = "{:process :nemesis, :type :info, :f :start-partition-majorities-ring}"
-    pages = [Drawn(program.run("draw", program.write("nemesis.edn", texts.lines(*it))).out) for it in (calls, [*calls[:2], mark, *calls[2:]], [*calls, *[mark] * 60])]
+    pages = [Drawn(program.run("draw", program.write("nemesis.edn", text_writers.lines(*it))).out) for it in (calls, [*calls[:2], mark, *calls[2:]], [*calls, *[mark] * 60])]
     plain, between, after = map(lines_of, pages)
     # A mark has the room of an event, 12.
     report.equal("draw: nemesis: room for a long name", x_of(plain[0], 2) + 12, x_of(between[0], 3))
@@ -183,7 +183,7 @@ def first_event(program, history):
 
 def named_first_events(program, report):
     """A page names the first event that leaves no order: what is before it is judged yes, and with it impossible."""
-    histories = {it: situations.example(it, False).history.decode() for it in FIRST_EVENTS}
+    histories = {it: drawn_inputs.example(it, False).history.decode() for it in FIRST_EVENTS}
     histories["a mutex of 80 000 events"] = played(("mutex",), 40_000, 5, ExpiringLock).text()
     for name, history in histories.items():
         first, maps = first_event(program, history), history.splitlines(keepends=True)

@@ -4,7 +4,7 @@ The expected values are worked out by hand from the definitions of the objects, 
 None is taken from the program's output."""
 from dataclasses import dataclass
 
-from .texts import certificate, fail, info, invoke, lines, ok, one_process, order
+from .text_writers import certificate, fail, info, invoke, lines, ok, one_process, order
 
 HISTORY, CERTIFICATES, SCHEDULE, REASONS, EVIDENCE = "history.edn", "certificates.edn", "schedule.edn", "reasons.edn", "evidence.edn"
 

@@ -6,7 +6,7 @@ import functools
 
 from .verify.reasons import NEXT
 from .running import at_once
-from .texts import lines
+from .text_writers import lines
 
 # The most objects of a history, and the most maps.
 MOST_OBJECTS, MOST_MAPS = 65_536, 1_000_000
