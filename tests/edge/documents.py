@@ -25,11 +25,11 @@ def read(path):
 
 def documents(program, report):
     """What scripts of docs/ find is what the pages say."""
-    ran = subprocess.run([f"{ROOT}/docs/crate_tables.py", "--check"], capture_output=True, text=True)
+    ran = subprocess.run([f"{ROOT}/docs/scripts/crate_tables.py", "--check"], capture_output=True, text=True)
     report.equal("documents: docs/architecture.md agrees with crates.txt", 0, ran.returncode, ran.stdout + ran.stderr)
-    ran = subprocess.run([f"{ROOT}/docs/contract_list.py"], capture_output=True, text=True)
-    report.equal("documents: docs/contract_list.py reads each clause", (0, ""), (ran.returncode, ran.stderr))
-    ran = subprocess.run([f"{ROOT}/docs/lines_to_believe.py"], capture_output=True, text=True)
+    ran = subprocess.run([f"{ROOT}/docs/scripts/contract_list.py"], capture_output=True, text=True)
+    report.equal("documents: docs/scripts/contract_list.py reads each clause", (0, ""), (ran.returncode, ran.stderr))
+    ran = subprocess.run([f"{ROOT}/docs/scripts/lines_to_believe.py"], capture_output=True, text=True)
     counted = re.findall(r"^(\w+)\D+(\d+)", ran.stdout, re.M)
     report.equal("documents: three counts of lines to believe", ["history", "judge", "reason"], [name for name, _ in counted], ran.stderr)
     for page in ("README.md", "docs/definitions.md", "docs/guarantees.md"):
@@ -60,7 +60,7 @@ def links(program, report):
 
 def clauses_by_function():
     """The names of the clauses of each public function, by the name of the function."""
-    sys.path.insert(0, f"{ROOT}/docs")
+    sys.path.insert(0, f"{ROOT}/docs/scripts")
     import contract_list
 
     found = {}

@@ -1,7 +1,7 @@
 #!/usr/bin/env python3
 """Prints the contracts: of each library crate its public functions, and of each function its clauses.
 
-    docs/contract_list.py [CRATE..]     of these crates, or of all
+    docs/scripts/contract_list.py [CRATE..]     of these crates, or of all
 
 All of it comes from the source: what a crate is from the first lines of its lib.rt, what a function does from its doc comment, and what a
 clause says from the comment before it and from the clause itself. A clause that the script cannot read ends it with an error."""

@@ -1,14 +1,14 @@
 #!/usr/bin/env python3
 """Writes the manual page fcbench(1), which is three pages of docs/ in roff, to standard output.
 
-    docs/man_page.py > fcbench.1
-    docs/man_page.py | man -l -"""
+    docs/scripts/man_page.py > fcbench.1
+    docs/scripts/man_page.py | man -l -"""
 import os
 import re
 import sys
 
-ROOT = os.path.dirname(os.path.dirname(os.path.realpath(__file__)))
-HEAD = """.\\" Made by docs/man_page.py from docs/commands.md, docs/formats.md and docs/import.md
+ROOT = os.path.dirname(os.path.dirname(os.path.dirname(os.path.realpath(__file__))))
+HEAD = """.\\" Made by docs/scripts/man_page.py from docs/commands.md, docs/formats.md and docs/import.md
 .TH FCBENCH 1 "" "fcbench" "User Commands"
 .SH NAME
 fcbench \\- judges histories of concurrent objects

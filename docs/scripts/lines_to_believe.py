@@ -1,8 +1,8 @@
 #!/usr/bin/env python3
 """Counts the lines of definitions that a clause of a contract names, itself or through another definition.
 
-    docs/lines_to_believe.py [NAME]
-    docs/lines_to_believe.py --twice
+    docs/scripts/lines_to_believe.py [NAME]
+    docs/scripts/lines_to_believe.py --twice
 
 NAME is a definition of specs/, as judging.Texts.IsLinearizableText. With no NAME it prints the counts that README.md and
 docs/definitions.md give. Comments, blank lines and imports do not count, nor do enums and structs of the code, which it counts
@@ -14,7 +14,7 @@ import os
 import re
 import sys
 
-ROOT = os.path.dirname(os.path.dirname(os.path.realpath(__file__)))
+ROOT = os.path.dirname(os.path.dirname(os.path.dirname(os.path.realpath(__file__))))
 WORD = re.compile(r"[^\s(){}\[\],;.λ]+")
 # What a yes says of a history in memory, and what judge says of a text.
 CLAUSES = {"history": ("model.Linearizable.IsLinearizable", "events.Events.denoted", "events.Events.kind_at", "model.Orders.events"),

@@ -1,7 +1,7 @@
 #!/usr/bin/env python3
 """Writes what each crate stands on into the tables of docs/architecture.md, from crates.txt.
 
-    docs/crate_tables.py [--check]
+    docs/scripts/crate_tables.py [--check]
 
 The words of each row stay. With --check nothing is written: the exit status is 1 where a row is missing, is of no crate, is in
 another group or order than in crates.txt, or names other crates."""
@@ -9,7 +9,7 @@ import os
 import re
 import sys
 
-ROOT = os.path.dirname(os.path.dirname(os.path.realpath(__file__)))
+ROOT = os.path.dirname(os.path.dirname(os.path.dirname(os.path.realpath(__file__))))
 PAGE = f"{ROOT}/docs/architecture.md"
 ROW = re.compile(r"\| `(\w+)` \| (.*) \|([^|]*)\|$")
 
@@ -56,7 +56,7 @@ def main(*options):
         print(f"docs/architecture.md has no words for {name}")
     if "--check" in options:
         if made != text:
-            print("docs/architecture.md does not agree with crates.txt: docs/crate_tables.py mends it")
+            print("docs/architecture.md does not agree with crates.txt: docs/scripts/crate_tables.py mends it")
         return 1 if missing or made != text else 0
     with open(PAGE, "w") as file:
         file.write(made)
