@@ -128,7 +128,8 @@ def scripts():
     """What the scripts, callers and headers of the repository say."""
     for base, folders, files in os.walk(ROOT):
         top = os.path.relpath(base, ROOT)
-        folders[:] = [it for it in folders if it not in (".git", "out", "target", "__pycache__") and (top, it) not in ((".", "crates"), (".", "examples"))]
+        others = {".git", "out", "target", "__pycache__"} | ({"crates", "examples"} if top == "." else set())
+        folders[:] = [it for it in folders if it not in others]
         for name in (os.path.relpath(f"{base}/{it}", ROOT) for it in files):
             if not name.endswith((".md", ".png", ".edit", ".pyc")) and name != "tests/edge/documents.py":
                 text = read(f"{ROOT}/{name}")
@@ -183,7 +184,12 @@ def snippets(program, report):
     report.holds("snippets: docs/embedding.md has some", len(found) >= 5)
     for language, snippet in found:
         folder = f"{ROOT}/callers/{language}"
-        files = ["\n".join(code(read(f"{base}/{file}"))) for base, _, files in os.walk(folder) for file in files if "test" in f"{base}/{file}"[len(ROOT) :]]
+        files = [
+            "\n".join(code(read(f"{base}/{file}")))
+            for base, _, files in os.walk(folder)
+            for file in files
+            if "test" in f"{base}/{file}"[len(ROOT) :]
+        ]
         report.holds(f"snippets: a test in {language} has {code(snippet)[0]}", any("\n".join(code(snippet)) in it for it in files), snippet)
     page = read(f"{ROOT}/docs/tutorial.md")
     own = code(read(f"{ROOT}/docs/record_queue.py")) + code(read(f"{ROOT}/callers/python/test_recorder.py"))

@@ -324,8 +324,8 @@ def bounded_memory(program, report):
 
 
 def pushes_at_once(count):
-    """A stack with a pending pop, this many pushes at once, and then twice a value that is popped though another is on top. No order is valid, since the
-    pending pop takes one of these two at most."""
+    """A stack with a pending pop, this many pushes at once, and then twice a value that is popped though another is on
+    top. No order is valid, since the pending pop takes one of these two at most."""
     lines = events_of(*[("push", k, k) for k in range(count)])
     for k in (100, 200):
         lines += events_of(("push", k, k)) + events_of(("push", k + 1, k + 1)) + events_of(("pop", "nil", k))

@@ -29,8 +29,8 @@ def slowness():
 
 
 def least_seconds(program, most, *words):
-    """The least time of several runs, in seconds of the processor as they would be where the bounds of time were chosen. It is tried again where it is
-    more than the most that it may be."""
+    """The least time of several runs, in seconds of the processor as they would be where the bounds of time were
+    chosen. It is tried again where it is more than the most that it may be."""
     least = most + 1
     for _ in range(TRIES):
         least = min(least, processor_seconds(program, *words) / slowness())

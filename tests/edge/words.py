@@ -177,7 +177,11 @@ FOUND = (worked_rows.OVERLAPPING,), worked_rows.order(1, 0, 4), 0
 JUDGED = (worked_rows.OVERLAPPING,), worked_rows.THREE_YES, 0
 # Each of its 23 operations returned, so no order is found in fewer steps than these.
 SEARCHED = (worked_rows.FIRST_WRITE_LAST,), worked_rows.yes(23, 1, "register: 1 objects, 23 operations"), 0
-REFUTED = (worked_rows.THREE_VALUES, worked_rows.TWO_OF_THREE), worked_rows.refutation(3, 4, worked_rows.ENQUEUE_1, worked_rows.ENQUEUE_2, worked_rows.DEQUEUE_2), 1
+REFUTED = (
+    (worked_rows.THREE_VALUES, worked_rows.TWO_OF_THREE),
+    worked_rows.refutation(3, 4, worked_rows.ENQUEUE_1, worked_rows.ENQUEUE_2, worked_rows.DEQUEUE_2),
+    1,
+)
 VERIFIED = (worked_rows.OVERLAPPING, worked_rows.order(1, 0, 4)), worked_rows.THREE_YES, 0
 SIMULATED = (worked_rows.SERVED_BY_ANOTHER,), worked_rows.SERVED_LINES, 0
 
@@ -246,7 +250,11 @@ def help_texts(program, report):
         report.equal(f"{words[0]} names each command", [], lacks, ran.out)
     options = {"check": ("--workers",), "search": ("--steps", "--first"), "refute": ("--steps",)}
     options["run"] = ("--kind", "--objects", "--clients", "--calls", "--seed")
-    options.update(verify=("--steps", "--workers"), find=("--seconds", "--steps", "--workers", "--summary"), draw=("--object", "--from", "--to", "--steps"))
+    options.update(
+        verify=("--steps", "--workers"),
+        find=("--seconds", "--steps", "--workers", "--summary"),
+        draw=("--object", "--from", "--to", "--steps"),
+    )
     options["judge"] = (*options["find"], "--names")
     options["import"] = ("--names", "--independent", "--fail-is-reply", "--check-owners", "--initial")
     for command in (*COMMANDS, *OF_TOOLS):
@@ -361,7 +369,11 @@ def dispatched(program, report):
     for word, near in (("jugde", "judge"), ("judgee", "judge"), ("improt", "import"), ("dwar", None), ("jump", None)):
         ran = script(word)
         said = f"fcbench: did you mean {near}?\n".encode() if near else b"error: "
-        report.holds(f"fcbench.sh {word}: {near or 'no command'} is near", (ran.returncode, ran.stdout) == (64, b"") and ran.stderr.startswith(said), ran)
+        report.holds(
+            f"fcbench.sh {word}: {near or 'no command'} is near",
+            (ran.returncode, ran.stdout) == (64, b"") and ran.stderr.startswith(said),
+            ran,
+        )
     for command in OF_TOOLS:
         report.equal(f"fcbench.sh help {command}", program.run(command, "--help").out, script("help", command).stdout)
 

@@ -505,7 +505,8 @@ STEPS = [
     search("4,097 pending operations, and no step", PENDING_4097, "; object 0: too large\n", 3, "--steps", "0"),
 ]
 
-# The orders of these are the only valid ones. What is found of others is evidence of another sort: tests/edge/verify/any_evidence.py hands it to verify.
+# The orders of these are the only valid ones. What is found of others is evidence of another sort:
+# tests/edge/verify/any_evidence.py hands it to verify.
 FINDINGS = [
     find("empty text", "", "", 0),
     find("an enqueue and a dequeue", ENQUEUE_DEQUEUE, order(0, 2), 0),

@@ -140,7 +140,8 @@ MOST_READS = 12
 
 
 def failing_reads_of_tools(program, report):
-    """Where any one read of each process fails, find and draw name the file. judge ends with 4, or says what verify says of the evidence that came."""
+    """Where any one read of each process fails, find and draw name the file. judge ends with 4, or says what verify
+    says of the evidence that came."""
     program.write(HISTORY, worked_rows.OVERLAPPING)
     whole = program.run("judge", HISTORY)
     report.answers("judge, with no read that fails", whole, worked_rows.THREE_YES, 0)

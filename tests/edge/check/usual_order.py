@@ -88,7 +88,16 @@ GOOD = (
     ([invoke("write", "7", ", :object 3, :time 4, :index 5, :node 0"), ok("write", "7", ", :object 3, :error :timeout")], 1),
     ([invoke("write", "7", ", :node 1, :error nil"), ok("write", "7", ", :processes 2")], 1),
     # A failed and an open operation, and a map of no client.
-    ([invoke("write", "7"), "{:process 0, :type :fail, :f :write, :value 7}", "{:process :nemesis, :type :info, :f :stop, :value nil}", invoke("read", "nil"), ok("read", "nil")], 1),
+    (
+        [
+            invoke("write", "7"),
+            "{:process 0, :type :fail, :f :write, :value 7}",
+            "{:process :nemesis, :type :info, :f :stop, :value nil}",
+            invoke("read", "nil"),
+            ok("read", "nil"),
+        ],
+        1,
+    ),
     ([invoke("write", "7"), "{:process 0, :type :info, :f :write, :value nil}", invoke("read", "nil", process="1"), ok("read", "7", process="1")], 2),
     ([invoke("write", "7", process="18446744073709551"), ok("write", "7", process="+18446744073709551")], 1),
 )
@@ -288,7 +297,13 @@ def certificates():
                     answers = answer
                 if answer != "E5" or form is not order_first:
                     yield before + after, answers
-        for name, answer in (("65536", "K1 at form 1"), ("-1", "K1 at form 1"), ("nil", "K1 at form 1"), ("65535", "K2 at form 1"), ("+65535", "K2 at form 1")):
+        for name, answer in (
+            ("65536", "K1 at form 1"),
+            ("-1", "K1 at form 1"),
+            ("nil", "K1 at form 1"),
+            ("65535", "K2 at form 1"),
+            ("+65535", "K2 at form 1"),
+        ):
             own = form([(":object", name), (":order", "[0 2 4]")])
             yield f"{other}\n{own}\n", f"malformed certificates: {answer}\n"
 

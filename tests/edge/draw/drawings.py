@@ -11,7 +11,10 @@ from dataclasses import replace
 from . import fault_places, pages, sentences, tables_and_boxes
 from .. import histories, text_writers, worked_rows
 from .pages import Drawn
-from .drawn_inputs import OF_EACH, OF_EACH_FORM, Case, checked, comes_too_late, example, extreme, forty_objects, generated, hostile, many_objects, never_put, of_two_values, old_values, options_and_faults, orders_of, situations
+from .drawn_inputs import (
+    OF_EACH, OF_EACH_FORM, Case, checked, comes_too_late, example, extreme, forty_objects, generated, hostile,
+    many_objects, never_put, of_two_values, old_values, options_and_faults, orders_of, situations,
+)
 from ..judge.like_recorded import played
 from ..running import EXAMPLES, SECONDS, at_once
 from ..timing import processor_seconds
@@ -209,7 +212,9 @@ def in_browser(program, report, wanted):
         return
     broken = f"{program.room}/broken.html"
     with open(broken, "w") as file:
-        file.write('<body class="yes" style="color:#777;background:#888"><script>1</script><a href="#nowhere">x</a><p id="a">text</p><p id="a">x</p></body>')
+        file.write(
+            '<body class="yes" style="color:#777;background:#888"><script>1</script><a href="#nowhere">x</a><p id="a">text</p><p id="a">x</p></body>'
+        )
     # The name of no file is markup on a page.
     for file, bad in found_in_browser(program, report, [*wanted, {"file": broken, "answer": "yes"}]):
         if file == broken:
@@ -354,7 +359,10 @@ FALSIFIED = {
             ("Drawn: 35 of 400", "Drawn: 34 of 400"),
             (" 32</text>", " 33</text>"),
             ("32 maps left out, with 15 operations", "32 maps left out, with 14 operations"),
-            ('<g class="gap"><title>32 maps left out, with 15 operations</title><rect x="163" y="18" width="36" height="58"/><text x="181" y="12">⋯ 32</text></g>', ""),
+            (
+                '<g class="gap"><title>32 maps left out, with 15 operations</title><rect x="163" y="18" width="36" height="58"/><text x="181" y="12">⋯ 32</text></g>',
+                "",
+            ),
         ),
         "strip": (("at most 4. Framed", "at most 5. Framed"), ('<rect class="shown" x="788"', '<rect class="shown" x="188"')),
         "stretches strip": (("<summary>Maps 198 to 276", "<summary>Maps 190 to 276"),),
@@ -381,7 +389,14 @@ FALSIFIED = {
         ),
         "legend": (("</svg> releases</li>", "</svg> takes out</li>"),),
     },
-    "larger_first": {"tried": (("<span>Every order breaks. There is one way to begin, up to equal content, and", "<span>Every order breaks. There is one way to begin,"),)},
+    "larger_first": {
+        "tried": (
+            (
+                "<span>Every order breaks. There is one way to begin, up to equal content, and",
+                "<span>Every order breaks. There is one way to begin,",
+            ),
+        )
+    },
     "wrong_reply": {
         "boxes": (
             ("The queue before entry 3", "The queue before entry 2"),
@@ -452,7 +467,8 @@ def falsified():
 
 
 def finding(case, page, told, orders):
-    """The names of the checks that find something wrong with a page. One that cannot read its part of the page does; where none can, it is unreadable."""
+    """The names of the checks that find something wrong with a page. One that cannot read its part of the page does;
+    where none can, it is unreadable."""
 
     def finds(check):
         try:
@@ -558,7 +574,8 @@ def is_fast(with_page, without):
 
 
 def least_seconds(program, name):
-    """The least times of draw and of judge, of several runs in turn. Other work on the machine only adds to a time, so there are more runs where draw is not fast enough."""
+    """The least times of draw and of judge, of several runs in turn. Other work on the machine only adds to a time, so
+    there are more runs where draw is not fast enough."""
     with_page, without = [], []
     for number in range(MOST_RUNS):
         if number >= FEWEST_RUNS and is_fast(min(with_page), min(without)):
@@ -620,7 +637,11 @@ def cost_of_drawings(program, report):
     for name, maps in histories_of_cost(100_000).items() if shutil.which("valgrind") else ():
         file = program.write(f"{name}.{HISTORY}", text_writers.lines(*maps))
         with_page, without = program.instructions("draw", file), program.instructions("judge", file)
-        report.holds(f"draw: {name}: it takes at most {MOST_INSTRUCTIONS} times the instructions of judge", with_page <= MOST_INSTRUCTIONS * without, (with_page, without))
+        report.holds(
+            f"draw: {name}: it takes at most {MOST_INSTRUCTIONS} times the instructions of judge",
+            with_page <= MOST_INSTRUCTIONS * without,
+            (with_page, without),
+        )
         told.append(f"{name} {with_page / without:.2f} times the instructions")
     for name, maps in histories_of_cost(1_000_000).items():
         with_page, without = least_seconds(program, program.write(f"{name}.{HISTORY}", text_writers.lines(*maps)))

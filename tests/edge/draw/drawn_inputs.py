@@ -107,7 +107,14 @@ def found_orders(program, name, history):
     return orders_of(program.run("find", program.write(f"{name}.{worked_rows.HISTORY}", history)).out)
 
 
-WRONG_TURN = text_writers.one_process(("enqueue", 1, 1), ("enqueue", 2, 2), ("enqueue", 3, 3), ("dequeue", None, 1), ("dequeue", None, 3), ("dequeue", None, 2))
+WRONG_TURN = text_writers.one_process(
+    ("enqueue", 1, 1),
+    ("enqueue", 2, 2),
+    ("enqueue", 3, 3),
+    ("dequeue", None, 1),
+    ("dequeue", None, 3),
+    ("dequeue", None, 2),
+)
 WRONG_REPLY_OF_A_QUEUE = text_writers.one_process(*[("enqueue", it, it) for it in range(20)], ("dequeue", None, 7))
 WRONG_REPLY_OF_A_MAP = text_writers.one_process(("put", (1, 10), None), ("put", (2, 20), None), ("get", 1, 20))
 # The only one that puts in what the operation returned is the operation.
@@ -260,7 +267,13 @@ def of_open():
     for seed in range(3):
         yield Case(f"a short search {seed}", text_writers.lines(*histories.long_search(seed)), None, ("--steps", str(seed)), says=("left_open",))
     register = played(("register",), 1000, 8, lost=10, values=5)
-    yield Case("a register of 1 000 that is open", register.text() + text_writers.lines(*histories.long_search(1, 1)), None, ("--steps", "0"), says=("left_open",))
+    yield Case(
+        "a register of 1 000 that is open",
+        register.text() + text_writers.lines(*histories.long_search(1, 1)),
+        None,
+        ("--steps", "0"),
+        says=("left_open",),
+    )
 
 
 def situations(program):
@@ -291,7 +304,10 @@ def options_and_faults():
     for stem in ("bad_number", "failed", "pending", "heap", "map", "mutex", "queue", "register", "stack"):
         yield example(stem)
         yield example(stem, False)
-    yield Case("an object without an order and one with", WRONG_TURN + text_writers.lines(text_writers.invoke(5, "push", 1, 4), text_writers.ok(5, "push", 1, 4)))
+    yield Case(
+        "an object without an order and one with",
+        WRONG_TURN + text_writers.lines(text_writers.invoke(5, "push", 1, 4), text_writers.ok(5, "push", 1, 4)),
+    )
     for it in worked_rows.MALFORMED:
         yield Case(it.name, *it.texts[:2])
 
@@ -305,7 +321,12 @@ def hostile():
     history += f"{{:process :{'n' * 64}, :type :info, :f :{'f' * 64}}}\n"
     yield Case("long strings and keywords in keys that are ignored", history, reads=False)
     shows = ("</script><script>alert(1)</script>&amp;", "あ", "\U0001f600", "\\x1b", "→")
-    both = text_writers.lines(text_writers.invoke(GREATEST, "push", 1), text_writers.ok(GREATEST, "push", 1), text_writers.invoke(1_000_000, "pop"), text_writers.ok(1_000_000, "pop", 1))
+    both = text_writers.lines(
+        text_writers.invoke(GREATEST, "push", 1),
+        text_writers.ok(GREATEST, "push", 1),
+        text_writers.invoke(1_000_000, "pop"),
+        text_writers.ok(1_000_000, "pop", 1),
+    )
     yield Case("long numbers of processes", both, text_writers.order(0, 2))
     yield Case("a faulty map of a process with a long number", both + text_writers.lines(text_writers.ok(GREATEST - 1, "pop", 1)))
     bad = f"; {said}\n{{:process 0, :type :invoke, :f :pop, :note {said[:-1]}\x1b\t<b>\"}}\n{{:process 0, :type :invoke, :f :pop, :note {said[:-1]}\x1b\t<b>\"}}\n"
@@ -321,14 +342,25 @@ def extreme():
     """Values and keys at the limits of 64 bits, alone and in pairs."""
     pairs = ((LEAST, GREATEST), (GREATEST, LEAST))
     register = [("write", LEAST, LEAST), ("cas", pairs[0], pairs[0]), ("read", None, GREATEST), ("cas", pairs[0], False), ("cas", pairs[1], pairs[1])]
-    of_map = [("put", (LEAST, GREATEST), None), ("put", (LEAST, LEAST), GREATEST), ("put", pairs[1], None), ("get", LEAST, LEAST), ("del", GREATEST, LEAST)]
+    of_map = [
+        ("put", (LEAST, GREATEST), None),
+        ("put", (LEAST, LEAST), GREATEST),
+        ("put", pairs[1], None),
+        ("get", LEAST, LEAST),
+        ("del", GREATEST, LEAST),
+    ]
     yield Case("a register with values at the limits", text_writers.one_process(*register), text_writers.order(*range(0, 10, 2)))
     yield Case("a map with keys and values at the limits", text_writers.one_process(*of_map), text_writers.order(*range(0, 10, 2)))
     for name, calls in (("register", register), ("map", of_map)):
         yield Case(f"a {name} with values at the limits judged", text_writers.one_process(*calls))
         f, argument, reply = calls[-1]
         wrong = [*calls[:-1], (f, argument, False if f == "cas" else GREATEST)]
-        yield Case(f"a {name} with values at the limits, one wrong", text_writers.one_process(*wrong), text_writers.order(*range(0, 10, 2)), says=("c6",))
+        yield Case(
+            f"a {name} with values at the limits, one wrong",
+            text_writers.one_process(*wrong),
+            text_writers.order(*range(0, 10, 2)),
+            says=("c6",),
+        )
         yield Case(f"a {name} with values at the limits, impossible", text_writers.one_process(*wrong))
     for put, take in (("enqueue", "dequeue"), ("push", "pop"), ("insert", "extract-min")):
         values = [GREATEST - it for it in range(12)] + [LEAST + it for it in range(12)]
@@ -365,7 +397,9 @@ def mutated(rng, made, code):
     if code == "C2":
         return text_writers.lines(text_writers.certificate(0, *order), text_writers.certificate(3))
     if code == "C3":
-        numbers = [-1, len(made.maps) + 5] + [it.at for it in calls.values() if it.at is not None] + [n for n, it in calls.items() if it.end == "fail"]
+        numbers = [-1, len(made.maps) + 5]
+        numbers += [it.at for it in calls.values() if it.at is not None]
+        numbers += [number for number, it in calls.items() if it.end == "fail"]
         order.insert(place, rng.choice(numbers))
     if code == "C4":
         order.insert(rng.randrange(place, len(order)) + 1, order[place])

@@ -1,5 +1,5 @@
-"""Whether pages leave nothing out silently: of histories with few and many processes and pending operations, drawn in each way, the operations with bars
-and those that gaps count are all."""
+"""Whether pages leave nothing out silently: of histories with few and many processes and pending operations, drawn in
+each way, the operations with bars and those that gaps count are all."""
 import random
 import re
 

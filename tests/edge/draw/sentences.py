@@ -566,7 +566,10 @@ def line_of(page):
 
 def why_first_false(page):
     """The sentence on the first event that leaves no order that is missing, where the lines name that event, or None."""
-    told = re.search(r"; (event \d+ is the first that leaves no order|the first event that leaves no order is one from event \d+ to event \d+)$", line_of(page))
+    told = re.search(
+        r"; (event \d+ is the first that leaves no order|the first event that leaves no order is one from event \d+ to event \d+)$",
+        line_of(page),
+    )
     if told is None:
         return None
     wanted = f"{told[1][0].upper()}{told[1][1:]}."
@@ -622,7 +625,8 @@ def why_counts_false(page, history):
         return f"the facts are {page.facts}"
     rows = page.rows("objects")
     more = len(objects) - MOST_OBJECTS
-    if rows and more > 0 and rows.pop() != ("skip", [f"{grouped(more)} more object{'' if more == 1 else 's'}"]) or rows and len(rows) != min(len(objects), MOST_OBJECTS):
+    left_out = ("skip", [f"{grouped(more)} more object{'' if more == 1 else 's'}"])
+    if rows and more > 0 and rows.pop() != left_out or rows and len(rows) != min(len(objects), MOST_OBJECTS):
         return f"{len(rows)} objects are told of"
     for _, cells in rows:
         own = [it for it in calls.values() if f"object {it.on}" == cells[0]]
@@ -646,7 +650,8 @@ def why_open_false(page, history, told):
 
 
 def why_longest_false(page, calls, x):
-    """What is false of the longest order that a page of an open object has, or None: each entry has its reply, and what may come next does not fit."""
+    """What is false of the longest order that a page of an open object has, or None: each entry has its reply, and what
+    may come next does not fit."""
     said = next((re.fullmatch(FORMS["longest"], it) for it in page.said if form_of(it) == "longest"), None)
     if not said:
         return "there is no longest order"

@@ -97,8 +97,9 @@ class Shown:
 
 
 def reason_of(told, x=None):
-    """The operations of the first reason that judge tells, or of the first of an object, as the part has them, by their numbers, the one from which on it is a part,
-    which is one of them, and the value that stands for others. An operation that only begins the part is None."""
+    """The operations of the first reason that judge tells, or of the first of an object, as the part has them, by their
+    numbers, the one from which on it is a part, which is one of them, and the value that stands for others. An
+    operation that only begins the part is None."""
     calls, is_first, since, other = {}, False, None, None
     for line in told.splitlines():
         named = IMPOSSIBLE.fullmatch(line)
@@ -185,8 +186,8 @@ def why_labels_false(figure):
 
 
 def why_marks_collide(figure):
-    """A refused point on the bar of another operation, or a line that joins points above the bars, or points that are not neighbours, or an arrow that breaks
-    another one or the bar at which it begins, or None."""
+    """A refused point on the bar of another operation, or a line that joins points above the bars, or points that are
+    not neighbours, or an arrow that breaks another one or the bar at which it begins, or None."""
     for line in found(figure, "svg", "sys"):
         # In the order in which they are drawn.
         parts = [name for it in line.iter() for name in classes(it)]
@@ -526,7 +527,9 @@ def why_view_false(shown, x, figure, stretch=None):
         return f"the gaps are {titles}, {texts}, and not {wanted}"
     # No operation is left out without a gap that counts it.
     _, left_out = shown_counts(figure)
-    return None if len(view.bars) + left_out == len(view.calls) or not view.drawn else f"{len(view.bars)} operations are drawn, {left_out} are in gaps"
+    if len(view.bars) + left_out == len(view.calls) or not view.drawn:
+        return None
+    return f"{len(view.bars)} operations are drawn, {left_out} are in gaps"
 
 
 # ---- other stretches

@@ -71,7 +71,9 @@ def timed_pages(program, report):
     report.equal("draw: times: the answer", (0, "yes", other.lines), (timed.status, page.answer, page.lines))
     line = lines_of(page)[0]
     shown = [it.text for it in found(line, "text", "time")]
-    report.holds("draw: times: the axis", shown[0] == "1.204 s" and set(shown) <= {f"{it[0]}.{it[1]} s" for it in re.findall(r":time (\d+)(\d{3})\d{6}\b", TIMED)} and len(shown) >= 3, shown)
+    times = {f"{it[0]}.{it[1]} s" for it in re.findall(r":time (\d+)(\d{3})\d{6}\b", TIMED)}
+    is_axis = shown[0] == "1.204 s" and set(shown) <= times and len(shown) >= 3
+    report.holds("draw: times: the axis", is_axis, shown)
     ends = [(int(it.get("x")) - 3 * len(it.text), int(it.get("x")) + 3 * len(it.text)) for it in found(line, "text", "time")]
     report.holds("draw: times: they do not overlap", all(one[1] < two[0] for one, two in zip(ends, ends[1:])), ends)
     bars = titles(page, "op")
@@ -81,7 +83,11 @@ def timed_pages(program, report):
     report.equal("draw: nemesis: its bands", [BAND], titles(page, "band"))
     rect = found(line, "g", "band")[0].find("rect")
     spots = [int(re.match(r"M(\d+) ", it.find("path").get("d"))[1]) for it in found(line, "g", "nem")]
-    report.equal("draw: nemesis: from its beginning to its end", (spots[0], spots[2]), (int(rect.get("x")), int(rect.get("x")) + int(rect.get("width"))))
+    report.equal(
+        "draw: nemesis: from its beginning to its end",
+        (spots[0], spots[2]),
+        (int(rect.get("x")), int(rect.get("x")) + int(rect.get("width"))),
+    )
     report.equal("draw: no times: no axis", [], found(other.body, "text", "time"))
     report.holds("draw: no times: no titles of them", not any("\nfrom " in it for it in titles(other, "op")), titles(other, "op"))
     report.equal("draw: no times: the marks", [re.sub(", at .* s", "", it) for it in MARKS], titles(other, "nem"))
@@ -114,7 +120,10 @@ def nemesis_room(program, report):
     """Long names of what a nemesis does do not push operations apart, and 60 marks after the last operation take no lines of their own."""
     calls = [text_writers.invoke(0, "write", 1), text_writers.ok(0, "write", 1), text_writers.invoke(0, "read"), text_writers.ok(0, "read", 1)]
     mark = "{:process :nemesis, :type :info, :f :start-partition-majorities-ring}"
-    pages = [Drawn(program.run("draw", program.write("nemesis.edn", text_writers.lines(*it))).out) for it in (calls, [*calls[:2], mark, *calls[2:]], [*calls, *[mark] * 60])]
+    pages = [
+        Drawn(program.run("draw", program.write("nemesis.edn", text_writers.lines(*it))).out)
+        for it in (calls, [*calls[:2], mark, *calls[2:]], [*calls, *[mark] * 60])
+    ]
     plain, between, after = map(lines_of, pages)
     # A mark has the room of an event, 12.
     report.equal("draw: nemesis: room for a long name", x_of(plain[0], 2) + 12, x_of(between[0], 3))
@@ -195,12 +204,20 @@ def named_first_events(program, report):
 def accessible_bars(program, report):
     """A screen reader is told the operation first, of bars in the order in which they began, and of points, and each leads to a place of the page."""
     several = Drawn(program.run("draw", program.write("overlapping.edn", OVERLAPPING)).out)
-    report.equal("draw: bars in the order of their beginnings", [["0", "1", "4"]], [[it.get("data-op") for it in found(line, "g", "op")] for line in lines_of(several)])
+    report.equal(
+        "draw: bars in the order of their beginnings",
+        [["0", "1", "4"]],
+        [[it.get("data-op") for it in found(line, "g", "op")] for line in lines_of(several)],
+    )
     page = Drawn(program.run("draw", program.write("timed.edn", TIMED)).out)
     bars, points = ([it for line in lines_of(page) for it in found(line, *those)] for those in (("g", "op"), ("a", "pt")))
     report.equal("draw: bars without a link", [], [it.get("data-op") for it in bars if it.find("a") is None])
     links = [*[own for it in bars for own in it.findall("a")], *points]
-    report.holds("draw: labels of links", all(re.match(r"(write 1|read → [1?]), #\d", it.get("aria-label")) for it in links), [it.get("aria-label") for it in links])
+    report.holds(
+        "draw: labels of links",
+        all(re.match(r"(write 1|read → [1?]), #\d", it.get("aria-label")) for it in links),
+        [it.get("aria-label") for it in links],
+    )
     report.equal("draw: links", [], page.lost_links())
 
 

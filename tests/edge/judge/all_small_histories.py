@@ -107,7 +107,9 @@ def search_both_sorts(program, report, name, histories):
     """Searches in both orders of trying."""
     for first in ("number", "return"):
         words = ("search", "--first", first, "--steps", "1000000")
-        of_others = lambda history, count: brute_force.of_each(program, f"{name}, by {first}, without an order", words, history, count, "impossible", 1)  # noqa: B023
+        of_others = lambda history, count: brute_force.of_each(  # noqa: B023
+            program, f"{name}, by {first}, without an order", words, history, count, "impossible", 1
+        )
         both_sorts(program, report, f"{name}, by {first}", histories, words, of_others)
 
 

@@ -238,7 +238,17 @@ def dying_finders(program, report):
 
 
 # Two that are linearizable, two that are not, and a malformed one.
-FEW = tuple(it for it in HISTORIES if it.text in (worked_rows.OVERLAPPING, worked_rows.TWO_QUEUES, worked_rows.THREE_VALUES, worked_evidence.TWICE, worked_rows.AFTER_INFO))
+FEW = tuple(
+    it
+    for it in HISTORIES
+    if it.text in (
+        worked_rows.OVERLAPPING,
+        worked_rows.TWO_QUEUES,
+        worked_rows.THREE_VALUES,
+        worked_evidence.TWICE,
+        worked_rows.AFTER_INFO,
+    )
+)
 
 
 def endless_finders(program, report):

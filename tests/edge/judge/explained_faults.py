@@ -24,10 +24,22 @@ OF_EVENTS = (
 )
 # A whole text, and what is said of it.
 OF_TEXTS = (
-    ("{:process 0, :type :invoke, :f :cas, :value [1 2]}\n{:process 0, :type :ok, :f :cas, :value true}", "; event 1, line 2: :value true: :cas replies its pair where it swapped"),
-    ("{:process 0, :type :invoke, :f :enqueue, :value 1}\n{:process 0, :type :ok, :f :enqueue}", "; event 1, line 2: :value nil: :enqueue replies an integer"),
-    ("{:process 0, :type :invoke, :f :enqueue, :value 1}\n{:process 0, :type :ok, :f :enqueue, :value nil}", "; event 1, line 2: :value nil: :enqueue replies an integer"),
-    ("{:process 0, :type :invoke, :f :put, :value [1 2]}\n{:process 0, :type :ok, :f :put, :value [1 2]}", "; event 1, line 2: :value [1 2]: :put replies the earlier value, an integer or nil"),
+    (
+        "{:process 0, :type :invoke, :f :cas, :value [1 2]}\n{:process 0, :type :ok, :f :cas, :value true}",
+        "; event 1, line 2: :value true: :cas replies its pair where it swapped",
+    ),
+    (
+        "{:process 0, :type :invoke, :f :enqueue, :value 1}\n{:process 0, :type :ok, :f :enqueue}",
+        "; event 1, line 2: :value nil: :enqueue replies an integer",
+    ),
+    (
+        "{:process 0, :type :invoke, :f :enqueue, :value 1}\n{:process 0, :type :ok, :f :enqueue, :value nil}",
+        "; event 1, line 2: :value nil: :enqueue replies an integer",
+    ),
+    (
+        "{:process 0, :type :invoke, :f :put, :value [1 2]}\n{:process 0, :type :ok, :f :put, :value [1 2]}",
+        "; event 1, line 2: :value [1 2]: :put replies the earlier value, an integer or nil",
+    ),
     ("{:process \"n1\", :type :invoke, :f :read}", "; event 0, line 1: :process \"n1\": expected is an integer of at least 0, or a keyword"),
     ("[{:process 0, :type :invoke, :f :read}]", "; event 0, line 1: it is no map"),
     ("{\"process\": 0}", "; line 1: \"process\": "),
@@ -42,11 +54,23 @@ OF_CODES = (
     ("H1 at map 0", "{:process 0, :f :read}", "; event 0, line 1: no :type: expected is :invoke, :ok, :fail or :info"),
     ("H2 at map 0", "{:process 0, :type :invoke, :f :peek}", "; event 0, line 1: :f :peek: it is none of :enqueue, "),
     ("H3 at map 0", "{:process 0, :type :invoke, :f :get}", "; event 0, line 1: :value nil: :get takes a key, an integer"),
-    ("H4 at map 1", f"{READ}\n{{:process 1, :type :invoke, :f :pop}}", "; event 1, line 2: :f :pop: event 0, the first one on object 0, has :read, of another kind"),
+    (
+        "H4 at map 1",
+        f"{READ}\n{{:process 1, :type :invoke, :f :pop}}",
+        "; event 1, line 2: :f :pop: event 0, the first one on object 0, has :read, of another kind",
+    ),
     ("H5 at map 1", f"{READ}\n{READ}", "; event 1, line 2: process 0 has an operation outstanding since event 0"),
     ("H6 at map 0", "{:process 0, :type :ok, :f :read}", "; event 0, line 1: process 0 has nothing outstanding"),
-    ("H7 at map 1", f"{READ}\n{{:process 0, :type :ok, :f :read, :object 16}}", "; event 1, line 2: event 0 of process 0 invoked :read on object 0, and this is :read on object 16"),
-    ("H8 at map 2", f"{READ}\n{{:process 0, :type :info, :f :read}}\n{READ}", "; event 2, line 3: event 1 is the :info of process 0, which has no events after it: its thread goes on as another process"),
+    (
+        "H7 at map 1",
+        f"{READ}\n{{:process 0, :type :ok, :f :read, :object 16}}",
+        "; event 1, line 2: event 0 of process 0 invoked :read on object 0, and this is :read on object 16",
+    ),
+    (
+        "H8 at map 2",
+        f"{READ}\n{{:process 0, :type :info, :f :read}}\n{READ}",
+        "; event 2, line 3: event 1 is the :info of process 0, which has no events after it: its thread goes on as another process",
+    ),
     ("H9 at map 1000000", "{:process :x}\n" * 1_000_001, "; event 1000000, line 1000001: a history has at most 1,000,000 events"),
     ("E1 at byte 7", b"; first\xff", "; line 1: \\xff: the text is not UTF-8"),
     ("E1 at byte 1", b"\x1f\x8b\x08\x00", "; line 1: this is gzip: zcat it first"),
@@ -100,7 +124,8 @@ def explained_codes(program, report):
 
 
 def import_is_advised(program, report):
-    """If import can make a history of a malformed text, judge says with which line of a shell, and that line judges it; otherwise it does not say so."""
+    """If import can make a history of a malformed text, judge says with which line of a shell, and that line judges it;
+    otherwise it does not say so."""
     for text, options in IMPORTED:
         path = program.write("ad vised.edn", text)
         ran, lines = said_of(program, path)
@@ -128,25 +153,59 @@ OVERLAPPING = "".join(f"{{:process {process}, :type :{kind}, :f :enqueue, :value
 # The key is removed between the two puts by a call that began before both.
 REMOVED = "".join(
     f"{{:process {process}, :type :{kind}, :f :{f}, :value {value}}}\n"
-    for process, kind, f, value in ((0, "invoke", "del", "1"), (1, "invoke", "put", "[1 5]"), (1, "ok", "put", "nil"), (0, "ok", "del", "5"), (1, "invoke", "put", "[1 6]"), (1, "ok", "put", "nil"))
+    for process, kind, f, value in (
+        (0, "invoke", "del", "1"),
+        (1, "invoke", "put", "[1 5]"),
+        (1, "ok", "put", "nil"),
+        (0, "ok", "del", "5"),
+        (1, "invoke", "put", "[1 6]"),
+        (1, "ok", "put", "nil"),
+    )
 )
-BLIND = "".join(f"{{:process 0, :type :{kind}, :f :put, :value {said}}}\n" for value in (5, 6) for kind, said in (("invoke", f"[1 {value}]"), ("ok", "nil")))
+BLIND = "".join(
+    f"{{:process 0, :type :{kind}, :f :put, :value {said}}}\n"
+    for value in (5, 6)
+    for kind, said in (("invoke", f"[1 {value}]"), ("ok", "nil"))
+)
 # A register that begins with 0, and a write with the reply of another one.
 BEGUN = "".join(f"{{:process 0, :type :{kind}, :f :read, :value {value}}}\n" for kind, value in (("invoke", "nil"), ("ok", 0)))
 MIXED_UP = "".join(f"{{:process 0, :type :{kind}, :f :write, :value {value}}}\n" for kind, value in (("invoke", 1), ("ok", 2)))
 # A history, the status, the summary, and the beginnings of warnings without --summary.
 SUMMARIES = (
-    (SEQUENTIAL, 0, b"; 0 % of 50 operations overlap another one, at most 1 at once; 0 pending, 0 failed\n", [b"fcbench: warning: no two operations overlap: "]),
+    (
+        SEQUENTIAL,
+        0,
+        b"; 0 % of 50 operations overlap another one, at most 1 at once; 0 pending, 0 failed\n",
+        [b"fcbench: warning: no two operations overlap: "],
+    ),
     (OVERLAPPING, 0, b"; 100 % of 4 operations overlap another one, at most 4 at once; 0 pending, 0 failed\n", []),
     (REMOVED, 0, b"; 66 % of 3 operations overlap another one, at most 2 at once; 0 pending, 0 failed\n", []),
-    (BLIND, 1, b"; 0 % of 2 operations overlap another one, at most 1 at once; 0 pending, 0 failed\n", [b"fcbench: warning: object 0: every :put replied nil, "]),
-    (BEGUN, 1, b"; 0 % of 1 operation overlap another one, at most 1 at once; 0 pending, 0 failed\n", [b"fcbench: warning: object 0: value 0 was read first, and no operation writes it. If registers begin with 0: fcbench import --initial 0"]),
-    (MIXED_UP, 1, b"; 0 % of 1 operation overlap another one, at most 1 at once; 0 pending, 0 failed\n", [b"fcbench: warning: the reply of event 1 is not its argument: probably the recorder is wrong"]),
+    (
+        BLIND,
+        1,
+        b"; 0 % of 2 operations overlap another one, at most 1 at once; 0 pending, 0 failed\n",
+        [b"fcbench: warning: object 0: every :put replied nil, "],
+    ),
+    (
+        BEGUN,
+        1,
+        b"; 0 % of 1 operation overlap another one, at most 1 at once; 0 pending, 0 failed\n",
+        [
+            b"fcbench: warning: object 0: value 0 was read first, and no operation writes it. If registers begin with 0: fcbench import --initial 0"
+        ],
+    ),
+    (
+        MIXED_UP,
+        1,
+        b"; 0 % of 1 operation overlap another one, at most 1 at once; 0 pending, 0 failed\n",
+        [b"fcbench: warning: the reply of event 1 is not its argument: probably the recorder is wrong"],
+    ),
 )
 
 
 def summaries(program, report):
-    """A yes of a sequential history warns, and so do puts whose replies tell nothing where it is no yes; --summary prints the figures, and find tells them too."""
+    """A yes of a sequential history warns, and so do puts whose replies tell nothing where it is no yes; --summary
+    prints the figures, and find tells them too."""
     for text, status, figures, warned in SUMMARIES:
         path = program.write("summarized.edn", text)
         ran = subprocess.run(program.line(("judge", path)), capture_output=True, cwd=program.room, check=False)
@@ -164,7 +223,11 @@ def out_of_steps(program, report):
     path = program.write("long.edn", worked_rows.FIRST_WRITE_LAST)
     for steps, wanted in (("7", 1), ("1000000", 0)):
         ran = subprocess.run(program.line(("judge", "--steps", steps, path)), capture_output=True, cwd=program.room, check=False)
-        said = [it for it in ran.stderr.decode().splitlines() if it.startswith("fcbench: out of steps: --steps N lets the search take longer; docs/tutorial.md says ")]
+        said = [
+            it
+            for it in ran.stderr.decode().splitlines()
+            if it.startswith("fcbench: out of steps: --steps N lets the search take longer; docs/tutorial.md says ")
+        ]
         report.equal(f"judge: --steps {steps}: what to do is said", (3 * wanted, wanted), (ran.returncode, len(said)), ran)
 
 

@@ -63,7 +63,10 @@ WRONGLY_REFUSED = """{{:process 0, :type :invoke, :f :write, :value 1}}
 """
 # A history, and what is said of it.
 REFUSED = (
-    ("{:process 0, :type :invoke, :f :write, :value 1.5}", "line 1: operation 0: 1.5 cannot be the argument of :write, which is an integer, string or keyword"),
+    (
+        "{:process 0, :type :invoke, :f :write, :value 1.5}",
+        "line 1: operation 0: 1.5 cannot be the argument of :write, which is an integer, string or keyword",
+    ),
     ("\n\n{:process 0, :type :invoke, :f :drain}", "line 3: operation 0: :drain is none of the functions :enqueue, :dequeue, "),
     ("{:process 0", "line 1: the text ends before }; expected are maps"),
     ("{:process 0, :type :invoke}", "line 1: operation 0: no :f, which is one of the functions :enqueue, "),
@@ -128,7 +131,11 @@ def standard_input(program, report):
     report.answers("import: gzip", program.run("import", path), "", 4, f"fcbench: cannot read {path}: this is gzip: zcat it first\n")
     path = program.write("queue.edn", WRONGLY_EMPTY.format(":error :gone"))
     ran = program.run("import", "--initial", "0", path)
-    report.equal("import: --initial without a register", (0, b"fcbench: warning: --initial writes nothing: the history has no register that it names\n"), (ran.status, ran.err))
+    report.equal(
+        "import: --initial without a register",
+        (0, b"fcbench: warning: --initial writes nothing: the history has no register that it names\n"),
+        (ran.status, ran.err),
+    )
 
 
 def imports_are_refused(program, report):

@@ -22,7 +22,11 @@ def register(on):
     the other values was there when they were looked for."""
     process = on * 100
     writes = [(text_writers.invoke(process + it, "write", it, on), text_writers.ok(process + it, "write", it, on)) for it in range(WRITES)]
-    looked = [call for it in range(WRITES - 1, 0, -1) for call in (text_writers.invoke(process, "cas", (it, -1), on), text_writers.ok(process, "cas", False, on))]
+    looked = [
+        call
+        for it in range(WRITES - 1, 0, -1)
+        for call in (text_writers.invoke(process, "cas", (it, -1), on), text_writers.ok(process, "cas", False, on))
+    ]
     return [*(begun for begun, _ in writes), *(ended for _, ended in writes), *looked]
 
 
@@ -119,7 +123,12 @@ def stopped_finds(program, report):
     report.holds("find: --seconds", ran.status == 3 and said and is_whole and ran.out.count(b"\n") == int(said[1]), ran)
     one, none = program.write("one.edn", text_writers.lines(*register(0))), program.write("none.edn", "")
     calls = 2 * WRITES - 1
-    report.answers("judge: a limit that is not reached", program.run("judge", "--seconds", "100", one), yes(calls, 1, f"register: 1 objects, {calls} operations"), 0)
+    report.answers(
+        "judge: a limit that is not reached",
+        program.run("judge", "--seconds", "100", one),
+        yes(calls, 1, f"register: 1 objects, {calls} operations"),
+        0,
+    )
     report.answers("judge: a limit, and no object", program.run("judge", "--seconds", "1", none), yes(0, 0), 0)
 
 
@@ -134,7 +143,12 @@ def stopped_finders(program, report):
     """Other finders are stopped too, and what they wrote is judged."""
     def stopped(case):
         (number, (name, script)), (at, it) = case
-        path = finder(program, f"stopped.{number}.{at}", f'echo $$ > "$evidence.pid"\ncat "$evidence"\necho > "$evidence.told"\n{script}', it.evidence)
+        path = finder(
+            program,
+            f"stopped.{number}.{at}",
+            f'echo $$ > "$evidence.pid"\ncat "$evidence"\necho > "$evidence.told"\n{script}',
+            it.evidence,
+        )
         text = program.write(f"stopped.{number}.{at}.history.edn", it.text)
         stop = lambda seconds: ended(started(program, "judge", "--seconds", str(seconds), text, env={"FCBENCH_FINDER": path}))  # noqa: E731
         ran = with_enough(stop, lambda _: os.path.exists(f"{path}.edn.told"))

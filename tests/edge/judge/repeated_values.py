@@ -413,7 +413,10 @@ def is_judged(program, report, name, valid):
 def is_searched(program, report, name, valid):
     """Whether an order is put out that check accepts, or else that there is none."""
     words = ("search",)
-    told = brute_force.of_orders(program, name, words, HISTORY, 1) if valid else brute_force.of_each(program, name, words, HISTORY, 1, "impossible", 1)
+    if valid:
+        told = brute_force.of_orders(program, name, words, HISTORY, 1)
+    else:
+        told = brute_force.of_each(program, name, words, HISTORY, 1, "impossible", 1)
     for it in told:
         report.equal(*it)
 
@@ -425,8 +428,9 @@ def is_found(program, report, name, valid):
         report.equal(*it)
 
 
-# Histories of gen.py in which 5 % of the calls failed and others are pending. Stacks of different values, where pending pops must be given to values in
-# time, and a register of 100 values, where a pending write that is used too early is missing later.
+# Histories of gen.py in which 5 % of the calls failed and others are pending. Stacks of different values, where pending
+# pops must be given to values in time, and a register of 100 values, where a pending write that is used too early is
+# missing later.
 GENERATED = (
     ("stack", "--unique --calls 4096 --concurrency 100 --info 0.05 --seed 6"),
     ("stack", "--unique --calls 4096 --concurrency 100 --info 0.05 --seed 17"),

@@ -19,8 +19,8 @@ HALVES = {"proved.o": ["fcbench_check", "fcbench_refute", "fcbench_verify"], "fi
 EXPORTS = sorted(sum(HALVES.values(), []))
 # What the proved half calls of others.
 CALLS = {"free", "malloc", "memcmp", "memcpy", "memmove", "memset", "realloc"}
-# Data of the proved half that can be written: a byte of the kit's three functions over malloc, realloc and free. Where a block is refused they give its
-# address, with a flag that says so.
+# Data of the proved half that can be written: a byte of the kit's three functions over malloc, realloc and free. Where
+# a block is refused they give its address, with a flag that says so.
 OF_THE_KIT = {"nothing"}, {".bss": 1}
 # A library with a state of each kind: with a value, without one, of a thread, and without a name outside.
 WITH_STATE = """int valued = 1, zero; _Thread_local int of_a_thread;
@@ -32,7 +32,18 @@ CPP = ("g++", "-std=c++17", *WARNINGS)
 VALGRIND = ("valgrind", "--quiet", "--leak-check=full", "--errors-for-leak-kinds=all", "--error-exitcode=9")
 HELGRIND = ("valgrind", "--quiet", "--tool=helgrind", "--error-exitcode=9")
 # Debian's package of each language or shell, where one is missing.
-PACKAGES = {"bash": "bash", "gcc": "gcc", "g++": "g++", "valgrind": "valgrind", "cargo": "cargo", "go": "golang", "clojure": "clojure", "javac": "default-jdk-headless", "zsh": "zsh", "fish": "fish"}
+PACKAGES = {
+    "bash": "bash",
+    "gcc": "gcc",
+    "g++": "g++",
+    "valgrind": "valgrind",
+    "cargo": "cargo",
+    "go": "golang",
+    "clojure": "clojure",
+    "javac": "default-jdk-headless",
+    "zsh": "zsh",
+    "fish": "fish",
+}
 # Runs of each recorder: of a right queue, and of a wrong one.
 RUNS = 100
 # What takes longer hangs, on a slow machine too.
@@ -108,11 +119,19 @@ def without_the_kit(program, report):
     advice = "fcbench: rt, the command of the Rattle kit, is not on the PATH\n"
     for words in (("--version",), ("--quick", "--version")):
         ran = run("bash", f"{top}/fcbench", *words)
-        report.equal(f"embedding: ./fcbench {words[0]} that is not built, without the kit", (127, "", advice), (ran.returncode, ran.stdout, ran.stderr))
+        report.equal(
+            f"embedding: ./fcbench {words[0]} that is not built, without the kit",
+            (127, "", advice),
+            (ran.returncode, ran.stdout, ran.stderr),
+        )
     history = program.write("of_help.edn", "")
     for words, status in ((("--help",), 0), ((), 64), (("judge", "--help"), 0), (("find", f"{program.room}/{history}"), 0)):
         ran = run("bash", f"{top}/fcbench", *words)
-        is_well = ran.returncode == status and (words[:1] == ("find",) or "HISTORY" in ran.stdout + ran.stderr or "commands of the verifier" in ran.stdout + ran.stderr)
+        is_well = ran.returncode == status and (
+            words[:1] == ("find",)
+            or "HISTORY" in ran.stdout + ran.stderr
+            or "commands of the verifier" in ran.stdout + ran.stderr
+        )
         report.holds(f"embedding: ./fcbench {' '.join(words)} needs no kit", is_well and "rt, the command" not in ran.stderr, ran)
     nothing_to_prove(program, report, top)
     shutil.copy(program.path, f"{top}/crates/fcbench/out/fcbench")
@@ -135,7 +154,8 @@ def nothing_to_prove(program, report, top):
     history = f"{program.room}/{program.write('judged.of.help.edn', '')}"
     for words, status in ((("judge",), 64), (("judge", "--json", history), 64), (("judge", "/not/there.edn"), 4), (("judge", history), 1)):
         ran = subprocess.run(["bash", f"{top}/fcbench", *words], env=env, capture_output=True, text=True)
-        is_well = ran.returncode == status and ran.stdout == "" and "NOT PROVED YET" in ran.stderr and ("proving and building" in ran.stderr) == (status == 1)
+        is_first = ran.stdout == "" and "NOT PROVED YET" in ran.stderr
+        is_well = ran.returncode == status and is_first and ("proving and building" in ran.stderr) == (status == 1)
         report.holds(f"embedding: ./fcbench {' '.join(words)} where the verifier is not proved", is_well, ran)
     os.remove(unproved)
 
@@ -188,7 +208,12 @@ def cases():
             continue
         yield ("judge", f"{EXAMPLES}/{name}")
         yield ("find", f"{EXAMPLES}/{name}")
-        for command, other in (("check", f"{stem}.certificates.edn"), ("refute", f"{stem}.reasons.edn"), ("verify", f"{stem}.certificates.edn"), ("verify", f"{stem}.reasons.edn")):
+        for command, other in (
+            ("check", f"{stem}.certificates.edn"),
+            ("refute", f"{stem}.reasons.edn"),
+            ("verify", f"{stem}.certificates.edn"),
+            ("verify", f"{stem}.reasons.edn"),
+        ):
             if other in names:
                 yield (command, f"{EXAMPLES}/{name}", f"{EXAMPLES}/{other}")
 
@@ -342,7 +367,15 @@ def rust_callers(program, report):
         return missing("cargo")
     package = ["--quiet", "--offline", "--manifest-path", f"{SOURCES}/rust/Cargo.toml"]
     words, elsewhere = ["cargo", "test", *package], {**os.environ, "CARGO_TARGET_DIR": f"{program.room}/cargo", "FCBENCH_LIB": EXAMPLES}
-    said = done(report, "Rust: the tests of the package", words, CARGO_TARGET_DIR=f"{program.room}/cargo", FCBENCH_LIB=OUT, FCBENCH_RUNS=str(RUNS), RUSTFLAGS="-D warnings")
+    said = done(
+        report,
+        "Rust: the tests of the package",
+        words,
+        CARGO_TARGET_DIR=f"{program.room}/cargo",
+        FCBENCH_LIB=OUT,
+        FCBENCH_RUNS=str(RUNS),
+        RUSTFLAGS="-D warnings",
+    )
     report.equal("embedding: Rust: how many tests passed", 31, sum(map(int, re.findall(r"(\d+) passed", said))), said[-2000:])
     ran = subprocess.run(["cargo", "check", *package], env=elsewhere, capture_output=True, text=True)
     advice = f"libfcbench.a is not in {EXAMPLES}: run callers/build, or set FCBENCH_LIB to the absolute path of its folder"
@@ -354,7 +387,15 @@ def python_callers(program, report):
     """The same in Python, by ctypes."""
     said = ""
     for name in ("judge", "recorder"):
-        said += done(report, f"Python: test_{name}.py", [f"{SOURCES}/python/test_{name}.py"], "\nOK", FCBENCH_SO=SHARED, FCBENCH_RUNS=str(RUNS), PYTHONDONTWRITEBYTECODE="1")
+        said += done(
+            report,
+            f"Python: test_{name}.py",
+            [f"{SOURCES}/python/test_{name}.py"],
+            "\nOK",
+            FCBENCH_SO=SHARED,
+            FCBENCH_RUNS=str(RUNS),
+            PYTHONDONTWRITEBYTECODE="1",
+        )
     report.equal("embedding: Python: how many tests ran", ["9", "14"], re.findall(r"Ran (\d+) tests", said), said[-2000:])
 
 
@@ -362,7 +403,13 @@ def go_callers(program, report):
     """The same in Go, by cgo."""
     if missing("go", "gcc"):
         return missing("go", "gcc")
-    env = {"CGO_CFLAGS": f"-O2 -I{ROOT}/include", "CGO_LDFLAGS": LIBRARY, "GOCACHE": f"{program.room}/go", "GOFLAGS": "-mod=mod", "FCBENCH_RUNS": str(RUNS)}
+    env = {
+        "CGO_CFLAGS": f"-O2 -I{ROOT}/include",
+        "CGO_LDFLAGS": LIBRARY,
+        "GOCACHE": f"{program.room}/go",
+        "GOFLAGS": "-mod=mod",
+        "FCBENCH_RUNS": str(RUNS),
+    }
     said = done(report, "Go: the tests of the package", ["go", "test", "-count=1", "-v", "."], "\nok ", FOLDER=f"{SOURCES}/go", **env)
     report.equal("embedding: Go: how many tests passed", 18, said.count("--- PASS"), said[-2000:])
     return None
@@ -429,8 +476,8 @@ def until_a_no(run, *lines):
 
 
 def tutorial(program, report):
-    """The commands of docs/tutorial.md on a queue of one's own do what it says: the bug is found in the file and in place, the reason is accepted, and the
-    queue without the bug is a yes."""
+    """The commands of docs/tutorial.md on a queue of one's own do what it says: the bug is found in the file and in
+    place, the reason is accepted, and the queue without the bug is a yes."""
     room = f"{program.room}/tutorial"
     os.mkdir(room)
     for name, path in (("docs", f"{ROOT}/docs"), ("callers", SOURCES), ("fcbench", dispatcher(program))):
@@ -452,13 +499,26 @@ def tutorial(program, report):
         report.holds("tutorial: the page says that it is impossible", "Not linearizable" in file.read())
 
 
-CALLERS = (answers_of_each_export, as_the_program, refused_memory_of_calls, c_callers, cpp_callers, rust_callers, python_callers, go_callers, java_recorder, clojure_checker, tutorial)
+CALLERS = (
+    answers_of_each_export,
+    as_the_program,
+    refused_memory_of_calls,
+    c_callers,
+    cpp_callers,
+    rust_callers,
+    python_callers,
+    go_callers,
+    java_recorder,
+    clojure_checker,
+    tutorial,
+)
 PARTS = (library, *CALLERS)
 
 
 def in_time(times, report):
-    """All parts that call the library take less than five minutes together, or as much longer as the processor is slower. Beside much other work only the
-    processor's time says so. The proof of the library, where it is missing, is no part of that."""
+    """All parts that call the library take less than five minutes together, or as much longer as the processor is
+    slower. Beside much other work only the processor's time says so. The proof of the library, where it is missing, is
+    no part of that."""
     if times:
         clock, processor = map(sum, zip(*times))
         print(f"  callers of the library: {clock:.1f} s in all, {processor:.1f} s of them on a processor", flush=True)

@@ -17,7 +17,18 @@ COMPLETIONS = {
     "zsh": "share/zsh/site-functions/_fcbench",
 }
 BASH_COMPLETION = "/usr/share/bash-completion/bash_completion"
-INSTALLED = sorted(["bin/fcbench", "include/fcbench.h", "lib/libfcbench.a", "lib/libfcbench.so", "libexec/fcbench/fcbench", "libexec/fcbench/fcbench-tools", "share/man/man1/fcbench.1", *COMPLETIONS.values()])
+INSTALLED = sorted(
+    [
+        "bin/fcbench",
+        "include/fcbench.h",
+        "lib/libfcbench.a",
+        "lib/libfcbench.so",
+        "libexec/fcbench/fcbench",
+        "libexec/fcbench/fcbench-tools",
+        "share/man/man1/fcbench.1",
+        *COMPLETIONS.values(),
+    ]
+)
 # Words that are typed, and what is completed of the last one.
 TYPED = (
     ("a command", ("fcbench", "ju"), ["judge"]),
@@ -58,7 +69,11 @@ def installed(program, report):
     env = {**os.environ, "FCBENCH": "/bin/true", "FCBENCH_TOOLS": "/bin/true"}
     for words in (["judge", f"{EXAMPLES}/queue.history.edn"], ["--version"]):
         named = subprocess.run([f"{prefix}/bin/fcbench", *words], capture_output=True, env=env)
-        report.holds(f"installed: {words[0]} is done by what is installed, whatever the environment names", named.returncode == 0 and named.stdout, named)
+        report.holds(
+            f"installed: {words[0]} is done by what is installed, whatever the environment names",
+            named.returncode == 0 and named.stdout,
+            named,
+        )
     if not missing("gcc"):
         path = f"{program.room}/installed_judge"
         words = ["gcc", f"-I{prefix}/include", f"{SOURCES}/c/test_judge.c", f"-L{prefix}/lib", "-l:libfcbench.a", "-lpthread", "-o", path]
@@ -115,8 +130,8 @@ def fish_completes(prefix, room, *words):
 
 
 def zsh_completes(prefix, room, *words):
-    """The same in zsh, which finds the file where its folder is in fpath. It completes on a terminal alone: these words and a tab are typed there, and
-    a function with the name of the program says the words with which it is called."""
+    """The same in zsh, which finds the file where its folder is in fpath. It completes on a terminal alone: these words
+    and a tab are typed there, and a function with the name of the program says the words with which it is called."""
     own, its = os.openpty()
     env = {"PATH": os.environ["PATH"], "HOME": f"{room}/zsh", "TERM": "dumb"}
     shell = subprocess.Popen(["zsh", "-f", "-i"], stdin=its, stdout=its, stderr=its, env=env, start_new_session=True)

@@ -190,7 +190,11 @@ def found_evidence(program, report):
         report.equal(f"find: {name}: standard error", judged.status == 2, found.err != b"", found)
         if judged.status != 2:
             objects = [int(it) for it in re.findall(rb"^\{:object (\d+), ", found.out, re.M)]
-            report.holds(f"find: {name}: a line for each object, in rising number", objects == sorted(set(objects)) and len(objects) == found.out.count(b"\n"), found)
+            report.holds(
+                f"find: {name}: a line for each object, in rising number",
+                objects == sorted(set(objects)) and len(objects) == found.out.count(b"\n"),
+                found,
+            )
         for workers in ("1", "3", "16"):
             again = program.run("find", "--workers", workers, *options, history)
             report.equal(f"find: {name}: {workers} workers", (found.status, found.out), (again.status, again.out))

@@ -622,7 +622,15 @@ def parts_of_histories(program, report):
         is_answered(program, report, f"refute: {text}", history, text, 1000, IMPOSSIBLE if is_exceeded else NOT_EXCEEDED)
     for start, end, count, steps, wanted in ANSWERS:
         text = reason(window(start, end), count)
-        is_answered(program, report, f"refute: {text} in {steps} steps", TWO_HOLD, text, steps, IMPOSSIBLE + wanted if " of " in wanted[:6] else wanted)
+        is_answered(
+            program,
+            report,
+            f"refute: {text} in {steps} steps",
+            TWO_HOLD,
+            text,
+            steps,
+            IMPOSSIBLE + wanted if " of " in wanted[:6] else wanted,
+        )
     text = reason("{:keep :all, :numbers [0 2 5]}")
     is_answered(program, report, "refute: a projection that is not closed", PENDING_TAKING, text, 100, NO_PART)
     text = reason("{:cell [1], :key 7, :other 0, :numbers [2 4]}", "{:value 1, :from 0}")

@@ -7,7 +7,8 @@ from ..text_writers import fail, invoke, lines, ok
 
 
 def at_end(number, history, f, of, reply):
-    return history + lines(invoke(5, f, of), ok(5, f, reply)), f"events {number} and {number + 1}: process 5, :{f} {of or 'nil'}, :ok {reply or 'nil'}"
+    line = f"events {number} and {number + 1}: process 5, :{f} {of or 'nil'}, :ok {reply or 'nil'}"
+    return history + lines(invoke(5, f, of), ok(5, f, reply)), line
 
 
 QUEUE = lines(
@@ -212,7 +213,11 @@ def lines_of_operations(program, report):
     for row in ROWS:
         in_files(program, report, row)
     ran = program.run("judge", program.write(HISTORY, TWO_OBJECTS))
-    wanted = ["; object 2: impossible", "; value 2 was pushed once and popped twice; event 9 is the first that leaves no order", *[f"; {it}" for it in TWO_OBJECTS_LINES]]
+    wanted = [
+        "; object 2: impossible",
+        "; value 2 was pushed once and popped twice; event 9 is the first that leaves no order",
+        *[f"; {it}" for it in TWO_OBJECTS_LINES],
+    ]
     report.equal("judge: operations as comments", (1, wanted), (ran.status, ran.out.decode().splitlines()[:-1]))
 
 

@@ -2,7 +2,10 @@
 
 The expected values are worked out by hand from docs/formats.md. Where a search decides, how many steps it takes is that of a row of search."""
 from .. import worked_rows
-from ..worked_rows import ENQUEUE_DEQUEUE, FIRST_WRITE_LAST, ONE_OF_TWO, OUT_OF_ORDER, OVERLAPPING, PENDING, QUEUES_YES, QUEUE_YES, THREE_VALUES, THREE_YES, TWO_QUEUES, verify
+from ..worked_rows import (
+    ENQUEUE_DEQUEUE, FIRST_WRITE_LAST, ONE_OF_TWO, OUT_OF_ORDER, OVERLAPPING, PENDING, QUEUES_YES, QUEUE_YES,
+    THREE_VALUES, THREE_YES, TWO_QUEUES, verify,
+)
 from ..text_writers import certificate, lines, one_process, order
 
 OPEN = "; object 0: open\n"
@@ -46,7 +49,13 @@ ORDERS = [
     verify("a wrong order after a valid one", OVERLAPPING, order(1, 0, 4) + order(0, 1, 4), THREE_YES, 0),
     verify("two objects, the later one first", TWO_QUEUES, worked_rows.TWO_ORDERS, QUEUES_YES, 0),
     verify("one of two objects", TWO_QUEUES, lines(certificate(1, 3, 1)), OPEN, 3),
-    verify("orders of two objects exchanged", TWO_QUEUES, lines(certificate(0, 3, 1), certificate(1, 2, 0)), "; object 0: open\n; object 1: open\n", 3),
+    verify(
+        "orders of two objects exchanged",
+        TWO_QUEUES,
+        lines(certificate(0, 3, 1), certificate(1, 2, 0)),
+        "; object 0: open\n; object 1: open\n",
+        3,
+    ),
     verify("an object that is not there as well", OVERLAPPING, lines(certificate(7, 1)) + order(1, 0, 4) + "{:object 9}", THREE_YES, 0),
     verify("a heap", worked_rows.HEAP, order(*range(0, 14, 2)), worked_rows.yes(7, 1, "heap: 1 objects, 7 operations"), 0),
     verify("a register", worked_rows.REGISTER, order(0, 2, 4, 6), worked_rows.yes(4, 1, "register: 1 objects, 4 operations"), 0),
@@ -95,11 +104,29 @@ REASONS = [
     verify("the whole of a good history by a cut", OVERLAPPING, "{:object 0, :cuts [{:until 6}]}", OPEN, 3),
     verify("cuts that name no part", THREE_VALUES, "{:object 0, :cuts [{:keep [1 2], :numbers [0 6]}]}", OPEN, 3),
     verify("a reason of an object that is not there", THREE_VALUES, "{:object 7}", OPEN, 3),
-    verify("a reason after others that show nothing", THREE_VALUES, order(0, 2, 4, 6) + "{:object 0, :count {:value 2}}" + worked_rows.TWO_OF_THREE, TWO_OF_THREE, 1),
+    verify(
+        "a reason after others that show nothing",
+        THREE_VALUES,
+        order(0, 2, 4, 6) + "{:object 0, :count {:value 2}}" + worked_rows.TWO_OF_THREE,
+        TWO_OF_THREE,
+        1,
+    ),
     verify("the first of two reasons", THREE_VALUES, worked_rows.TWO_OF_THREE + WHOLE, TWO_OF_THREE, 1),
-    verify("the first of two reasons in the other order", THREE_VALUES, WHOLE + worked_rows.TWO_OF_THREE, impossible("{:object 0, :cuts []}", *ALL_OPERATIONS), 1),
+    verify(
+        "the first of two reasons in the other order",
+        THREE_VALUES,
+        WHOLE + worked_rows.TWO_OF_THREE,
+        impossible("{:object 0, :cuts []}", *ALL_OPERATIONS),
+        1,
+    ),
     verify("a reason, and another object is open", ONE_OF_TWO, WHOLE, impossible("{:object 0, :cuts []}", DEQUEUE_5) + "; object 1: open\n", 1),
-    verify("a reason, and another object has an order", ONE_OF_TWO, lines(certificate(1, 0)) + WHOLE, impossible("{:object 0, :cuts []}", DEQUEUE_5), 1),
+    verify(
+        "a reason, and another object has an order",
+        ONE_OF_TWO,
+        lines(certificate(1, 0)) + WHOLE,
+        impossible("{:object 0, :cuts []}", DEQUEUE_5),
+        1,
+    ),
     verify("an order, and the object that has none is open", ONE_OF_TWO, lines(certificate(1, 0)), OPEN, 3),
     said("words", '"value 2 came out before value 1"', "value 2 came out before value 1"),
     said("nothing in it", '""', ""),
@@ -139,7 +166,15 @@ SEARCHES = [
     verify("the most steps of a claim", OVERLAPPING, searched("number", 4_294_967_295), THREE_YES, 0),
     verify("an order after a search without an answer", OVERLAPPING, searched("number", 1) + order(1, 0, 4), THREE_YES, 0),
     verify("a wrong order after a search without an answer", OVERLAPPING, searched("number", 1) + order(0, 1, 4), out_of_steps(1), 3),
-    verify("a search that names no steps takes those of --steps", OVERLAPPING, "{:object 0, :search {:first :return}}", out_of_steps(5), 3, "--steps", "5"),
+    verify(
+        "a search that names no steps takes those of --steps",
+        OVERLAPPING,
+        "{:object 0, :search {:first :return}}",
+        out_of_steps(5),
+        3,
+        "--steps",
+        "5",
+    ),
     verify("a search of nothing but its map", OVERLAPPING, "{:object 0, :search {}}", THREE_YES, 0),
     verify("more than `search` takes", worked_rows.TOO_MANY_TO_SEARCH, WHOLE, worked_rows.yes(4097, 1, "queue: 1 objects, 4097 operations"), 0),
     verify("two objects are searched", TWO_QUEUES, searched("number", 3, 1) + searched("number", 2), out_of_steps(2), 3),
@@ -196,7 +231,13 @@ def name_of(evidence):
 
 MALFORMED = [
     *[verify(f"no evidence: {name_of(evidence)}", OVERLAPPING, evidence, f"malformed evidence: {fault}\n", 3) for evidence, fault in FAULTS],
-    verify("no evidence of a history that is not linearizable", THREE_VALUES, worked_rows.TWO_OF_THREE + "}", f"malformed evidence: E3 at byte {len(worked_rows.TWO_OF_THREE)}\n", 3),
+    verify(
+        "no evidence of a history that is not linearizable",
+        THREE_VALUES,
+        worked_rows.TWO_OF_THREE + "}",
+        f"malformed evidence: E3 at byte {len(worked_rows.TWO_OF_THREE)}\n",
+        3,
+    ),
     verify("a malformed history", worked_rows.AFTER_INFO, order(0), "malformed history: H8 at map 2\n", 2),
     verify("both texts are malformed", "7", "7", "malformed history: H1 at map 0\n", 2),
     verify("neither text spells forms", "007", "007", "malformed history: E3 at byte 0\n", 2),
