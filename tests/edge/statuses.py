@@ -11,10 +11,10 @@ FILES = {
     CERTIFICATES: worked_rows.order(1, 0, 4),
     EVIDENCE: worked_rows.order(1, 0, 4),
     SCHEDULE: worked_rows.SERVED_BY_ANOTHER,
-    "no.edn": worked_rows.OUT_OF_ORDER,
-    "bad.edn": worked_rows.AFTER_INFO,
+    "refused.edn": worked_rows.OUT_OF_ORDER,
+    "malformed.edn": worked_rows.AFTER_INFO,
     "long.edn": worked_rows.FIRST_WRITE_LAST,
-    "other.edn": worked_rows.order(0, 1, 4),
+    "wrong_order.edn": worked_rows.order(0, 1, 4),
     "empty.edn": "",
     "three.edn": worked_rows.THREE_VALUES,
     REASONS: worked_rows.TWO_OF_THREE,
@@ -28,7 +28,7 @@ NO_MEMORY = {"faults": {"REFUSE_AT": 1}}
 
 def of_files(command, *others):
     """The examples that each command on a history has: a malformed one, files that are not there, an output that fails, and wrong words."""
-    yield 2, (command, "bad.edn", *others)
+    yield 2, (command, "malformed.edn", *others)
     yield 4, (command, "missing.edn", *others)
     yield 4, (command, HISTORY, *others), {"stdout": FULL}
     yield 64, (command,)
@@ -39,25 +39,25 @@ def of_files(command, *others):
 EXAMPLES = {
     "judge": [
         (0, ("judge", HISTORY)),
-        (1, ("judge", "no.edn")),
+        (1, ("judge", "refused.edn")),
         (2, ("judge", "--names", "names.edn", HISTORY)),
         (3, ("judge", "long.edn", "--steps", "0")),
         (70, ("judge", HISTORY), NO_VERIFIER),
         *of_files("judge"),
     ],
     # That the finder fails is a fault of its own, of which tools/fcbench-tools/src/find.rs has a test.
-    "find": [(0, ("find", HISTORY)), (3, ("find", "no.edn")), (70, None), *of_files("find")],
+    "find": [(0, ("find", HISTORY)), (3, ("find", "refused.edn")), (70, None), *of_files("find")],
     "verify": [
         (0, ("verify", HISTORY, EVIDENCE)),
         (1, ("verify", "three.edn", REASONS)),
         (3, ("verify", HISTORY, "empty.edn")),
-        (3, ("verify", HISTORY, "bad.edn")),
+        (3, ("verify", HISTORY, "malformed.edn")),
         (3, ("verify", HISTORY, EVIDENCE), NO_MEMORY),
         *of_files("verify", EVIDENCE),
     ],
     "check": [
         (0, ("check", HISTORY, CERTIFICATES)),
-        (1, ("check", HISTORY, "other.edn")),
+        (1, ("check", HISTORY, "wrong_order.edn")),
         (2, ("check", HISTORY, REASONS)),
         (3, ("check", HISTORY, CERTIFICATES), NO_MEMORY),
         (4, ("check", HISTORY, "missing.edn")),
@@ -72,7 +72,7 @@ EXAMPLES = {
     ],
     "search": [
         (0, ("search", HISTORY)),
-        (1, ("search", "no.edn")),
+        (1, ("search", "refused.edn")),
         (3, ("search", "long.edn", "--steps", "0")),
         (3, ("search", HISTORY), NO_MEMORY),
         *of_files("search"),
@@ -80,13 +80,18 @@ EXAMPLES = {
     "draw": [
         (0, ("draw", HISTORY)),
         (0, ("draw", HISTORY, CERTIFICATES)),
-        (1, ("draw", "no.edn")),
-        (1, ("draw", HISTORY, "other.edn")),
+        (1, ("draw", "refused.edn")),
+        (1, ("draw", HISTORY, "wrong_order.edn")),
         (3, ("draw", "long.edn", "--steps", "0")),
         (70, ("draw", HISTORY), NO_VERIFIER),
         *of_files("draw"),
     ],
-    "import": [(0, ("import", HISTORY)), (4, ("import", "--names", "missing/names.edn", HISTORY)), *(it for it in of_files("import") if it[0] != 2), (2, ("import", REASONS))],
+    "import": [
+        (0, ("import", HISTORY)),
+        (4, ("import", "--names", "missing/names.edn", HISTORY)),
+        *(it for it in of_files("import") if it[0] != 2),
+        (2, ("import", REASONS)),
+    ],
     "run": [
         (0, ("run", "--calls", "2")),
         (3, ("run", "--calls", "2"), NO_MEMORY),
