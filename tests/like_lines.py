@@ -2,17 +2,32 @@
 """Lists the pairs of places in the code that have six or more like lines in turn.
 
 usage: tests/like_lines.py [--lines N] [--same] [FOLDER]
+       tests/like_lines.py --check
 
-FOLDER is the top of a checkout; by default it is the one of this script. Two lines are alike if they differ only in names, numbers and texts;
-with --same, if they are the same. Lines that do not count: blank ones, comments, `use` and `ghost use`, attributes, clauses and lone punctuation.
-A run of alike lines counts only if it has at least three different lines. Each row has both places and how many lines they share, the longest first."""
+FOLDER is the top of a checkout; by default it is the one of this script. Two lines are alike if they differ only in
+names, numbers and texts; with --same, if they are the same. Lines that do not count: blank ones, comments, `use` and
+`ghost use`, attributes, clauses and lone punctuation. A run of alike lines counts only if it has at least three
+different lines. Each row has both places and how many lines they share, the longest first.
+
+With --check it lists the pairs of 12 or more lines that tests/like_lines.accepted does not have, and the exit status is
+1 if there is one. A line there is how many like lines two files may have in turn, and the two files, each as
+CRATE/FILE, in whatever folder of the crate it is."""
 import os
 import re
 import subprocess
 import sys
 
-SKIPPED = re.compile(r"^(//|#\[|#!\[|(pub )?(ghost )?use |mod |pub mod |ensures|requires|ghost |[\s(){}\[\],;|&]*$|\w+,$|\w+: \w+,$|\} ?=> ?\{$|None => None,$)")
-KEYWORDS = set("as break const continue else enum false fn for if impl in let loop match mut pub ref return self Self struct trait true type unsafe where while Some None Ok Err".split())
+SKIPPED = re.compile(
+    r"^(//|#\[|#!\[|(pub )?(ghost )?use |mod |pub mod |ensures|requires|ghost "
+    r"|[\s(){}\[\],;|&]*$|\w+,$|\w+: \w+,$|\} ?=> ?\{$|None => None,$)"
+)
+KEYWORDS = set(
+    "as break const continue else enum false fn for if impl in let loop match mut pub ref return self Self struct "
+    "trait true type unsafe where while Some None Ok Err".split()
+)
+ACCEPTED = f"{os.path.dirname(os.path.realpath(__file__))}/like_lines.accepted"
+# The fewest lines of a pair that must be accepted.
+LEAST_CHECKED = 12
 
 
 def shape(line):
@@ -58,17 +73,47 @@ def pairs(files, least):
     return sorted(found, reverse=True)
 
 
+def code_of(folder, same):
+    """The lines that count of each file of the code of a checkout."""
+    os.chdir(folder)
+    listed = ["git", "ls-files", "crates/*.rt", "tools/*.rs"]
+    paths = subprocess.run(listed, capture_output=True, text=True, check=True).stdout.split()
+    return {path: lines_of(path, same) for path in paths}
+
+
+def short(path):
+    """The crate of a file and its name."""
+    return f"{path.split('/')[1]}/{os.path.basename(path)}"
+
+
+def not_accepted(found):
+    """The pairs with more like lines than their two files may have."""
+    with open(ACCEPTED, encoding="utf-8") as file:
+        rows = [line.split() for line in file if line.strip() and not line.startswith("#")]
+    most = {tuple(sorted(those)): int(n) for n, *those in rows}
+    return [it for it in found if it[0] > most.get(tuple(sorted(short(path) for path, *_ in it[1:])), 0)]
+
+
+def show(found):
+    for n, *places in found:
+        print(n, *(f"{path}:{first}-{last}" for path, first, last in places))
+
+
 def main(words):
+    top = f"{os.path.dirname(os.path.abspath(__file__))}/.."
+    if words == ["--check"]:
+        found = not_accepted(pairs(code_of(top, False), LEAST_CHECKED))
+        show(found)
+        return 1 if found else 0
     least = int(words[words.index("--lines") + 1]) if "--lines" in words else 6
     same = "--same" in words
     rest = [word for at, word in enumerate(words) if not word.startswith("--") and (at == 0 or words[at - 1] != "--lines")]
-    os.chdir(rest[0] if rest else f"{os.path.dirname(os.path.abspath(__file__))}/..")
-    paths = subprocess.run(["git", "ls-files", "crates/*.rt", "tools/*.rs"], capture_output=True, text=True, check=True).stdout.split()
-    found = pairs({path: lines_of(path, same) for path in paths}, least)
-    for n, *places in found:
-        print(n, *(f"{path}:{first}-{last}" for path, first, last in places))
-    print(f"{len(found)} pairs of {least} or more {'same' if same else 'alike'} lines in {len(paths)} files")
+    files = code_of(rest[0] if rest else top, same)
+    found = pairs(files, least)
+    show(found)
+    print(f"{len(found)} pairs of {least} or more {'same' if same else 'alike'} lines in {len(files)} files")
+    return 0
 
 
 if __name__ == "__main__":
-    main(sys.argv[1:])
+    sys.exit(main(sys.argv[1:]))

@@ -174,20 +174,21 @@ def closure(known, names):
     return seen, declared, unread
 
 
-def names_of_several():
-    """The public names that several crates define, each with these crates."""
+def crates_of_names():
+    """The public names of specs/, each with the crates that define it."""
     crates = collections.defaultdict(set)
     for path, module in modules().items():
         for name in module.lines.keys() - {None, "mod"}:
             if re.search(rf"\bpub (?:record |data )?{re.escape(name)}(?= |$)", module.lines[name][0]):
                 crates[name].add(path.partition(".")[0])
-    return {name: sorted(those) for name, those in sorted(crates.items()) if len(those) > 1}
+    return crates
 
 
 def main(names):
     if names == ["--twice"]:
-        for name, those in names_of_several().items():
-            print(f"{name}: {', '.join(those)}")
+        for name, those in sorted(crates_of_names().items()):
+            if len(those) > 1:
+                print(f"{name}: {', '.join(sorted(those))}")
         return
     known = modules()
     for clause, begin in ({"": names} if names else CLAUSES).items():

@@ -1,4 +1,5 @@
-"""Checks that documents agree with the code: tables of crates, contracts, counts of lines to believe, links, words to avoid, and scripts."""
+"""Checks that documents agree with the code: tables of crates, contracts, counts of lines to believe, names that several crates define, links,
+words to avoid, and scripts. And that no code is there twice that was not accepted."""
 import glob
 import io
 import os
@@ -47,15 +48,49 @@ def anchors(text):
 
 
 def links(program, report):
-    """Each link of a page to a file of the repository leads to one, and to a heading of it where it names one."""
+    """Each link of a page to a file of the repository leads to one, to a heading of it where it names one, and is named as the page that it names."""
     for page in PAGES:
-        for target in re.findall(r"\]\(([^)\s]+)\)", read(page)):
+        for label, target in re.findall(r"(?:\[([^\[\]]*)|)\]\(([^)\s]+)\)", read(page)):
             if "://" in target:
                 continue
             path, _, anchor = target.partition("#")
             path = os.path.normpath(f"{os.path.dirname(page)}/{path}") if path else page
             there = os.path.exists(path) and (not anchor or anchor in anchors(read(path)))
             report.holds(f"links: {os.path.relpath(page, ROOT)}: {target}", there)
+            if label.endswith(".md"):
+                named = f"links: {os.path.relpath(page, ROOT)}: the label of {target}"
+                report.equal(named, os.path.basename(path), os.path.basename(label))
+
+
+def rows_of_several():
+    """The rows of the table of docs/definitions.md on names that mean different things: the names, and the crates."""
+    crates = set(os.listdir(f"{ROOT}/crates"))
+    table = read(f"{ROOT}/docs/definitions.md").partition("| name | what it is, by crate |\n|---|---|\n")[2].partition("\n\n")[0]
+    for names, said in re.findall(r"^\| (.*?) \| (.*) \|$", table, re.M):
+        yield re.findall(r"`(\w+)`", names), crates & set(re.findall(r"`(\w+)`", said))
+
+
+def is_defined_in(crate, name):
+    """Whether specs/ of a crate defines a name, maybe in a module with parameters, or its code has a type of this name."""
+    in_specs = rf"^ *(?:(?:abbrev|unfoldable) pub (?:\w+ )?|pub (?:record|data) ){name}(?= |$)"
+    for pattern, files in ((in_specs, "specs/**/*.antt"), (rf"^pub (?:struct|enum) {name}\b", "src/**/*.rt")):
+        if any(re.search(pattern, read(path), re.M) for path in glob.glob(f"{ROOT}/crates/{crate}/{files}", recursive=True)):
+            return True
+    return False
+
+
+def names_of_several(program, report):
+    """Of each name that docs/definitions.md says several crates define, these crates define one of the row, and no other crate does."""
+    sys.path.insert(0, f"{ROOT}/docs/scripts")
+    import lines_to_believe
+
+    defined = lines_to_believe.crates_of_names()
+    rows = list(rows_of_several())
+    report.holds("names_of_several: the table has rows", len(rows) >= 15, rows)
+    for names, crates in rows:
+        own = set().union(*(defined.get(name, set()) for name in names))
+        own |= {crate for crate in crates if any(is_defined_in(crate, name) for name in names)}
+        report.equal(f"names_of_several: the crates of {', '.join(names)}", sorted(own), sorted(crates))
 
 
 def clauses_by_function():
@@ -147,8 +182,16 @@ def messages_and_comments():
             yield name, strings(line for line in text.split("\n") if not re.match(r" *//", line)) if is_message else "", "\n".join(lines)
 
 
+def names_in_code():
+    """Each name in the code of the crates, in small letters with a line between its words, and where it is."""
+    for path in sorted(glob.glob(f"{ROOT}/crates/*/src/**/*.rt", recursive=True)):
+        text = re.sub(r"//.*|\"(?:[^\"\\]|\\.)*\"", "", read(path))
+        for name in sorted(set(re.findall(r"[A-Za-z_]\w*", text))):
+            yield "_" + re.sub(r"(?<=[a-z0-9])(?=[A-Z])", "_", name).lower() + "_", f"{os.path.relpath(path, ROOT)}: {name}"
+
+
 def plain_words(program, report):
-    """No page, comment, message or script has one of the words to avoid."""
+    """No page, comment, message or script has one of the words to avoid, and no name in the code of the crates one of the first table."""
     tables = words_to_avoid()
     report.holds("plain_words: CONTRIBUTING has two tables of words to avoid", len(tables) == 2 and all(len(it) > 5 for it in tables))
     texts = {os.path.relpath(page, ROOT): read(page) for page in PAGES if not page.endswith("CONTRIBUTING.md")}
@@ -161,6 +204,16 @@ def plain_words(program, report):
             pattern = rf"\b[{word[0]}{word[0].upper()}]{word[1:].replace('N', '[0-9]+')}\b"
             found = {name for it in looked_at for name, text in it.items() if re.search(pattern, re.sub("there is none|is none of", "", text))}
             report.equal(f"plain_words: '{word}' is in no text", [], sorted(found))
+    names = list(names_in_code())
+    for word in tables[0]:
+        found = [where for name, where in names if f"_{word.replace(' ', '_')}_" in name]
+        report.equal(f"plain_words: '{word}' is in no name", [], found)
+
+
+def like_lines(program, report):
+    """No two places of the code have 12 or more like lines, except for those that tests/like_lines.accepted has."""
+    ran = subprocess.run([sys.executable, f"{ROOT}/tests/like_lines.py", "--check"], capture_output=True, text=True)
+    report.equal("like_lines: pairs of places that are not accepted", (0, "", ""), (ran.returncode, ran.stdout, ran.stderr))
 
 
 # Of each recorder how a line of the example in its comments begins, and its tests.
@@ -212,4 +265,4 @@ def usages(program, report):
         report.holds(f"usages: {os.path.relpath(script, ROOT)} --help", ran.returncode == 0 and "options:" in ran.stdout, ran)
 
 
-PARTS = (documents, links, named_clauses, plain_words, snippets, usages)
+PARTS = (documents, links, names_of_several, named_clauses, plain_words, snippets, usages, like_lines)
