@@ -106,7 +106,7 @@ def every_number_of_workers(program, report):
 
 
 def found_orders_are_valid(program, report):
-    """Of each history that is answered yes by its certificates, judge answers the same, and check by what search and find put out."""
+    """Of each history that is answered yes by its certificates, judge answers the same, and check by what search and find print."""
     for row in worked_rows.YES:
         history = program.write(HISTORY, row.texts[0])
         report.answers(f"judge alone: {row.name}", program.run("judge", "--steps", "0", history), row.out, 0)
@@ -229,7 +229,7 @@ def runs_asked():
 
 
 def is_well_run(program, report, words, kind, objects, clients, calls, seed):
-    """Runs clients, and looks at what is put out."""
+    """Runs clients, and looks at what is printed."""
     ran = program.run("run", *words)
     name = " ".join(("run", *words))
     report.equal(f"{name}: status", (0, b""), (ran.status, ran.err))

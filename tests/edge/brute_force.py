@@ -124,14 +124,14 @@ def of_each(program, name, words, history, count, said, status):
 
 
 def of_no_orders(program, name, history, count):
-    """Of each object find is to put out a line, none of which is an order."""
+    """Of each object find is to print a line, none of which is an order."""
     ran = program.run("find", history)
     said = ran.out.count(b"\n"), ran.out.count(b":order [")
     return [(f"{name}, without an order", (3, b"", (count, 0)), (ran.status, ran.err, said))]
 
 
 def of_orders(program, name, words, history, count):
-    """A certificate is to be put out for each object, which check accepts."""
+    """A certificate is to be printed for each object, which check accepts."""
     ran = program.run(*words, history)
     found = f"{name}: an order for each", (0, b"", count), (ran.status, ran.err, ran.out.count(b"\n"))
     checked = program.run("check", history, program.write(f"{history}.orders", ran.out))

@@ -175,7 +175,7 @@ def has_pending_call(out):
 
 
 def refuse(it):
-    """Refuses one allocation. Returns whether the run was out of memory, what it put out, and the run itself if it is wrong."""
+    """Refuses one allocation. Returns whether the run was out of memory, what it printed, and the run itself if it is wrong."""
     whole, (command, *_) = it.whole, it.words
     ran = it.program.run(*it.words, faults={"REFUSE_AT": it.at})
     is_out = is_out_of_memory(command, whole, ran)

@@ -38,7 +38,7 @@ def drawn_with(name):
 
 
 def is_named(ran, name):
-    """Whether the tools say that this file cannot be read, and put out nothing."""
+    """Whether the tools say that this file cannot be read, and print nothing."""
     return (ran.status, ran.out) == (4, b"") and ran.err.startswith(f"fcbench: cannot read {name}: ".encode())
 
 
@@ -70,7 +70,7 @@ def proved_runs():
 
 
 def unreadable(program: Program, report: Report):
-    """The first file that cannot be read is named, and nothing is put out."""
+    """The first file that cannot be read is named, and nothing is printed."""
     write_good(program)
     os.makedirs(f"{program.room}/folder", exist_ok=True)
     for name in ("missing.edn", "folder"):
@@ -110,7 +110,7 @@ def unreadable(program: Program, report: Report):
 
 
 def each_read_fails(program, report, words, names, reads):
-    """Lets each of the reads fail in turn: the file is named, and nothing is put out."""
+    """Lets each of the reads fail in turn: the file is named, and nothing is printed."""
     named = [f"fcbench: cannot read {name}\n".encode() for name in names]
     for at in range(1, reads + 1):
         ran = program.run(*words, faults={"FAIL_READ_AT": at})
@@ -119,7 +119,7 @@ def each_read_fails(program, report, words, names, reads):
 
 
 def failing_reads(program, report):
-    """Where any one read fails, its file is named and nothing is put out."""
+    """Where any one read fails, its file is named and nothing is printed."""
     for words, files, out, status in proved_runs():
         for name, text in files:
             program.write(name, text)

@@ -1,4 +1,4 @@
-"""Pages that draw puts out: bars and points, sentences, rows and marks, and the places of faults, as in a prototype whose pages were
+"""Pages that draw prints: bars and points, sentences, rows and marks, and the places of faults, as in a prototype whose pages were
 looked at in a browser."""
 import re
 

@@ -114,7 +114,7 @@ def search_both_sorts(program, report, name, histories):
 
 
 def both_sorts(program, report, name, histories, words, of_others, more="", maps_of_more=0):
-    """An order is put out of each history that has one, which check accepts. At the others another function looks."""
+    """An order is printed of each history that has one, which check accepts. At the others another function looks."""
     look = lambda history, _, count: brute_force.of_orders(program, name, words, history, count)
     brute_force.on_texts(program, report, histories.texts(True, more, maps_of_more), look)
     brute_force.on_texts(program, report, histories.texts(False, more, maps_of_more), lambda history, _, count: of_others(history, count))

@@ -411,7 +411,7 @@ def is_judged(program, report, name, valid):
 
 
 def is_searched(program, report, name, valid):
-    """Whether an order is put out that check accepts, or else that there is none."""
+    """Whether an order is printed that check accepts, or else that there is none."""
     words = ("search",)
     if valid:
         told = brute_force.of_orders(program, name, words, HISTORY, 1)
@@ -422,7 +422,7 @@ def is_searched(program, report, name, valid):
 
 
 def is_found(program, report, name, valid):
-    """Whether an order is put out that check accepts, or else no order."""
+    """Whether an order is printed that check accepts, or else no order."""
     told = brute_force.of_orders(program, name, ("find",), HISTORY, 1) if valid else brute_force.of_no_orders(program, name, HISTORY, 1)
     for it in told:
         report.equal(*it)

@@ -1,4 +1,4 @@
-"""The calls of a run's clients, and what a run of one client puts out. This is written from the rules, apart from the program."""
+"""The calls of a run's clients, and what a run of one client prints. This is written from the rules, apart from the program."""
 from ..text_writers import certificate, invoke, lines, ok
 
 OPERATIONS = {
@@ -104,7 +104,7 @@ def reply(f, of, content):
 
 
 def output_of_one_client(kind, objects, calls, seed):
-    """All that a run of one client puts out."""
+    """All that a run of one client prints."""
     out, orders, kinds, contents = [], {}, {}, {}
     for number, (on, f, of) in enumerate(calls_of(kind, objects, 0, calls, seed)):
         named = kind_of(kind, on)

@@ -91,7 +91,7 @@ def spoilt(rng, evidence, other):
 
 
 def cases_of_spoilt_evidence(program):
-    """Short histories with the evidence that find puts out and with others made of it."""
+    """Short histories with the evidence that find prints and with others made of it."""
     made = list(short_histories())
     found = at_once(lambda at: program.run("find", program.write(f"found.{at}.edn", made[at][0])).out, range(len(made)))
     for number, ((history, valid), evidence) in enumerate(zip(made, found)):
@@ -103,14 +103,14 @@ def cases_of_spoilt_evidence(program):
 
 
 def spoilt_evidence(program, report):
-    """What find puts out decides each short history, and where it is spoilt verify says nothing that does not hold."""
+    """What find prints decides each short history, and where it is spoilt verify says nothing that does not hold."""
     cases = list(cases_of_spoilt_evidence(program))
     runs = at_once(lambda it: verified(program, it[0], it[2]), cases)
     came = {}
     for (history, valid, evidence, is_whole), ran in zip(cases, runs):
         report.equal(f"verify: {evidence!r} of {history!r}", None, why_wrong(program, history, valid, ran))
         if is_whole:
-            report.equal(f"verify: what find puts out of {history!r}", 0 if valid else 1, ran.status, ran)
+            report.equal(f"verify: what find prints of {history!r}", 0 if valid else 1, ran.status, ran)
         came[is_whole, ran.status] = came.get((is_whole, ran.status), 0) + 1
     few = {it: came.get(it, 0) for it in ((True, 0), (True, 1), (False, 0), (False, 1), (False, 3)) if came.get(it, 0) < 20}
     report.equal("verify: of these answers there are too few", {}, few)
@@ -174,7 +174,7 @@ def as_refute(program, report):
 
 
 def found_evidence(program, report):
-    """What judge says is what verify says by what find puts out, of each history that is not linearizable and of each example."""
+    """What judge says is what verify says by what find prints, of each history that is not linearizable and of each example."""
     texts = [(name, history, options) for name, history, *options in worked_rows.NOT_LINEARIZABLE]
     for name in sorted(os.listdir(EXAMPLES)):
         if name.endswith(".history.edn"):
@@ -184,7 +184,7 @@ def found_evidence(program, report):
         history = program.write(HISTORY, text)
         judged, found = program.run("judge", *options, history), program.run("find", *options, history)
         ran = program.run("verify", history, program.write(EVIDENCE, found.out))
-        report.equal(f"judge: {name}: as verify by what find puts out", (ran.status, ran.out, ran.err), (judged.status, judged.out, judged.err))
+        report.equal(f"judge: {name}: as verify by what find prints", (ran.status, ran.out, ran.err), (judged.status, judged.out, judged.err))
         status = {0: 0, 1: 3, 2: 2, 3: 3}[judged.status]
         report.equal(f"find: {name}: its status", status, found.status, found)
         report.equal(f"find: {name}: standard error", judged.status == 2, found.err != b"", found)
