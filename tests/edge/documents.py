@@ -25,7 +25,7 @@ def read(path):
 
 
 def documents(program, report):
-    """What scripts of docs/ find is what the pages say."""
+    """What scripts of docs/ find is what the pages say. CONTRIBUTING names each file of tests/edge."""
     ran = subprocess.run([f"{ROOT}/docs/scripts/crate_tables.py", "--check"], capture_output=True, text=True)
     report.equal("documents: docs/architecture.md agrees with crates.txt", 0, ran.returncode, ran.stdout + ran.stderr)
     ran = subprocess.run([f"{ROOT}/docs/scripts/contract_list.py"], capture_output=True, text=True)
@@ -39,6 +39,10 @@ def documents(program, report):
             if name == "reason" and page != "docs/definitions.md":
                 continue
             report.holds(f"documents: {page} has the count for {name}, {count}", re.search(rf"\b{count}\b", text))
+    index = read(f"{ROOT}/docs/CONTRIBUTING.md").partition("## The tests in `tests/edge`\n")[2].partition("\n## ")[0]
+    files = sorted(glob.glob(f"{ROOT}/tests/edge/**/*.py", recursive=True))
+    lacks = [it for it in map(os.path.basename, files) if it != "__init__.py" and not re.search(rf"[`/]{re.escape(it)}`", index)]
+    report.equal("documents: files of tests/edge that CONTRIBUTING does not name", [], lacks)
 
 
 def anchors(text):
