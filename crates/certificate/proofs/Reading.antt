@@ -24,8 +24,8 @@ use Rattle.certificate.specs.declared.fault.CertFaultKind.TheVariants.{NotACerti
 -- ---- the elements of an order
 
 -- the integers of a list of forms, after some that were read
-abbrev pub integers_behind : List ℤ → List Form → Option (List ℤ)
-integers_behind done fs = option_map (λ zs. done ++ zs) (integers_in (items_of (views fs)))
+abbrev pub integers_after : List ℤ → List Form → Option (List ℤ)
+integers_after done fs = option_map (λ zs. done ++ zs) (integers_in (items_of (views fs)))
 
 at_place : (fs : List Form) (i : ℕ) (f : Form) → i < length fs → f ≡ get_or fs i f → drop i fs ≡ f ∷ drop (i + 1) fs
 at_place fs i f lt e = drop_more fs i f lt ∙ ap (λ (y : Form). y ∷ drop (i + 1) fs) (sym e)

@@ -21,11 +21,11 @@ numbers_more [] z = refl
 numbers_more (y ∷ ys) z = ap (λ (ts : List Token). leaf (atom (integer y)) ∷ ts) (numbers_more ys z)
 
 -- one number more, perhaps after a space
-pub one_more : (zs : List ℤ) (z : ℤ) (text mid own behind : List ℕ) → BeginWith (numbers_tokens zs) text mid → (mid ≡ own) ⊎ (mid ≡ 32 ∷ own)
-    → BeginWith (leaf (atom (integer z)) ∷ []) own behind → BeginWith (numbers_tokens (zs ++ z ∷ [])) text behind
-one_more zs z text mid own behind a s b =
-    subst (λ (ts : List Token). BeginWith ts text behind) (sym (numbers_more zs z))
-    (both_begin (numbers_tokens zs) (leaf (atom (integer z)) ∷ []) text mid behind a (after_one 32 (leaf (atom (integer z))) [] mid own behind refl s b))
+pub one_more : (zs : List ℤ) (z : ℤ) (text mid own tail : List ℕ) → BeginWith (numbers_tokens zs) text mid → (mid ≡ own) ⊎ (mid ≡ 32 ∷ own)
+    → BeginWith (leaf (atom (integer z)) ∷ []) own tail → BeginWith (numbers_tokens (zs ++ z ∷ [])) text tail
+one_more zs z text mid own tail a s b =
+    subst (λ (ts : List Token). BeginWith ts text tail) (sym (numbers_more zs z))
+    (both_begin (numbers_tokens zs) (leaf (atom (integer z)) ∷ []) text mid tail a (after_one 32 (leaf (atom (integer z))) [] mid own tail refl s b))
 
 -- the bracket that closes it
 pub order_ends : (zs : List ℤ) (text mid own rest : List ℕ) → BeginWith (numbers_tokens zs) text mid → (mid ≡ own) ⊎ (mid ≡ 32 ∷ own) → own ≡ 93 ∷ rest → ReadsOrder text zs rest

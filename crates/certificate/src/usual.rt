@@ -53,14 +53,14 @@ fn order_after(alloc: Global, text: &[u8]) -> Option<(Vec<i64>, &[u8])>
     let mut rest = text;
     'numbers: loop {
         let here = after_space(rest);
-        if let [b']', behind @ ..] = here {
-            return Some((order, behind));
+        if let [b']', tail @ ..] = here {
+            return Some((order, tail));
         }
-        let (number, behind) = integer_at(here)?;
+        let (number, tail) = integer_at(here)?;
         let Ok(()) = push(&mut order, number) else {
             return None;
         };
-        rest = behind;
+        rest = tail;
     }
 }
 

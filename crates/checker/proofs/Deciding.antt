@@ -10,31 +10,31 @@ use Rattle.model.specs.Orders.{Call, Return, ReturnsBefore, RepliesAlong, IsVali
 use Rattle.model.proofs.Lists.{In, Pairs, in_from_contains, contains_from_in, all_from_in, all_from_pairs}
 use Rattle.checker.specs.declared.refusal.OrderFault.{OrderFault}
 use Rattle.checker.specs.declared.refusal.OrderFault.TheVariants.{UnknownOperation, Repeated, TooLate, NotPossible, WrongReply, Omitted}
-use Rattle.checker.specs.Faults.{call_named, IsGreatest, IsFaultAt, rank, IsFirstAtPlace}
+use Rattle.checker.specs.Faults.{call_with_number, IsGreatest, IsFaultAt, rank, IsFirstAtPlace}
 use Rattle.checker.proofs.Walking.{named, InOrder, ReplyIs, Along, SoFar, found_number, found_known, along_content, none_before}
 
 -- the calls that an order names
-in_named : (calls : List Call) (o : List ℤ) (c : Call) → In c (named calls o) → (z : ℤ) × In z o × (call_named calls z ≡ Some c)
+in_named : (calls : List Call) (o : List ℤ) (c : Call) → In c (named calls o) → (z : ℤ) × In z o × (call_with_number calls z ≡ Some c)
 in_named calls [] c i = absurd i
-in_named calls (z ∷ o) c i = go (call_named calls z) refl i (in_named calls o c)
+in_named calls (z ∷ o) c i = go (call_with_number calls z) refl i (in_named calls o c)
   where
-    go : (r : Option Call) → call_named calls z ≡ r → In c (cons_option r (named calls o))
-        → (In c (named calls o) → (z : ℤ) × In z o × (call_named calls z ≡ Some c)) → (y : ℤ) × In y (z ∷ o) × (call_named calls y ≡ Some c)
+    go : (r : Option Call) → call_with_number calls z ≡ r → In c (cons_option r (named calls o))
+        → (In c (named calls o) → (z : ℤ) × In z o × (call_with_number calls z ≡ Some c)) → (y : ℤ) × In y (z ∷ o) × (call_with_number calls y ≡ Some c)
     go None q j f = let y = f j in (y.0, inr y.1, y.2)
     go (Some d) q j f = elim j [ inl e ↦ (z, inl refl, q ∙ ap Some (sym e)) | inr k ↦ let y = f k in (y.0, inr y.1, y.2) ]
 
-named_in : (calls : List Call) (o : List ℤ) (z : ℤ) (c : Call) → In z o → call_named calls z ≡ Some c → In c (named calls o)
+named_in : (calls : List Call) (o : List ℤ) (z : ℤ) (c : Call) → In z o → call_with_number calls z ≡ Some c → In c (named calls o)
 named_in calls [] z c i q = absurd i
 named_in calls (y ∷ o) z c i q = elim i [
-  | inl e ↦ subst (λ (r : Option Call). In c (cons_option r (named calls o))) (sym (ap (call_named calls) (sym e) ∙ q)) (inl refl)
-  | inr j ↦ behind (call_named calls y) (named_in calls o z c j q)
+  | inl e ↦ subst (λ (r : Option Call). In c (cons_option r (named calls o))) (sym (ap (call_with_number calls) (sym e) ∙ q)) (inl refl)
+  | inr j ↦ behind (call_with_number calls y) (named_in calls o z c j q)
 ]
   where
     behind : (r : Option Call) → In c (named calls o) → In c (cons_option r (named calls o))
     behind None k = k
     behind (Some d) k = inr k
 
-numbers_named : (calls : List Call) (o : List ℤ) → ((z : ℤ) → In z o → (c : Call) × (call_named calls z ≡ Some c)) → o ≡ map (λ (c : Call). pos c.number) (named calls o)
+numbers_named : (calls : List Call) (o : List ℤ) → ((z : ℤ) → In z o → (c : Call) × (call_with_number calls z ≡ Some c)) → o ≡ map (λ (c : Call). pos c.number) (named calls o)
 numbers_named calls [] h = refl
 numbers_named calls (z ∷ o) h =
     let c = h z (inl refl) in
@@ -44,9 +44,9 @@ numbers_named calls (z ∷ o) h =
 
 order_named : (calls : List Call) (o : List ℤ) → Pairs (InOrder calls) o → Pairs (λ (a b : Call). ReturnsBefore b a → ⊥) (named calls o)
 order_named calls [] h = tt
-order_named calls (z ∷ o) h = go (call_named calls z) refl (order_named calls o h.1)
+order_named calls (z ∷ o) h = go (call_with_number calls z) refl (order_named calls o h.1)
   where
-    go : (r : Option Call) → call_named calls z ≡ r → Pairs (λ (a b : Call). ReturnsBefore b a → ⊥) (named calls o) → Pairs (λ (a b : Call). ReturnsBefore b a → ⊥) (cons_option r (named calls o))
+    go : (r : Option Call) → call_with_number calls z ≡ r → Pairs (λ (a b : Call). ReturnsBefore b a → ⊥) (named calls o) → Pairs (λ (a b : Call). ReturnsBefore b a → ⊥) (cons_option r (named calls o))
     go None q rest = rest
     go (Some c) q rest = (λ d i before. let y = in_named calls o d i in h.0 y.0 y.1 c d q y.2 before, rest)
 
@@ -65,7 +65,7 @@ replies_named calls c (z ∷ o) d h =
 
 -- an order without a faulty place, in which each call that returned stands, is valid
 pub valid_from : (kind : Kind) (calls : List Call) (o : List ℤ) (d : Content) → SoFar kind calls o d
-    → ((c : Call) → In c calls → IsSome c.returned → (z : ℤ) × In z o × (call_named calls z ≡ Some c)) → IsValidOrder kind calls o
+    → ((c : Call) → In c calls → IsSome c.returned → (z : ℤ) × In z o × (call_with_number calls z ≡ Some c)) → IsValidOrder kind calls o
 valid_from kind calls o d s whole = record {
   entries = named calls o;
   numbers = numbers_named calls o s.known;
@@ -80,7 +80,7 @@ valid_from kind calls o d s whole = record {
 pub record Reaches (kind : Kind) (calls : List Call) (o : List ℤ) (i : ℕ) (z : ℤ) (c : Call) (d : Content) : Type 0 where
   pub so_far : SoFar kind calls (take i o) d
   pub here : slice_get o i ≡ Some z
-  pub named : call_named calls z ≡ Some c
+  pub named : call_with_number calls z ≡ Some c
   pub fresh : In z (take i o) → ⊥
 
 -- the call is not late
@@ -88,7 +88,7 @@ abbrev pub IsInTime : List ℤ → ℕ → Call → Type 0
 IsInTime o i c = (r : Return) → c.returned ≡ Some r → (y : ℤ) → In y (take i o) → y ≤ℤ pos r.at
 
 pub unknown_first : (kind : Kind) (calls : List Call) (o : List ℤ) (i : ℕ) (z : ℤ) (d : Content) → SoFar kind calls (take i o) d
-    → slice_get o i ≡ Some z → call_named calls z ≡ None → IsFirstAtPlace kind calls o (UnknownOperation z)
+    → slice_get o i ≡ Some z → call_with_number calls z ≡ None → IsFirstAtPlace kind calls o (UnknownOperation z)
 unknown_first kind calls o i z d s at none = record { place = i; stands = (at, none); earlier = λ j f l h. none_before kind calls o d i s j f l h; first = least }
   where
     least : (f : OrderFault) → IsFaultAt kind calls o i f → 1 ≤ rank f
@@ -99,10 +99,10 @@ unknown_first kind calls o i z d s at none = record { place = i; stands = (at, n
     least (WrongReply z gives) h = omega arith
     least (Omitted n) h = omega arith
 
-no_unknown : (kind : Kind) (calls : List Call) (o : List ℤ) (i : ℕ) (z y : ℤ) (c : Call) → slice_get o i ≡ Some z → call_named calls z ≡ Some c → IsFaultAt kind calls o i (UnknownOperation y) → ⊥
+no_unknown : (kind : Kind) (calls : List Call) (o : List ℤ) (i : ℕ) (z y : ℤ) (c : Call) → slice_get o i ≡ Some z → call_with_number calls z ≡ Some c → IsFaultAt kind calls o i (UnknownOperation y) → ⊥
 no_unknown kind calls o i z y c at found h =
     let e : z ≡ y = same_Some z y (sym at ∙ h.0) in
-    let n : call_named calls z ≡ None = ap (call_named calls) e ∙ h.1 in
+    let n : call_with_number calls z ≡ None = ap (call_with_number calls) e ∙ h.1 in
     absurd (cc (found, n))
 
 no_repeat : (kind : Kind) (calls : List Call) (o : List ℤ) (i : ℕ) (z y : ℤ) → slice_get o i ≡ Some z → (In z (take i o) → ⊥) → IsFaultAt kind calls o i (Repeated y) → ⊥
@@ -110,10 +110,10 @@ no_repeat kind calls o i z y at fresh h =
     let e : z ≡ y = same_Some z y (sym at ∙ h.0) in
     fresh (subst (λ w. In w (take i o)) (sym e) (in_from_contains (take i o) y h.1))
 
-same_call : (calls : List Call) (o : List ℤ) (i : ℕ) (z y : ℤ) (c e : Call) → slice_get o i ≡ Some z → call_named calls z ≡ Some c → slice_get o i ≡ Some y → call_named calls y ≡ Some e → c ≡ e
-same_call calls o i z y c e at found at' found' = same_Some c e (sym found ∙ (ap (call_named calls) (same_Some z y (sym at ∙ at')) ∙ found'))
+same_call : (calls : List Call) (o : List ℤ) (i : ℕ) (z y : ℤ) (c e : Call) → slice_get o i ≡ Some z → call_with_number calls z ≡ Some c → slice_get o i ≡ Some y → call_with_number calls y ≡ Some e → c ≡ e
+same_call calls o i z y c e at found at' found' = same_Some c e (sym found ∙ (ap (call_with_number calls) (same_Some z y (sym at ∙ at')) ∙ found'))
 
-no_late : (kind : Kind) (calls : List Call) (o : List ℤ) (i : ℕ) (z y : ℤ) (by : ℕ) (c : Call) → slice_get o i ≡ Some z → call_named calls z ≡ Some c
+no_late : (kind : Kind) (calls : List Call) (o : List ℤ) (i : ℕ) (z y : ℤ) (by : ℕ) (c : Call) → slice_get o i ≡ Some z → call_with_number calls z ≡ Some c
     → IsInTime o i c → IsFaultAt kind calls o i (TooLate y by) → ⊥
 no_late kind calls o i z y by c at found early h =
     let same : c ≡ h.0 = same_call calls o i z y c h.0 at found h.2.here h.2.named in
@@ -122,7 +122,7 @@ no_late kind calls o i z y by c at found early h =
     omega (arith, ints)
 
 no_impossible : (kind : Kind) (calls : List Call) (o : List ℤ) (i : ℕ) (z y : ℤ) (c : Call) (d after : Content) (reply : AnyReply)
-    → SoFar kind calls (take i o) d → slice_get o i ≡ Some z → call_named calls z ≡ Some c → next d c.op ≡ Some (after, reply) → IsFaultAt kind calls o i (NotPossible y) → ⊥
+    → SoFar kind calls (take i o) d → slice_get o i ≡ Some z → call_with_number calls z ≡ Some c → next d c.op ≡ Some (after, reply) → IsFaultAt kind calls o i (NotPossible y) → ⊥
 no_impossible kind calls o i z y c d after reply s at found can h =
     let same : c ≡ h.0 = same_call calls o i z y c h.0 at found h.2.here h.2.named in
     let there : d ≡ h.1 = same_Some d h.1 (sym (along_content calls (empty kind) (take i o) d s.replies) ∙ h.3) in
@@ -130,7 +130,7 @@ no_impossible kind calls o i z y c d after reply s at found can h =
     absurd (cc (can, never))
 
 pub repeated_first : (kind : Kind) (calls : List Call) (o : List ℤ) (i : ℕ) (z : ℤ) (c : Call) (d : Content) → SoFar kind calls (take i o) d
-    → slice_get o i ≡ Some z → call_named calls z ≡ Some c → In z (take i o) → IsFirstAtPlace kind calls o (Repeated z)
+    → slice_get o i ≡ Some z → call_with_number calls z ≡ Some c → In z (take i o) → IsFirstAtPlace kind calls o (Repeated z)
 repeated_first kind calls o i z c d s at found twice =
     record { place = i; stands = (at, contains_from_in (take i o) z twice); earlier = λ j f l h. none_before kind calls o d i s j f l h; first = least }
   where

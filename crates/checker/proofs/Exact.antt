@@ -10,7 +10,7 @@ use Rattle.model.specs.Orders.{Call, Return, ReturnsBefore, RepliesAlong, IsVali
 use Rattle.model.proofs.Lists.{In, Pairs, in_map, in_map_from, in_from_contains, contains_from_in, all_at, pairs_from_all}
 use Rattle.checker.specs.declared.refusal.OrderFault.{OrderFault}
 use Rattle.checker.specs.declared.refusal.OrderFault.TheVariants.{UnknownOperation, Repeated, TooLate, NotPossible, WrongReply, Omitted}
-use Rattle.checker.specs.Faults.{call_named, IsFirstFault}
+use Rattle.checker.specs.Faults.{call_with_number, IsFirstFault}
 use Rattle.checker.proofs.Walking.{SoFar, InOrder, ReplyIs, Along, no_fault}
 
 -- the calls in the order of their numbers
@@ -18,7 +18,7 @@ abbrev pub Rising : List Call → Type 0
 Rising calls = Pairs (λ a b. a.number < b.number) calls
 
 -- a call is named by its number
-pub names_itself : (calls : List Call) (c : Call) → Rising calls → In c calls → call_named calls (pos c.number) ≡ Some c
+pub names_itself : (calls : List Call) (c : Call) → Rising calls → In c calls → call_with_number calls (pos c.number) ≡ Some c
 names_itself [] c u i = absurd i
 names_itself (d ∷ calls) c u i = elim i [
   | inl e ↦ ap (λ b. cond b (Some d) (find (λ x. x.number == c.number) calls)) (eq-eqb d.number c.number (sym (ap (λ (x : Call). x.number) e))) ∙ ap Some (sym e)
@@ -26,11 +26,11 @@ names_itself (d ∷ calls) c u i = elim i [
       (ne_eqb d.number c.number (λ q. let q' : d.number ≡ c.number = q in omega arith)) ∙ names_itself calls c u.1 j
 ]
 
-named_entry : (calls es : List Call) → ((c : Call) → In c es → call_named calls (pos c.number) ≡ Some c) → (z : ℤ)
-    → In z (map (λ (c : Call). pos c.number) es) → (c : Call) × In c es × (call_named calls z ≡ Some c)
-named_entry calls es h z i = let r = in_map (λ (c : Call). pos c.number) z es i in (r.0, r.1, ap (call_named calls) r.2 ∙ h r.0 r.1)
+named_entry : (calls es : List Call) → ((c : Call) → In c es → call_with_number calls (pos c.number) ≡ Some c) → (z : ℤ)
+    → In z (map (λ (c : Call). pos c.number) es) → (c : Call) × In c es × (call_with_number calls z ≡ Some c)
+named_entry calls es h z i = let r = in_map (λ (c : Call). pos c.number) z es i in (r.0, r.1, ap (call_with_number calls) r.2 ∙ h r.0 r.1)
 
-order_along : (calls es : List Call) → ((c : Call) → In c es → call_named calls (pos c.number) ≡ Some c)
+order_along : (calls es : List Call) → ((c : Call) → In c es → call_with_number calls (pos c.number) ≡ Some c)
     → Pairs (λ (a b : Call). ReturnsBefore b a → ⊥) es → Pairs (InOrder calls) (map (λ (c : Call). pos c.number) es)
 order_along calls [] h p = tt
 order_along calls (e ∷ es) h p = (
@@ -46,7 +46,7 @@ said : (e : Call) (o : Option Return) (reply : AnyReply) → e.returned ≡ o �
 said e None reply q k r p = let n : None ≡ Some r = sym q ∙ p in absurd (cc n)
 said e (Some s) reply q k r p = ap (λ (x : Return). x.reply) (same_Some r s (sym p ∙ q)) ∙ k
 
-replies_along : (calls : List Call) (c : Content) (es : List Call) → ((c : Call) → In c es → call_named calls (pos c.number) ≡ Some c)
+replies_along : (calls : List Call) (c : Content) (es : List Call) → ((c : Call) → In c es → call_with_number calls (pos c.number) ≡ Some c)
     → RepliesAlong c es → (d : Content) × Along calls c (map (λ (c : Call). pos c.number) es) d
 replies_along calls c [] h r = (c, refl)
 replies_along calls c (e ∷ es) h r =
@@ -55,7 +55,7 @@ replies_along calls c (e ∷ es) h r =
 
 pub valid_so_far : (kind : Kind) (calls : List Call) (order : List ℤ) → Rising calls → IsValidOrder kind calls order → (d : Content) × SoFar kind calls order d
 valid_so_far kind calls order u v =
-    let own : (c : Call) → In c v.entries → call_named calls (pos c.number) ≡ Some c = λ c i. names_itself calls c u (in_from_contains calls c (all_at (Contains calls) v.entries v.known c i)) in
+    let own : (c : Call) → In c v.entries → call_with_number calls (pos c.number) ≡ Some c = λ c i. names_itself calls c u (in_from_contains calls c (all_at (Contains calls) v.entries v.known c i)) in
     let is = v.numbers in
     let along = replies_along calls (empty kind) v.entries own v.replies in (
       along.0,

@@ -16,7 +16,7 @@ use Rattle.events.specs.declared.operations.End.TheVariants.{Returned, Failed}
 use Rattle.model.specs.declared.AnyOp.TheVariants.{Enqueue}
 use Rattle.model.specs.declared.AnyReply.TheVariants.{Value}
 use Rattle.events.specs.Operations.{call_of, calls_of}
-use Rattle.checker.specs.Faults.{call_named}
+use Rattle.checker.specs.Faults.{call_with_number}
 use Rattle.checker.proofs.Walking.{found_number, found_known}
 use Rattle.checker.proofs.Exact.{Rising, names_itself}
 use Rattle.checker.proofs.Steps.{AtHand, call_parts, call_from, place_of_call, call_at_place, numbers_apart}
@@ -77,10 +77,10 @@ nobody = record { number = 0; op = Enqueue (pos 0); «end» = Returned 0 (Value 
 
 -- a number that no call's operation has names no call
 pub not_named : (ops : List Invocation) (z : ℤ) (d : Invocation)
-    → ((k : ℕ) (c : Call) → k < length ops → pos (get_or ops k d).number ≡ z → call_of (get_or ops k d) ≡ Some c → ⊥) → call_named (calls_of ops) z ≡ None
-not_named ops z d h = go (call_named (calls_of ops) z) refl
+    → ((k : ℕ) (c : Call) → k < length ops → pos (get_or ops k d).number ≡ z → call_of (get_or ops k d) ≡ Some c → ⊥) → call_with_number (calls_of ops) z ≡ None
+not_named ops z d h = go (call_with_number (calls_of ops) z) refl
   where
-    go : (r : Option Call) → call_named (calls_of ops) z ≡ r → r ≡ None
+    go : (r : Option Call) → call_with_number (calls_of ops) z ≡ r → r ≡ None
     go None q = refl
     go (Some c) q =
         let p = place_of_call ops c (found_known (calls_of ops) z c q) in
@@ -95,7 +95,7 @@ found_by_number ops z k d up l n ne =
     let c = call_from o ne in
     let m : pos c.0.number ≡ z = ap pos (sym (call_parts o c.0 c.1).0) ∙ n in
     let own = names_itself (calls_of ops) c.0 (rising_calls ops (pairs_from_all (λ a b. a.number < b.number) ops up)) (call_at_place ops k d c.0 l c.1) in
-    (c.0, record { within = l; found = ap (call_named (calls_of ops)) (sym m) ∙ own; is = λ e. ap call_of (get_or_default ops k e d l) ∙ c.1 })
+    (c.0, record { within = l; found = ap (call_with_number (calls_of ops)) (sym m) ∙ own; is = λ e. ap call_of (get_or_default ops k e d l) ∙ c.1 })
 
 pub found_here : (ops : List Invocation) (z : ℤ) (k : ℕ) (d : Invocation) → AllPairs (λ a b. a.number < b.number) ops → k < length ops
     → int_cmp (pos (get_or ops k d).number) z ≡ Equal → (get_or ops k d).«end» ≢ Failed → (c : Call) × AtHand ops z k c
@@ -103,7 +103,7 @@ found_here ops z k d up l eq ne = found_by_number ops z k d up l (int_ranked (po
 
 -- what failed names no call
 pub failed_here : (ops : List Invocation) (z : ℤ) (k : ℕ) (d : Invocation) → AllPairs (λ a b. a.number < b.number) ops → k < length ops
-    → int_cmp (pos (get_or ops k d).number) z ≡ Equal → call_of (get_or ops k d) ≡ None → call_named (calls_of ops) z ≡ None
+    → int_cmp (pos (get_or ops k d).number) z ≡ Equal → call_of (get_or ops k d) ≡ None → call_with_number (calls_of ops) z ≡ None
 failed_here ops z k d up l eq none = not_named ops z d (λ j c m n q.
     let here : pos (get_or ops k d).number ≡ z = int_ranked (pos (get_or ops k d).number) z Equal (sym eq) in
     let same : (get_or ops k d).number ≡ (get_or ops j d).number = same_pos (get_or ops k d).number (get_or ops j d).number (here ∙ sym n) in
@@ -114,7 +114,7 @@ failed_here ops z k d up l eq none = not_named ops z d (λ j c m n q.
 
 -- a search that found nothing says that no operation has the number
 pub none_here : (ops : List Invocation) (z : ℤ) (i : ℕ) (d : Invocation)
-    → IsPartitionPoint (λ o. int_cmp (pos o.number) z ≡ Less) (λ o. int_cmp (pos o.number) z ≡ Greater) ops i → call_named (calls_of ops) z ≡ None
+    → IsPartitionPoint (λ o. int_cmp (pos o.number) z ≡ Less) (λ o. int_cmp (pos o.number) z ≡ Greater) ops i → call_with_number (calls_of ops) z ≡ None
 none_here ops z i d h = not_named ops z d (λ k c l n q. apart k (int_ranked (pos (get_or ops k d).number) z) l n (cases_order k i))
   where
     apart : (k : ℕ) → ((r : Ordering) → r ≡ int_cmp (pos (get_or ops k d).number) z

@@ -17,7 +17,7 @@ use Rattle.checker.specs.declared.refusal.OrderFault.{OrderFault}
 use Rattle.checker.specs.declared.refusal.OrderFault.TheVariants.{UnknownOperation, Repeated, TooLate, NotPossible, WrongReply, Omitted}
 use Rattle.checker.specs.declared.refusal.Refusal.{Refusal}
 use Rattle.checker.specs.declared.refusal.Refusal.TheVariants.{NoCertificate, StrangeObject, BadOrder, NoMemory}
-use Rattle.checker.specs.Faults.{call_named, content_at, IsGreatest, NamesCall, IsFaultAt, rank, IsFirstAtPlace, IsLeastOmitted, IsFirstFault}
+use Rattle.checker.specs.Faults.{call_with_number, content_at, IsGreatest, HasNumberAt, IsFaultAt, rank, IsFirstAtPlace, IsLeastOmitted, IsFirstFault}
 use Rattle.checker.specs.Refusals.{HasCertificate, IsRefusalAt, IsLeastRefusal, IsLeastStrange, IsFirstRefusal, IsCheckAnswer}
 use Rattle.checker.proofs.Certificates.{same_orders}
 
@@ -27,8 +27,8 @@ module _ (kind : Kind) (calls : List Call) (order : List ℤ) (i : ℕ) where
   same_entry : (z y : ℤ) → slice_get order i ≡ Some z → slice_get order i ≡ Some y → z ≡ y
   same_entry z y at at' = same_Some z y (sym at ∙ at')
 
-  same_named : (z y : ℤ) (c e : Call) → NamesCall calls order i z c → NamesCall calls order i y e → c ≡ e
-  same_named z y c e a b = same_Some c e (sym a.named ∙ (ap (call_named calls) (same_entry z y a.here b.here) ∙ b.named))
+  same_named : (z y : ℤ) (c e : Call) → HasNumberAt calls order i z c → HasNumberAt calls order i y e → c ≡ e
+  same_named z y c e a b = same_Some c e (sym a.named ∙ (ap (call_with_number calls) (same_entry z y a.here b.here) ∙ b.named))
 
   same_greatest : (by k : ℕ) → IsGreatest (pos by) (take i order) → IsGreatest (pos k) (take i order) → by ≡ k
   same_greatest by k g h =

@@ -16,7 +16,7 @@ use Rattle.events.specs.declared.operations.End.{End}
 use Rattle.events.specs.declared.operations.End.TheVariants.{Returned, Pending, Failed}
 use Rattle.events.specs.declared.operations.Invocation.{Invocation}
 use Rattle.events.specs.Operations.{call_with, call_of, calls_of, return_of}
-use Rattle.checker.specs.Faults.{call_named, IsGreatest}
+use Rattle.checker.specs.Faults.{call_with_number, IsGreatest}
 use Rattle.checker.specs.Ends.{IsEarly}
 use Rattle.checker.proofs.Walking.{IsStep, SoFar, found_number, more}
 use Rattle.model.proofs.Orders.{max_either}
@@ -167,7 +167,7 @@ top_more (Some g) o n top t e = record {
 -- the entry at hand is that of the operation at place k
 pub record AtHand (ops : List Invocation) (z : ℤ) (k : ℕ) (c : Call) : Type 0 where
   pub within : k < length ops
-  pub found : call_named (calls_of ops) z ≡ Some c
+  pub found : call_with_number (calls_of ops) z ≡ Some c
   pub is : (d : Invocation) → call_of (get_or ops k d) ≡ Some c
 
 pub number_at : (ops : List Invocation) (z : ℤ) (k : ℕ) (c : Call) (d : Invocation) → AtHand ops z k c → z ≡ pos (get_or ops k d).number

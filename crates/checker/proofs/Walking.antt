@@ -12,7 +12,7 @@ use Rattle.model.specs.Objects.{Content, empty, next}
 use Rattle.model.specs.Orders.{Call, Return, ReturnsBefore}
 use Rattle.checker.specs.declared.refusal.OrderFault.{OrderFault}
 use Rattle.checker.specs.declared.refusal.OrderFault.TheVariants.{UnknownOperation, Repeated, TooLate, NotPossible, WrongReply, Omitted}
-use Rattle.checker.specs.Faults.{call_named, after_call, content_after, IsGreatest, NamesCall, content_at, IsFaultAt}
+use Rattle.checker.specs.Faults.{call_with_number, after_call, content_after, IsGreatest, HasNumberAt, content_at, IsFaultAt}
 use Rattle.model.proofs.Lists.{In, Pairs, in_append, pairs_append, in_from_contains, in_from_slice}
 
 -- what holds of each two holds of what stands at a place and each before it
@@ -26,11 +26,11 @@ pairs_push R xs z h f = pairs_append R xs (z ∷ []) h (λ y i. absurd i, tt) (�
 
 -- the calls with these numbers
 abbrev pub named : List Call → List ℤ → List Call
-named calls o = filter_map (call_named calls) o
+named calls o = filter_map (call_with_number calls) o
 
 -- the second call does not precede the first
 abbrev pub InOrder : List Call → ℤ → ℤ → Type 0
-InOrder calls y z = (a b : Call) → call_named calls y ≡ Some a → call_named calls z ≡ Some b → ReturnsBefore b a → ⊥
+InOrder calls y z = (a b : Call) → call_with_number calls y ≡ Some a → call_with_number calls z ≡ Some b → ReturnsBefore b a → ⊥
 
 -- what the call returned, if it did, is this reply
 abbrev pub ReplyIs : Call → AnyReply → Type 0
@@ -45,36 +45,36 @@ pub record IsStep (c : Content) (e : Call) (after : Content) : Type 0 where
 -- along the order from one content to another each entry is a step
 abbrev pub Along : List Call → Content → List ℤ → Content → Type 0
 Along calls c [] d = c ≡ d
-Along calls c (z ∷ zs) d = (e : Call) × (after : Content) × (call_named calls z ≡ Some e) × IsStep c e after × Along calls after zs d
+Along calls c (z ∷ zs) d = (e : Call) × (after : Content) × (call_with_number calls z ≡ Some e) × IsStep c e after × Along calls after zs d
 
 -- no place is faulty, and this is the content then
 pub record SoFar (kind : Kind) (calls : List Call) (o : List ℤ) (content : Content) : Type 0 where
-  pub known : (z : ℤ) → In z o → (c : Call) × (call_named calls z ≡ Some c)
+  pub known : (z : ℤ) → In z o → (c : Call) × (call_with_number calls z ≡ Some c)
   pub once : Pairs (λ a b. a ≢ b) o
   pub in_order : Pairs (InOrder calls) o
   pub replies : Along calls (empty kind) o content
 
 -- a call that is found has the number, and is one of the calls
-pub found_number : (calls : List Call) (z : ℤ) (c : Call) → call_named calls z ≡ Some c → z ≡ pos c.number
+pub found_number : (calls : List Call) (z : ℤ) (c : Call) → call_with_number calls z ≡ Some c → z ≡ pos c.number
 found_number calls (negsuc n) c h = absurd (cc h)
 found_number [] (pos n) c h = absurd (cc h)
 found_number (d ∷ calls) (pos n) c h = go (d.number == n) refl h (found_number calls (pos n) c)
   where
-    go : (b : Bool) → (d.number == n) ≡ b → cond b (Some d) (call_named calls (pos n)) ≡ Some c → (call_named calls (pos n) ≡ Some c → pos n ≡ pos c.number) → pos n ≡ pos c.number
+    go : (b : Bool) → (d.number == n) ≡ b → cond b (Some d) (call_with_number calls (pos n)) ≡ Some c → (call_with_number calls (pos n) ≡ Some c → pos n ≡ pos c.number) → pos n ≡ pos c.number
     go true q k f = ap pos (sym (eqb-true d.number n q) ∙ ap (λ (x : Call). x.number) (same_Some d c k))
     go false q k f = f k
 
-pub found_known : (calls : List Call) (z : ℤ) (c : Call) → call_named calls z ≡ Some c → In c calls
+pub found_known : (calls : List Call) (z : ℤ) (c : Call) → call_with_number calls z ≡ Some c → In c calls
 found_known calls (negsuc n) c h = absurd (cc h)
 found_known [] (pos n) c h = absurd (cc h)
 found_known (d ∷ calls) (pos n) c h = go (d.number == n) h (found_known calls (pos n) c)
   where
-    go : (b : Bool) → cond b (Some d) (call_named calls (pos n)) ≡ Some c → (call_named calls (pos n) ≡ Some c → In c calls) → In c (d ∷ calls)
+    go : (b : Bool) → cond b (Some d) (call_with_number calls (pos n)) ≡ Some c → (call_with_number calls (pos n) ≡ Some c → In c calls) → In c (d ∷ calls)
     go true k f = inl (sym (same_Some d c k))
     go false k f = inr (f k)
 
 -- a step leaves the content that follows the call
-pub after_step : (calls : List Call) (c after : Content) (z : ℤ) (e : Call) → call_named calls z ≡ Some e → IsStep c e after → after_call (call_named calls z) c ≡ Some after
+pub after_step : (calls : List Call) (c after : Content) (z : ℤ) (e : Call) → call_with_number calls z ≡ Some e → IsStep c e after → after_call (call_with_number calls z) c ≡ Some after
 after_step calls c after z e f s = ap (λ (o : Option Call). after_call o c) f ∙ ap (λ (o : Option (Content × AnyReply)). option_map (λ s. s.0) o) s.possible
 
 -- so the order leads to the content
@@ -84,16 +84,16 @@ along_content calls c (z ∷ o) d h = ap (λ (x : Option Content). content_after
 
 -- an order that is right so far is right at each place: in the content there the entry is a step
 pub along_at : (calls : List Call) (c : Content) (o : List ℤ) (d : Content) (j : ℕ) (z : ℤ) (e : Call) (at : Content) → Along calls c o d
-    → slice_get o j ≡ Some z → call_named calls z ≡ Some e → content_after calls (Some c) (take j o) ≡ Some at → (after : Content) × IsStep at e after
+    → slice_get o j ≡ Some z → call_with_number calls z ≡ Some e → content_after calls (Some c) (take j o) ≡ Some at → (after : Content) × IsStep at e after
 along_at calls c [] d j z e at h g f q = absurd (cc g)
 along_at calls c (y ∷ o) d zero z e at h g f q =
-    let same : h.0 ≡ e = same_Some h.0 e (sym h.2 ∙ (ap (call_named calls) (same_Some y z g) ∙ f)) in
+    let same : h.0 ≡ e = same_Some h.0 e (sym h.2 ∙ (ap (call_with_number calls) (same_Some y z g) ∙ f)) in
     (h.1, subst (λ x. IsStep at x h.1) same (subst (λ x. IsStep x h.0 h.1) (same_Some c at q) h.3))
 along_at calls c (y ∷ o) d (suc j) z e at h g f q =
     along_at calls h.1 o d j z e at h.4 g f (sym (ap (λ (x : Option Content). content_after calls x (take j o)) (after_step calls c h.1 y h.0 h.2 h.3)) ∙ q)
 
 pub along_push : (calls : List Call) (c : Content) (o : List ℤ) (d : Content) (z : ℤ) (e : Call) (after : Content) → Along calls c o d
-    → call_named calls z ≡ Some e → IsStep d e after → Along calls c (o ++ z ∷ []) after
+    → call_with_number calls z ≡ Some e → IsStep d e after → Along calls c (o ++ z ∷ []) after
 along_push calls c [] d z e after h f s = (e, after, f, subst (λ x. IsStep x e after) (sym h) s, refl)
 along_push calls c (y ∷ o) d z e after h f s = (h.0, h.1, h.2, h.3, along_push calls h.1 o d z e after h.4 f s)
 
@@ -115,10 +115,10 @@ get_front (x ∷ xs) (suc i) zero l = refl
 get_front (x ∷ xs) (suc i) (suc j) l = get_front xs i j (omega arith)
 
 -- one more entry
-pub more : (kind : Kind) (calls : List Call) (o : List ℤ) (content after : Content) (z : ℤ) (c : Call) → SoFar kind calls o content → call_named calls z ≡ Some c → (In z o → ⊥)
+pub more : (kind : Kind) (calls : List Call) (o : List ℤ) (content after : Content) (z : ℤ) (c : Call) → SoFar kind calls o content → call_with_number calls z ≡ Some c → (In z o → ⊥)
     → ((r : Return) → c.returned ≡ Some r → (y : ℤ) → In y o → y ≤ℤ pos r.at) → IsStep content c after → SoFar kind calls (o ++ z ∷ []) after
 more kind calls o content after z c s f fresh early step = record {
-  known = λ y i. elim (in_append y o (z ∷ []) i) [ inl j ↦ s.known y j | inr j ↦ elim j [ inl e ↦ (c, ap (call_named calls) e ∙ f) | inr k ↦ absurd k ] ];
+  known = λ y i. elim (in_append y o (z ∷ []) i) [ inl j ↦ s.known y j | inr j ↦ elim j [ inl e ↦ (c, ap (call_with_number calls) e ∙ f) | inr k ↦ absurd k ] ];
   once = pairs_push (λ a b. a ≢ b) o z s.once (λ y i e. fresh (subst (λ w. In w o) e i));
   in_order = pairs_push (InOrder calls) o z s.in_order (λ y i a b p q before.
       let same : b ≡ c = same_Some b c (sym q ∙ f) in
@@ -150,7 +150,7 @@ no_fault kind calls o content s j (WrongReply z gives) h =
 no_fault kind calls o content s j (Omitted n) h = h
 
 -- a fault before place i is one of the first i entries
-names_front : (calls : List Call) (o : List ℤ) (i j : ℕ) (z : ℤ) (c : Call) → j < i → NamesCall calls o j z c → NamesCall calls (take i o) j z c
+names_front : (calls : List Call) (o : List ℤ) (i j : ℕ) (z : ℤ) (c : Call) → j < i → HasNumberAt calls o j z c → HasNumberAt calls (take i o) j z c
 names_front calls o i j z c l h = record { here = get_front o i j l ∙ h.here; named = h.named }
 
 content_front : (kind : Kind) (calls : List Call) (o : List ℤ) (i j : ℕ) (d : Content) → j < i → content_at kind calls o j ≡ Some d → content_at kind calls (take i o) j ≡ Some d

@@ -11,9 +11,9 @@ use Rattle.checker.specs.declared.refusal.OrderFault.TheVariants.{TooLate, NotPo
 use Rattle.checker.specs.declared.refusal.OrderFault.TheVariants.{Omitted}
 
 -- the call with this number
-abbrev pub call_named : List Call → ℤ → Option Call
-call_named calls (pos n) = find (λ c. c.number == n) calls
-call_named calls (negsuc n) = None
+abbrev pub call_with_number : List Call → ℤ → Option Call
+call_with_number calls (pos n) = find (λ c. c.number == n) calls
+call_with_number calls (negsuc n) = None
 
 -- the content after a call, where there is one and it is possible
 abbrev pub after_call : Option Call → Content → Option Content
@@ -24,7 +24,7 @@ after_call (Some e) c = option_map (λ s. s.0) (next c e.op)
 abbrev pub content_after : List Call → Option Content → List ℤ → Option Content
 content_after calls c [] = c
 content_after calls c (z ∷ zs) =
-    content_after calls (option_and_then (after_call (call_named calls z)) c) zs
+    content_after calls (option_and_then (after_call (call_with_number calls z)) c) zs
 
 -- k is the greatest of the numbers
 pub record IsGreatest (k : ℤ) (zs : List ℤ) : Type 0 where
@@ -32,10 +32,10 @@ pub record IsGreatest (k : ℤ) (zs : List ℤ) : Type 0 where
   pub above : All (λ z. z ≤ℤ k) zs
 
 -- the entry at a place names a call
-pub record NamesCall (calls : List Call) (order : List ℤ) (place : ℕ) (z : ℤ) (c : Call) : Type 0
+pub record HasNumberAt (calls : List Call) (order : List ℤ) (place : ℕ) (z : ℤ) (c : Call) : Type 0
   where
     pub here : slice_get order place ≡ Some z
-    pub named : call_named calls z ≡ Some c
+    pub named : call_with_number calls z ≡ Some c
 
 -- the content in which the call at a place is done
 abbrev pub content_at : Kind → List Call → List ℤ → ℕ → Option Content
@@ -46,16 +46,16 @@ content_at kind calls order i = content_after calls (Some (empty kind)) (take i 
 -- there; or it returned another reply than it has there.
 abbrev pub IsFaultAt : Kind → List Call → List ℤ → ℕ → OrderFault → Type 0
 IsFaultAt kind calls order i (UnknownOperation z) =
-    (slice_get order i ≡ Some z) × (call_named calls z ≡ None)
+    (slice_get order i ≡ Some z) × (call_with_number calls z ≡ None)
 IsFaultAt kind calls order i (Repeated z) = (slice_get order i ≡ Some z) × Contains (take i order) z
 IsFaultAt kind calls order i (TooLate z by) =
-    (c : Call) × (r : Return) × NamesCall calls order i z c × (c.returned ≡ Some r) × (r.at < by)
+    (c : Call) × (r : Return) × HasNumberAt calls order i z c × (c.returned ≡ Some r) × (r.at < by)
     × IsGreatest (pos by) (take i order)
 IsFaultAt kind calls order i (NotPossible z) =
-    (c : Call) × (d : Content) × NamesCall calls order i z c
+    (c : Call) × (d : Content) × HasNumberAt calls order i z c
     × (content_at kind calls order i ≡ Some d) × (next d c.op ≡ None)
 IsFaultAt kind calls order i (WrongReply z gives) =
-    (c : Call) × (r : Return) × (d after : Content) × NamesCall calls order i z c
+    (c : Call) × (r : Return) × (d after : Content) × HasNumberAt calls order i z c
     × (c.returned ≡ Some r) × (content_at kind calls order i ≡ Some d)
     × (next d c.op ≡ Some (after, gives)) × (r.reply ≢ gives)
 IsFaultAt kind calls order i (Omitted n) = ⊥

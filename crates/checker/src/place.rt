@@ -4,7 +4,7 @@ ghost use Rattle.std.specs.Prelude.{◌≡◌, ◌<◌, length, Some, None, pos,
 ghost use Rattle.std.specs.List.{HoldsAt};
 ghost use Rattle.model.specs.Orders.{Call};
 ghost use Rattle.events.specs.Operations.{call_of, calls_of};
-ghost use Rattle.checker.specs.Faults.{call_named};
+ghost use Rattle.checker.specs.Faults.{call_with_number};
 
 use events::{End, Invocation};
 
@@ -15,7 +15,7 @@ const NEARBY: usize = 24;
 fn nearby_place(ops: &[Invocation], entry: i64, near: usize) -> Option<usize>
     requires { AllPairs (λ a b. a.number < b.number) ops.now }
     ensures { IfSome result (λ k. (k < length ops.now)
-        × ((c : Call) × (call_named (calls_of ops.now) entry ≡ Some c)
+        × ((c : Call) × (call_with_number (calls_of ops.now) entry ≡ Some c)
         × HoldsAt (λ o. call_of o ≡ Some c) ops.now k)) }
 {
     let mut k = near;
@@ -46,9 +46,9 @@ fn nearby_place(ops: &[Invocation], entry: i64, near: usize) -> Option<usize>
 pub(crate) fn place_of(ops: &[Invocation], entry: i64, near: usize) -> Option<usize>
     requires { AllPairs (λ a b. a.number < b.number) ops.now }
     ensures some { IfSome result (λ k. (k < length ops.now)
-        × ((c : Call) × (call_named (calls_of ops.now) entry ≡ Some c)
+        × ((c : Call) × (call_with_number (calls_of ops.now) entry ≡ Some c)
         × HoldsAt (λ o. call_of o ≡ Some c) ops.now k)) }
-    ensures none { IfNone result (call_named (calls_of ops.now) entry ≡ None) }
+    ensures none { IfNone result (call_with_number (calls_of ops.now) entry ≡ None) }
 {
     match nearby_place(ops, entry, near) {
         Some(k) => Some(k),
@@ -60,9 +60,9 @@ pub(crate) fn place_of(ops: &[Invocation], entry: i64, near: usize) -> Option<us
 fn place_among(ops: &[Invocation], entry: i64) -> Option<usize>
     requires { AllPairs (λ a b. a.number < b.number) ops.now }
     ensures some { IfSome result (λ k. (k < length ops.now)
-        × ((c : Call) × (call_named (calls_of ops.now) entry ≡ Some c)
+        × ((c : Call) × (call_with_number (calls_of ops.now) entry ≡ Some c)
         × HoldsAt (λ o. call_of o ≡ Some c) ops.now k)) }
-    ensures none { IfNone result (call_named (calls_of ops.now) entry ≡ None) }
+    ensures none { IfNone result (call_with_number (calls_of ops.now) entry ≡ None) }
 {
     let Ok(k) = ops.binary_search_by_key(&entry, |o| i64::from(o.number)) else {
         return None;

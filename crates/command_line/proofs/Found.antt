@@ -15,7 +15,7 @@ use Rattle.clap.specs.declared.error.kind.ErrorKind.TheVariants.{OutOfMemory}
 use Rattle.clap.specs.declared.parser.matches.ArgMatches.{ArgMatches}
 use Rattle.clap.specs.declared.parser.matches.ArgMatches.TheViews.{out-ArgMatches, out-SubCommand}
 use Rattle.command_line.specs.Command.{command}
-use Rattle.command_line.specs.Lines.{AskFor, Finds, IsFault, IsFor, IsLine, IsRead, AreWordsRefused, verb_named}
+use Rattle.command_line.specs.Lines.{AskFor, Finds, IsFault, IsClapFaultFor, IsLine, IsRead, AreWordsRefused, verb_named}
 use Rattle.command_line.specs.declared.asking.Line.{Line}
 use Rattle.command_line.specs.declared.asking.LineFault.{LineFault}
 use Rattle.command_line.specs.declared.asking.LineFault.TheVariants as said
@@ -82,16 +82,16 @@ simply : is_simple command ≡ true
 unfolding clap_on_literals
 simply = refl
 
-memory_fault : (f : LineFault) → IsFor OutOfMemory f → f ≡ said.NoMemory
+memory_fault : (f : LineFault) → IsClapFaultFor OutOfMemory f → f ≡ said.NoMemory
 memory_fault (said.Help t) h = elim h [ inl e ↦ cc | inr e ↦ cc ]
 memory_fault (said.Refused t) h = absurd (h.0 refl)
 memory_fault said.NoMemory h = refl
 
 module _ (a : App) (words : List Text) (is : a ≡ command) where
   pub refused : (e : Error) (f : LineFault) → (is_simple_and_free a ≡ true → HasKind (fault_of a words) e)
-      → IsFor (kind_of e) f → IsFault words f
+      → IsClapFaultFor (kind_of e) f → IsFault words f
   refused e f h k = elim (subst (λ a. is_simple_and_free a ≡ true → HasKind (fault_of a words) e) is h simple) [
-    | inl memory ↦ inl (memory_fault f (subst (λ x. IsFor x f) memory k))
+    | inl memory ↦ inl (memory_fault f (subst (λ x. IsClapFaultFor x f) memory k))
     | inr among ↦ inr (inl (kind_of e, among, k))
   ]
 

@@ -124,10 +124,10 @@ abbrev pub IsHelp : ErrorKind → Type 0
 IsHelp k = (k ≡ DisplayHelp) ⊎ (k ≡ DisplayVersion)
 
 -- what is answered for an error of this kind of clap, where no memory is refused
-abbrev pub IsFor : ErrorKind → LineFault → Type 0
-IsFor k (Help text) = IsHelp k
-IsFor k (Refused text) = (k ≢ OutOfMemory) × (IsHelp k → ⊥)
-IsFor k NoMemory = ⊤
+abbrev pub IsClapFaultFor : ErrorKind → LineFault → Type 0
+IsClapFaultFor k (Help text) = IsHelp k
+IsClapFaultFor k (Refused text) = (k ≢ OutOfMemory) × (IsHelp k → ⊥)
+IsClapFaultFor k NoMemory = ⊤
 
 -- the words are refused
 abbrev pub AreWordsRefused : LineFault → Type 0
@@ -147,5 +147,5 @@ pub record IsUnfit (words : List Text) (fault : LineFault) : Type 0 where
 abbrev pub IsFault : List Text → LineFault → Type 0
 IsFault words fault =
     (fault ≡ NoMemory)
-    ⊎ ((k : ErrorKind) × IsAmong k (fault_of command words) × IsFor k fault)
+    ⊎ ((k : ErrorKind) × IsAmong k (fault_of command words) × IsClapFaultFor k fault)
     ⊎ IsUnfit words fault

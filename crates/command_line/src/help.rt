@@ -19,7 +19,7 @@ const FIRSTS: &str = "number, return";
 
 /// What `clap` says: help, or what is wrong.
 pub(crate) fn fault_of(alloc: Global, error: &Error) -> LineFault
-    ensures { spec.IsFor (kind_of error.now) result }
+    ensures { spec.IsClapFaultFor (kind_of error.now) result }
 {
     if error.kind() == ErrorKind::OutOfMemory {
         return LineFault::NoMemory;

@@ -9,7 +9,7 @@ use Rattle.history_commands.specs.Outputs.{number_of}
 use Rattle.history_commands.specs.declared.status.Status.{Status}
 use Rattle.history_commands.specs.declared.status.Status.TheVariants.{Yes, No, Malformed, Undecided, OutOfMemory}
 use Rattle.history_commands.specs.declared.status.Status.TheVariants.{NoThread, Failed, Usage}
-use Rattle.commands.specs.Left.{Leaves}
+use Rattle.commands.specs.Leaves.{Leaves}
 use Rattle.commands.specs.Performed.{IsPerformedOn, says_no, says_yes}
 
 is_yes : (status : Status) → number_of status ≡ number_of Yes → status ≡ Yes

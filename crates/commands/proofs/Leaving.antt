@@ -14,7 +14,7 @@ use Rattle.history_commands.specs.declared.output.Output.{Output}
 use Rattle.history_commands.specs.declared.status.Status.{Status}
 use Rattle.history_commands.specs.declared.status.Status.TheVariants.{Yes, No, Malformed, Undecided, OutOfMemory}
 use Rattle.history_commands.specs.declared.status.Status.TheVariants.{NoThread, Failed, Usage}
-use Rattle.commands.specs.Left.{IsMade, Leaves}
+use Rattle.commands.specs.Leaves.{IsMade, Leaves}
 
 -- an output of one relation is an output of another
 pub leaves_as : {P Q : Status → List ℕ → Type 0} {before after : Option (List ℕ)} {number : ℕ} {broken : Bool}

@@ -1,5 +1,5 @@
 pub mod Statuses
-pub mod Left
+pub mod Leaves
 pub mod Runs
 pub mod Simulated
 pub mod Performed

@@ -1,12 +1,12 @@
 //! The check of a history by certificates.
 
 ghost use Rattle.std.specs.Prelude.{◌≡◌, false, true, IfOk, IfErr};
-ghost use Rattle.commands.specs.Left.{Leaves};
+ghost use Rattle.commands.specs.Leaves.{Leaves};
 ghost use Rattle.commands.specs.Performed.{IsUnread, OnTexts};
 ghost use Rattle.history_commands.specs.Checked.{IsCheck};
 ghost use Rattle.history_commands.specs.Outputs.{IsVerdictOutput};
 
-use crate::put_out::put_out;
+use crate::write_output::write_output;
 use crate::sources::Unread;
 use edn::{Sink, Source};
 use history_commands::{Status, status_of};
@@ -16,7 +16,7 @@ use std::alloc::{AllocError, Global};
 use std::thread::Threads;
 
 /// Writes the lines of a verdict, and gives the exit status.
-fn put_out_verdict<S: Sink>(verdict: &Verdict, sink: &mut S) -> u8
+fn write_verdict_with_status<S: Sink>(verdict: &Verdict, sink: &mut S) -> u8
     requires working { S.broken sink.old ≡ false }
     ensures leaves { Leaves (IsVerdictOutput (λ v. v ≡ verdict.now))
         (S.sent sink.old) result (S.sent sink.new) (S.broken sink.new) }
@@ -46,7 +46,7 @@ pub(crate) fn check_bytes<R: Threads + Sync, S: Sink>(
         Err(ToolFault::Write) => Status::Failed.number(),
         // A text could not be copied, and nothing is written yet. The texts are judged as they are.
         Err(ToolFault::Read(_) | ToolFault::NoMemory) => {
-            put_out_verdict(&judge(rt, alloc, history, certificates, workers), sink)
+            write_verdict_with_status(&judge(rt, alloc, history, certificates, workers), sink)
         }
     }
 }
@@ -76,6 +76,6 @@ pub(crate) fn check_sources<R: Threads + Sync, H: Source, C: Source, S: Sink>(
         Err(ToolFault::Read(Text::History)) => Err(Unread::First),
         Err(ToolFault::Read(Text::Certificates)) => Err(Unread::Second),
         Err(ToolFault::Write) => Ok(Status::Failed.number()),
-        Err(ToolFault::NoMemory) => Ok(put_out(Err(AllocError), sink)),
+        Err(ToolFault::NoMemory) => Ok(write_output(Err(AllocError), sink)),
     }
 }

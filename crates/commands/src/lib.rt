@@ -3,7 +3,7 @@
 
 mod checking;
 mod program;
-mod put_out;
+mod write_output;
 mod running;
 mod simulating;
 mod sources;

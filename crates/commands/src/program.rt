@@ -3,11 +3,11 @@
 ghost use Rattle.std.specs.Prelude.{◌≡◌, false, true, IfOk, IfErr};
 ghost use Rattle.judging.specs.Checks.{IsLinearizableRead, IsNotLinearizableRead};
 ghost use Rattle.history_commands.specs.Outputs.{number_of};
-ghost use Rattle.commands.specs.Left.{Leaves};
+ghost use Rattle.commands.specs.Leaves.{Leaves};
 ghost use Rattle.commands.specs.Performed.{IsPerformed, IsPerformedOn, IsUnread, says_no, says_yes};
 
 use crate::checking::{check_bytes, check_sources};
-use crate::put_out::put_out;
+use crate::write_output::write_output;
 use crate::running::run;
 use crate::simulating::play;
 use crate::sources::{Unread, file_text, has_first, has_second, stop};
@@ -49,21 +49,21 @@ pub fn perform<R: Threads + Wait + Sync, S: Sink>(
             history: _,
             steps,
             first: order,
-        } => put_out(search(alloc, first, *steps, *order), sink),
+        } => write_output(search(alloc, first, *steps, *order), sink),
         Line::Refute {
             history: _,
             reasons: _,
             steps,
-        } => put_out(refute(alloc, first, second, *steps), sink),
+        } => write_output(refute(alloc, first, second, *steps), sink),
         // Without the workers: the library for C, which may start no thread, calls this `verify` too.
         Line::Verify {
             history: _,
             evidence: _,
             steps,
             workers: _,
-        } => put_out(verify(alloc, first, second, *steps), sink),
-        Line::Run(options) => put_out(run(rt, alloc, *options), sink),
-        Line::Simulate { .. } => put_out(play(alloc, first), sink),
+        } => write_output(verify(alloc, first, second, *steps), sink),
+        Line::Run(options) => write_output(run(rt, alloc, *options), sink),
+        Line::Simulate { .. } => write_output(play(alloc, first), sink),
     }
 }
 

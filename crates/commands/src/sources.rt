@@ -1,14 +1,14 @@
 //! What a command reads: the texts of its files.
 
 ghost use Rattle.std.specs.Prelude.{◌≡◌, false, IfOk, IfErr, OnOk};
-ghost use Rattle.commands.specs.Left.{Leaves};
+ghost use Rattle.commands.specs.Leaves.{Leaves};
 ghost use Rattle.commands.specs.Performed as spec;
 ghost use Rattle.commands.specs.Performed.{IsFileText};
 ghost use Rattle.history_commands.specs.Outputs.{IsOutOfMemory};
-ghost use Rattle.judging.specs.Reads.{Left, WasRefused};
+ghost use Rattle.judging.specs.Reads.{SourceAfterFault, WasRefused};
 ghost use Rattle.judging.specs.declared.reading.ReadFault.TheVariants as fault_is;
 
-use crate::put_out::put_out;
+use crate::write_output::write_output;
 use command_line::Line;
 use edn::{Sink, Source};
 use judging::{ReadFault, read_text};
@@ -48,7 +48,7 @@ pub(crate) fn file_text<F: Source>(
     ensures read { IfOk result (λ v.
         IsFileText has_file (F.remaining file.old) (F.remaining file.new) v.items) }
     ensures usable { OnOk result (F.broken file.new ≡ false) }
-    ensures fault { IfErr result (Left (F.broken file.new)) }
+    ensures fault { IfErr result (SourceAfterFault (F.broken file.new)) }
     ensures refused { IfErr result (λ e. e ≡ ReadFault.Failed →
         WasRefused F.remaining F.refuses file.old file.new) }
 {
@@ -69,6 +69,6 @@ pub(crate) fn stop<S: Sink>(fault: ReadFault, which: Unread, sink: &mut S) -> Re
 {
     match fault {
         ReadFault::Failed => Err(which),
-        ReadFault::NoMemory => Ok(put_out(Err(AllocError), sink)),
+        ReadFault::NoMemory => Ok(write_output(Err(AllocError), sink)),
     }
 }

@@ -1,14 +1,14 @@
 //! The verification of a history by evidence, as both come from sources.
 
 ghost use Rattle.std.specs.Prelude.{◌≡◌, false, true, IfOk, IfErr};
-ghost use Rattle.commands.specs.Left.{Leaves};
+ghost use Rattle.commands.specs.Leaves.{Leaves};
 ghost use Rattle.commands.specs.Performed.{IsUnread, IsVerificationIn, OnTexts};
 
-use crate::put_out::put_out;
+use crate::write_output::write_output;
 use crate::sources::{Unread, stop};
 use edn::{Sink, Source};
 use history_commands::verify_history;
-use judging::{history_by, read_text};
+use judging::{history_of_text_by_workers, read_text};
 use std::alloc::Global;
 use std::thread::Threads;
 
@@ -39,11 +39,11 @@ pub(crate) fn verify_sources<R: Threads + Sync, H: Source, E: Source, S: Sink>(
         Ok(text) => text,
         Err(fault) => return stop(fault, Unread::First, sink),
     };
-    let read = history_by(rt, alloc, &text, workers);
+    let read = history_of_text_by_workers(rt, alloc, &text, workers);
     drop(text);
     let claims = match read_text(alloc, evidence) {
         Ok(text) => text,
         Err(fault) => return stop(fault, Unread::Second, sink),
     };
-    Ok(put_out(verify_history(alloc, read, &claims, steps), sink))
+    Ok(write_output(verify_history(alloc, read, &claims, steps), sink))
 }

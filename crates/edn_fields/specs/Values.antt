@@ -22,20 +22,20 @@ IsValueIn ps k (vector ds) = ⊥
 IsValueIn ps k (dictionary es) = IsValue ps (value_at k es)
 
 -- what follows this many closing brackets, except for those of what is opened here
-abbrev pub behind : ℕ → List Token → List Token
-behind zero ts = ts
-behind (suc n) [] = []
-behind (suc n) (open_vector ∷ ts) = behind (suc (suc n)) ts
-behind (suc n) (open_map ∷ ts) = behind (suc (suc n)) ts
-behind (suc n) (close_vector ∷ ts) = behind n ts
-behind (suc n) (close_map ∷ ts) = behind n ts
-behind (suc n) (leaf d ∷ ts) = behind (suc n) ts
+abbrev pub after_open : ℕ → List Token → List Token
+after_open zero ts = ts
+after_open (suc n) [] = []
+after_open (suc n) (open_vector ∷ ts) = after_open (suc (suc n)) ts
+after_open (suc n) (open_map ∷ ts) = after_open (suc (suc n)) ts
+after_open (suc n) (close_vector ∷ ts) = after_open n ts
+after_open (suc n) (close_map ∷ ts) = after_open n ts
+after_open (suc n) (leaf d ∷ ts) = after_open (suc n) ts
 
 -- what follows the element at the front
 abbrev pub after_one : List Token → List Token
 after_one [] = []
-after_one (open_vector ∷ ts) = behind 1 ts
-after_one (open_map ∷ ts) = behind 1 ts
+after_one (open_vector ∷ ts) = after_open 1 ts
+after_one (open_map ∷ ts) = after_open 1 ts
 after_one (close_vector ∷ ts) = ts
 after_one (close_map ∷ ts) = ts
 after_one (leaf d ∷ ts) = ts

@@ -9,7 +9,7 @@ ghost use Rattle.edn_fields.specs.Values.{IsValue};
 ghost use Rattle.edn_fields.specs.Operations.{HasValues, IsMapWith};
 
 use crate::is_same;
-use crate::seek::{behind_bracket, pair_at};
+use crate::seek::{after_bracket, pair_at};
 use crate::values::after_value;
 use edn::Piece;
 
@@ -102,7 +102,7 @@ pub fn values_of<'p, 'a>(pieces: &'p [Piece<'a>]) -> Option<OperationValues<'p, 
         token_buffer_tokens pieces.entry.now ≡ tokens_of (dictionary es) →
         ⊥) }
 {
-    match behind_bracket(pieces) {
+    match after_bracket(pieces) {
         Some(inside) => Some(values_in(inside)),
         None => None,
     }

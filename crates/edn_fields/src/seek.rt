@@ -14,7 +14,7 @@ use edn::Piece;
 
 /// The token buffer after the bracket that opens a map.
 #[inline]
-pub(crate) fn behind_bracket<'p, 'a>(pieces: &'p [Piece<'a>]) -> Option<&'p [Piece<'a>]>
+pub(crate) fn after_bracket<'p, 'a>(pieces: &'p [Piece<'a>]) -> Option<&'p [Piece<'a>]>
     ensures { MatchOption result (NoMap (token_buffer_tokens pieces.entry.now))
         (λ inside. token_buffer_tokens pieces.entry.now ≡ open_map ∷ token_buffer_tokens
         inside.now) }
@@ -39,7 +39,7 @@ pub(crate) fn pair_at<'p, 'a>(pieces: &'p [Piece<'a>]) -> Option<(&'a str, &'p [
 }
 
 /// The value of a key in a map, after the map's bracket.
-fn value_behind<'p, 'a>(inside: &'p [Piece<'a>], key: &[u8]) -> &'p [Piece<'a>]
+fn value_after<'p, 'a>(inside: &'p [Piece<'a>], key: &[u8]) -> &'p [Piece<'a>]
     ensures { (es : Entries)
         → token_buffer_tokens inside.entry.now ≡ entries_tokens es ++ close_map ∷ [] →
         IsValue result.now (value_at key.now es) }
@@ -63,8 +63,8 @@ pub fn value_on<'p, 'a>(pieces: &'p [Piece<'a>], key: &[u8]) -> Option<&'p [Piec
     ensures other { IfNone result ((es : Entries)
         → token_buffer_tokens pieces.entry.now ≡ tokens_of (dictionary es) → ⊥) }
 {
-    match behind_bracket(pieces) {
-        Some(inside) => Some(value_behind(inside, key)),
+    match after_bracket(pieces) {
+        Some(inside) => Some(value_after(inside, key)),
         None => None,
     }
 }

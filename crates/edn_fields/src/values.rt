@@ -7,10 +7,10 @@ ghost use Rattle.edn_fields.specs.Values as spec;
 use edn::Piece;
 
 /// What follows the closing bracket of the vector or map that is open.
-#[tactic(auto, using(crate::proofs::Skipping::behind_open_vector, crate::proofs::Skipping::behind_open_map, crate::proofs::Skipping::behind_close_vector, crate::proofs::Skipping::behind_close_map, crate::proofs::Skipping::behind_leaf, crate::proofs::Skipping::behind_none))]
-fn behind<'p, 'a>(pieces: &'p [Piece<'a>]) -> &'p [Piece<'a>]
+#[tactic(auto, using(crate::proofs::Skipping::after_open_vector, crate::proofs::Skipping::after_open_map, crate::proofs::Skipping::after_close_vector, crate::proofs::Skipping::after_close_map, crate::proofs::Skipping::after_leaf, crate::proofs::Skipping::after_none))]
+fn after_open<'p, 'a>(pieces: &'p [Piece<'a>]) -> &'p [Piece<'a>]
     ensures tokens { token_buffer_tokens result.now
-        ≡ spec.behind 1 (token_buffer_tokens pieces.entry.now) }
+        ≡ spec.after_open 1 (token_buffer_tokens pieces.entry.now) }
     ensures within { length result.now ≤ length pieces.entry.now }
 {
     let mut open: usize = 1;
@@ -42,8 +42,8 @@ pub(crate) fn after_value<'p, 'a>(pieces: &'p [Piece<'a>]) -> &'p [Piece<'a>]
         return pieces;
     };
     match first {
-        Piece::OpenVector => behind(tail),
-        Piece::OpenMap => behind(tail),
+        Piece::OpenVector => after_open(tail),
+        Piece::OpenMap => after_open(tail),
         _ => tail,
     }
 }

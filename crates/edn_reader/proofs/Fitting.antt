@@ -31,16 +31,16 @@ abbrev pub From : ℕ → List (Name × Form) → ℕ → Type 0
 From n xs i = EntriesFit n (entries_of (pair_views (drop i xs)))
 
 -- the pair at i, and those after it
-abbrev pub AtAndBehind : ℕ → List (Name × Form) → ℕ → Name × Form → Type 0
-AtAndBehind n xs i x = Lacks (name_bytes x.0) (entries_of (pair_views (drop (i + 1) xs))) × Fits n (view x.1) × From n xs (i + 1)
+abbrev pub AtAndAfter : ℕ → List (Name × Form) → ℕ → Name × Form → Type 0
+AtAndAfter n xs i x = Lacks (name_bytes x.0) (entries_of (pair_views (drop (i + 1) xs))) × Fits n (view x.1) × From n xs (i + 1)
 
 at_place : (xs : List (Name × Form)) (i : ℕ) (x : Name × Form) → i < length xs → x ≡ get_or xs i x → drop i xs ≡ x ∷ drop (i + 1) xs
 at_place xs i x lt e = drop_more xs i x lt ∙ ap (λ (y : Name × Form). y ∷ drop (i + 1) xs) (sym e)
 
-pub from_split : (n : ℕ) (xs : List (Name × Form)) (i : ℕ) (x : Name × Form) → i < length xs → x ≡ get_or xs i x → From n xs i → AtAndBehind n xs i x
+pub from_split : (n : ℕ) (xs : List (Name × Form)) (i : ℕ) (x : Name × Form) → i < length xs → x ≡ get_or xs i x → From n xs i → AtAndAfter n xs i x
 from_split n xs i x lt e h = subst (λ (ys : List (Name × Form)). EntriesFit n (entries_of (pair_views ys))) (at_place xs i x lt e) h
 
-pub from_joined : (n : ℕ) (xs : List (Name × Form)) (i : ℕ) (x : Name × Form) → i < length xs → x ≡ get_or xs i x → AtAndBehind n xs i x → From n xs i
+pub from_joined : (n : ℕ) (xs : List (Name × Form)) (i : ℕ) (x : Name × Form) → i < length xs → x ≡ get_or xs i x → AtAndAfter n xs i x → From n xs i
 from_joined n xs i x lt e h = subst (λ (ys : List (Name × Form)). EntriesFit n (entries_of (pair_views ys))) (sym (at_place xs i x lt e)) h
 
 -- a pair whose key stands again further on

@@ -37,9 +37,9 @@ front_more text mid rest ds more f g =
     }
 
 -- what is sound after a front is sound in the text
-pub sound_behind : (text rest : List ℕ) (ds : List Datum) (start place : ℕ) → IsUtf8 text → SpellsFront text ds rest
+pub sound_after : (text rest : List ℕ) (ds : List Datum) (start place : ℕ) → IsUtf8 text → SpellsFront text ds rest
     → start + length rest ≡ length text → IsSoundFrom start place rest → IsSoundAt place text
-sound_behind text rest ds start place u f l (n, e, s) =
+sound_after text rest ds start place u f l (n, e, s) =
     let first : list_tokens s.forms ≡ s.before ++ s.token ∷ s.more = s.are_first in
     record {
       utf8 = u;
@@ -94,9 +94,9 @@ pub along_none : (P : List Datum → Type 0) (text rest : List ℕ) (start : ℕ
 along_none P text rest start a none ds k = let b = a.front.only ds k in none b.0 b.2
 
 -- what the rest can't spell for a fault of its own
-pub unreadable_behind : (P : List Datum → Type 0) (text rest : List ℕ) (start : ℕ) (e : EdnFault) → IsShort text → Along P text rest start → e.kind ≢ TooLong
+pub unreadable_after : (P : List Datum → Type 0) (text rest : List ℕ) (start : ℕ) (e : EdnFault) → IsShort text → Along P text rest start → e.kind ≢ TooLong
     → (e.kind ≢ NoMemory → (ds : List Datum) → Spells ds rest → ⊥) → e.kind ≢ NoMemory → IsUnreadable text e
-unreadable_behind P text rest start e short a not_long none not_memory =
+unreadable_after P text rest start e short a not_long none not_memory =
     record {
       not_memory = not_memory;
       too_long = (λ t. absurd (not_long t), λ l. absurd (omega (arith, l, short)));

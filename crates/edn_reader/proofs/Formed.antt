@@ -111,8 +111,8 @@ item_begins ts apart b = by_items b.items b.own b.are
     by_items no_items p e = absurd (apart b.behind e)
     by_items (item d ds) p e = record { form = d; behind = items_tokens ds ++ close_vector ∷ b.behind; own = p.0; are = e ∙ append_assoc (tokens_of d) (items_tokens ds) (close_vector ∷ b.behind) }
 
-pub items_behind : (ts us : List Token) (d : Datum) → ((vs : List Token) → ts ≡ close_vector ∷ vs → ⊥) → ts ≡ tokens_of d ++ us → BeginsItems ts → BeginsItems us
-items_behind ts us d apart is b = by_items b.items b.own b.are
+pub items_after : (ts us : List Token) (d : Datum) → ((vs : List Token) → ts ≡ close_vector ∷ vs → ⊥) → ts ≡ tokens_of d ++ us → BeginsItems ts → BeginsItems us
+items_after ts us d apart is b = by_items b.items b.own b.are
   where
     by_items : (ds : Items) → ItemsInProfile ds → ts ≡ items_tokens ds ++ close_vector ∷ b.behind → BeginsItems us
     by_items no_items p e = absurd (apart b.behind e)
@@ -144,8 +144,8 @@ value_begins ts us k q b = by_pairs b.pairs b.own (sym q ∙ b.are)
               ∙ append_assoc (tokens_of d) (entries_tokens es) (close_map ∷ b.behind);
         }
 
-pub pairs_behind : (ts us vs : List Token) (k : List ℕ) (d : Datum) → ts ≡ leaf (atom (keyword k)) ∷ us → us ≡ tokens_of d ++ vs → BeginsPairs ts → BeginsPairs vs
-pairs_behind ts us vs k d q is b = by_pairs b.pairs b.own (sym q ∙ b.are)
+pub pairs_after : (ts us vs : List Token) (k : List ℕ) (d : Datum) → ts ≡ leaf (atom (keyword k)) ∷ us → us ≡ tokens_of d ++ vs → BeginsPairs ts → BeginsPairs vs
+pairs_after ts us vs k d q is b = by_pairs b.pairs b.own (sym q ∙ b.are)
   where
     by_pairs : (es : Entries) → EntriesInProfile es → leaf (atom (keyword k)) ∷ us ≡ entries_tokens es ++ close_map ∷ b.behind → BeginsPairs vs
     by_pairs no_entries p e = absurd cc

@@ -7,7 +7,7 @@ use Rattle.std.proofs.lemmas.List.{append-nil}
 use Rattle.edn_reader.specs.Datum.{nil, boolean, integer, string, keyword, Datum, atom, vector, dictionary, Items, no_items, item, Entries, no_entries, entry}
 use Rattle.edn_reader.specs.Token.{Token, open_vector, close_vector, open_map, close_map, tokens_of, items_tokens, entries_tokens}
 use Rattle.edn_reader.specs.Truncation.{integers_in, integer_vector_of, integer_vector_under, integer_vector_at, Keeping, integer_vector_kept, Keep, keep_all}
-use Rattle.edn_reader.specs.IntegerVectors.{IntegerVector, nothing_noted, behind_other, note_all, noted, Held, nothing_held, hold, hold_all}
+use Rattle.edn_reader.specs.IntegerVectors.{IntegerVector, nothing_noted, after_other, note_all, noted, Held, nothing_held, hold, hold_all}
 use Rattle.edn_reader.specs.declared.integer_vector.Stage.{Stage}
 use Rattle.edn_reader.specs.declared.integer_vector.Stage.TheVariants.{Start, Key, Value, Other, Numbers, Whole, Over}
 
@@ -29,7 +29,7 @@ whole_stays (t ∷ ts) key zs = whole_stays ts key zs
 opened : (n : ℕ) → Other (suc n + 1) ≡ Other (suc (suc n))
 opened n = ap Other (add-one (suc n))
 
-closed : (n : ℕ) → behind_other (suc (suc n)) close_vector ≡ Other (suc n)
+closed : (n : ℕ) → after_other (suc (suc n)) close_vector ≡ Other (suc n)
 closed n =
     let z : nat_le (suc (suc n)) 1 ≡ false = grind (arith) in
     let l : suc (suc n) - 1 ≡ suc n = omega arith in
@@ -42,7 +42,7 @@ abbrev noted_from : List Token → List ℕ → Stage → IntegerVector
 noted_from ts key s = note_all ts (at key s [])
 
 -- what is between two brackets
-between_passed : (inner us : List Token) (key : List ℕ) (n : ℕ) (before behind : Token) → behind_other (suc n) before ≡ Other (suc n + 1) → behind_other (suc (suc n)) behind ≡ Other (suc n)
+between_passed : (inner us : List Token) (key : List ℕ) (n : ℕ) (before behind : Token) → after_other (suc n) before ≡ Other (suc n + 1) → after_other (suc (suc n)) behind ≡ Other (suc n)
     → noted_from (inner ++ behind ∷ us) key (Other (suc (suc n))) ≡ noted_from (behind ∷ us) key (Other (suc (suc n)))
     → noted_from ((before ∷ (inner ++ behind ∷ [])) ++ us) key (Other (suc n)) ≡ noted_from us key (Other (suc n))
 between_passed inner us key n before behind a b h =

@@ -46,10 +46,10 @@ same_got : (t u : Token) (r q : List ℕ) → got t r ≡ got u q → (t ≡ u) 
 same_got t u r q e = (cc, cc)
 
 -- what the text goes on with, after its first token
-goes_behind : (rest : List ℕ) (t : Token) (r : List ℕ) (s z : State) (us : List Token) → next rest ≡ got t r → step t s ≡ Some z → Lexes us rest
+goes_after : (rest : List ℕ) (t : Token) (r : List ℕ) (s z : State) (us : List Token) → next rest ≡ got t r → step t s ≡ Some z → Lexes us rest
     → (vs : List Token) × Lexes vs r × (steps us s ≡ steps vs z)
-goes_behind rest t r s z [] e f h = let k = ending_next rest h in absurd cc
-goes_behind rest t r s z (u ∷ us) e f (q, n, h) =
+goes_after rest t r s z [] e f h = let k = ending_next rest h in absurd cc
+goes_after rest t r s z (u ∷ us) e f (q, n, h) =
     let p = same_got t u r q (sym e ∙ next_from rest u q n) in
     let g : step u s ≡ Some z = rw (← p.0) f in
     (us, rw p.1 h, rw g refl)
@@ -66,7 +66,7 @@ goes_on text rest t r s z e f p =
     let c : consumed z ≡ consumed s ++ t ∷ [] = step_tokens t s z l f in
     record {
       spelled = λ ts h. (let a : Lexes (consumed s ++ t ∷ ts) text = p.spelled (t ∷ ts) (r, n, h) in rw (c, append_assoc) a);
-      only = λ ts h. (let a = p.only ts h in let b = goes_behind rest t r s z a.0 e f a.1 in (b.0, b.1, a.2 ∙ b.2));
+      only = λ ts h. (let a = p.only ts h in let b = goes_after rest t r s z a.0 e f a.1 in (b.0, b.1, a.2 ∙ b.2));
       fits = step_fits t s z l p.fits f;
       utf8 = after_begins n.1 t r n.3 (after_gap rest n.0 n.1 n.2 n.4 p.utf8);
       grounded = step_grounded t s z p.grounded f;

@@ -16,15 +16,15 @@ same_end b None = refl
 same_end b (Some p) = refl
 
 -- after a byte that ends nothing
-pub end_behind_byte : (b : ℕ) (bs : List ℕ) → (b == 34) ≡ false → (b == 92) ≡ false → string_end (b ∷ bs) ≡ string_end bs
-end_behind_byte b bs h k = rw (h, k) (same_end b (string_at bs))
+pub end_after_byte : (b : ℕ) (bs : List ℕ) → (b == 34) ≡ false → (b == 92) ≡ false → string_end (b ∷ bs) ≡ string_end bs
+end_after_byte b bs h k = rw (h, k) (same_end b (string_at bs))
 
 -- after an escape
-pub end_behind_escape : (c : ℕ) (cs : List ℕ) (e : ℕ) → escape_of c ≡ Some e → string_end (92 ∷ c ∷ cs) ≡ string_end cs
-end_behind_escape c cs e h = let x : escape_of c ≡ Some e = h in rw x (same_end e (string_at cs))
+pub end_after_escape : (c : ℕ) (cs : List ℕ) (e : ℕ) → escape_of c ≡ Some e → string_end (92 ∷ c ∷ cs) ≡ string_end cs
+end_after_escape c cs e h = let x : escape_of c ≡ Some e = h in rw x (same_end e (string_at cs))
 
-pub no_end_behind : (c : ℕ) (cs : List ℕ) → escape_of c ≡ None → string_end (92 ∷ c ∷ cs) ≡ None
-no_end_behind c cs h = let x : escape_of c ≡ None = h in rw x refl
+pub no_end_after : (c : ℕ) (cs : List ℕ) → escape_of c ≡ None → string_end (92 ∷ c ∷ cs) ≡ None
+no_end_after c cs h = let x : escape_of c ≡ None = h in rw x refl
 
 mutual
   quoted_is : (own s : List ℕ) → IsQuoted own s → unquoted own ≡ s

@@ -66,14 +66,14 @@ mutual
   comment_low (b ∷ bs) (inl p) = low_feed b bs p.0 (gap_low bs p.1)
   comment_low (b ∷ bs) (inr p) = low_comment b bs (comment_low bs p.1)
 
-behind_low : (gap after : List ℕ) → EndsLow gap → IsUtf8 (gap ++ after) → IsUtf8 after
-behind_low gap after (inl e) u = subst (λ (x : List ℕ). IsUtf8 (x ++ after)) e u
-behind_low gap after (inr (front, c, h, e)) u =
+after_low : (gap after : List ℕ) → EndsLow gap → IsUtf8 (gap ++ after) → IsUtf8 after
+after_low gap after (inl e) u = subst (λ (x : List ℕ). IsUtf8 (x ++ after)) e u
+after_low gap after (inr (front, c, h, e)) u =
     let v : IsUtf8 ((front ++ c ∷ []) ++ after) = subst (λ (x : List ℕ). IsUtf8 (x ++ after)) e u in
     behind c after h (cut front after c h (subst IsUtf8 (append_assoc front (c ∷ []) after) v)).1
 
 pub after_gap : (bytes gap after : List ℕ) → IsGap gap → bytes ≡ gap ++ after → IsUtf8 bytes → IsUtf8 after
-after_gap bytes gap after g e u = behind_low gap after (gap_low gap g) (subst IsUtf8 e u)
+after_gap bytes gap after g e u = after_low gap after (gap_low gap g) (subst IsUtf8 e u)
 
 -- ---- what follows a token
 

@@ -18,7 +18,7 @@ use Rattle.edn_reader.proofs.Noting.{hold_append, held_kept, integer_vector_held
 use Rattle.edn_reader.proofs.Strings.{some_is}
 use Rattle.edn_reader.proofs.Consumed.{consumed, step_tokens, list_tokens, mapped, kept_if, unless_so}
 use Rattle.edn_reader.proofs.Lexical.{first_shorter, skip_within}
-use Rattle.edn_reader.specs.TokenBuffers.{IsSoundBehind}
+use Rattle.edn_reader.specs.TokenBuffers.{IsSoundAfter}
 use Rattle.edn_reader.proofs.Progress.{Progress, plain, left, is_next, goes_on, next_at, at_end, ends_there, spells_there, closed_are, stops, sound}
 use Rattle.edn_reader.proofs.Prefixes.{same_front}
 use Rattle.edn_reader.proofs.Shaped.{step_shape}
@@ -277,12 +277,12 @@ none_next keeping text rest here now_open kept h some e m =
 
 -- nothing is wrong up to a token that would be taken
 pub sound_next : (keeping : Keeping) (text rest here : List ℕ) (now_open : Shapes) (kept : Held) → IsUtf8 text → here ≡ skip rest
-    → IsSome (after_piece now_open (first here)) → Midway keeping text rest now_open kept → IsSoundBehind (length here) text
+    → IsSome (after_piece now_open (first here)) → Midway keeping text rest now_open kept → IsSoundAfter (length here) text
 sound_next keeping text rest here now_open kept u h e m =
     let within : length here ≤ length text = omega (arith, ap length h, skip_within rest, m.progress.within) in
     (within, sound text rest here m.state h u m.progress (taken_too m.state (first here) (subst (λ (s : Shapes). IsSome (after_piece s (first here))) (sym m.shaped) e)))
 
-pub sound_first : (text here : List ℕ) (old : Shapes) → IsUtf8 text → here ≡ skip text → old ≡ nothing_open → IsSome (after_piece old (first here)) → IsSoundBehind (length here) text
+pub sound_first : (text here : List ℕ) (old : Shapes) → IsUtf8 text → here ≡ skip text → old ≡ nothing_open → IsSome (after_piece old (first here)) → IsSoundAfter (length here) text
 sound_first text here old u h o e =
     let within : length here ≤ length text = omega (arith, ap length h, skip_within text) in
     (within, sound text text here opening h u (start text u) (taken_too opening (first here) (subst (λ (s : Shapes). IsSome (after_piece s (first here))) o e)))

@@ -22,40 +22,40 @@ nothing_noted None = record { key = []; stage = Over; numbers = [] }
 nothing_noted (Some key) = record { key = key; stage = Start; numbers = [] }
 
 -- the first token of an element
-abbrev pub behind_start : Token → Stage
-behind_start open_vector = Over
-behind_start close_vector = Over
-behind_start open_map = Key
-behind_start close_map = Over
-behind_start (leaf d) = Over
+abbrev pub after_start : Token → Stage
+after_start open_vector = Over
+after_start close_vector = Over
+after_start open_map = Key
+after_start close_map = Over
+after_start (leaf d) = Over
 
-abbrev pub behind_name : List ℕ → Option (List ℕ) → Stage
-behind_name key None = Over
-behind_name key (Some k) = if bytes_eq key k then Value else Other 0
+abbrev pub after_name : List ℕ → Option (List ℕ) → Stage
+after_name key None = Over
+after_name key (Some k) = if bytes_eq key k then Value else Other 0
 
 -- where a key comes, or the end of the map
-abbrev pub behind_key : List ℕ → Token → Stage
-behind_key key open_vector = Over
-behind_key key close_vector = Over
-behind_key key open_map = Over
-behind_key key close_map = Over
-behind_key key (leaf d) = behind_name key (key_in d)
+abbrev pub after_key : List ℕ → Token → Stage
+after_key key open_vector = Over
+after_key key close_vector = Over
+after_key key open_map = Over
+after_key key close_map = Over
+after_key key (leaf d) = after_name key (key_in d)
 
 -- where the value of the key begins
-abbrev pub behind_value : Token → Stage
-behind_value open_vector = Numbers
-behind_value close_vector = Over
-behind_value open_map = Over
-behind_value close_map = Over
-behind_value (leaf d) = Over
+abbrev pub after_value : Token → Stage
+after_value open_vector = Numbers
+after_value close_vector = Over
+after_value open_map = Over
+after_value close_map = Over
+after_value (leaf d) = Over
 
 -- in the value of another key, of which this many brackets are open
-abbrev pub behind_other : ℕ → Token → Stage
-behind_other n open_vector = Other (n + 1)
-behind_other n close_vector = if nat_le n 1 then Key else Other (n - 1)
-behind_other n open_map = Other (n + 1)
-behind_other n close_map = if nat_le n 1 then Key else Other (n - 1)
-behind_other n (leaf d) = if n == 0 then Key else Other n
+abbrev pub after_other : ℕ → Token → Stage
+after_other n open_vector = Other (n + 1)
+after_other n close_vector = if nat_le n 1 then Key else Other (n - 1)
+after_other n open_map = Other (n + 1)
+after_other n close_map = if nat_le n 1 then Key else Other (n - 1)
+after_other n (leaf d) = if n == 0 then Key else Other n
 
 abbrev pub note_integer : Option ℤ → IntegerVector → IntegerVector
 note_integer None r = record r { stage = Over }
@@ -70,10 +70,10 @@ note_number close_map r = record r { stage = Over }
 note_number (leaf d) r = note_integer (integer_in d) r
 
 abbrev pub note_at : Stage → Token → IntegerVector → IntegerVector
-note_at Start t r = record r { stage = behind_start t }
-note_at Key t r = record r { stage = behind_key r.key t }
-note_at Value t r = record r { stage = behind_value t }
-note_at (Other n) t r = record r { stage = behind_other n t }
+note_at Start t r = record r { stage = after_start t }
+note_at Key t r = record r { stage = after_key r.key t }
+note_at Value t r = record r { stage = after_value t }
+note_at (Other n) t r = record r { stage = after_other n t }
 note_at Numbers t r = note_number t r
 note_at Whole t r = r
 note_at Over t r = r

@@ -23,5 +23,5 @@ abbrev pub open_on : TokenBuffer → Shapes
 open_on t = levels_shapes t.levels
 
 -- nothing is wrong up to the token at which so much of the text is left
-abbrev pub IsSoundBehind : ℕ → List ℕ → Type 0
-IsSoundBehind left text = (left ≤ length text) × IsSoundAt (length text - left) text
+abbrev pub IsSoundAfter : ℕ → List ℕ → Type 0
+IsSoundAfter left text = (left ≤ length text) × IsSoundAt (length text - left) text

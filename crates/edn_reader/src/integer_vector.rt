@@ -28,8 +28,8 @@ pub struct IntegerVector<'a> {
 }
 
 /// The stage after a token of another key's value, where this many brackets are open before it.
-fn behind_other(depth: usize, piece: &Piece) -> Result<Stage, AllocError>
-    ensures { IfOk result (λ stage. stage ≡ spec.behind_other depth (piece_token piece.now)) }
+fn after_other(depth: usize, piece: &Piece) -> Result<Stage, AllocError>
+    ensures { IfOk result (λ stage. stage ≡ spec.after_other depth (piece_token piece.now)) }
 {
     match piece {
         Piece::OpenVector | Piece::OpenMap => {
@@ -85,8 +85,8 @@ impl<'a> IntegerVector<'a> {
     }
 
     /// The stage after a key, or after the end of the map.
-    fn behind_key(&self, piece: &Piece) -> Stage
-        ensures { result ≡ spec.behind_key self.now.key.now (piece_token piece.now) }
+    fn after_key(&self, piece: &Piece) -> Stage
+        ensures { result ≡ spec.after_key self.now.key.now (piece_token piece.now) }
     {
         match piece {
             Piece::Keyword(name) => {
@@ -124,12 +124,12 @@ impl<'a> IntegerVector<'a> {
                 Piece::OpenMap => Stage::Key,
                 _ => Stage::Over,
             },
-            Stage::Key => self.stage = self.behind_key(piece),
+            Stage::Key => self.stage = self.after_key(piece),
             Stage::Value => self.stage = match piece {
                 Piece::OpenVector => Stage::Numbers,
                 _ => Stage::Over,
             },
-            Stage::Other(depth) => self.stage = behind_other(depth, piece)?,
+            Stage::Other(depth) => self.stage = after_other(depth, piece)?,
             Stage::Numbers => self.note_number(piece)?,
             Stage::Whole => {}
             Stage::Over => {}

@@ -5,7 +5,7 @@ ghost use Rattle.edn_reader.specs.Reading as spec;
 use crate::bytes::{is_separator, is_token_byte};
 
 /// After the line feed of a comment.
-fn behind_comment(text: &[u8]) -> &[u8]
+fn after_comment(text: &[u8]) -> &[u8]
     ensures skip { spec.skip result.now ≡ spec.skip_comment text.now }
     ensures within { length result.now ≤ length text.now }
 {
@@ -29,7 +29,7 @@ pub(crate) fn skip(text: &[u8]) -> &[u8]
         if is_separator(*b) {
             rest = tail;
         } else if *b == b';' {
-            rest = behind_comment(tail);
+            rest = after_comment(tail);
         } else {
             return rest;
         }

@@ -28,8 +28,8 @@ pub enum Piece<'a> {
 }
 
 /// What follows the quote that ends a string, after its first quote.
-#[tactic(auto, using(crate::proofs::Raw::end_behind_byte, crate::proofs::Raw::end_behind_escape, crate::proofs::Raw::no_end_behind))]
-fn behind_string(text: &[u8]) -> Result<&[u8], Stop>
+#[tactic(auto, using(crate::proofs::Raw::end_after_byte, crate::proofs::Raw::end_after_escape, crate::proofs::Raw::no_end_after))]
+fn after_string(text: &[u8]) -> Result<&[u8], Stop>
     ensures ends { IfOk result (λ rest. string_end text.now ≡ Some rest.now) }
     ensures none { IfErr result (λ e. (string_end text.now ≡ None) × (e.cause ≢ Cause.NoMemory)) }
 {
@@ -55,7 +55,7 @@ fn behind_string(text: &[u8]) -> Result<&[u8], Stop>
 
 /// After the bytes of a name.
 #[inline(always)]
-fn behind_name(text: &[u8]) -> &[u8]
+fn after_name(text: &[u8]) -> &[u8]
     ensures { result.now ≡ spec.after_names text.now }
 {
     let mut rest = text;
@@ -113,7 +113,7 @@ impl<'a> Piece<'a> {
     fn of_string(text: &'a [u8]) -> Result<(Piece<'a>, &'a [u8]), Stop>
         ensures { GivesPiece result (spec.got_string (spec.string_at text.entry.now)) }
     {
-        let rest = behind_string(text)?;
+        let rest = after_string(text)?;
         let raw = &text[..text.len() - rest.len() - 1];
         Ok((Piece::Str(raw), rest))
     }
@@ -174,7 +174,7 @@ impl<'a> Piece<'a> {
         if !is_letter(*b) {
             return None;
         }
-        let rest = behind_name(tail);
+        let rest = after_name(tail);
         let length = tail.len() - rest.len();
         if length > 63 || !ends_token(rest) {
             return None;

@@ -8,7 +8,7 @@ ghost use Rattle.edn_reader.specs.Shapes.{after_piece, nothing_open};
 ghost use Rattle.edn_reader.specs.Spells.{Spells};
 ghost use Rattle.edn_reader.specs.Elements.{ReadsNext, HoldsToken};
 ghost use Rattle.edn_reader.specs.Results.{Denies};
-ghost use Rattle.edn_reader.specs.TokenBuffers.{IsSoundBehind};
+ghost use Rattle.edn_reader.specs.TokenBuffers.{IsSoundAfter};
 
 use crate::fault::{Cause, Stop};
 use crate::integer_vector::IntegerVector;
@@ -163,7 +163,7 @@ impl<'a> TokenBuffer<'a> {
         ensures none { IfErr result (λ cause. cause ≢ Cause.NoMemory → (ds : List Datum) →
             Spells ds text.entry.now → ⊥) }
         ensures memory { IfErr result (λ cause. cause ≡ Cause.NoMemory →
-            IsSoundBehind self.new.left text.entry.now) }
+            IsSoundAfter self.new.left text.entry.now) }
         ensures fresh { OnOk result (open_on self.new ≡ nothing_open) }
     {
         self.truncated.clear(keeping.cuts);
@@ -205,7 +205,7 @@ impl<'a> TokenBuffer<'a> {
         ensures none { IfErr result (λ e. e.cause ≢ Cause.NoMemory → (ds : List Datum) →
             Spells ds text.entry.now → ⊥) }
         ensures memory { IfErr result (λ e. e.cause ≡ Cause.NoMemory →
-            IsSoundBehind e.left text.entry.now) }
+            IsSoundAfter e.left text.entry.now) }
         ensures fresh { open_on self.new ≡ nothing_open }
     {
         match self.try_read(alloc, keeping, text) {

@@ -161,14 +161,14 @@ kind_follows earlier p x (Ok r) b h q e c i s t = absurd (cc (q))
 kind_follows earlier p x Fail b h q e c i s t = absurd (cc (q))
 kind_follows earlier p x Info b h q e c i s t = absurd (cc (q))
 
-kinds_behind : (earlier es all : List Event) → all ≡ earlier ++ es → IsProper all → Pairs SameKind es
-kinds_behind earlier [] all is h = tt
-kinds_behind earlier (e ∷ es) all is h = (
+kinds_after : (earlier es all : List Event) → all ≡ earlier ++ es → IsProper all → Pairs SameKind es
+kinds_after earlier [] all is h = tt
+kinds_after earlier (e ∷ es) all is h = (
   λ f i a b same q r.
       let s = in_split f es i in
       let whole : all ≡ (earlier ++ e ∷ s.0) ++ f ∷ s.1 = is ∙ (ap (λ t. earlier ++ e ∷ t) s.2 ∙ sym (append_assoc earlier (e ∷ s.0) (f ∷ s.1))) in
       kind_follows (earlier ++ e ∷ s.0) f.process f.object f.action b (h.each (earlier ++ e ∷ s.0) s.1 f whole) r e a (in_middle e earlier s.0) same q,
-  kinds_behind (earlier ++ e ∷ []) es all (is ∙ sym (append_assoc earlier (e ∷ []) es)) h,
+  kinds_after (earlier ++ e ∷ []) es all (is ∙ sym (append_assoc earlier (e ∷ []) es)) h,
 )
 
 kind_here : (x : ℕ) (es : List Event) (o : Invocation) → Pairs SameKind es → In o (operations_on x es) → kind_of o.op ≡ kind_at es x
@@ -201,7 +201,7 @@ object_calls es x = record { object = x; kind = kind_at es x; ops = operations_o
 pub is_object_history : (es : List Event) → IsProper es → (x : ℕ) → IsObjectHistory (object_calls es x)
 is_object_history es h x =
     let up : RisingEvents es = pairs_from_all (λ a b. a.number < b.number) es h.rising in
-    let kinds : Pairs SameKind es = kinds_behind [] es es refl h in
+    let kinds : Pairs SameKind es = kinds_after [] es es refl h in
     record {
       rising = all_from_pairs (λ a b. a.number < b.number) (operations_on x es) (operations_rising x es up);
       of_kind = all_from_in (λ o. kind_of o.op ≡ kind_at es x) (operations_on x es) (λ o i. kind_here x es o kinds i);

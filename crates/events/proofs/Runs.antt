@@ -65,10 +65,10 @@ may_do earlier p x (Ok r) h = subst (λ s. MayDo s x (Ok r)) (sym (busy_with (la
 may_do earlier p x Fail h = subst (λ s. MayDo s x Fail) (sym (busy_with (last_event p earlier) x h.0 h.1)) refl
 may_do earlier p x Info h = subst (λ s. MayDo s x Info) (sym (busy_with (last_event p earlier) x h.0 h.1)) refl
 
-runs_behind : (p : ℕ) (earlier es all : List Event) → all ≡ earlier ++ es → IsProper all → Runs p (state_after (last_event p earlier)) es
-runs_behind p earlier [] all is proper = tt
-runs_behind p earlier (e ∷ es) all is proper =
-    let rest = runs_behind p (earlier ++ e ∷ []) es all (is ∙ sym (append_assoc earlier (e ∷ []) es)) proper in (
+runs_after : (p : ℕ) (earlier es all : List Event) → all ≡ earlier ++ es → IsProper all → Runs p (state_after (last_event p earlier)) es
+runs_after p earlier [] all is proper = tt
+runs_after p earlier (e ∷ es) all is proper =
+    let rest = runs_after p (earlier ++ e ∷ []) es all (is ∙ sym (append_assoc earlier (e ∷ []) es)) proper in (
       λ q.
           let own : e.process ≡ p = eqb-true e.process p q in
           let after : last_event p (earlier ++ e ∷ []) ≡ Some e = last_push p earlier e ∙ ap (λ b. cond b (Some e) (last_event p earlier)) q in (
@@ -82,4 +82,4 @@ runs_behind p earlier (e ∷ es) all is proper =
 
 -- each process of proper events runs, idle at first
 pub runs_from_start : (es : List Event) (p : ℕ) → IsProper es → Runs p idle es
-runs_from_start es p proper = runs_behind p [] es es refl proper
+runs_from_start es p proper = runs_after p [] es es refl proper

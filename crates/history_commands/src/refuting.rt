@@ -17,7 +17,7 @@ ghost use Rattle.history_commands.specs.Refuted.{IsOfText, IsReasonsFault, IsRef
 use crate::lines::line_with_place;
 use crate::output::{Output, verdict_output};
 use crate::status::{Status, status_by};
-use crate::texts::history_of;
+use crate::texts::history_or_verdict;
 use edn::{FaultKind, push_natural};
 use events::{ObjectHistory, split};
 use history::History;
@@ -277,7 +277,7 @@ pub fn refute(
 ) -> Result<Output, AllocError>
     ensures { IfOk result (λ o. IsRefute history.now reasons.now steps o.status o.text.items) }
 {
-    match history_of(alloc, history) {
+    match history_or_verdict(alloc, history) {
         Ok(history) => answer_text(alloc, &history, reasons, steps),
         Err(verdict) => verdict_output(alloc, &verdict),
     }

@@ -7,7 +7,7 @@ use crate::answers::{Answer, output_of};
 use crate::comments::certificates_text;
 use crate::lines::{push_object_line, push_steps};
 use crate::output::{Output, verdict_output};
-use crate::texts::history_of;
+use crate::texts::history_or_verdict;
 use history::History;
 use judging::valid_certificates_suffice;
 use search::{Search, SearchOutcome, TryFirst, search_all_by};
@@ -69,7 +69,7 @@ pub fn search(alloc: Global, text: &[u8], steps: u32, first: TryFirst) -> Result
 {
     // This does nothing: it is locality.
     valid_certificates_suffice();
-    match history_of(alloc, text) {
+    match history_or_verdict(alloc, text) {
         Ok(history) => search_history(alloc, &history, steps, first),
         Err(verdict) => verdict_output(alloc, &verdict),
     }

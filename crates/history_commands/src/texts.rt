@@ -6,17 +6,17 @@ ghost use Rattle.judging.specs.Texts.{DenotesHistory};
 ghost use Rattle.history_commands.specs.Searches.{IsHistoryUnread};
 
 use history::History;
-use judging::history_in;
+use judging::history_of_text;
 use report::Verdict;
 use std::alloc::Global;
 
 /// The history that the text denotes, or the verdict that says why there is none.
-pub(crate) fn history_of(alloc: Global, text: &[u8]) -> Result<History, Verdict>
+pub(crate) fn history_or_verdict(alloc: Global, text: &[u8]) -> Result<History, Verdict>
     ensures denotes { IfOk result (λ es. DenotesHistory text.now es) }
     ensures short { IfOk result (λ _. IsShort text.now) }
     ensures unread { IfErr result (IsHistoryUnread text.now) }
 {
-    match history_in(alloc, text) {
+    match history_of_text(alloc, text) {
         Ok(history) => Ok(history),
         Err(stop) => Err(Verdict::from(stop)),
     }

@@ -21,7 +21,7 @@ use crate::output::{Output, verdict_output};
 use crate::status::Status;
 use edn::{FaultKind, push_natural};
 use history::History;
-use judging::{TextFailure, history_in};
+use judging::{TextFailure, history_of_text};
 use locality::named_objects;
 use reason_report::{push_operations, push_reason};
 use report::{Verdict, verdict_on_check};
@@ -259,6 +259,6 @@ pub fn verify(
     ensures { IfOk result (λ o.
         IsVerification history.now evidence.now steps o.status o.text.items) }
 {
-    let read = history_in(alloc, history);
+    let read = history_of_text(alloc, history);
     verify_history(alloc, read, evidence, steps)
 }

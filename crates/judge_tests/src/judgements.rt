@@ -1,6 +1,6 @@
 use crate::reading::certificates_of;
 use checker::{OrderFault, Refusal, check_all};
-use judging::{Verdict, history_in, judge, one_history, one_list_of_orders};
+use judging::{Verdict, history_of_text, judge, one_history, one_list_of_orders};
 use seq_objects::AnyReply;
 use std::alloc::Global;
 use std::test::Fail;
@@ -27,7 +27,7 @@ fn refusal<R: Threads + Sync>(
     certificates: &str,
     workers: u32,
 ) -> Result<Option<Refusal>, Fail> {
-    let Ok(history) = history_in(alloc, HISTORY) else {
+    let Ok(history) = history_of_text(alloc, HISTORY) else {
         return Err(Fail::new("no history"));
     };
     let orders = certificates_of(alloc, certificates)?;

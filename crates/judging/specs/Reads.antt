@@ -10,9 +10,9 @@ abbrev pub read_limit : ℕ
 read_limit = max_length + 1
 
 -- what a fault says of its source: it failed, or memory was refused and it did not
-abbrev pub Left : Bool → ReadFault → Type 0
-Left broken Failed = broken ≡ true
-Left broken NoMemory = broken ≡ false
+abbrev pub SourceAfterFault : Bool → ReadFault → Type 0
+SourceAfterFault broken Failed = broken ≡ true
+SourceAfterFault broken NoMemory = broken ≡ false
 
 -- Reading stopped where the source refused a call: some bytes were given before, and the call had
 -- room for at least one.

@@ -11,7 +11,7 @@ ghost use Rattle.judging.specs.Reads.{WasRefused};
 ghost use Rattle.judging.specs.Texts.{IsHistoryRead};
 
 use crate::decision::judge_read;
-use crate::pieces::history_by;
+use crate::pieces::history_of_text_by_workers;
 use crate::reading::{ReadFault, read_text};
 use crate::texts::TextFailure;
 use edn::{Failed, Sink, Source};
@@ -127,7 +127,7 @@ pub fn check_over<R: Threads + Sync, H: Source, C: Source, W: Sink>(
         Ok(bytes) => bytes,
         Err(fault) => return Err(fault_of_reading(Text::History, fault)),
     };
-    let read = history_by(rt, alloc, &first, workers);
+    let read = history_of_text_by_workers(rt, alloc, &first, workers);
     drop(first);
     let second = match read_text(alloc, certificates) {
         Ok(bytes) => bytes,

@@ -7,8 +7,8 @@ ghost use Rattle.judging.specs.Texts.{IsLinearizableText, IsHistoryRead};
 ghost use Rattle.judging.specs.Verdicts.{Holds, OnYes};
 
 use crate::laws::valid_certificates_suffice;
-use crate::pieces::{MAX_WORKERS, history_by};
-use crate::texts::{TextFailure, history_in, with_certificates};
+use crate::pieces::{MAX_WORKERS, history_of_text_by_workers};
+use crate::texts::{TextFailure, history_of_text, with_certificates};
 use certificate::Certificate;
 use checker::{Refusal, check_all};
 use history::History;
@@ -82,7 +82,7 @@ pub fn judge<R: Threads + Sync>(
     ensures linearizable { OnYes result (IsLinearizableText history.now) }
     ensures holds { Holds history.now certificates.now result }
 {
-    let read = history_by(rt, alloc, history, workers);
+    let read = history_of_text_by_workers(rt, alloc, history, workers);
     judge_read(rt, alloc, read, certificates, workers)
 }
 
@@ -93,7 +93,7 @@ pub fn judge_alone(alloc: Global, history: &[u8], certificates: &[u8]) -> Verdic
 {
     // This does nothing: it is locality.
     valid_certificates_suffice();
-    match with_certificates(alloc, history_in(alloc, history), certificates) {
+    match with_certificates(alloc, history_of_text(alloc, history), certificates) {
         Ok((client_events, orders)) => {
             let checked = check_all(alloc, &client_events, &orders);
             verdict_on_check(alloc, &client_events, checked)

@@ -5,7 +5,7 @@ ghost use Rattle.edn_reader.specs.Sound.{IsShort};
 ghost use Rattle.history.specs.Pieces.{IsReadFrom};
 ghost use Rattle.judging.specs.Texts.{DenotesHistory, IsHistoryRead};
 
-use crate::texts::{TextFailure, history_in};
+use crate::texts::{TextFailure, history_of_text};
 use edn::MAX_LENGTH;
 use history::{History, Part, join_parts, part_of, pieces_of};
 use std::alloc::Global;
@@ -49,10 +49,10 @@ fn history_in_pieces<R: Threads + Sync>(
     join_parts(alloc, parts)
 }
 
-/// The history that a text denotes, or the first fault of the text, as `history_in` gives it. A text
+/// The history that a text denotes, or the first fault of the text, as `history_of_text` gives it. A text
 /// of 1 MB or more whose maps are in lines of their own is read by `workers` threads, at most 16, each
 /// a piece of it. With 0 or 1 it starts no thread.
-pub fn history_by<R: Threads + Sync>(
+pub fn history_of_text_by_workers<R: Threads + Sync>(
     rt: &R,
     alloc: Global,
     text: &[u8],
@@ -62,6 +62,6 @@ pub fn history_by<R: Threads + Sync>(
 {
     match history_in_pieces(rt, alloc, text, workers) {
         Some(history) => Ok(history),
-        None => history_in(alloc, text),
+        None => history_of_text(alloc, text),
     }
 }

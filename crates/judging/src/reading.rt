@@ -2,7 +2,7 @@
 
 ghost use Rattle.std.specs.Prelude.{◌≡◌, ◌<◌, ◌≤◌, ℕ, length, false, true, OnOk, IfOk, IfErr};
 ghost use Rattle.edn.specs.Given.{WasRead};
-ghost use Rattle.judging.specs.Reads.{read_limit, Left, WasRefused};
+ghost use Rattle.judging.specs.Reads.{read_limit, SourceAfterFault, WasRefused};
 
 use edn::{Failed, MAX_LENGTH, Source};
 use std::alloc::{AllocError, Global};
@@ -48,7 +48,7 @@ pub fn read_text<S: Source>(alloc: Global, source: &mut S) -> Result<Vec<u8>, Re
     ensures read { IfOk result (λ v.
         WasRead read_limit (S.remaining source.old) (S.remaining source.new) v.items) }
     ensures usable { OnOk result (S.broken source.new ≡ false) }
-    ensures fault { IfErr result (Left (S.broken source.new)) }
+    ensures fault { IfErr result (SourceAfterFault (S.broken source.new)) }
     // The source failed only where it refused a call.
     ensures refused { IfErr result (λ e. e ≡ ReadFault.Failed →
         WasRefused S.remaining S.refuses source.old source.new) }

@@ -21,7 +21,7 @@ use Rattle.model.proofs.Lists.{in_from_contains, contains_from_in, all_at, all_f
 use Rattle.events.specs.declared.event.Event.{Event}
 use Rattle.events.specs.Events.{IsNamed, kind_at, denoted}
 use Rattle.events.specs.Operations.{ObjectCalls, operations_on, calls_of}
-use Rattle.parallel.specs.Parts.{IsPart, ArePartsOf, IsPutIn, IsObjectOf, IsWhole, AreAll}
+use Rattle.parallel.specs.Gathered.{IsGathered, AreGathered, IsPutIn, IsObjectOf, IsWhole, AreAll}
 
 -- ---- the keys of a map
 
@@ -98,7 +98,7 @@ pub record IsWholeTo (es : List Event) (met parts : ℕ) (m : BTreeMap ℕ Objec
 pub record AreJoined {V E : Type 0} (items : V → List ObjectCalls) (all rest : List (Result V E)) (m : BTreeMap ℕ ObjectCalls) : Type 0 where
   pub met : List (Result V E)
   pub so_far : all ≡ met ++ rest
-  pub kept : (es : List Event) → ArePartsOf items es all → IsWholeTo es (length met) (length all) m
+  pub kept : (es : List Event) → AreGathered items es all → IsWholeTo es (length met) (length all) m
 
 pub nothing_joined : {V E : Type 0} (items : V → List ObjectCalls) (all : List (Result V E)) (m : BTreeMap ℕ ObjectCalls) → m.entries ≡ [] → AreJoined items all all m
 nothing_joined {V} {E} items all m empty = record {
@@ -111,7 +111,7 @@ nothing_joined {V} {E} items all m empty = record {
 }
 
 -- an object of a part
-of_part : (es : List Event) (n parts : ℕ) (os : List ObjectCalls) (o : ObjectCalls) → IsPart es n parts os → In o os → IsObjectOf es o.object o
+of_part : (es : List Event) (n parts : ℕ) (os : List ObjectCalls) (o : ObjectCalls) → IsGathered es n parts os → In o os → IsObjectOf es o.object o
 of_part es n parts os o h i = record {
   object = refl;
   named = ((h.named o.object).0 (contains_from_in (map (λ (o : ObjectCalls). o.object) os) o.object (in_map_from (λ (o : ObjectCalls). o.object) o os i))).0;
@@ -120,7 +120,7 @@ of_part es n parts os o h i = record {
   calls = all_at (λ (o : ObjectCalls). calls_of o.ops ≡ calls_on o.object (denoted es)) os h.calls o i;
 }
 
-whole_more : (es : List Event) (n parts : ℕ) (os : List ObjectCalls) (m next : BTreeMap ℕ ObjectCalls) → IsPart es n parts os
+whole_more : (es : List Event) (n parts : ℕ) (os : List ObjectCalls) (m next : BTreeMap ℕ ObjectCalls) → IsGathered es n parts os
     → ((x : ℕ) → IsPutIn os x (get nat_cmp m x) (get nat_cmp next x)) → IsWholeTo es n parts m → IsWholeTo es (n + 1) parts next
 whole_more es n parts os m next part put h = record {
   right = λ x o is. elim (put x) [
@@ -164,7 +164,7 @@ join_more {V} {E} items all rest later m next r v h is ok put = record {
   kept = λ es parts.
       let at = parts (length h.met) r (subst (λ xs. length h.met < length xs) (sym whole) (inside h.met later r)) in
       let here : get_or all (length h.met) r ≡ Ok v = ap (λ xs. get_or xs (length h.met) r) whole ∙ (at_end h.met later r r ∙ ok) in
-      let part = subst (λ q. IfOk q (λ v. IsPart es (length h.met) (length all) (items v))) here at in
+      let part = subst (λ q. IfOk q (λ v. IsGathered es (length h.met) (length all) (items v))) here at in
       subst (λ n. IsWholeTo es n (length all) next) (sym (one_longer h.met r)) (whole_more es (length h.met) (length all) (items v) m next part put (h.kept es parts));
 }
   where
@@ -172,9 +172,9 @@ join_more {V} {E} items all rest later m next r v h is ok put = record {
     whole = h.so_far ∙ ap (λ xs. h.met ++ xs) is
 
 pub all_joined : {V E : Type 0} (items : V → List ObjectCalls) (all rest given : List (Result V E)) (m : BTreeMap ℕ ObjectCalls) → all ≡ given
-    → rest ≡ [] → 0 < length given → AreJoined items all rest m → (es : List Event) → ArePartsOf items es given → IsWhole es m
+    → rest ≡ [] → 0 < length given → AreJoined items all rest m → (es : List Event) → AreGathered items es given → IsWhole es m
 all_joined items all rest given m is over some h es parts =
-    let k = h.kept es (subst (ArePartsOf items es) (sym is) parts) in
+    let k = h.kept es (subst (AreGathered items es) (sym is) parts) in
     let long : length all ≡ length h.met = ap length (h.so_far ∙ (ap (λ r. h.met ++ r) over ∙ append-nil h.met)) in
     let more : 0 < length all = subst (λ xs. 0 < length xs) (sym is) some in record {
       right = k.right;

@@ -1,5 +1,5 @@
 pub mod Shares
-pub mod Parts
+pub mod Gathered
 pub use Rattle.model.specs.Objects
 pub use Rattle.model.specs.Orders
 pub use Rattle.events.specs.Events

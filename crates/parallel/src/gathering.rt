@@ -4,7 +4,7 @@ ghost use Rattle.std.specs.Prelude.{◌<◌, ℕ, List, length, OnOk, IfOk, ◌^
 ghost use Rattle.std.specs.Ordering.{nat_cmp};
 ghost use Rattle.std.specs.BTreeMap.{get};
 ghost use Rattle.events.specs.declared.event.Event.{Event};
-ghost use Rattle.parallel.specs.Parts.{IsPart, ArePartsOf, IsPutIn, IsWhole, AreAll};
+ghost use Rattle.parallel.specs.Gathered.{IsGathered, AreGathered, IsPutIn, IsWhole, AreAll};
 
 use events::{History, ObjectHistory, split, split_share};
 use std::alloc::{AllocError, Global};
@@ -26,12 +26,12 @@ fn put_in(
 }
 
 /// The objects of all parts, in rising number, unless an allocation failed.
-fn join_parts(
+fn join_shares(
     alloc: Global,
     found: Vec<Result<Vec<ObjectHistory>, AllocError>>,
 ) -> Result<BTreeMap<u32, ObjectHistory>, AllocError>
     requires { 0 < length found.items }
-    ensures { IfOk result (λ m. (es : List Event) → ArePartsOf (λ v. v.items) es found.items →
+    ensures { IfOk result (λ m. (es : List Event) → AreGathered (λ v. v.items) es found.items →
         IsWhole es m) }
 {
     let mut sorted = BTreeMap::new(alloc);
@@ -43,15 +43,15 @@ fn join_parts(
 }
 
 /// The objects of all parts in a list, in rising number.
-fn objects_of_parts(
+fn objects_of_shares(
     alloc: Global,
     found: Vec<Result<Vec<ObjectHistory>, AllocError>>,
 ) -> Result<Vec<ObjectHistory>, AllocError>
     requires { 0 < length found.items }
-    ensures { (es : List Event) → ArePartsOf (λ v. v.items) es found.items
+    ensures { (es : List Event) → AreGathered (λ v. v.items) es found.items
         → IfOk result (λ v. AreAll es v.items) }
 {
-    let sorted = join_parts(alloc, found)?;
+    let sorted = join_shares(alloc, found)?;
     let mut objects = Vec::new(alloc);
     for (_, object) in sorted {
         objects.push(object)?;
@@ -83,8 +83,8 @@ pub(crate) fn split_by_workers<R: Threads + Sync>(
         workers as usize,
         &|worker: usize| -> Result<Vec<ObjectHistory>, AllocError>
             requires { (worker < workers) × (workers < 2 ^ 32) }
-            ensures { IfOk result (λ v. IsPart history.entry.now worker workers v.items) }
+            ensures { IfOk result (λ v. IsGathered history.entry.now worker workers v.items) }
         { split_share(alloc, history, worker as u32, workers) },
     )?;
-    objects_of_parts(alloc, found)
+    objects_of_shares(alloc, found)
 }

@@ -5,7 +5,7 @@ ghost use Rattle.std.specs.Prelude.{◌+◌};
 ghost use Rattle.std.specs.Prelude.{All, AllPairs, Contains, Err};
 ghost use Rattle.certificate.specs.declared.Certificate.{Certificate};
 ghost use Rattle.checker.specs.Checking.{AreAllPlaces};
-ghost use Rattle.parallel.specs.Shares.{FallsTo, IsFinePiece, IsFirstOfShare, IsNotBefore};
+ghost use Rattle.parallel.specs.Shares.{FallsTo, IsFineAt, IsFirstOfShare, IsNotBefore};
 ghost use Rattle.parallel.specs.Shares.{IsEarlier};
 ghost use Rattle.parallel.specs.Shares.{max_workers};
 
@@ -18,18 +18,19 @@ use std::alloc::Global;
 
 /// A refusal, and the place of its object among those of the history.
 #[derive(Clone, Copy, Debug, PartialEq, Eq)]
-pub(crate) struct RefusedPiece {
-    pub(crate) piece: usize,
+pub(crate) struct RefusedObject {
+    pub(crate) place: usize,
     pub(crate) refusal: Refusal,
 }
 
-// The number of a piece, which is at most that of its object, since the objects' numbers rise.
-fn piece_number(objects: &[ObjectHistory], piece: usize) -> u32
+// The place as the number that the gate is given: it is at most the number of its object, since those
+// rise.
+fn number_for_gate(objects: &[ObjectHistory], place: usize) -> u32
     requires rising { AllPairs (λ a b. a.object < b.object) objects.now }
-    requires inside { piece < length objects.now }
-    ensures { result ≡ piece }
+    requires inside { place < length objects.now }
+    ensures { result ≡ place }
 {
-    piece.min(objects[piece].object() as usize) as u32
+    place.min(objects[place].object() as usize) as u32
 }
 
 /// Checks the objects at the places `worker`, `worker + workers`, and so on, up to the first that
@@ -42,44 +43,44 @@ pub(crate) fn check_share<G: Gate>(
     worker: usize,
     workers: usize,
     gate: &G,
-) -> Result<(), RefusedPiece>
+) -> Result<(), RefusedObject>
     requires rising { AllPairs (λ a b. a.object < b.object) objects.now }
     requires places { AreAllPlaces places.now certificates.now }
     requires worker { worker < workers }
     requires few { workers < 1 + max_workers }
     ensures fine { OnOk result ((k : ℕ) → k < length objects.now → FallsTo worker workers k →
-        IsFinePiece objects.now certificates.now k) }
+        IsFineAt objects.now certificates.now k) }
     ensures found { IfErr result (IsFirstOfShare worker workers objects.now certificates.now) }
 {
-    let mut piece = worker;
-    while piece < objects.len() {
-        let number = piece_number(objects, piece);
+    let mut place = worker;
+    while place < objects.len() {
+        let number = number_for_gate(objects, place);
         gate.before(worker as u32, number);
-        let checked = check_object_at(alloc, &objects[piece], places, certificates);
+        let checked = check_object_at(alloc, &objects[place], places, certificates);
         gate.after(worker as u32, number);
         if let Err(refusal) = checked {
-            return Err(RefusedPiece { piece, refusal });
+            return Err(RefusedObject { place, refusal });
         }
-        piece += workers;
+        place += workers;
     }
     Ok(())
 }
 
 // Of what was found so far and what this worker found, that of the lesser place.
-fn earlier(least: Option<RefusedPiece>, share: &Result<(), RefusedPiece>) -> Option<RefusedPiece>
+fn earlier(least: Option<RefusedObject>, share: &Result<(), RefusedObject>) -> Option<RefusedObject>
     ensures { IsEarlier least share.now result }
 {
     let Err(next) = share else {
         return least;
     };
     match least {
-        Some(first) if first.piece <= next.piece => least,
+        Some(first) if first.place <= next.place => least,
         _ => Some(*next),
     }
 }
 
 /// What was found at the least place.
-pub(crate) fn least(found: &[Result<(), RefusedPiece>]) -> Option<RefusedPiece>
+pub(crate) fn least(found: &[Result<(), RefusedObject>]) -> Option<RefusedObject>
     ensures none { IfNone result (All IsOk found.now) }
     ensures stands { IfSome result (λ f. Contains found.now (Err f)) }
     ensures least { IfSome result (λ f. All (IsNotBefore f) found.now) }

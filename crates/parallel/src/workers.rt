@@ -5,12 +5,12 @@ ghost use Rattle.events.specs.declared.event.Event.{Event};
 ghost use Rattle.certificate.specs.Denotes.{AreDistinct};
 ghost use Rattle.checker.specs.Refusals.{AreValid, IsCheckAnswer, IsFirstRefusal};
 ghost use Rattle.checker.specs.Checking.{AreAllPlaces};
-ghost use Rattle.parallel.specs.Parts.{AreAll};
+ghost use Rattle.parallel.specs.Gathered.{AreAll};
 ghost use Rattle.parallel.specs.Shares.{IsShare};
 ghost use Rattle.parallel.specs.Shares.{max_workers};
 
 use crate::gathering::split_by_workers;
-use crate::share::{RefusedPiece, check_share, least};
+use crate::share::{RefusedObject, check_share, least};
 use certificate::Certificate;
 use checker::{Refusal, places, strange_object};
 use events::{History, ObjectHistory};
@@ -44,7 +44,7 @@ fn check_objects<R: Threads + Sync, G: Gate>(
         rt,
         alloc,
         count,
-        &|worker: usize| -> Result<(), RefusedPiece>
+        &|worker: usize| -> Result<(), RefusedObject>
             requires { (worker < count) × (count < 1 + max_workers)
                 × AllPairs (λ a b. a.object < b.object) objects.now
                 × AreAllPlaces places certificates.now }

@@ -17,17 +17,11 @@ use Rattle.model.proofs.Lists.{all_from_pairs, pairs_from_all, pairs_map, pairs_
 use Rattle.projection.specs.Parts.{reply_of, puts_in, takes_out, ended_before}
 use Rattle.projection.specs.Absent.{is_put_before, is_taken_before, IsAbsent, calls_without}
 use Rattle.projection.proofs.Conserved.{one, tally, count_tally, kept_size, size_empty, size_cons, turn, Turn, count_among}
-use Rattle.projection.proofs.Contents.{IsRising, filter_in, filter_out, behind_in, behind_out, with_value_in, with_value_out, rising_with_value}
-
-unlike : false ≡ true → ⊥
-unlike e = absurd (cc e)
+use Rattle.projection.proofs.Contents.{IsRising, filter_in, filter_out, after_in, after_out, with_value_in, with_value_out, rising_with_value}
+use Rattle.projection.proofs.Booleans.{false_is_not_true, true_or_false}
 
 neither : ((false ≡ true) ⊎ (false ≡ true)) → ⊥
-neither k = elim k [ inl e ↦ unlike e | inr e ↦ unlike e ]
-
-test_cases : (b : Bool) → (b ≡ true) ⊎ (b ≡ false)
-test_cases true = inl refl
-test_cases false = inr refl
+neither k = elim k [ inl e ↦ false_is_not_true e | inr e ↦ false_is_not_true e ]
 
 -- ---- contents
 
@@ -51,7 +45,7 @@ empty_others v kind.Mutex = refl
 
 none_of : (v : ℤ) (vs : List ℤ) → length (filter (int_eq v) vs) ≡ 0 → filter (others v) vs ≡ vs
 none_of v [] z = refl
-none_of v (w ∷ ws) z = elim (test_cases (int_eq v w)) [
+none_of v (w ∷ ws) z = elim (true_or_false (int_eq v w)) [
   | inl e ↦ absurd (some (int_eq v w) _ _ e (size_cons (int_eq v) w ws) z)
   | inr e ↦ filter_in (others v) w ws (ap not e) ∙ ap (λ us. w ∷ us) (none_of v ws (rest (int_eq v w) _ _ (size_cons (int_eq v) w ws) z))
 ]
@@ -77,7 +71,7 @@ abbrev Goes : ℤ → AnyOp → Content → Content → AnyReply → Type 0
 Goes v op d after reply = (later : Content) × (next d op ≡ Some (later, reply)) × IsOthers v after later
 
 queue_goes : (v : ℤ) (vs : List ℤ) (op : AnyOp) → IfSome (next (queue vs) op) (λ p. IsApart v op p.1 → Goes v op (queue (filter (others v) vs)) p.0 p.1)
-queue_goes v vs (Enqueue w) = λ a. (queue (filter (others v) vs ++ w ∷ []), refl, ap (λ us. queue us) (behind_in (others v) w vs (ap not a.0)))
+queue_goes v vs (Enqueue w) = λ a. (queue (filter (others v) vs ++ w ∷ []), refl, ap (λ us. queue us) (after_in (others v) w vs (ap not a.0)))
 queue_goes v [] Dequeue = λ a. (queue [], refl, refl)
 queue_goes v (w ∷ vs) Dequeue = λ a. (queue (filter (others v) vs), ap (λ us. next (queue us) Dequeue) (filter_in (others v) w vs (ap not a.1)), refl)
 queue_goes v vs op = tt
@@ -142,19 +136,19 @@ abbrev SkipsAt : ℤ → AnyOp → Content → Content → Type 0
 SkipsAt v op c d = IfSome (next c op) (λ p. Touches v op p.1 → IsOthers v p.0 d)
 
 skips : (v : ℤ) (c d : Content) (op : AnyOp) → IsOthers v c d → SkipsAt v op c d
-skips v (queue vs) d (Enqueue w) s = λ k. elim k [ inl e ↦ s ∙ ap (λ us. queue us) (behind_out (others v) w vs (ap not e)) | inr e ↦ absurd (unlike e) ]
+skips v (queue vs) d (Enqueue w) s = λ k. elim k [ inl e ↦ s ∙ ap (λ us. queue us) (after_out (others v) w vs (ap not e)) | inr e ↦ absurd (false_is_not_true e) ]
 skips v (queue []) d Dequeue s = λ k. absurd (neither k)
-skips v (queue (w ∷ vs)) d Dequeue s = λ k. elim k [ inl e ↦ absurd (unlike e) | inr e ↦ s ∙ ap (λ us. queue us) (filter_out (others v) w vs (ap not e)) ]
-skips v (stack vs) d (Push w) s = λ k. elim k [ inl e ↦ s ∙ ap (λ us. stack us) (sym (filter_out (others v) w vs (ap not e))) | inr e ↦ absurd (unlike e) ]
+skips v (queue (w ∷ vs)) d Dequeue s = λ k. elim k [ inl e ↦ absurd (false_is_not_true e) | inr e ↦ s ∙ ap (λ us. queue us) (filter_out (others v) w vs (ap not e)) ]
+skips v (stack vs) d (Push w) s = λ k. elim k [ inl e ↦ s ∙ ap (λ us. stack us) (sym (filter_out (others v) w vs (ap not e))) | inr e ↦ absurd (false_is_not_true e) ]
 skips v (stack []) d Pop s = λ k. absurd (neither k)
-skips v (stack (w ∷ vs)) d Pop s = λ k. elim k [ inl e ↦ absurd (unlike e) | inr e ↦ s ∙ ap (λ us. stack us) (filter_out (others v) w vs (ap not e)) ]
+skips v (stack (w ∷ vs)) d Pop s = λ k. elim k [ inl e ↦ absurd (false_is_not_true e) | inr e ↦ s ∙ ap (λ us. stack us) (filter_out (others v) w vs (ap not e)) ]
 skips v (heap vs) d (Insert w) s = λ k. elim k [
   | inl e ↦ (s.0 ∙ ap (λ us. heap us) (with_value_out (others v) w vs (ap not e)), rising_with_value w vs s.1)
-  | inr e ↦ absurd (unlike e)
+  | inr e ↦ absurd (false_is_not_true e)
 ]
 skips v (heap []) d ExtractMin s = λ k. absurd (neither k)
 skips v (heap (w ∷ vs)) d ExtractMin s = λ k. elim k [
-  | inl e ↦ absurd (unlike e)
+  | inl e ↦ absurd (false_is_not_true e)
   | inr e ↦ (s.0 ∙ ap (λ us. heap us) (filter_out (others v) w vs (ap not e)), s.1.1)
 ]
 skips v (register x) d (Write w) s = λ k. absurd (neither k)
@@ -177,7 +171,7 @@ no_put_takes : (keeps : ℤ → Bool) (op : AnyOp) (r : Option AnyReply) → put
 no_put_takes keeps (Enqueue v) r e = refl
 no_put_takes keeps (Push v) r e = refl
 no_put_takes keeps (Insert v) r e = refl
-no_put_takes keeps op r e = absurd (unlike e)
+no_put_takes keeps op r e = absurd (false_is_not_true e)
 
 and_le : (a b : Bool) → one (a && b) ≤ one a
 and_le true true = omega arith
@@ -186,11 +180,11 @@ and_le false b = omega arith
 
 and_true : (a b : Bool) → (a && b) ≡ true → (a ≡ true) × (b ≡ true)
 and_true true b e = (refl, e)
-and_true false b e = absurd (unlike e)
+and_true false b e = absurd (false_is_not_true e)
 
 or_false : (a b : Bool) → (a || b) ≡ false → (a ≡ false) × (b ≡ false)
 or_false false b e = (refl, e)
-or_false true b e = absurd (unlike (sym e))
+or_false true b e = absurd (false_is_not_true (sym e))
 
 or_true : (a b : Bool) → (a || b) ≡ true → (a ≡ true) ⊎ (b ≡ true)
 or_true true b e = inl refl
@@ -198,7 +192,7 @@ or_true false b e = inr e
 
 and_false_right : (a b : Bool) → a ≡ true → (a && b) ≡ false → b ≡ false
 and_false_right true b p e = e
-and_false_right false b p e = absurd (unlike p)
+and_false_right false b p e = absurd (false_is_not_true p)
 
 early_put : (v : ℤ) (number : ℕ) (e : Call) → is_put_before v number e ≡ true → (puts_in (int_eq v) e.op ≡ true) × (nat_lt e.number number ≡ true)
 early_put v number e h = and_true (puts_in (int_eq v) e.op) (nat_lt e.number number) h
@@ -215,7 +209,7 @@ returned_first v number y e t n = go y.returned refl (early_removal v number y t
     less at later a b = grind (arith, nat_tests)
 
     go : (o : Option Return) → y.returned ≡ o → ended_before number o ≡ true → ReturnsBefore y e
-    go None q t = absurd (unlike t)
+    go None q t = absurd (false_is_not_true t)
     go (Some r) q t = (r, q, less r.at e.number t n)
 
 tally_none : {X : Type 0} (p : X → Bool) (xs : List X) → ((x : X) → In x xs → p x ≡ false) → tally p xs ≡ 0
@@ -239,7 +233,7 @@ none_tallied {X} p (y ∷ ys) z x i = elim i [
 -- after a late put the value is not taken early
 none_after : (v : ℤ) (number : ℕ) (e : Call) (es : List Call) → nat_lt e.number number ≡ false → ((y : Call) → In y es → ReturnsBefore y e → ⊥)
     → tally (is_taken_before v number) es ≡ 0
-none_after v number e es n f = tally_none (is_taken_before v number) es (λ y i. elim (test_cases (is_taken_before v number y)) [
+none_after v number e es n f = tally_none (is_taken_before v number) es (λ y i. elim (true_or_false (is_taken_before v number y)) [
   | inl t ↦ absurd (f y i (returned_first v number y e t n))
   | inr no_removal ↦ no_removal
 ])
@@ -308,8 +302,8 @@ all_stay v number es c d s h spent none =
 
     keep : (a b : Bool) → a ≡ false → b ≡ false → not (a || b) ≡ true
     keep false false e f = refl
-    keep true b e f = absurd (unlike (sym e))
-    keep false true e f = absurd (unlike (sym f))
+    keep true b e f = absurd (false_is_not_true (sym e))
+    keep false true e f = absurd (false_is_not_true (sym f))
 
 -- how an early call changes what is there
 early_spent : (v : ℤ) (number : ℕ) (e : Call) (es : List Call) (c after : Content) (reply : AnyReply) → Turn (int_eq v) e c after reply
@@ -334,8 +328,8 @@ early_spent v number e es c after reply t early spent = elim (or_true (is_put_be
     put_sums after took size put early told here more gone a b d e f g h = omega arith
 
     no_put : (op : AnyOp) (r : Option AnyReply) → takes_out (int_eq v) op r ≡ true → one (puts_in (int_eq v) op) ≡ 0
-    no_put op r k = elim (test_cases (puts_in (int_eq v) op)) [
-      | inl put ↦ absurd (unlike (sym (no_put_takes (int_eq v) op r put) ∙ k))
+    no_put op r k = elim (true_or_false (puts_in (int_eq v) op)) [
+      | inl put ↦ absurd (false_is_not_true (sym (no_put_takes (int_eq v) op r put) ∙ k))
       | inr none ↦ ap one none
     ]
 
@@ -348,18 +342,18 @@ without_early : (v : ℤ) (number : ℕ) (es : List Call) (c d : Content) → Is
 without_early v number [] c d s h p spent = tt
 without_early v number (e ∷ es) c d s h p spent =
     let t = turn (int_eq v) e c h.0 h.1 h.2 h.3 in
-    elim (test_cases (is_put_before v number e || is_taken_before v number e)) [
+    elim (true_or_false (is_put_before v number e || is_taken_before v number e)) [
       | inl early ↦
           let skipped = subst (λ z. IfSome z (λ p. Touches v e.op p.1 → IsOthers v p.0 d)) h.2 (skips v c d e.op s) (touched h.1 early t.fewer) in
           subst (RepliesAlong d) (sym (filter_away (stays v number) e es (ap not early)))
           (without_early v number es h.0 d skipped h.4 p.1 (early_spent v number e es c h.0 h.1 t early spent))
       | inr late ↦
           let no_early = or_false (is_put_before v number e) (is_taken_before v number e) late in
-          elim (test_cases (puts_in (int_eq v) e.op)) [
+          elim (true_or_false (puts_in (int_eq v) e.op)) [
             | inl put ↦
                 let later = and_false_right (puts_in (int_eq v) e.op) (nat_lt e.number number) put no_early.0 in
                 all_stay v number (e ∷ es) c d s h spent (zero _ _ (ap one no_early.1) (none_after v number e es later p.0))
-            | inr no_put ↦ elim (test_cases (takes_out (int_eq v) e.op (Some h.1))) [
+            | inr no_put ↦ elim (true_or_false (takes_out (int_eq v) e.op (Some h.1))) [
               | inl took ↦ absurd (too_many _ _ _ _ _ _ _ _ t.balance (ap one took) (ap one no_put) (ap one no_early.1) spent (owed v number es h.0 h.4 p.1))
               | inr no_take ↦
                   let g = subst (λ z. IfSome z (λ p. IsApart v e.op p.1 → Goes v e.op d p.0 p.1)) h.2 (goes v c d e.op s) (no_put, no_take) in
@@ -382,7 +376,7 @@ without_early v number (e ∷ es) c d s h p spent =
         more : (a b : Bool) → a ≡ true → one a ≤ one b → b ≡ true
         more a true q l = refl
         more true false q l = absurd (omega arith)
-        more false false q l = absurd (unlike q)
+        more false false q l = absurd (false_is_not_true q)
 
     too_many : (after took size put here early more gone : ℕ) → after + took ≡ size + put → took ≡ 1 → put ≡ 0 → here ≡ 0
         → size + (early + more) ≤ here + gone → gone ≤ after + more → ⊥
@@ -430,7 +424,7 @@ without_valid kind calls v number order rising absent valid =
     risen a b l e = absurd (omega arith)
 
     returned : (o : Option Return) → ended_before number o ≡ true → IsSome o
-    returned None e = absurd (unlike e)
+    returned None e = absurd (false_is_not_true e)
     returned (Some r) e = refl
 
     sums : (size put all_put all_took took counted_put counted_took : ℕ) → size ≡ 0 → put ≤ all_put → all_took ≤ took → all_put ≡ counted_put → all_took ≡ counted_took

@@ -23,17 +23,18 @@ use Rattle.projection.specs.Parts.{puts_in, is_removal, ended_before}
 use Rattle.projection.specs.Ahead.{found_in, found_by, is_value_ahead, first_put, ahead_before}
 use Rattle.projection.specs.Ahead.{is_settled, is_put_ahead, may_precede}
 use Rattle.projection.proofs.Conserved.{tally, count_tally, count_among}
-use Rattle.projection.proofs.Emptied.{unlike, both, joined, tally_le, pairs_front, pairs_to}
+use Rattle.projection.proofs.Emptied.{joined, tally_le, pairs_front, pairs_to}
 use Rattle.projection.proofs.Emptied.{pairs_beyond, put_by, may_by, spent}
 use Rattle.projection.proofs.InFront.{every, queue_spent, until_put, fresh_until, in_until}
 use Rattle.projection.proofs.InFront.{first_least, stack_spent, since_put, since_none, since_along}
 use Rattle.projection.proofs.InFront.{since_tally, in_since}
+use Rattle.projection.proofs.Booleans.{false_is_not_true, both_true}
 
 -- ---- the calls, and those in an order
 
 ended : (before : ℕ) (o : Option Return) → ended_before before o ≡ true → (r : Return) × (o ≡ Some r) ×
     (r.at < before)
-ended before None e = absurd (unlike e)
+ended before None e = absurd (false_is_not_true e)
 ended before (Some r) e = (r, refl, less r.at before e)
   where
     less : (a b : ℕ) → nat_lt a b ≡ true → a < b
@@ -43,8 +44,8 @@ ended before (Some r) e = (r, refl, less r.at before e)
 put_parts : (keeps : ℤ → Bool) (from before : ℕ) (e : Call) → is_put_ahead keeps from before e ≡ true
     → (puts_in keeps e.op ≡ true) × (ended_before before e.returned ≡ true) × (from ≤ e.number)
 put_parts keeps from before e p =
-    let a = both (puts_in keeps e.op) (ended_before before e.returned && not (nat_lt e.number from)) p in
-    let b = both (ended_before before e.returned) (not (nat_lt e.number from)) a.1 in
+    let a = both_true (puts_in keeps e.op) (ended_before before e.returned && not (nat_lt e.number from)) p in
+    let b = both_true (ended_before before e.returned) (not (nat_lt e.number from)) a.1 in
     (a.0, b.0, begun e.number from b.1)
   where
     begun : (number from : ℕ) → not (nat_lt number from) ≡ true → from ≤ number
@@ -96,13 +97,13 @@ before_removal (Some b) Dequeue number calls = (least_of number (first_put b cal
 before_removal (Some b) op number calls = omega arith
 
 not_put : (keeps : ℤ → Bool) (op : AnyOp) → is_removal op ≡ true → puts_in keeps op ≡ true → ⊥
-not_put keeps Dequeue t p = unlike p
-not_put keeps Pop t p = unlike p
-not_put keeps ExtractMin t p = unlike p
-not_put keeps (Enqueue v) t p = unlike t
-not_put keeps (Push v) t p = unlike t
-not_put keeps (Insert v) t p = unlike t
-not_put keeps op t p = unlike p
+not_put keeps Dequeue t p = false_is_not_true p
+not_put keeps Pop t p = false_is_not_true p
+not_put keeps ExtractMin t p = false_is_not_true p
+not_put keeps (Enqueue v) t p = false_is_not_true t
+not_put keeps (Push v) t p = false_is_not_true t
+not_put keeps (Insert v) t p = false_is_not_true t
+not_put keeps op t p = false_is_not_true p
 
 -- the removal in an order, and what stands before and after it
 record Split (kind : Kind) (calls : List Call) (n : Call) : Type 0 where
@@ -243,7 +244,7 @@ queue_case kind calls n s r b from before is_queue dequeue returned value l firs
 
 settled_at : {X : Type 0} (p : X → Bool) (xs : List X) → list_all p xs ≡ true → (x : X) → In x xs → p x ≡ true
 settled_at p [] h x i = absurd i
-settled_at {X} p (y ∷ ys) h x i = let w = both (p y) (list_all p ys) h in elim i
+settled_at {X} p (y ∷ ys) h x i = let w = both_true (p y) (list_all p ys) h in elim i
     [ inl e ↦ subst (λ (z : X). p z ≡ true) (sym e) w.0 | inr j ↦ settled_at p ys w.1 x j ]
 
 stack_case : (kind : Kind) (calls : List Call) (n : Call) (s : Split kind calls n) (r : Return) (b : ℤ)
@@ -280,7 +281,7 @@ stack_case kind calls n s r b from before is_stack pop returned value l settled 
   where
     either : (a c : Bool) → a ≡ true → (not a || c) ≡ true → c ≡ true
     either true c e h = h
-    either false c e h = absurd (unlike e)
+    either false c e h = absurd (false_is_not_true e)
 
     reach : (a before number : ℕ) → a < before → before ≤ number → a < number
     reach a before number l m = omega arith

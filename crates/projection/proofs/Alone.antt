@@ -9,22 +9,22 @@ use Rattle.events.specs.declared.operations.End.TheVariants.{Returned, Pending, 
 use Rattle.events.specs.declared.operations.Invocation.{Invocation}
 use Rattle.events.specs.Operations.{call_with, calls_of, ObjectCalls, IsObjectHistory}
 use Rattle.projection.specs.Cuts.{IsPart, NoneFailed}
-use Rattle.projection.specs.Pieces.{has_failed}
+use Rattle.projection.specs.CutOperations.{has_failed}
 use Rattle.projection.proofs.Kept.{own, as_filter}
-use Rattle.projection.proofs.Pieces.{IsPiece, pieces_history, pieces_lives, did_not_fail}
+use Rattle.projection.proofs.CutOperations.{IsCutOperation, cut_history, cut_lives, did_not_fail}
 
 abbrev lives : Invocation → Bool
 lives o = not (has_failed o.«end»)
 
-piece_is : (o p : Invocation) → own lives o ≡ Some p → IsPiece o p
-piece_is o p e = go (lives o) e
+operation_is : (o p : Invocation) → own lives o ≡ Some p → IsCutOperation o p
+operation_is o p e = go (lives o) e
   where
-    go : (b : Bool) → cond b (Some o) None ≡ Some p → IsPiece o p
-    go true e = subst (IsPiece o) (same_Some o p e) (record { number = refl; kind = refl; returned = λ at reply e. (reply, e) })
+    go : (b : Bool) → cond b (Some o) None ≡ Some p → IsCutOperation o p
+    go true e = subst (IsCutOperation o) (same_Some o p e) (record { number = refl; kind = refl; returned = λ at reply e. (reply, e) })
     go false e = absurd (cc e)
 
-piece_lives : (o p : Invocation) → own lives o ≡ Some p → p.«end» ≡ Failed → ⊥
-piece_lives o p e = go (has_failed o.«end») refl e
+operation_lives : (o p : Invocation) → own lives o ≡ Some p → p.«end» ≡ Failed → ⊥
+operation_lives o p e = go (has_failed o.«end») refl e
   where
     go : (b : Bool) → has_failed o.«end» ≡ b → cond (not b) (Some o) None ≡ Some p → p.«end» ≡ Failed → ⊥
     go true h e = absurd (cc e)
@@ -32,7 +32,7 @@ piece_lives o p e = go (has_failed o.«end») refl e
 
 pub alone_history : (h : ObjectCalls) → IsObjectHistory h → IsObjectHistory (record { object = h.object; kind = h.kind; ops = filter (λ o. not (has_failed o.«end»)) h.ops })
 alone_history h is = subst (λ (ops : List Invocation). IsObjectHistory (record { object = h.object; kind = h.kind; ops = ops }))
-    (as_filter lives h.ops) (pieces_history h.object h.kind h.ops (own lives) (λ o p i e. piece_is o p e) is)
+    (as_filter lives h.ops) (cut_history h.object h.kind h.ops (own lives) (λ o p i e. operation_is o p e) is)
 
 pub alone_calls : (ops : List Invocation) → calls_of (filter (λ o. not (has_failed o.«end»)) ops) ≡ calls_of ops
 alone_calls [] = refl
@@ -47,6 +47,6 @@ alone_calls (o ∷ ops) = go o.«end» (alone_calls ops)
 pub alone_shows : (h : ObjectCalls) → IsPart h (record { object = h.object; kind = h.kind; ops = filter (λ o. not (has_failed o.«end»)) h.ops })
 alone_shows h = record {
   object = refl;
-  none_failed = subst NoneFailed (as_filter lives h.ops) (pieces_lives (own lives) h.ops piece_lives);
+  none_failed = subst NoneFailed (as_filter lives h.ops) (cut_lives (own lives) h.ops operation_lives);
   shows = λ none. subst (IsNoneValid h.kind) (alone_calls h.ops) none;
 }

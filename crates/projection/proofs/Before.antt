@@ -10,12 +10,12 @@ use Rattle.events.specs.declared.operations.Invocation.{Invocation}
 use Rattle.events.specs.Operations.{call_with, call_of, calls_of, ObjectCalls, IsObjectHistory}
 use Rattle.projection.specs.Parts.{call_before, calls_before}
 use Rattle.projection.specs.Cuts.{IsPart}
-use Rattle.projection.specs.Pieces.{has_failed, end_before, piece_before}
-use Rattle.projection.proofs.Pieces.{bind, filter_map-filter, IsPiece, pieces_history, pieces_calls, pieces_lives, calls_end}
+use Rattle.projection.specs.CutOperations.{has_failed, end_before, operation_before}
+use Rattle.projection.proofs.CutOperations.{bind, filter_map-filter, IsCutOperation, cut_history, cut_calls, cut_lives, calls_end}
 use Rattle.projection.proofs.Prefixes.{prefix_valid}
 
-piece_is : (until : ℕ) (o p : Invocation) → piece_before until o ≡ Some p → IsPiece o p
-piece_is until o p e = lives (has_failed o.«end») e
+operation_is : (until : ℕ) (o p : Invocation) → operation_before until o ≡ Some p → IsCutOperation o p
+operation_is until o p e = lives (has_failed o.«end») e
   where
     was : (end : End) (at : ℕ) (reply : AnyReply) → end_before until end ≡ Returned at reply → (own : AnyReply) × (end ≡ Returned at own)
     was (Returned when r) at reply e = back (nat_lt when until) e
@@ -26,16 +26,16 @@ piece_is until o p e = lives (has_failed o.«end») e
     was Pending at reply e = absurd (cc e)
     was Failed at reply e = absurd (cc e)
 
-    go : (b : Bool) → cond b (Some (record { number = o.number; op = o.op; «end» = end_before until o.«end» })) None ≡ Some p → IsPiece o p
-    go true e = let q = same_Some _ p e in subst (IsPiece o) q (record { number = refl; kind = refl; returned = was o.«end» })
+    go : (b : Bool) → cond b (Some (record { number = o.number; op = o.op; «end» = end_before until o.«end» })) None ≡ Some p → IsCutOperation o p
+    go true e = let q = same_Some _ p e in subst (IsCutOperation o) q (record { number = refl; kind = refl; returned = was o.«end» })
     go false e = absurd (cc e)
 
-    lives : (b : Bool) → cond b None (cond (nat_lt o.number until) (Some (record { number = o.number; op = o.op; «end» = end_before until o.«end» })) None) ≡ Some p → IsPiece o p
+    lives : (b : Bool) → cond b None (cond (nat_lt o.number until) (Some (record { number = o.number; op = o.op; «end» = end_before until o.«end» })) None) ≡ Some p → IsCutOperation o p
     lives true e = absurd (cc e)
     lives false e = go (nat_lt o.number until) e
 
-piece_lives : (until : ℕ) (o p : Invocation) → piece_before until o ≡ Some p → p.«end» ≢ Failed
-piece_lives until o p e = lives (has_failed o.«end») refl e
+operation_lives : (until : ℕ) (o p : Invocation) → operation_before until o ≡ Some p → p.«end» ≢ Failed
+operation_lives until o p e = lives (has_failed o.«end») refl e
   where
     was : (end : End) → has_failed end ≡ false → end_before until end ≢ Failed
     was (Returned when r) q f = back (nat_lt when until) f
@@ -58,8 +58,8 @@ piece_lives until o p e = lives (has_failed o.«end») refl e
 abbrev call_then : ℕ → Call → Option Call
 call_then until c = cond (nat_lt c.number until) (Some (call_before until c)) None
 
-piece_call : (until : ℕ) (o : Invocation) → bind (piece_before until o) call_of ≡ bind (call_of o) (call_then until)
-piece_call until o = go o.«end»
+operation_call : (until : ℕ) (o : Invocation) → bind (operation_before until o) call_of ≡ bind (call_of o) (call_then until)
+operation_call until o = go o.«end»
   where
     returned : (at : ℕ) (r : AnyReply) (b t : Bool)
         → bind (cond b (Some (record { number = o.number; op = o.op; «end» = cond t (Returned at r) Pending })) None) call_of
@@ -72,21 +72,21 @@ piece_call until o = go o.«end»
     pending true = refl
     pending false = refl
 
-    go : (e : End) → bind (piece_before until (record { number = o.number; op = o.op; «end» = e })) call_of ≡ bind (call_with o.number o.op e) (call_then until)
+    go : (e : End) → bind (operation_before until (record { number = o.number; op = o.op; «end» = e })) call_of ≡ bind (call_with o.number o.op e) (call_then until)
     go (Returned at r) = returned at r (nat_lt o.number until) (nat_lt at until)
     go Pending = pending (nat_lt o.number until)
     go Failed = refl
 
-pub before_history : (until : ℕ) (h : ObjectCalls) → IsObjectHistory h → IsObjectHistory (record { object = h.object; kind = h.kind; ops = filter_map (piece_before until) h.ops })
-before_history until h is = pieces_history h.object h.kind h.ops (piece_before until) (λ o p i e. piece_is until o p e) is
+pub before_history : (until : ℕ) (h : ObjectCalls) → IsObjectHistory h → IsObjectHistory (record { object = h.object; kind = h.kind; ops = filter_map (operation_before until) h.ops })
+before_history until h is = cut_history h.object h.kind h.ops (operation_before until) (λ o p i e. operation_is until o p e) is
 
-pub before_calls : (until : ℕ) (ops : List Invocation) → calls_of (filter_map (piece_before until) ops) ≡ calls_before until (calls_of ops)
-before_calls until ops = pieces_calls (piece_before until) (call_then until) ops (piece_call until) ∙ filter_map-filter (λ e. nat_lt e.number until) (call_before until) (calls_of ops)
+pub before_calls : (until : ℕ) (ops : List Invocation) → calls_of (filter_map (operation_before until) ops) ≡ calls_before until (calls_of ops)
+before_calls until ops = cut_calls (operation_before until) (call_then until) ops (operation_call until) ∙ filter_map-filter (λ e. nat_lt e.number until) (call_before until) (calls_of ops)
 
-pub before_shows : (until : ℕ) (h : ObjectCalls) → IsObjectHistory h → IsPart h (record { object = h.object; kind = h.kind; ops = filter_map (piece_before until) h.ops })
+pub before_shows : (until : ℕ) (h : ObjectCalls) → IsObjectHistory h → IsPart h (record { object = h.object; kind = h.kind; ops = filter_map (operation_before until) h.ops })
 before_shows until h is = record {
   object = refl;
-  none_failed = pieces_lives (piece_before until) h.ops (piece_lives until);
+  none_failed = cut_lives (operation_before until) h.ops (operation_lives until);
   shows = λ none order v.
       let r = prefix_valid h.kind (calls_of h.ops) until order (calls_end h.object h.kind h.ops is) v in
       none r.0 (subst (λ (cs : List Call). IsValidOrder h.kind cs r.0) (sym (before_calls until h.ops)) r.1);

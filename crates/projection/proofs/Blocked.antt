@@ -19,17 +19,18 @@ use Rattle.events.specs.declared.operations.End.TheVariants.{Returned, Pending, 
 use Rattle.events.specs.declared.operations.Invocation.{Invocation}
 use Rattle.events.specs.Operations.{call_with, call_of, calls_of, return_of, ObjectCalls, IsObjectHistory}
 use Rattle.search.specs.Outcomes.{IsNoneValid}
-use Rattle.projection.specs.Pieces.{is_put, is_over, found_end, first_put_end, ahead_before_end}
-use Rattle.projection.specs.Pieces.{is_settled_end, are_settled, is_put_ahead_end, may_take_end}
-use Rattle.projection.specs.Pieces.{may_precede_end, IsRemoval}
-use Rattle.projection.proofs.Pieces.{rising_calls, calls_end, call_cases}
+use Rattle.projection.specs.CutOperations.{is_put, is_over, found_end, first_put_end, ahead_before_end}
+use Rattle.projection.specs.CutOperations.{is_settled_end, are_settled, is_put_ahead_end, may_take_end}
+use Rattle.projection.specs.CutOperations.{may_precede_end, IsRemoval}
+use Rattle.projection.proofs.CutOperations.{rising_calls, calls_end, call_cases}
 use Rattle.projection.proofs.Sequences.{in_filter_map, in_filter_map_from, one_number}
 use Rattle.projection.proofs.Bounds.{passes, count_calls}
 use Rattle.projection.specs.Ahead.{found_by, is_value_ahead, first_put, ahead_before, is_settled}
 use Rattle.projection.specs.Ahead.{is_put_ahead, may_precede, IsBlocked}
 use Rattle.projection.proofs.Conserved.{and_false}
-use Rattle.projection.proofs.Emptied.{unlike}
+
 use Rattle.projection.proofs.Ahead.{pair_first, ahead_bounded}
+use Rattle.projection.proofs.Booleans.{false_is_not_true}
 
 -- ---- operations and calls
 
@@ -177,9 +178,9 @@ blocked_from ops number from op at found t settled l =
     less a b c d e f l = omega arith
 
 -- the removal of a blocked number, as an operation
-pub blocked_piece : (ops : List Invocation) (number from : ℕ) (b : IsBlocked number from (calls_of ops))
+pub blocked_operation : (ops : List Invocation) (number from : ℕ) (b : IsBlocked number from (calls_of ops))
     → IsRemoval ops number b.removal.op b.at b.found
-blocked_piece ops number from b =
+blocked_operation ops number from b =
     let o = in_filter_map call_of b.removal ops (in_from_contains (calls_of ops) b.removal b.known) in
     let k = call_cases o.0 b.removal o.2 in
     record {
@@ -226,7 +227,7 @@ ahead_decided h number from op at found ahead takes is t e f = go (are_settled f
         → MatchBool (y && z) (IsBlocked number from (calls_of h.ops)) (IsBlocked number from (calls_of h.ops) → ⊥)
     go true true p q = blocked_from h.ops number from op at found t p (less _ _ _ _ f e q)
     go true false p q = λ b.
-        let u = blocked_piece h.ops number from b in
+        let u = blocked_operation h.ops number from b in
         let s = same_removal h.ops number op b.removal.op at b.at found b.found is.rising t u in
         let calls = calls_of h.ops in
         let counted_takes : takes ≡ count_by (may_precede (is_value_ahead b.found b.removal.op) number b.at) calls =
@@ -247,9 +248,9 @@ ahead_decided h number from op at found ahead takes is t e f = go (are_settled f
         calls) s.2 in
         not_less _ _ _ _ counted_takes counted_puts q b.more
     go false z p q = λ b.
-        let u = blocked_piece h.ops number from b in
+        let u = blocked_operation h.ops number from b in
         let s = same_removal h.ops number op b.removal.op at b.at found b.found is.rising t u in
-        unlike (sym p ∙ settled_calls found op from h.ops
+        false_is_not_true (sym p ∙ settled_calls found op from h.ops
         ∙ ap (λ (z : AnyOp). is_settled found z from (calls_of h.ops)) s.0
         ∙ ap (λ (z : Option ℤ). is_settled z b.removal.op from (calls_of h.ops)) s.2 ∙ b.settled)
 

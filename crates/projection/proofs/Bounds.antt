@@ -23,7 +23,7 @@ use Rattle.projection.specs.declared.counting.Counted.{Counted}
 use Rattle.projection.specs.declared.counting.Counted.TheVariants.{Value, Entry, NoEntry, Held, Free}
 use Rattle.projection.specs.Parts.{reply_of, ended_before}
 use Rattle.projection.specs.declared.counting.Count.{Count}
-use Rattle.projection.specs.Pieces.{is_set, is_gone}
+use Rattle.projection.specs.CutOperations.{is_set, is_gone}
 use Rattle.projection.specs.Counts.{IsOverdrawn, is_reply, sets, takes, times_at_first, is_single, most_before, set_since, taken_since}
 use Rattle.std.specs.List.{cons_option}
 use Rattle.events.specs.declared.operations.End.{End}
@@ -31,18 +31,9 @@ use Rattle.events.specs.declared.operations.End.TheVariants.{Returned, Pending, 
 use Rattle.events.specs.declared.operations.Invocation.{Invocation}
 use Rattle.events.specs.Operations.{call_with, call_of, calls_of, ObjectCalls, IsObjectHistory}
 use Rattle.search.specs.Outcomes.{IsNoneValid}
-use Rattle.projection.proofs.Pieces.{rising_calls, calls_end}
+use Rattle.projection.proofs.CutOperations.{rising_calls, calls_end}
 use Rattle.projection.proofs.Conserved.{one, tally, count_tally, balanced, count_among, and_false}
-
-unlike : false ≡ true → ⊥
-unlike e = absurd (cc e)
-
-test_cases : (b : Bool) → (b ≡ true) ⊎ (b ≡ false)
-test_cases true = inl refl
-test_cases false = inr refl
-
-same_int : (v a : ℤ) → int_eq v a ≡ true → v ≡ a
-same_int v a e = grind (arith, ints)
+use Rattle.projection.proofs.Booleans.{false_is_not_true, true_or_false, same_by_test, both_true}
 
 int_same : (v : ℤ) → int_eq v v ≡ true
 int_same v = grind (arith, ints)
@@ -84,8 +75,8 @@ bound_at what c after op r t s a b e f g h l = sums _ _ _ _ _ _ _ _ (ap one e) (
     sums p q x y u v a b e f g h l = omega arith
 
 swapped : (v a b : ℤ) (x : Option ℤ) → contains_value x a ≡ true → one (int_eq b v) + one (int_eq a v) ≤ one (contains_value x v) + one (int_eq b v)
-swapped v a b None h = absurd (unlike h)
-swapped v a b (Some w) h = subst (λ (z : ℤ). one (int_eq b v) + one (int_eq z v) ≤ one (int_eq w v) + one (int_eq b v)) (same_int w a h) (turned _ _)
+swapped v a b None h = absurd (false_is_not_true h)
+swapped v a b (Some w) h = subst (λ (z : ℤ). one (int_eq b v) + one (int_eq z v) ≤ one (int_eq w v) + one (int_eq b v)) (same_by_test w a h) (turned _ _)
   where
     turned : (p q : ℕ) → p + q ≤ q + p
     turned p q = omega arith
@@ -116,16 +107,16 @@ reply_value v (Some w) = refl
 
 and_first : (a b c : Bool) → a ≡ true → b ≡ c → (a && b) ≡ c
 and_first true b c e f = f
-and_first false b c e f = absurd (unlike e)
+and_first false b c e f = absurd (false_is_not_true e)
 
 and_not : (a b : Bool) → a ≡ false → (a && b) ≡ false
-and_not true b e = absurd (unlike (sym e))
+and_not true b e = absurd (false_is_not_true (sym e))
 and_not false b e = refl
 
 entry_put : (k v q w : ℤ) (m : map.FinMap int_cmp ℤ) → Bounded (Entry k v) (Put q w) (table m) (table (map.insert m q w)) (reply.Value (map.get m q))
-entry_put k v q w m = elim (test_cases (int_eq q k)) [
+entry_put k v q w m = elim (true_or_false (int_eq q k)) [
   | inl e ↦
-      let same = same_int q k e in
+      let same = same_by_test q k e in
       let got = ap (λ z. map.get (map.insert m z w) k) same ∙ got_same m k w in
       let taken = and_first (int_eq q k) (is_reply v (Some (reply.Value (map.get m q)))) (contains_value (map.get m k) v) e
       (reply_value v (map.get m q) ∙ ap (λ z. contains_value (map.get m z) v) same) in
@@ -142,9 +133,9 @@ entry_put k v q w m = elim (test_cases (int_eq q k)) [
     turned p q = omega arith
 
 entry_del : (k v q : ℤ) (m : map.FinMap int_cmp ℤ) → Bounded (Entry k v) (Del q) (table m) (table (map.remove m q)) (reply.Value (map.get m q))
-entry_del k v q m = elim (test_cases (int_eq q k)) [
+entry_del k v q m = elim (true_or_false (int_eq q k)) [
   | inl e ↦
-      let same = same_int q k e in
+      let same = same_by_test q k e in
       let got = ap (λ z. map.get (map.remove m z) k) same ∙ gone_same m k in
       let taken = and_first (int_eq q k) (is_reply v (Some (reply.Value (map.get m q)))) (contains_value (map.get m k) v) e
       (reply_value v (map.get m q) ∙ ap (λ z. contains_value (map.get m z) v) same) in
@@ -160,9 +151,9 @@ entry_del k v q m = elim (test_cases (int_eq q k)) [
     turned p = omega arith
 
 none_put : (k q w : ℤ) (m : map.FinMap int_cmp ℤ) → Bounded (NoEntry k) (Put q w) (table m) (table (map.insert m q w)) (reply.Value (map.get m q))
-none_put k q w m = elim (test_cases (int_eq q k)) [
+none_put k q w m = elim (true_or_false (int_eq q k)) [
   | inl e ↦
-      let same = same_int q k e in
+      let same = same_by_test q k e in
       let got = ap (λ z. map.get (map.insert m z w) k) same ∙ got_same m k w in
       bound_at (NoEntry k) (table m) (table (map.insert m q w)) (Put q w) (reply.Value (map.get m q)) (is_none (map.get m k)) false 0
       (one (is_none (map.get m k))) (taken (map.get m q) e ∙ ap (λ z. is_none (map.get m z)) same) refl (ap (λ (z : Option ℤ). one (is_none z)) got) refl (turned _)
@@ -182,9 +173,9 @@ none_put k q w m = elim (test_cases (int_eq q k)) [
     left (Some x) e = refl
 
 none_del : (k q : ℤ) (m : map.FinMap int_cmp ℤ) → Bounded (NoEntry k) (Del q) (table m) (table (map.remove m q)) (reply.Value (map.get m q))
-none_del k q m = elim (test_cases (int_eq q k)) [
+none_del k q m = elim (true_or_false (int_eq q k)) [
   | inl e ↦
-      let same = same_int q k e in
+      let same = same_by_test q k e in
       let got = ap (λ z. map.get (map.remove m z) k) same ∙ gone_same m k in
       bound_at (NoEntry k) (table m) (table (map.remove m q)) (Del q) (reply.Value (map.get m q)) false (is_some (map.get m k)) 1
       (one (is_none (map.get m k))) refl (taken (map.get m q) e ∙ ap (λ z. is_some (map.get m z)) same) (ap (λ (z : Option ℤ). one (is_none z)) got) refl (either (map.get m k))
@@ -260,12 +251,12 @@ bounded what c op = tt
 -- a pending call may set what it sets with some reply, and tells nothing that it takes away
 may_set : (what : Counted) (op : AnyOp) (r : AnyReply) → sets what op (Some r) ≡ true → sets what op None ≡ true
 may_set (Value v) (Cas a b) (reply.Swapped c d) h = h
-may_set (Value v) (Cas a b) (reply.Value o) h = absurd (unlike h)
-may_set (Value v) (Cas a b) reply.NotSwapped h = absurd (unlike h)
+may_set (Value v) (Cas a b) (reply.Value o) h = absurd (false_is_not_true h)
+may_set (Value v) (Cas a b) reply.NotSwapped h = absurd (false_is_not_true h)
 may_set (NoEntry k) (Del q) (reply.Value (Some w)) h = h
-may_set (NoEntry k) (Del q) (reply.Value None) h = absurd (unlike h)
-may_set (NoEntry k) (Del q) (reply.Swapped c d) h = absurd (unlike h)
-may_set (NoEntry k) (Del q) reply.NotSwapped h = absurd (unlike h)
+may_set (NoEntry k) (Del q) (reply.Value None) h = absurd (false_is_not_true h)
+may_set (NoEntry k) (Del q) (reply.Swapped c d) h = absurd (false_is_not_true h)
+may_set (NoEntry k) (Del q) reply.NotSwapped h = absurd (false_is_not_true h)
 may_set (Entry k v) (Put q w) r h = h
 may_set Held Acquire r h = h
 may_set Free Release r h = h
@@ -325,13 +316,9 @@ set_from what from e = sets what e.op (reply_of e.returned) && not (ended_before
 abbrev taken_from : Counted → ℕ → Call → Bool
 taken_from what from e = takes what e.op (reply_of e.returned) && not (nat_lt e.number from)
 
-both : (a b : Bool) → (a && b) ≡ true → (a ≡ true) × (b ≡ true)
-both true b e = (refl, e)
-both false b e = absurd (unlike e)
-
 joined : (a b : Bool) → a ≡ true → b ≡ true → (a && b) ≡ true
 joined true b e f = f
-joined false b e f = absurd (unlike e)
+joined false b e f = absurd (false_is_not_true e)
 
 not_ended : (from : ℕ) (o : Option Return) → ((r : Return) → o ≡ Some r → from ≤ r.at) → not (ended_before from o) ≡ true
 not_ended from None f = refl
@@ -345,7 +332,7 @@ begun number from e = grind (arith, nat_tests)
 
 from_start : (what : Counted) (es : List Call) (c : Content) → RepliesAlong c es → tally (taken_from what 0) es ≤ there what c + tally (set_from what 0) es
 from_start what es c h =
-    let a = tally_le (taken_from what 0) (taken_by what) es (λ x i e. (both (taken_by what x) (not (nat_lt x.number 0)) e).0) in
+    let a = tally_le (taken_from what 0) (taken_by what) es (λ x i e. (both_true (taken_by what x) (not (nat_lt x.number 0)) e).0) in
     let b = tally_le (set_by what) (set_from what 0) es (λ x i e. joined (set_by what x) (not (ended_before 0 x.returned)) e (not_ended 0 x.returned (λ r q. omega arith))) in
     let d = conserved what es c h in
     omega arith
@@ -397,9 +384,9 @@ one_at_most true = omega arith
 one_at_most false = omega arith
 
 once : (what : Counted) (c : Content) → single c ≡ true → there what c ≤ 1
-once what (queue vs) e = absurd (unlike e)
-once what (stack vs) e = absurd (unlike e)
-once what (heap vs) e = absurd (unlike e)
+once what (queue vs) e = absurd (false_is_not_true e)
+once what (stack vs) e = absurd (false_is_not_true e)
+once what (heap vs) e = absurd (false_is_not_true e)
 once (Value v) (register x) e = one_at_most (contains_value x v)
 once (Entry k v) (table m) e = one_at_most (contains_value (map.get m k) v)
 once (NoEntry k) (table m) e = one_at_most (is_none (map.get m k))
@@ -412,15 +399,15 @@ from_later : (what : Counted) (from : ℕ) (es : List Call) (c : Content) → si
     → ((e : Call) → In e es → (r : Return) → e.returned ≡ Some r → e.number < r.at) → Pairs (λ x y. ReturnsBefore y x → ⊥) es → RepliesAlong c es
     → tally (taken_from what from) es ≤ 1 + tally (set_from what from) es
 from_later what from [] c s ends in_time h = omega arith
-from_later what from (e ∷ es) c s ends in_time h = elim (test_cases (taken_from what from e)) [
+from_later what from (e ∷ es) c s ends in_time h = elim (true_or_false (taken_from what from e)) [
   | inr miss ↦
       let after = subst (λ z. IfSome z (λ p. single c ≡ true → single p.0 ≡ true)) h.2 (single_next c e.op) s in
       let rest = from_later what from es h.0 after (λ x i. ends x (inr i)) in_time.1 h.4 in
       let here = ap one miss in
       omega arith
   | inl hit ↦
-      let low = begun e.number from (both (taken_by what e) (not (nat_lt e.number from)) hit).1 in
-      let a = tally_le (taken_from what from) (taken_by what) (e ∷ es) (λ x i q. (both (taken_by what x) (not (nat_lt x.number from)) q).0) in
+      let low = begun e.number from (both_true (taken_by what e) (not (nat_lt e.number from)) hit).1 in
+      let a = tally_le (taken_from what from) (taken_by what) (e ∷ es) (λ x i q. (both_true (taken_by what x) (not (nat_lt x.number from)) q).0) in
       let b = tally_le (set_by what) (set_from what from) (e ∷ es) (λ x i q. joined (set_by what x) (not (ended_before from x.returned)) q (not_ended from x.returned (λ r w. elim i [
         | inl own ↦ reach e.number r.at low (ends e (inl refl) r (ap (λ (z : Call). z.returned) (sym own) ∙ w))
         | inr j ↦ later e.number r.at low (λ l. in_time.0 x j (r, w, l))
@@ -483,7 +470,7 @@ count_bounded kind calls what from most order rising ends before v =
     let more_sets = count_among (set_from what from) v.entries calls apart (λ e i p. known e i) in
     let more_takes = count_among (taken_from what from) calls v.entries distinct
     (λ e i p. in_from_contains v.entries e
-    (all_at (λ e. IsSome e.returned → Contains v.entries e) calls v.whole e i (returned e.op e.returned (both (taken_by what e) (not (nat_lt e.number from)) p).0))) in
+    (all_at (λ e. IsSome e.returned → Contains v.entries e) calls v.whole e i (returned e.op e.returned (both_true (taken_by what e) (not (nat_lt e.number from)) p).0))) in
     let all_sets = count_tally (set_from what from) calls in
     let all_takes = count_tally (taken_from what from) calls in
     let here = along kind what from most v.entries before
@@ -494,7 +481,7 @@ count_bounded kind calls what from most order rising ends before v =
     risen a b l e = absurd (omega arith)
 
     returned : (op : AnyOp) (o : Option Return) → takes what op (reply_of o) ≡ true → IsSome o
-    returned op None e = absurd (unlike (sym (none_taken what op) ∙ e))
+    returned op None e = absurd (false_is_not_true (sym (none_taken what op) ∙ e))
     returned op (Some r) e = refl
 
     sums : (took put all_took all_put removals settings : ℕ) → took ≤ most + put → put ≤ all_put → all_took ≤ took → all_put ≡ settings → all_took ≡ removals → removals ≤ most + settings

@@ -11,11 +11,11 @@ use Rattle.events.specs.Operations.{call_with, call_of, calls_of, ObjectCalls, I
 use Rattle.projection.specs.Absent.{is_put_before, is_taken_before, IsAbsent, calls_without}
 use Rattle.projection.specs.Cuts.{IsPart}
 use Rattle.projection.specs.Parts.{puts_in, is_removal}
-use Rattle.projection.specs.Pieces.{has_failed, is_put_before_end, is_taken_before_end, is_early, is_late}
+use Rattle.projection.specs.CutOperations.{has_failed, is_put_before_end, is_taken_before_end, is_early, is_late}
 use Rattle.projection.proofs.Absences.{without_valid}
 use Rattle.projection.proofs.Bounds.{passes, count_calls}
 use Rattle.projection.proofs.Kept.{own, as_filter, filter_lives}
-use Rattle.projection.proofs.Pieces.{bind, IsPiece, pieces_history, pieces_calls, rising_calls}
+use Rattle.projection.proofs.CutOperations.{bind, IsCutOperation, cut_history, cut_calls, rising_calls}
 
 abbrev late_call : ℤ → ℕ → Call → Bool
 late_call v before e = not (is_put_before v before e || is_taken_before v before e)
@@ -25,19 +25,19 @@ pending_took : (t : Bool) → ((t && false) && false) ≡ false
 pending_took true = refl
 pending_took false = refl
 
-piece_is : (v : ℤ) (before : ℕ) (o p : Invocation) → own (is_late v before) o ≡ Some p → IsPiece o p
-piece_is v before o p e = go (is_late v before o) e
+operation_is : (v : ℤ) (before : ℕ) (o p : Invocation) → own (is_late v before) o ≡ Some p → IsCutOperation o p
+operation_is v before o p e = go (is_late v before o) e
   where
-    go : (b : Bool) → cond b (Some o) None ≡ Some p → IsPiece o p
-    go true e = subst (IsPiece o) (same_Some o p e) (record { number = refl; kind = refl; returned = λ at reply e. (reply, e) })
+    go : (b : Bool) → cond b (Some o) None ≡ Some p → IsCutOperation o p
+    go true e = subst (IsCutOperation o) (same_Some o p e) (record { number = refl; kind = refl; returned = λ at reply e. (reply, e) })
     go false e = absurd (cc e)
 
-piece_call : (v : ℤ) (before : ℕ) (o : Invocation) → bind (own (is_late v before) o) call_of ≡ bind (call_of o) (own (late_call v before))
-piece_call v before o = piece (is_late v before o) ∙ sym (part o.«end»)
+operation_call : (v : ℤ) (before : ℕ) (o : Invocation) → bind (own (is_late v before) o) call_of ≡ bind (call_of o) (own (late_call v before))
+operation_call v before o = cut_operation (is_late v before o) ∙ sym (part o.«end»)
   where
-    piece : (b : Bool) → bind (cond b (Some o) None) call_of ≡ cond b (call_of o) None
-    piece true = refl
-    piece false = refl
+    cut_operation : (b : Bool) → bind (cond b (Some o) None) call_of ≡ cond b (call_of o) None
+    cut_operation true = refl
+    cut_operation false = refl
 
     part : (e : End) → bind (call_with o.number o.op e) (own (late_call v before))
         ≡ cond (not (has_failed e) && not (is_put_before_end v before o.number o.op e || is_taken_before_end v before o.op e)) (call_with o.number o.op e) None
@@ -48,11 +48,11 @@ piece_call v before o = piece (is_late v before o) ∙ sym (part o.«end»)
 pub late_history : (v : ℤ) (before : ℕ) (h : ObjectCalls) → IsObjectHistory h
     → IsObjectHistory (record { object = h.object; kind = h.kind; ops = filter (is_late v before) h.ops })
 late_history v before h is = subst (λ (ops : List Invocation). IsObjectHistory (record { object = h.object; kind = h.kind; ops = ops }))
-    (as_filter (is_late v before) h.ops) (pieces_history h.object h.kind h.ops (own (is_late v before)) (λ o p i e. piece_is v before o p e) is)
+    (as_filter (is_late v before) h.ops) (cut_history h.object h.kind h.ops (own (is_late v before)) (λ o p i e. operation_is v before o p e) is)
 
 pub late_calls_of : (v : ℤ) (before : ℕ) (ops : List Invocation) → calls_of (filter (is_late v before) ops) ≡ calls_without v before (calls_of ops)
 late_calls_of v before ops = ap calls_of (sym (as_filter (is_late v before) ops))
-    ∙ pieces_calls (own (is_late v before)) (own (late_call v before)) ops (piece_call v before) ∙ as_filter (late_call v before) (calls_of ops)
+    ∙ cut_calls (own (is_late v before)) (own (late_call v before)) ops (operation_call v before) ∙ as_filter (late_call v before) (calls_of ops)
 
 -- ---- how many
 

@@ -19,17 +19,11 @@ use Rattle.projection.specs.Parts.{reply_of, puts_in, is_kept_value, is_removal,
 use Rattle.projection.specs.Ahead.{is_value_ahead, may_take}
 use Rattle.projection.proofs.Contents.{IsRising, rising_with_value}
 use Rattle.projection.proofs.Conserved.{one, tally, kept_size, size_empty, turn}
-
-pub unlike : false ≡ true → ⊥
-unlike e = absurd (cc e)
-
-pub both : (a b : Bool) → (a && b) ≡ true → (a ≡ true) × (b ≡ true)
-both true b e = (refl, e)
-both false b e = absurd (unlike e)
+use Rattle.projection.proofs.Booleans.{false_is_not_true, both_true}
 
 pub joined : (a b : Bool) → a ≡ true → b ≡ true → (a && b) ≡ true
 joined true b e f = f
-joined false b e f = absurd (unlike e)
+joined false b e f = absurd (false_is_not_true e)
 
 one_le : (a b : Bool) → (a ≡ true → b ≡ true) → one a ≤ one b
 one_le true b f = let e = ap one (f refl) in omega arith
@@ -70,7 +64,7 @@ may_by keeps e = may_take keeps e.op (reply_of e.returned)
 pub may_le : (keeps : ℤ → Bool) (op : AnyOp) (o : Option Return) (reply : AnyReply)
     → IfSome o (λ r. r.reply ≡ reply) → one (takes_out keeps op (Some reply)) ≤ one (may_take keeps op (reply_of o))
 may_le keeps op None reply h = one_le (takes_out keeps op (Some reply)) (is_removal op)
-    (λ e. (both (is_removal op) (is_kept_value keeps (Some reply)) e).0)
+    (λ e. (both_true (is_removal op) (is_kept_value keeps (Some reply)) e).0)
 may_le keeps op (Some r) reply h = let n = ap (λ (z : AnyReply). one (takes_out keeps op (Some z))) h in omega arith
 
 -- a heap's values rise
@@ -146,7 +140,7 @@ none_lesser b (v ∷ vs) f = go (int_lt v b) (f v (inl refl)) (none_lesser b vs 
   where
     go : (t : Bool) → t ≡ false → length (filter (λ v. int_lt v b) vs) ≡ 0
         → length (cond t (v ∷ filter (λ v. int_lt v b) vs) (filter (λ v. int_lt v b) vs)) ≡ 0
-    go true e h = absurd (unlike (sym e))
+    go true e h = absurd (false_is_not_true (sym e))
     go false e h = h
 
 not_lesser : (v w : ℤ) → v ≤ℤ w → int_lt w v ≡ false
@@ -185,17 +179,17 @@ emptied (heap []) ExtractMin o s d u t = λ e. refl
 emptied (heap (v ∷ vs)) ExtractMin None s d u t = λ e. absurd (some_none v (same_value (Some v) None e))
 emptied (heap (v ∷ vs)) ExtractMin (Some b) s d u t = λ e. least_first v b vs s
     (same_Some v b (same_value (Some v) (Some b) e))
-emptied (queue vs) (Enqueue v) o s d u t = absurd (unlike t)
-emptied (stack vs) (Push v) o s d u t = absurd (unlike t)
-emptied (heap vs) (Insert v) o s d u t = absurd (unlike t)
-emptied (register x) (Write v) o s d u t = absurd (unlike t)
-emptied (register x) Read o s d u t = absurd (unlike t)
-emptied (register x) (Cas a b) o s d u t = absurd (unlike t)
-emptied (table m) (Put k v) o s d u t = absurd (unlike t)
-emptied (table m) (Get k) o s d u t = absurd (unlike t)
-emptied (table m) (Del k) o s d u t = absurd (unlike t)
-emptied (mutex false) Acquire o s d u t = absurd (unlike t)
-emptied (mutex true) Release o s d u t = absurd (unlike t)
+emptied (queue vs) (Enqueue v) o s d u t = absurd (false_is_not_true t)
+emptied (stack vs) (Push v) o s d u t = absurd (false_is_not_true t)
+emptied (heap vs) (Insert v) o s d u t = absurd (false_is_not_true t)
+emptied (register x) (Write v) o s d u t = absurd (false_is_not_true t)
+emptied (register x) Read o s d u t = absurd (false_is_not_true t)
+emptied (register x) (Cas a b) o s d u t = absurd (false_is_not_true t)
+emptied (table m) (Put k v) o s d u t = absurd (false_is_not_true t)
+emptied (table m) (Get k) o s d u t = absurd (false_is_not_true t)
+emptied (table m) (Del k) o s d u t = absurd (false_is_not_true t)
+emptied (mutex false) Acquire o s d u t = absurd (false_is_not_true t)
+emptied (mutex true) Release o s d u t = absurd (false_is_not_true t)
 emptied c op o s d u t = tt
 
 -- what is put in before the removal is taken out before it

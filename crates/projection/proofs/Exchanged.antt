@@ -15,13 +15,7 @@ use Rattle.projection.proofs.Contents.{IsShadow, TookNone, shown, step_at}
 use Rattle.projection.proofs.Conserved.{one, tally, puts, taken, kept_size, and_false, turn, conserved, count_among}
 use Rattle.projection.proofs.Sequences.{one_number}
 use Rattle.projection.proofs.Fitting.{reply_shown}
-
-unlike : false ≡ true → ⊥
-unlike e = absurd (cc e)
-
-test_cases : (b : Bool) → (b ≡ true) ⊎ (b ≡ false)
-test_cases true = inl refl
-test_cases false = inr refl
+use Rattle.projection.proofs.Booleans.{false_is_not_true, true_or_false}
 
 and_true : (b : Bool) → (b && true) ≡ b
 and_true true = refl
@@ -92,7 +86,7 @@ nth (e ∷ es) h i lt = go (nth es h.1) (is_open e) refl i lt
 -- one was invoked at this number or later, or all were before it
 late : (n : ℕ) (xs : List Call) → ((x : Call) × In x xs × (n ≤ x.number)) ⊎ ((x : Call) → In x xs → x.number < n)
 late n [] = inr (λ x i. absurd i)
-late n (x ∷ xs) = elim (test_cases (nat_lt x.number n)) [
+late n (x ∷ xs) = elim (true_or_false (nat_lt x.number n)) [
   | inl lt ↦ elim (late n xs) [
     | inl w ↦ inl (w.0, inr w.1, w.2)
     | inr all ↦ inr (λ y i. elim i [ inl e ↦ subst (λ (z : Call). z.number < n) (sym e) (is_before x.number n lt) | inr j ↦ all y j ])
@@ -149,19 +143,19 @@ open_returned : (e : Call) → is_open e ≡ true → is_some e.returned ≡ fal
 open_returned e h = go (is_removal e.op) (is_some e.returned) h
   where
     go : (b c : Bool) → (b && not c) ≡ true → c ≡ false
-    go true true h = absurd (unlike h)
+    go true true h = absurd (false_is_not_true h)
     go true false h = refl
-    go false c h = absurd (unlike h)
+    go false c h = absurd (false_is_not_true h)
 
 not_returned : (e : Call) (r : Return) → is_open e ≡ true → e.returned ≡ Some r → ⊥
-not_returned e r h q = unlike (sym (open_returned e h) ∙ ap is_some q)
+not_returned e r h q = false_is_not_true (sym (open_returned e h) ∙ ap is_some q)
 
 closed_removal : (e : Call) → is_open e ≡ false → is_some e.returned ≡ false → is_removal e.op ≡ false
 closed_removal e h p = go (is_removal e.op) (is_some e.returned) h p
   where
     go : (b c : Bool) → (b && not c) ≡ false → c ≡ false → b ≡ false
-    go true true h p = absurd (unlike (sym p))
-    go true false h p = absurd (unlike (sym h))
+    go true true h p = absurd (false_is_not_true (sym p))
+    go true false h p = absurd (false_is_not_true (sym h))
     go false c h p = refl
 
 same_removal : (a b : AnyOp) → is_removal a ≡ true → is_removal b ≡ true → kind_of a ≡ kind_of b → a ≡ b
@@ -174,16 +168,16 @@ same_removal Pop Dequeue h k e = absurd (cc e)
 same_removal Pop ExtractMin h k e = absurd (cc e)
 same_removal ExtractMin Dequeue h k e = absurd (cc e)
 same_removal ExtractMin Pop h k e = absurd (cc e)
-same_removal Dequeue b h k e = absurd (unlike k)
-same_removal Pop b h k e = absurd (unlike k)
-same_removal ExtractMin b h k e = absurd (unlike k)
-same_removal a b h k e = absurd (unlike h)
+same_removal Dequeue b h k e = absurd (false_is_not_true k)
+same_removal Pop b h k e = absurd (false_is_not_true k)
+same_removal ExtractMin b h k e = absurd (false_is_not_true k)
+same_removal a b h k e = absurd (false_is_not_true h)
 
 fits_open : (all : Bool) (keeps : ℤ → Bool) (kept : Bool) (op : AnyOp) → is_removal op ≡ true → fits all keeps kept op None ≡ true
 fits_open all keeps kept Dequeue h = refl
 fits_open all keeps kept Pop h = refl
 fits_open all keeps kept ExtractMin h = refl
-fits_open all keeps kept op h = absurd (unlike h)
+fits_open all keeps kept op h = absurd (false_is_not_true h)
 
 -- ---- along calls
 
@@ -229,8 +223,8 @@ leave calls kept i d e es out m = record {
   apart = m.apart;
   whole = λ x j k so. elim j [
     | inl q ↦ absurd (elim out [
-      | inl not_kept ↦ unlike (sym not_kept ∙ ap (λ (z : Call). kept z.number) (sym q) ∙ k)
-      | inr pending ↦ unlike (sym pending ∙ ap (λ (z : Call). is_some z.returned) (sym q) ∙ so)
+      | inl not_kept ↦ false_is_not_true (sym not_kept ∙ ap (λ (z : Call). kept z.number) (sym q) ∙ k)
+      | inr pending ↦ false_is_not_true (sym pending ∙ ap (λ (z : Call). is_some z.returned) (sym q) ∙ so)
     ])
     | inr l ↦ m.whole x l k so
   ];
@@ -253,7 +247,7 @@ keep_own calls kept i d behind e es reply rising closed k here apart time does a
   apart = (
     λ y j. elim (m.from y j) [
       | inl own ↦ apart y own.0
-      | inr other ↦ λ q. unlike (sym closed ∙ ap (λ (z : Call). is_open z) (one_number (λ (z : Call). z.number) e y calls rising here (m.known y j).0 q) ∙ other.0)
+      | inr other ↦ λ q. false_is_not_true (sym closed ∙ ap (λ (z : Call). is_open z) (one_number (λ (z : Call). z.number) e y calls rising here (m.known y j).0 q) ∙ other.0)
     ],
     m.apart,
   );
@@ -281,17 +275,17 @@ keep_other calls kept i d behind e x es reply p rising pending k le time does m 
   );
   apart = (
     λ y j. elim (m.from y j) [
-      | inl own ↦ λ q. unlike (sym own.1 ∙ ap (λ (z : Call). is_open z) (sym (one_number (λ (z : Call). z.number) p.call y calls rising p.known (m.known y j).0 q)) ∙ p.pending)
+      | inl own ↦ λ q. false_is_not_true (sym own.1 ∙ ap (λ (z : Call). is_open z) (sym (one_number (λ (z : Call). z.number) p.call y calls rising p.known (m.known y j).0 q)) ∙ p.pending)
       | inr other ↦ λ q. more (rank calls y.number) (rank calls p.call.number) (ap (rank calls) q) p.at other.1
     ],
     m.apart,
   );
-  whole = λ z j kz so. elim j [ inl q ↦ absurd (unlike (sym (open_returned e pending) ∙ ap (λ (u : Call). is_some u.returned) (sym q) ∙ so)) | inr l ↦ inr (m.whole z l kz so) ];
+  whole = λ z j kz so. elim j [ inl q ↦ absurd (false_is_not_true (sym (open_returned e pending) ∙ ap (λ (u : Call). is_some u.returned) (sym q) ∙ so)) | inr l ↦ inr (m.whole z l kz so) ];
 }
   where
     agrees : (o : Option Return) → is_some o ≡ false → IfSome o (λ r. r.reply ≡ reply)
     agrees None h = tt
-    agrees (Some r) h = absurd (unlike (sym h))
+    agrees (Some r) h = absurd (false_is_not_true (sym h))
 
     less : (n : ℕ) → i + 1 ≤ n → i ≤ n
     less n l = omega arith
@@ -412,7 +406,7 @@ walk calls kind all keeps kept s (e ∷ es) i xs c d r h t = go (λ j ys b q u. 
         same_op = same_removal p.call.op e.op (open_removal p.call p.pending) (open_removal e o) (s.of_kind p.call p.known ∙ sym (s.of_kind e (t.later_known e (inl refl))))
 
         kept_one : kept p.call.number ≡ true
-        kept_one = elim (test_cases (kept p.call.number)) [
+        kept_one = elim (true_or_false (kept p.call.number)) [
           | inl kept_so ↦ kept_so
           | inr left_out ↦ absurd (sums _ _ _ _ _ _ (s.pending p.call p.known p.pending left_out) p.at turned.owed (conserved keeps es h.0 h.4))
         ]
@@ -426,7 +420,7 @@ walk calls kind all keeps kept s (e ∷ es) i xs c d r h t = go (λ j ys b q u. 
       | inl skip ↦ leave calls kept i d e es skip.0 (again i xs d skip.1 (same (own_told o)))
       | inr take ↦ keep_own calls kept i d take.1 e es h.1 s.rising o take.0 (t.later_known e (inl refl)) t.later_apart.0 t.in_time.0 take.2 h.3 (again i xs take.1 take.3 (same (own_told o)))
     ]
-    go again true true o w = elim (steps true false (fits_open all keeps true e.op (open_removal e o)) (λ b k. absurd (unlike (sym k)))) [
+    go again true true o w = elim (steps true false (fits_open all keeps true e.op (open_removal e o)) (λ b k. absurd (false_is_not_true (sym k)))) [
       | inl skip ↦ leave calls kept i d e es (inr (open_returned e o))
           (again i xs d skip.1 (fewer (open_returned e o) i xs t.many t.pending t.known t.apart (λ x y a b. t.cross_apart x y a (inr b)) (λ x y a b. t.cross_time x y a (inr b)) (omega arith)))
       | inr take ↦ exchange again o w take.1 take.2 take.3
@@ -434,5 +428,5 @@ walk calls kind all keeps kept s (e ∷ es) i xs c d r h t = go (λ j ys b q u. 
     go again true false o w = elim (steps false false (fits_open all keeps false e.op (open_removal e o)) (λ b k. w)) [
       | inl skip ↦ leave calls kept i d e es (inr (open_returned e o))
           (again i xs d skip.1 (fewer (open_returned e o) i xs t.many t.pending t.known t.apart (λ x y a b. t.cross_apart x y a (inr b)) (λ x y a b. t.cross_time x y a (inr b)) (omega arith)))
-      | inr take ↦ absurd (unlike take.0)
+      | inr take ↦ absurd (false_is_not_true take.0)
     ]

@@ -7,6 +7,7 @@ use Rattle.model.proofs.Lists.{In}
 use Rattle.projection.specs.Parts.{reply_of, fits}
 use Rattle.projection.proofs.Simulation.{Stepped, Replied, Simulates}
 use Rattle.projection.proofs.Contents.{IsShadow, TookNone, shown, step_at}
+use Rattle.projection.proofs.Booleans.{false_is_not_true}
 
 pub reply_shown : (o : Option Return) (reply : AnyReply) → IfSome o (λ r. r.reply ≡ reply) → reply_of o ≡ shown (is_some o) reply
 reply_shown None reply h = refl
@@ -32,7 +33,4 @@ pub all_step : (all : Bool) (keeps : ℤ → Bool) (es : List Call) (c : Content
 all_step all keeps [] c f h = tt
 all_step all keeps (e ∷ es) c f h =
     let fitting = sym (ap (fits all keeps true e.op) (reply_shown e.returned h.1 h.3)) ∙ f e (inl refl) in
-    (h.0, h.1, h.2, h.3, record { fits_part = fitting; took_none = λ b k. absurd (unlike (sym k)) }, all_step all keeps es h.0 (λ x i. f x (inr i)) h.4)
-  where
-    unlike : false ≡ true → ⊥
-    unlike e = absurd (cc e)
+    (h.0, h.1, h.2, h.3, record { fits_part = fitting; took_none = λ b k. absurd (false_is_not_true (sym k)) }, all_step all keeps es h.0 (λ x i. f x (inr i)) h.4)

@@ -12,12 +12,7 @@ use Rattle.model.specs.declared.AnyReply.TheVariants.{Value, Swapped, NotSwapped
 use Rattle.model.specs.Objects.{kind_of, Content, queue, stack, heap, register, table, mutex, empty, contains_value, next}
 use Rattle.projection.specs.Parts.{fits, key_of, leaves}
 use Rattle.projection.proofs.Contents.{IsShadow}
-
-unlike : false ≡ true → ⊥
-unlike e = absurd (cc e)
-
-same_int : (v a : ℤ) → int_eq v a ≡ true → v ≡ a
-same_int v a e = grind (arith, ints)
+use Rattle.projection.proofs.Booleans.{false_is_not_true, same_by_test}
 
 int_same : (v : ℤ) → int_eq v v ≡ true
 int_same v = grind (arith, ints)
@@ -33,7 +28,7 @@ is_free (Some k) = false
 
 pub free_keeps : (key : Option ℤ) → is_free key ≡ true → (v : ℤ) → on_key key v ≡ true
 free_keeps None e v = refl
-free_keeps (Some k) e v = absurd (unlike e)
+free_keeps (Some k) e v = absurd (false_is_not_true e)
 
 -- a part that keeps all calls on a key is closed
 pub all_fit : (op : AnyOp) (key : Option ℤ) (o : Option AnyReply) → key_of op ≡ key → fits (is_free key) (on_key key) true op o ≡ true
@@ -87,7 +82,7 @@ abbrev Tells : AnyOp → AnyReply → Content → Type 0
 Tells op reply after = IfSome (leaves op reply) (λ first. Begins (on_key (key_of op)) (kind_of op) first after)
 
 at_key : (m n : map.FinMap int_cmp ℤ) (k : ℤ) → map.get n k ≡ map.get m k → IsShadow (on_key (Some k)) (table m) (table n)
-at_key m n k e = λ q i. subst (λ (z : ℤ). map.get n z ≡ map.get m z) (sym (same_int q k i)) e
+at_key m n k e = λ q i. subst (λ (z : ℤ). map.get n z ≡ map.get m z) (sym (same_by_test q k i)) e
 
 same_key : (k : ℤ) → eq_by_cmp int_cmp k k ≡ true
 same_key k = grind (arith, ints)

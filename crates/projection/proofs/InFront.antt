@@ -17,7 +17,8 @@ use Rattle.model.proofs.Lists.{In, Pairs}
 use Rattle.projection.specs.Parts.{puts_in, takes_out}
 use Rattle.projection.specs.Ahead.{first_put}
 use Rattle.projection.proofs.Conserved.{one, tally}
-use Rattle.projection.proofs.Emptied.{unlike, put_by, may_by, may_le, same_value}
+use Rattle.projection.proofs.Emptied.{put_by, may_by, may_le, same_value}
+use Rattle.projection.proofs.Booleans.{false_is_not_true}
 
 -- ---- a queue, where the removal finds a value
 
@@ -37,10 +38,10 @@ abbrev fresh : ℤ → List Call → ℕ
 fresh b [] = 0
 fresh b (e ∷ es) = fresh_by b e.op (fresh b es)
 
-in_front_behind : (b v : ℤ) (vs : List ℤ) (m : ℕ) → in_front b vs (cond (int_eq b v) 0 (1 + m)) ≡ in_front b
+in_front_after : (b v : ℤ) (vs : List ℤ) (m : ℕ) → in_front b vs (cond (int_eq b v) 0 (1 + m)) ≡ in_front b
     (vs ++ v ∷ []) m
-in_front_behind b v [] m = refl
-in_front_behind b v (w ∷ ws) m = ap (λ (z : ℕ). cond (int_eq b w) 0 (1 + z)) (in_front_behind b v ws m)
+in_front_after b v [] m = refl
+in_front_after b v (w ∷ ws) m = ap (λ (z : ℕ). cond (int_eq b w) 0 (1 + z)) (in_front_after b v ws m)
 
 abbrev Moves : ℤ → List ℤ → AnyOp → ℕ → Content → AnyReply → Type 0
 Moves b vs op m after reply = (ws : List ℤ) × (after ≡ queue ws) ×
@@ -51,7 +52,7 @@ same_le a b e = omega arith
 
 queue_moves : (b : ℤ) (vs : List ℤ) (op : AnyOp) (m : ℕ)
     → IfSome (next (queue vs) op) (λ p. Moves b vs op m p.0 p.1)
-queue_moves b vs (Enqueue v) m = (vs ++ v ∷ [], refl, same_le _ _ (in_front_behind b v vs m))
+queue_moves b vs (Enqueue v) m = (vs ++ v ∷ [], refl, same_le _ _ (in_front_after b v vs m))
 queue_moves b [] Dequeue m = ([], refl, same_le _ _ (zero-add m))
 queue_moves b (v ∷ vs) Dequeue m = (vs, refl, go (int_eq b v))
   where
@@ -70,7 +71,7 @@ found_first b (v ∷ vs) = λ e. go (int_eq b v) (same b v (same_Some v b (same_
   where
     go : (t : Bool) → t ≡ true → cond t 0 (1 + in_front b vs 0) ≡ 0
     go true q = refl
-    go false q = absurd (unlike q)
+    go false q = absurd (false_is_not_true q)
 
     same : (b v : ℤ) → v ≡ b → int_eq b v ≡ true
     same b v q = grind (arith, ints)
@@ -144,7 +145,7 @@ first_least b (e ∷ es) h p i q = go (puts_in (int_eq b) e.op) refl (λ j. firs
         below : (a c : ℕ) → a < c → a ≤ c
         below a c s = omega arith
     go false k rest = elim i [
-      | inl s ↦ absurd (unlike (sym k ∙ ap (λ (z : Call). puts_in (int_eq b) z.op) (sym s) ∙ q))
+      | inl s ↦ absurd (false_is_not_true (sym k ∙ ap (λ (z : Call). puts_in (int_eq b) z.op) (sym s) ∙ q))
       | inr j ↦
           rest j
     ]
@@ -160,7 +161,7 @@ stack_moves : (b : ℤ) (vs : List ℤ) (op : AnyOp) → IfSome (next (stack vs)
 stack_moves b vs (Push v) = (v ∷ vs, refl, λ e. go (int_eq b v) e)
   where
     go : (t : Bool) → t ≡ false → in_front b vs 0 + 1 ≤ cond t 0 (1 + in_front b vs 0) + 0
-    go true e = absurd (unlike (sym e))
+    go true e = absurd (false_is_not_true (sym e))
     go false e = omega arith
 stack_moves b [] Pop = ([], refl, λ e. omega arith)
 stack_moves b (v ∷ vs) Pop = (vs, refl, λ e. go (int_eq b v))
@@ -177,7 +178,7 @@ found_on_top b (v ∷ vs) = λ e. go (int_eq b v) (same b v (same_Some v b (same
   where
     go : (t : Bool) → t ≡ true → cond t 0 (1 + in_front b vs 0) ≡ 0
     go true q = refl
-    go false q = absurd (unlike q)
+    go false q = absurd (false_is_not_true q)
 
     same : (b v : ℤ) → v ≡ b → int_eq b v ≡ true
     same b v q = grind (arith, ints)
@@ -213,7 +214,7 @@ since_put b [] = []
 since_put b (e ∷ es) = cond (any_put b (e ∷ es)) (since_put b es) (e ∷ es)
 
 some_put : (b : ℤ) (es : List Call) → any_put b es ≡ true → (p : Call) × In p es × (puts_in (int_eq b) p.op ≡ true)
-some_put b [] q = absurd (unlike q)
+some_put b [] q = absurd (false_is_not_true q)
 some_put b (e ∷ es) q = go (puts_in (int_eq b) e.op) refl q (λ k. some_put b es k)
   where
     go : (t : Bool) → puts_in (int_eq b) e.op ≡ t → (t || any_put b es) ≡ true
@@ -228,7 +229,7 @@ no_put b (e ∷ es) q p i = go (puts_in (int_eq b) e.op) refl q (λ k j. no_put 
   where
     go : (t : Bool) → puts_in (int_eq b) e.op ≡ t → (t || any_put b es) ≡ false
         → (any_put b es ≡ false → In p es → puts_in (int_eq b) p.op ≡ false) → puts_in (int_eq b) p.op ≡ false
-    go true k h f = absurd (unlike (sym h))
+    go true k h f = absurd (false_is_not_true (sym h))
     go false k h f = elim i [ inl s ↦ ap (λ (z : Call). puts_in (int_eq b) z.op) s ∙ k | inr j ↦ f h j ]
 
 pub since_none : (b : ℤ) (es : List Call) (p : Call) → In p (since_put b es) → puts_in (int_eq b) p.op ≡ false

@@ -17,11 +17,12 @@ use Rattle.projection.specs.Parts.{fits, reply_of, puts_in, is_removal, takes_ou
 use Rattle.projection.specs.declared.keeping.Values.{Values}
 use Rattle.projection.specs.declared.keeping.Values.TheVariants as values
 use Rattle.projection.specs.Cuts.{keeps_all, keeps_value, IsPart, NoneFailed}
-use Rattle.projection.specs.Pieces.{has_failed, fits_end, is_kept_call, is_put, is_taken, is_open_removal, keeps_first}
+use Rattle.projection.specs.CutOperations.{has_failed, fits_end, is_kept_call, is_put, is_taken, is_open_removal, keeps_first}
 use Rattle.projection.proofs.Conserved.{one, tally, count_tally}
 use Rattle.projection.proofs.Closed.{projection_valid}
 use Rattle.projection.proofs.Sequences.{in_filter_map_from}
-use Rattle.projection.proofs.Pieces.{bind, filter_map-filter, map-same, IsPiece, pieces_history, pieces_calls, pieces_lives, did_not_fail, rising_calls, all_calls}
+use Rattle.projection.proofs.CutOperations.{bind, filter_map-filter, map-same, IsCutOperation, cut_history, cut_calls, cut_lives, did_not_fail, rising_calls, all_calls}
+use Rattle.projection.proofs.Booleans.{false_is_not_true}
 
 abbrev pub own : {X : Type 0} → (X → Bool) → X → Option X
 own p x = cond (p x) (Some x) None
@@ -29,11 +30,11 @@ own p x = cond (p x) (Some x) None
 pub as_filter : {X : Type 0} (p : X → Bool) (xs : List X) → filter_map (own p) xs ≡ filter p xs
 as_filter p xs = filter_map-filter p (λ x. x) xs ∙ map-same (filter p xs)
 
-piece_is : (kept : ℕ → Bool) (o p : Invocation) → own (is_kept_call kept) o ≡ Some p → IsPiece o p
-piece_is kept o p e = go (is_kept_call kept o) e
+operation_is : (kept : ℕ → Bool) (o p : Invocation) → own (is_kept_call kept) o ≡ Some p → IsCutOperation o p
+operation_is kept o p e = go (is_kept_call kept o) e
   where
-    go : (b : Bool) → cond b (Some o) None ≡ Some p → IsPiece o p
-    go true e = subst (IsPiece o) (same_Some o p e) (record { number = refl; kind = refl; returned = λ at reply e. (reply, e) })
+    go : (b : Bool) → cond b (Some o) None ≡ Some p → IsCutOperation o p
+    go true e = subst (IsCutOperation o) (same_Some o p e) (record { number = refl; kind = refl; returned = λ at reply e. (reply, e) })
     go false e = absurd (cc e)
 
 -- an operation that is kept only where it did not fail
@@ -50,14 +51,14 @@ own_lives p o q e = go (has_failed o.«end») refl e
 
 pub filter_lives : (p : Invocation → Bool) (ops : List Invocation) → NoneFailed (filter (λ z. not (has_failed z.«end») && p z) ops)
 filter_lives p ops = subst NoneFailed (as_filter (λ z. not (has_failed z.«end») && p z) ops)
-    (pieces_lives (own (λ z. not (has_failed z.«end») && p z)) ops (own_lives p))
+    (cut_lives (own (λ z. not (has_failed z.«end») && p z)) ops (own_lives p))
 
-piece_call : (kept : ℕ → Bool) (o : Invocation) → bind (own (is_kept_call kept) o) call_of ≡ bind (call_of o) (own (λ z. kept z.number))
-piece_call kept o = piece (is_kept_call kept o) ∙ sym (part o.«end»)
+operation_call : (kept : ℕ → Bool) (o : Invocation) → bind (own (is_kept_call kept) o) call_of ≡ bind (call_of o) (own (λ z. kept z.number))
+operation_call kept o = cut_operation (is_kept_call kept o) ∙ sym (part o.«end»)
   where
-    piece : (b : Bool) → bind (cond b (Some o) None) call_of ≡ cond b (call_of o) None
-    piece true = refl
-    piece false = refl
+    cut_operation : (b : Bool) → bind (cond b (Some o) None) call_of ≡ cond b (call_of o) None
+    cut_operation true = refl
+    cut_operation false = refl
 
     part : (e : End) → bind (call_with o.number o.op e) (own (λ z. kept z.number)) ≡ cond (not (has_failed e) && kept o.number) (call_with o.number o.op e) None
     part (Returned at r) = refl
@@ -66,11 +67,11 @@ piece_call kept o = piece (is_kept_call kept o) ∙ sym (part o.«end»)
 
 pub kept_history : (kept : ℕ → Bool) (h : ObjectCalls) → IsObjectHistory h → IsObjectHistory (record { object = h.object; kind = h.kind; ops = filter (is_kept_call kept) h.ops })
 kept_history kept h is = subst (λ (ops : List Invocation). IsObjectHistory (record { object = h.object; kind = h.kind; ops = ops }))
-    (as_filter (is_kept_call kept) h.ops) (pieces_history h.object h.kind h.ops (own (is_kept_call kept)) (λ o p i e. piece_is kept o p e) is)
+    (as_filter (is_kept_call kept) h.ops) (cut_history h.object h.kind h.ops (own (is_kept_call kept)) (λ o p i e. operation_is kept o p e) is)
 
 pub kept_calls_of : (kept : ℕ → Bool) (ops : List Invocation) → calls_of (filter (is_kept_call kept) ops) ≡ kept_calls kept (calls_of ops)
 kept_calls_of kept ops = ap calls_of (sym (as_filter (is_kept_call kept) ops))
-    ∙ pieces_calls (own (is_kept_call kept)) (own (λ z. kept z.number)) ops (piece_call kept) ∙ as_filter (λ e. kept e.number) (calls_of ops)
+    ∙ cut_calls (own (is_kept_call kept)) (own (λ z. kept z.number)) ops (operation_call kept) ∙ as_filter (λ e. kept e.number) (calls_of ops)
 
 -- ---- how many
 
@@ -138,9 +139,6 @@ open_of n (o ∷ ops) = go o.«end» (open_of n ops)
 pending_counts : (n : ℕ) (ops : List Invocation) → open_before n ops ≡ pending_before n (calls_of ops)
 pending_counts n ops = open_of n ops ∙ count_tally (λ e. is_pending_removal e.op e.returned && nat_lt e.number n) (calls_of ops)
 
-unlike : false ≡ true → ⊥
-unlike e = absurd (cc e)
-
 lt_yes : (a b : ℕ) → a < b → nat_lt a b ≡ true
 lt_yes a b l = grind (arith, nat_tests)
 
@@ -179,9 +177,9 @@ missing : (kept : ℕ → Bool) (m : ℕ) (o : Invocation) (ops : List Invocatio
 missing kept m o ops l q n = go (is_open o) (m == 0) (kept o.number) q (not_zero m l) n
   where
     go : (b d c : Bool) → b ≡ true → d ≡ false → c ≡ false → cond b ((d || c) && keeps_first kept (m - 1) ops) (keeps_first kept m ops) ≡ false
-    go false d c e f g = absurd (unlike e)
-    go true true c e f g = absurd (unlike (sym f))
-    go true false true e f g = absurd (unlike (sym g))
+    go false d c e f g = absurd (false_is_not_true e)
+    go true true c e f g = absurd (false_is_not_true (sym f))
+    go true false true e f g = absurd (false_is_not_true (sym g))
     go true false false e f g = refl
 
 -- a pending removal among the first ones is left out
@@ -197,12 +195,12 @@ first_kept kept most (y ∷ ops) h k x i o n = go (λ m e j. first_kept kept m o
   where
     left_out : (d b c : Bool) → ((d || b) && c) ≡ true → b ≡ false → d ≡ true
     left_out true b c e f = refl
-    left_out false true c e f = absurd (unlike (sym f))
-    left_out false false c e f = absurd (unlike e)
+    left_out false true c e f = absurd (false_is_not_true (sym f))
+    left_out false false c e f = absurd (false_is_not_true e)
 
     rest : (b c : Bool) → (b && c) ≡ true → c ≡ true
     rest true c e = e
-    rest false c e = absurd (unlike e)
+    rest false c e = absurd (false_is_not_true e)
 
     none : most ≡ zero → most ≤ open_before x.number (y ∷ ops)
     none e = omega arith
@@ -217,7 +215,7 @@ first_kept kept most (y ∷ ops) h k x i o n = go (λ m e j. first_kept kept m o
           omega arith
     ]
     go again false q e = elim i [
-      | inl w ↦ absurd (unlike (sym q ∙ ap (λ (u : Invocation). is_open u) (sym w) ∙ o))
+      | inl w ↦ absurd (false_is_not_true (sym q ∙ ap (λ (u : Invocation). is_open u) (sym w) ∙ o))
       | inr j ↦
           let l = again most e j in
           let m = open_more y x ops false q (h.0 x j) in
@@ -231,7 +229,7 @@ kept_first kept most (y ∷ ops) h f = go (λ m g. kept_first kept m ops h.1 g) 
   where
     both : (a b : Bool) → a ≡ true → b ≡ true → (a && b) ≡ true
     both true b e f = f
-    both false b e f = absurd (unlike e)
+    both false b e f = absurd (false_is_not_true e)
 
     either : (d b : Bool) → b ≡ true → (d || b) ≡ true
     either true b e = refl
@@ -289,8 +287,8 @@ closed_calls vs kept ops rising first h = record {
     go number op Failed c e f = absurd (cc e)
 
     not_both : (b : Bool) → (b && false) ≡ true → ⊥
-    not_both true e = unlike e
-    not_both false e = unlike e
+    not_both true e = false_is_not_true e
+    not_both false e = false_is_not_true e
 
     alone : (b : Bool) → (b && true) ≡ true → b ≡ true
     alone true e = refl
@@ -332,8 +330,8 @@ closed_first vs kept ops rising h = kept_first kept _ ops (pairs_from_all (λ a 
     most = count_by (λ o. is_put (keeps_value vs) o.op o.«end») ops - count_by (λ o. is_taken (keeps_value vs) o.op o.«end») ops
 
     go : (o : Invocation) → In o ops → (e : End) → o.«end» ≡ e → is_open_removal o.op e ≡ true → kept o.number ≡ false → most ≤ open_before o.number ops
-    go o i (Returned when r) q t n = absurd (unlike t)
-    go o i Failed q t n = absurd (unlike t)
+    go o i (Returned when r) q t n = absurd (false_is_not_true t)
+    go o i Failed q t n = absurd (false_is_not_true t)
     go o i Pending q t n =
         let c : Call = record { number = o.number; op = o.op; returned = None } in
         let l = all_at (λ e. is_pending_removal e.op e.returned ≡ true → kept e.number ≡ false

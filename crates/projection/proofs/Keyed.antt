@@ -16,19 +16,14 @@ use Rattle.model.specs.Orders.{Call, IsValidOrder}
 use Rattle.events.specs.declared.operations.Invocation.{Invocation}
 use Rattle.events.specs.Operations.{calls_of, ObjectCalls, IsObjectHistory}
 use Rattle.projection.specs.Cuts.{IsPart}
-use Rattle.projection.specs.Pieces.{entry_piece}
+use Rattle.projection.specs.CutOperations.{entry_operation}
 use Rattle.projection.specs.Cells.{write_of, swap_done}
 use Rattle.projection.specs.Entries.{put_done, get_done, del_done, entry_done, entry_open, entry_call, entry_calls}
-use Rattle.projection.proofs.Pieces.{pieces_into, pieces_calls, pieces_lives}
-use Rattle.projection.proofs.Recasts.{IsInto, DoneOf, OpenOf, Steps, recast_maps, recast_piece, recast_call, recast_lives}
+use Rattle.projection.proofs.CutOperations.{cut_into, cut_calls, cut_lives}
+use Rattle.projection.proofs.Recasts.{IsInto, DoneOf, OpenOf, Steps, recast_maps, recast_operation, recast_call, recast_lives}
 use Rattle.projection.proofs.Mapped.{mapped_valid}
 use Rattle.projection.proofs.Shadows.{swap_like}
-
-unlike : false ≡ true → ⊥
-unlike e = absurd (cc e)
-
-same_int : (v a : ℤ) → int_eq v a ≡ true → v ≡ a
-same_int v a e = grind (arith, ints)
+use Rattle.projection.proofs.Booleans.{false_is_not_true, same_by_test}
 
 own_int : (a : ℤ) → int_eq a a ≡ true
 own_int a = grind (arith, ints)
@@ -64,7 +59,7 @@ done_to key keeps None y x m e s = subst (λ (z : Option ℤ). IsEntryShadow kee
 done_to key keeps (Some f) y x m e s = (register s.0, s.1, subst (λ (z : Option ℤ). IsEntryShadow keeps z s.0) (sym e) s.2)
 
 free : (keeps : ℤ → Bool) (v : ℤ) (y : Option ℤ) → keeps v ≡ false → IsEntryShadow keeps (Some v) y
-free keeps v y f = λ k. absurd (unlike (sym f ∙ k))
+free keeps v y f = λ k. absurd (false_is_not_true (sym f ∙ k))
 
 swaps : (keeps : ℤ → Bool) (other a b : ℤ) (y x : Option ℤ) (p : Bool) → IsEntryShadow keeps (Some a) y → (p ≡ true → IsEntryShadow keeps x (Some b))
     → (p ≡ false → (z : Option ℤ) → IsEntryShadow keeps x z) → (kept : Bool) → DoneTo keeps (swap_done p (keeps a) kept other a b (Swapped a b)) y x
@@ -104,7 +99,7 @@ gets keeps other (Some a) y s true = go (keeps a) refl
 dels : (keeps : ℤ → Bool) (other : ℤ) (x y : Option ℤ) → IsEntryShadow keeps x y → (kept : Bool) → DoneTo keeps (del_done keeps other kept x) y None
 dels keeps other None y s true = (Some other, refl, tt)
 dels keeps other None y s false = tt
-dels keeps other (Some a) y s kept = swaps keeps other a other y None false s (λ e. absurd (unlike e)) (λ e z. tt) kept
+dels keeps other (Some a) y s kept = swaps keeps other a other y None false s (λ e. absurd (false_is_not_true e)) (λ e z. tt) kept
 
 -- ---- steps of the map
 
@@ -120,7 +115,7 @@ put_step key keeps other m y k v s = record { returned = done (int_eq key k) ref
 
     done : (b : Bool) → int_eq key k ≡ b → (kept : Bool) → DoneOf (IsEntry key keeps) (cond b (put_done keeps other kept v (map.get m k)) None) (register y) (table (map.insert m k v))
     done true e kept = done_to key keeps (put_done keeps other kept v (map.get m k)) y (Some v) (map.insert m k v) (here true e)
-        (puts keeps other v (map.get m k) y (subst (λ (z : ℤ). IsEntryShadow keeps (map.get m z) y) (same_int key k e) s) kept)
+        (puts keeps other v (map.get m k) y (subst (λ (z : ℤ). IsEntryShadow keeps (map.get m z) y) (same_by_test key k e) s) kept)
     done false e kept = subst (λ (z : Option ℤ). IsEntryShadow keeps z y) (sym (here false e)) s
 
     open_put : (b p : Bool) → int_eq key k ≡ b → keeps v ≡ p → OpenOf (IsEntry key keeps) (cond (b && p) (Some (Write v)) None) (register y) (table (map.insert m k v))
@@ -133,8 +128,8 @@ get_step : (key : ℤ) (keeps : ℤ → Bool) (other : ℤ) (m : map.FinMap int_
 get_step key keeps other m y k s = record { returned = done (int_eq key k) refl; unfinished = s }
   where
     done : (b : Bool) → int_eq key k ≡ b → (kept : Bool) → DoneOf (IsEntry key keeps) (cond b (get_done keeps other kept (map.get m k)) None) (register y) (table m)
-    done true e kept = done_to key keeps (get_done keeps other kept (map.get m k)) y (map.get m k) m (ap (map.get m) (same_int key k e))
-        (gets keeps other (map.get m k) y (subst (λ (z : ℤ). IsEntryShadow keeps (map.get m z) y) (same_int key k e) s) kept)
+    done true e kept = done_to key keeps (get_done keeps other kept (map.get m k)) y (map.get m k) m (ap (map.get m) (same_by_test key k e))
+        (gets keeps other (map.get m k) y (subst (λ (z : ℤ). IsEntryShadow keeps (map.get m z) y) (same_by_test key k e) s) kept)
     done false e kept = s
 
 del_step : (key : ℤ) (keeps : ℤ → Bool) (other : ℤ) (m : map.FinMap int_cmp ℤ) (y : Option ℤ) (k : ℤ) → IsEntryShadow keeps (map.get m key) y
@@ -146,7 +141,7 @@ del_step key keeps other m y k s = record { returned = done (int_eq key k) refl;
 
     done : (b : Bool) → int_eq key k ≡ b → (kept : Bool) → DoneOf (IsEntry key keeps) (cond b (del_done keeps other kept (map.get m k)) None) (register y) (table (map.remove m k))
     done true e kept = done_to key keeps (del_done keeps other kept (map.get m k)) y None (map.remove m k) (here true e)
-        (dels keeps other (map.get m k) y (subst (λ (z : ℤ). IsEntryShadow keeps (map.get m z) y) (same_int key k e) s) kept)
+        (dels keeps other (map.get m k) y (subst (λ (z : ℤ). IsEntryShadow keeps (map.get m z) y) (same_by_test key k e) s) kept)
     done false e kept = subst (λ (z : Option ℤ). IsEntryShadow keeps z y) (sym (here false e)) s
 
     left_out : (b : Bool) → int_eq key k ≡ b → IsEntryShadow keeps (map.get (map.remove m k) key) y
@@ -237,20 +232,20 @@ entry_valid own calls key keeps other kept order v =
     (recast_maps (IsEntry key keeps) (entry_done key keeps other) (entry_open key keeps) kept (record { step = steps key keeps other })) (begins key keeps own) order v
 
 pub entry_history : (key : ℤ) (keeps : ℤ → Bool) (other : ℤ) (kept : ℕ → Bool) (h : ObjectCalls) → IsObjectHistory h
-    → IsObjectHistory (record { object = h.object; kind = kind.Register; ops = filter_map (entry_piece key keeps other kept) h.ops })
+    → IsObjectHistory (record { object = h.object; kind = kind.Register; ops = filter_map (entry_operation key keeps other kept) h.ops })
 entry_history key keeps other kept h is =
-    pieces_into h.object h.kind kind.Register h.ops (entry_piece key keeps other kept)
-    (λ o p i e. recast_piece (entry_done key keeps other) (entry_open key keeps) (λ op. kind.Register) (entry_into key keeps other) (kept o.number) o p e) is
+    cut_into h.object h.kind kind.Register h.ops (entry_operation key keeps other kept)
+    (λ o p i e. recast_operation (entry_done key keeps other) (entry_open key keeps) (λ op. kind.Register) (entry_into key keeps other) (kept o.number) o p e) is
 
 pub entry_calls_of : (key : ℤ) (keeps : ℤ → Bool) (other : ℤ) (kept : ℕ → Bool) (ops : List Invocation)
-    → calls_of (filter_map (entry_piece key keeps other kept) ops) ≡ entry_calls key keeps other kept (calls_of ops)
-entry_calls_of key keeps other kept ops = pieces_calls (entry_piece key keeps other kept) (entry_call key keeps other kept) ops (recast_call (entry_done key keeps other) (entry_open key keeps) kept)
+    → calls_of (filter_map (entry_operation key keeps other kept) ops) ≡ entry_calls key keeps other kept (calls_of ops)
+entry_calls_of key keeps other kept ops = cut_calls (entry_operation key keeps other kept) (entry_call key keeps other kept) ops (recast_call (entry_done key keeps other) (entry_open key keeps) kept)
 
 pub entry_shows : (key : ℤ) (keeps : ℤ → Bool) (other : ℤ) (kept : ℕ → Bool) (h : ObjectCalls)
-    → IsPart h (record { object = h.object; kind = kind.Register; ops = filter_map (entry_piece key keeps other kept) h.ops })
+    → IsPart h (record { object = h.object; kind = kind.Register; ops = filter_map (entry_operation key keeps other kept) h.ops })
 entry_shows key keeps other kept h = record {
   object = refl;
-  none_failed = pieces_lives (entry_piece key keeps other kept) h.ops (λ o p e. recast_lives (entry_done key keeps other) (entry_open key keeps) (kept o.number) o p e);
+  none_failed = cut_lives (entry_operation key keeps other kept) h.ops (λ o p e. recast_lives (entry_done key keeps other) (entry_open key keeps) (kept o.number) o p e);
   shows = λ none order v.
       let r = entry_valid h.kind (calls_of h.ops) key keeps other kept order v in
       none r.0 (subst (λ (cs : List Call). IsValidOrder kind.Register cs r.0) (sym (entry_calls_of key keeps other kept h.ops)) r.1);

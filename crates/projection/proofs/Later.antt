@@ -18,13 +18,13 @@ use Rattle.events.specs.declared.operations.Invocation.{Invocation}
 use Rattle.events.specs.Operations.{call_with, call_of, calls_of, return_of, ObjectCalls, IsObjectHistory}
 use Rattle.projection.specs.Parts.{leaves, IsStart, key_of, ended_before, written_before, write_call, pending_call, overlapping, call_later, returned_call, call_from, calls_from}
 use Rattle.projection.specs.Cuts.{IsPart, IsSuffix}
-use Rattle.projection.specs.Pieces.{has_failed, IsOnKey, is_over, returned_piece, write_piece, pending_piece, overlapping_piece, piece_later, piece_from}
+use Rattle.projection.specs.CutOperations.{has_failed, IsOnKey, is_over, as_returned, as_write, as_pending, overlapping_operation, operation_later, operation_from}
 use Rattle.projection.proofs.Sequences.{one_number, in_filter_map, in_filter_map_from}
 use Rattle.projection.proofs.Overlaps.{before_facts}
 use Rattle.projection.proofs.Suffixes.{start_valid}
-use Rattle.projection.proofs.Pieces.{bind, IsPiece, pieces_history, pieces_calls, pieces_lives, did_not_fail, all_calls, call_cases}
+use Rattle.projection.proofs.CutOperations.{bind, IsCutOperation, cut_history, cut_calls, cut_lives, did_not_fail, all_calls, call_cases}
 
--- ---- pieces
+-- ---- cut_operations
 
 pub leaves_kind : (op : AnyOp) (reply : AnyReply) → IfSome (leaves op reply) (λ f. IfSome f (λ p. kind_of p.0 ≡ kind_of op))
 leaves_kind Dequeue (Value None) = tt
@@ -45,7 +45,7 @@ leaves_kind op reply = tt
 -- ---- where a suffix begins
 
 -- the operation with which a suffix begins
-pub record IsStartPiece (ops : List Invocation) (from at : ℕ) (first : Option (AnyOp × AnyReply)) (reply : AnyReply) : Type 0 where
+pub record IsStartOperation (ops : List Invocation) (from at : ℕ) (first : Option (AnyOp × AnyReply)) (reply : AnyReply) : Type 0 where
   pub operation : Invocation
   pub known : In operation ops
   pub number : operation.number ≡ from
@@ -70,8 +70,8 @@ on_key_each ops key h = all_from_in (IsOnKey key) ops (λ o i. go o i o.«end» 
     go o i Pending q = inr (at o i None (ap (call_with o.number o.op) q))
     go o i Failed q = inl (ap has_failed q)
 
-pub start_piece : (ops : List Invocation) (from at : ℕ) (first : Option (AnyOp × AnyReply)) (s : IsStart (calls_of ops) from at first) → IsStartPiece ops from at first s.reply
-start_piece ops from at first s =
+pub start_operation : (ops : List Invocation) (from at : ℕ) (first : Option (AnyOp × AnyReply)) (s : IsStart (calls_of ops) from at first) → IsStartOperation ops from at first s.reply
+start_operation ops from at first s =
     let o = in_filter_map call_of s.call ops (in_from_contains (calls_of ops) s.call s.known) in
     let k = call_cases o.0 s.call o.2 in
     record {
@@ -115,16 +115,16 @@ one_suffix from calls a b rising p q =
     p.named ∙ ap (λ (z : Return). calls_from from z.at p.first calls) ret ∙ ap (λ (z : Option (AnyOp × AnyReply)). calls_from from q.at z calls) first ∙ sym q.named
 
 -- an operation that is not over before the first one
-later_is : (first : Option (AnyOp × AnyReply)) (at : ℕ) (o : Invocation) → IsPiece o (piece_later first at o)
+later_is : (first : Option (AnyOp × AnyReply)) (at : ℕ) (o : Invocation) → IsCutOperation o (operation_later first at o)
 later_is first at o = whole (nat_lt at o.number)
   where
-    pending : IsPiece o (pending_piece o.number o.op)
+    pending : IsCutOperation o (as_pending o.number o.op)
     pending = record { number = refl; kind = refl; returned = λ when reply e. absurd (cc e) }
 
     same_at : (a : ℕ) (r : AnyReply) (b : ℕ) (t : AnyReply) → Returned a r ≡ Returned b t → a ≡ b
     same_at a r b t e = cc
 
-    with_value : (t : ℕ) (r : AnyReply) → o.«end» ≡ Returned t r → (v : Option ℤ) → written_before first o.op r ≡ v → IsPiece o (option_map_or (write_piece o.number t) v (pending_piece o.number o.op))
+    with_value : (t : ℕ) (r : AnyReply) → o.«end» ≡ Returned t r → (v : Option ℤ) → written_before first o.op r ≡ v → IsCutOperation o (option_map_or (as_write o.number t) v (as_pending o.number o.op))
     with_value t r q None w = pending
     with_value t r q (Some v) w = record {
       number = refl;
@@ -132,78 +132,78 @@ later_is first at o = whole (nat_lt at o.number)
       returned = λ when reply e. (r, q ∙ ap (λ (z : ℕ). Returned z r) (same_at t (Value (Some v)) when reply e));
     }
 
-    ended : (e : End) → o.«end» ≡ e → IsPiece o (overlapping_piece first o.number o.op e)
+    ended : (e : End) → o.«end» ≡ e → IsCutOperation o (overlapping_operation first o.number o.op e)
     ended (Returned t r) q = with_value t r q (written_before first o.op r) refl
     ended Pending q = pending
     ended Failed q = pending
 
-    whole : (b : Bool) → IsPiece o (cond b o (overlapping_piece first o.number o.op o.«end»))
+    whole : (b : Bool) → IsCutOperation o (cond b o (overlapping_operation first o.number o.op o.«end»))
     whole true = record { number = refl; kind = refl; returned = λ when reply e. (reply, e) }
     whole false = ended o.«end» refl
 
-piece_is : (h : ObjectCalls) (from at : ℕ) (first : Option (AnyOp × AnyReply)) (reply : AnyReply) → IsObjectHistory h
-    → IsStartPiece h.ops from at first reply → (o p : Invocation) → In o h.ops → piece_from from at first o ≡ Some p → IsPiece o p
-piece_is h from at first said is s o p i e = failed (has_failed o.«end») e
+operation_is : (h : ObjectCalls) (from at : ℕ) (first : Option (AnyOp × AnyReply)) (reply : AnyReply) → IsObjectHistory h
+    → IsStartOperation h.ops from at first reply → (o p : Invocation) → In o h.ops → operation_from from at first o ≡ Some p → IsCutOperation o p
+operation_is h from at first said is s o p i e = failed (has_failed o.«end») e
   where
-    begins : (f : Option (AnyOp × AnyReply)) → first ≡ f → o.number ≡ from → option_map (returned_piece from at) f ≡ Some p → IsPiece o p
+    begins : (f : Option (AnyOp × AnyReply)) → first ≡ f → o.number ≡ from → option_map (as_returned from at) f ≡ Some p → IsCutOperation o p
     begins None q n e = absurd (cc e)
     begins (Some x) q n e =
         let own = one_number (λ (z : Invocation). z.number) o s.operation h.ops (pairs_from_all (λ a b. a.number < b.number) h.ops is.rising) i s.known (n ∙ sym s.number) in
         let k = subst (λ (z : Option (Option (AnyOp × AnyReply))). IfSome z (λ f. IfSome f (λ p. kind_of p.0 ≡ kind_of s.operation.op)))
         (s.told ∙ ap (λ (z : Option (AnyOp × AnyReply)). Some z) q) (leaves_kind s.operation.op said) in
-        let piece : IsPiece o (returned_piece from at x) = record {
+        let cut_operation : IsCutOperation o (as_returned from at x) = record {
           number = sym n;
           kind = k ∙ ap (λ (z : Invocation). kind_of z.op) (sym own);
           returned = λ when reply e. (said, ap (λ (z : Invocation). z.«end») own ∙ s.ended ∙ ap (λ (z : ℕ). Returned z said) (same_at at x.1 when reply e));
         } in
-        subst (IsPiece o) (same_Some (returned_piece from at x) p e) piece
+        subst (IsCutOperation o) (same_Some (as_returned from at x) p e) cut_operation
       where
         same_at : (a : ℕ) (r : AnyReply) (b : ℕ) (t : AnyReply) → Returned a r ≡ Returned b t → a ≡ b
         same_at a r b t e = cc
 
-    over : (b : Bool) → cond b None (Some (piece_later first at o)) ≡ Some p → IsPiece o p
+    over : (b : Bool) → cond b None (Some (operation_later first at o)) ≡ Some p → IsCutOperation o p
     over true e = absurd (cc e)
-    over false e = subst (IsPiece o) (same_Some (piece_later first at o) p e) (later_is first at o)
+    over false e = subst (IsCutOperation o) (same_Some (operation_later first at o) p e) (later_is first at o)
 
-    own_or : (b : Bool) → (o.number == from) ≡ b → cond b (option_map (returned_piece from at) first) (cond (is_over from o.«end») None (Some (piece_later first at o))) ≡ Some p → IsPiece o p
+    own_or : (b : Bool) → (o.number == from) ≡ b → cond b (option_map (as_returned from at) first) (cond (is_over from o.«end») None (Some (operation_later first at o))) ≡ Some p → IsCutOperation o p
     own_or true n e = begins first refl (eqb-true o.number from n) e
     own_or false n e = over (is_over from o.«end») e
 
-    failed : (b : Bool) → cond b None (cond (o.number == from) (option_map (returned_piece from at) first) (cond (is_over from o.«end») None (Some (piece_later first at o)))) ≡ Some p → IsPiece o p
+    failed : (b : Bool) → cond b None (cond (o.number == from) (option_map (as_returned from at) first) (cond (is_over from o.«end») None (Some (operation_later first at o)))) ≡ Some p → IsCutOperation o p
     failed true e = absurd (cc e)
     failed false e = own_or (o.number == from) refl e
 
-piece_lives : (from at : ℕ) (first : Option (AnyOp × AnyReply)) (o p : Invocation) → piece_from from at first o ≡ Some p → p.«end» ≢ Failed
-piece_lives from at first o p e = failed (has_failed o.«end») refl e
+operation_lives : (from at : ℕ) (first : Option (AnyOp × AnyReply)) (o p : Invocation) → operation_from from at first o ≡ Some p → p.«end» ≢ Failed
+operation_lives from at first o p e = failed (has_failed o.«end») refl e
   where
-    begins : (f : Option (AnyOp × AnyReply)) → option_map (returned_piece from at) f ≡ Some p → p.«end» ≢ Failed
+    begins : (f : Option (AnyOp × AnyReply)) → option_map (as_returned from at) f ≡ Some p → p.«end» ≢ Failed
     begins None e = absurd (cc e)
-    begins (Some x) e = subst (λ (z : Invocation). z.«end» ≢ Failed) (same_Some (returned_piece from at x) p e) (λ f. absurd (cc f))
+    begins (Some x) e = subst (λ (z : Invocation). z.«end» ≢ Failed) (same_Some (as_returned from at x) p e) (λ f. absurd (cc f))
 
-    with_value : (number t : ℕ) (op : AnyOp) (v : Option ℤ) → (option_map_or (write_piece number t) v (pending_piece number op)).«end» ≢ Failed
+    with_value : (number t : ℕ) (op : AnyOp) (v : Option ℤ) → (option_map_or (as_write number t) v (as_pending number op)).«end» ≢ Failed
     with_value number t op None f = absurd (cc f)
     with_value number t op (Some v) f = absurd (cc f)
 
-    overlaps : (h : End) → (overlapping_piece first o.number o.op h).«end» ≢ Failed
+    overlaps : (h : End) → (overlapping_operation first o.number o.op h).«end» ≢ Failed
     overlaps (Returned t r) f = with_value o.number t o.op (written_before first o.op r) f
     overlaps Pending f = absurd (cc f)
     overlaps Failed f = absurd (cc f)
 
-    later : (b : Bool) → has_failed o.«end» ≡ false → (cond b o (overlapping_piece first o.number o.op o.«end»)).«end» ≢ Failed
+    later : (b : Bool) → has_failed o.«end» ≡ false → (cond b o (overlapping_operation first o.number o.op o.«end»)).«end» ≢ Failed
     later true q = did_not_fail o.«end» q
     later false q = overlaps o.«end»
 
-    over : (b : Bool) → has_failed o.«end» ≡ false → cond b None (Some (piece_later first at o)) ≡ Some p → p.«end» ≢ Failed
+    over : (b : Bool) → has_failed o.«end» ≡ false → cond b None (Some (operation_later first at o)) ≡ Some p → p.«end» ≢ Failed
     over true q e = absurd (cc e)
-    over false q e = subst (λ (z : Invocation). z.«end» ≢ Failed) (same_Some (piece_later first at o) p e) (later (nat_lt at o.number) q)
+    over false q e = subst (λ (z : Invocation). z.«end» ≢ Failed) (same_Some (operation_later first at o) p e) (later (nat_lt at o.number) q)
 
     own_or : (b : Bool) → has_failed o.«end» ≡ false
-        → cond b (option_map (returned_piece from at) first) (cond (is_over from o.«end») None (Some (piece_later first at o))) ≡ Some p → p.«end» ≢ Failed
+        → cond b (option_map (as_returned from at) first) (cond (is_over from o.«end») None (Some (operation_later first at o))) ≡ Some p → p.«end» ≢ Failed
     own_or true q e = begins first e
     own_or false q e = over (is_over from o.«end») q e
 
     failed : (b : Bool) → has_failed o.«end» ≡ b
-        → cond b None (cond (o.number == from) (option_map (returned_piece from at) first) (cond (is_over from o.«end») None (Some (piece_later first at o)))) ≡ Some p → p.«end» ≢ Failed
+        → cond b None (cond (o.number == from) (option_map (as_returned from at) first) (cond (is_over from o.«end») None (Some (operation_later first at o)))) ≡ Some p → p.«end» ≢ Failed
     failed true q e = absurd (cc e)
     failed false q e = own_or (o.number == from) q e
 
@@ -213,15 +213,15 @@ piece_lives from at first o p e = failed (has_failed o.«end») refl e
 abbrev as_call : Invocation → Call
 as_call o = record { number = o.number; op = o.op; returned = return_of o.«end» }
 
-piece_call : (from at : ℕ) (first : Option (AnyOp × AnyReply)) (o : Invocation) → bind (piece_from from at first o) call_of ≡ bind (call_of o) (call_from from at first)
-piece_call from at first o = go (has_failed o.«end») refl
+operation_call : (from at : ℕ) (first : Option (AnyOp × AnyReply)) (o : Invocation) → bind (operation_from from at first o) call_of ≡ bind (call_of o) (call_from from at first)
+operation_call from at first o = go (has_failed o.«end») refl
   where
-    begins : (f : Option (AnyOp × AnyReply)) → bind (option_map (returned_piece from at) f) call_of ≡ option_map (returned_call from at) f
+    begins : (f : Option (AnyOp × AnyReply)) → bind (option_map (as_returned from at) f) call_of ≡ option_map (returned_call from at) f
     begins None = refl
     begins (Some x) = refl
 
     with_value : (number at : ℕ) (op : AnyOp) (v : Option ℤ)
-        → call_of (option_map_or (write_piece number at) v (pending_piece number op)) ≡ Some (option_map_or (write_call number at) v (pending_call number op))
+        → call_of (option_map_or (as_write number at) v (as_pending number op)) ≡ Some (option_map_or (write_call number at) v (pending_call number op))
     with_value number at op None = refl
     with_value number at op (Some v) = refl
 
@@ -230,13 +230,13 @@ piece_call from at first o = go (has_failed o.«end») refl
     did Pending q = refl
     did Failed q = absurd (cc q)
 
-    overlaps : (e : End) → call_of (overlapping_piece first o.number o.op e) ≡ Some (overlapping first o.number o.op (return_of e))
+    overlaps : (e : End) → call_of (overlapping_operation first o.number o.op e) ≡ Some (overlapping first o.number o.op (return_of e))
     overlaps (Returned t r) = with_value o.number t o.op (written_before first o.op r)
     overlaps Pending = refl
     overlaps Failed = refl
 
     late : (b : Bool) → has_failed o.«end» ≡ false
-        → call_of (cond b o (overlapping_piece first o.number o.op o.«end»)) ≡ Some (cond b (as_call o) (overlapping first o.number o.op (return_of o.«end»)))
+        → call_of (cond b o (overlapping_operation first o.number o.op o.«end»)) ≡ Some (cond b (as_call o) (overlapping first o.number o.op (return_of o.«end»)))
     late true q = did o.«end» q
     late false q = overlaps o.«end»
 
@@ -245,12 +245,12 @@ piece_call from at first o = go (has_failed o.«end») refl
     over Pending = refl
     over Failed = refl
 
-    kept : (b : Bool) → has_failed o.«end» ≡ false → bind (cond b None (Some (piece_later first at o))) call_of ≡ cond b None (Some (call_later first at (as_call o)))
+    kept : (b : Bool) → has_failed o.«end» ≡ false → bind (cond b None (Some (operation_later first at o))) call_of ≡ cond b None (Some (call_later first at (as_call o)))
     kept true q = refl
     kept false q = late (nat_lt at o.number) q
 
     own : (b : Bool) → has_failed o.«end» ≡ false
-        → bind (cond b (option_map (returned_piece from at) first) (cond (is_over from o.«end») None (Some (piece_later first at o)))) call_of
+        → bind (cond b (option_map (as_returned from at) first) (cond (is_over from o.«end») None (Some (operation_later first at o)))) call_of
         ≡ cond b (option_map (returned_call from at) first) (cond (ended_before from (return_of o.«end»)) None (Some (call_later first at (as_call o))))
     own true q = begins first
     own false q = kept (is_over from o.«end») q ∙ ap (λ b. cond b None (Some (call_later first at (as_call o)))) (over o.«end»)
@@ -261,23 +261,23 @@ piece_call from at first o = go (has_failed o.«end») refl
     failed Failed q = refl
 
     go : (b : Bool) → has_failed o.«end» ≡ b
-        → bind (cond b None (cond (o.number == from) (option_map (returned_piece from at) first)
-        (cond (is_over from o.«end») None (Some (piece_later first at o))))) call_of ≡ bind (call_of o) (call_from from at first)
+        → bind (cond b None (cond (o.number == from) (option_map (as_returned from at) first)
+        (cond (is_over from o.«end») None (Some (operation_later first at o))))) call_of ≡ bind (call_of o) (call_from from at first)
     go true q = ap (λ (z : Option Call). bind z (call_from from at first)) (sym (failed o.«end» q))
     go false q = own (o.number == from) q ∙ ap (λ (z : Option Call). bind z (call_from from at first)) (sym (did o.«end» q))
 
 pub from_history : (h : ObjectCalls) (from at : ℕ) (first : Option (AnyOp × AnyReply)) → IsObjectHistory h → IsStart (calls_of h.ops) from at first
-    → IsObjectHistory (record { object = h.object; kind = h.kind; ops = filter_map (piece_from from at first) h.ops })
-from_history h from at first is s = pieces_history h.object h.kind h.ops (piece_from from at first) (piece_is h from at first s.reply is (start_piece h.ops from at first s)) is
+    → IsObjectHistory (record { object = h.object; kind = h.kind; ops = filter_map (operation_from from at first) h.ops })
+from_history h from at first is s = cut_history h.object h.kind h.ops (operation_from from at first) (operation_is h from at first s.reply is (start_operation h.ops from at first s)) is
 
-pub from_calls : (from at : ℕ) (first : Option (AnyOp × AnyReply)) (ops : List Invocation) → calls_of (filter_map (piece_from from at first) ops) ≡ calls_from from at first (calls_of ops)
-from_calls from at first ops = pieces_calls (piece_from from at first) (call_from from at first) ops (piece_call from at first)
+pub from_calls : (from at : ℕ) (first : Option (AnyOp × AnyReply)) (ops : List Invocation) → calls_of (filter_map (operation_from from at first) ops) ≡ calls_from from at first (calls_of ops)
+from_calls from at first ops = cut_calls (operation_from from at first) (call_from from at first) ops (operation_call from at first)
 
 pub from_shows : (h : ObjectCalls) (from at : ℕ) (first : Option (AnyOp × AnyReply)) → IsObjectHistory h → IsStart (calls_of h.ops) from at first
-    → IsPart h (record { object = h.object; kind = h.kind; ops = filter_map (piece_from from at first) h.ops })
+    → IsPart h (record { object = h.object; kind = h.kind; ops = filter_map (operation_from from at first) h.ops })
 from_shows h from at first is s = record {
   object = refl;
-  none_failed = pieces_lives (piece_from from at first) h.ops (piece_lives from at first);
+  none_failed = cut_lives (operation_from from at first) h.ops (operation_lives from at first);
   shows = λ none order v.
       let kinds = all_calls (λ number op returned. kind_of op ≡ h.kind) h.ops (λ z i c q. all_at (λ o. kind_of o.op ≡ h.kind) h.ops is.of_kind z i) in
       let found = start_valid h.kind (calls_of h.ops) from at first order kinds s v in

@@ -1,3 +1,4 @@
+pub mod Booleans
 pub mod Simulation
 pub mod Contents
 pub mod Conserved
@@ -9,7 +10,7 @@ pub mod Freshness
 pub mod Sequences
 pub mod Overlaps
 pub mod Suffixes
-pub mod Pieces
+pub mod CutOperations
 pub mod Before
 pub mod Kept
 pub mod Later

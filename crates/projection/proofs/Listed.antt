@@ -31,7 +31,7 @@ use Rattle.projection.specs.Cuts.{keeps_value, keeps_number, IsSuffix, Names, Na
 use Rattle.projection.specs.Listed.{has_number, listed}
 use Rattle.projection.proofs.Sequences.{one_number, in_filter_map}
 use Rattle.projection.proofs.Overlaps.{before_facts, cut_of, in_time_cut, later_replies}
-use Rattle.projection.proofs.Pieces.{filter_map-filter}
+use Rattle.projection.proofs.CutOperations.{filter_map-filter}
 use Rattle.projection.proofs.Prefixes.{prefix_valid}
 use Rattle.projection.proofs.Suffixes.{call_from_cases, start_valid}
 use Rattle.projection.proofs.Recasts.{recast_timed}
@@ -39,6 +39,7 @@ use Rattle.projection.proofs.Shadows.{cell_into, cell_valid}
 use Rattle.projection.proofs.Keyed.{entry_into, entry_valid}
 use Rattle.projection.proofs.Later.{leaves_kind}
 use Rattle.projection.proofs.Named.{AreRising, from_timed, timed_named, rising_timed}
+use Rattle.projection.proofs.Booleans.{false_is_not_true}
 
 -- ---- what holds of the calls of a history, and of those of each part
 
@@ -280,12 +281,9 @@ from_step kind from calls part kept order are h covers v = go (kept from) refl
         (sym (from_timed from calls part are.rising h z.0 y.0 z.1 z.2).number ∙ y.2) in
         let made : call_from from h.at h.first e ≡ Some y.0 = ap (call_from from h.at h.first) (sym own) ∙ z.2 in
         elim (call_from_cases from h.at h.first e y.0 made) [
-          | inl w ↦ absurd (unlike (sym q ∙ ap kept (sym (ap (λ (z : Call). z.number) w.2) ∙ y.2) ∙ chosen))
+          | inl w ↦ absurd (false_is_not_true (sym q ∙ ap kept (sym (ap (λ (z : Call). z.number) w.2) ∙ y.2) ∙ chosen))
           | inr w ↦ made ∙ ap (λ (z : Call). Some z) w.1
         ]
-      where
-        unlike : false ≡ true → ⊥
-        unlike e = absurd (cc e)
 
     all_later : (cs : List Call) → ((e : Call) → In e cs
         → call_from from h.at h.first e ≡ Some (call_later h.first h.at e))

@@ -9,6 +9,7 @@ use Rattle.model.proofs.Lists.{In, Pairs, in_from_contains, contains_from_in, al
 use Rattle.projection.proofs.Simulation.{pick, in_pick, pairs_pick}
 use Rattle.projection.proofs.Sequences.{in_filter_map, in_filter_map_from, pairs_filter_map}
 use Rattle.projection.proofs.Overlaps.{IsTimed, in_time}
+use Rattle.projection.proofs.Booleans.{false_is_not_true}
 
 -- The step in the part, where the whole comes to `after`: a call that is left out, or is pending, may be none.
 abbrev pub StepOf : (Content → Content → Type 0) → Option Call → Content → Content → Type 0
@@ -30,10 +31,7 @@ picked R cut m [] c d r h = record { flags = []; replies = tt; whole = λ x i so
 picked R cut m (e ∷ es) c d r h = go (λ b s. picked R cut m es h.0 b s h.4) (cut e) (m.step e c d h.0 h.1 r h.2 h.3)
   where
     open_call : (x f : Call) → x ≡ f → f.returned ≡ None → IsSome x.returned → ⊥
-    open_call x f q n so = unlike (sym (ap is_some (ap (λ (z : Call). z.returned) q ∙ n)) ∙ so)
-      where
-        unlike : false ≡ true → ⊥
-        unlike e = absurd (cc e)
+    open_call x f q n so = false_is_not_true (sym (ap is_some (ap (λ (z : Call). z.returned) q ∙ n)) ∙ so)
 
     go : ((b : Content) → R h.0 b → Picked b (filter_map cut es)) → (o : Option Call) → StepOf R o d h.0 → Picked d (cons_option o (filter_map cut es))
     go again None s = again d s
@@ -89,8 +87,5 @@ mapped_valid R cut calls kind into m start order v =
     )
   where
     was : (a b : Option Return) → ((t : Return) → a ≡ Some t → (u : Return) × (b ≡ Some u) × (u.at ≡ t.at)) → IsSome a → IsSome b
-    was None b f so = absurd (unlike so)
-      where
-        unlike : false ≡ true → ⊥
-        unlike e = absurd (cc e)
+    was None b f so = absurd (false_is_not_true so)
     was (Some t) b f so = ap is_some (f t refl).1

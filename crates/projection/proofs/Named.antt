@@ -18,7 +18,7 @@ use Rattle.projection.specs.Parts.{return_before, call_before, calls_before, end
 use Rattle.projection.specs.Parts.{call_from}
 use Rattle.projection.specs.Cuts.{keeps_value, keeps_number, IsSuffix, Names, NamesPart}
 use Rattle.projection.proofs.Sequences.{one_number, pairs_filter_map}
-use Rattle.projection.proofs.Pieces.{filter_map-filter, map-same}
+use Rattle.projection.proofs.CutOperations.{filter_map-filter, map-same}
 use Rattle.projection.proofs.Overlaps.{IsTimed, cut_of}
 use Rattle.projection.proofs.Recasts.{recast_timed}
 use Rattle.projection.proofs.Later.{one_suffix}

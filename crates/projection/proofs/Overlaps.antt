@@ -14,12 +14,7 @@ use Rattle.model.specs.Objects.{Content, queue, stack, heap, register, table, mu
 use Rattle.model.specs.Orders.{Call, Return, ReturnsBefore, RepliesAlong}
 use Rattle.model.proofs.Lists.{In}
 use Rattle.projection.specs.Parts.{key_of, leaves, ended_before, written, written_before, write_call, pending_call, overlapping, call_later, returned_call}
-
-unlike : false ≡ true → ⊥
-unlike e = absurd (cc e)
-
-lt_true : (a b : ℕ) → nat_lt a b ≡ true → a < b
-lt_true a b e = grind (arith, nat_tests)
+use Rattle.projection.proofs.Booleans.{less_by_test}
 
 -- ---- what was written
 
@@ -221,7 +216,7 @@ late_facts from at first y so = whole (nat_lt at y.number) refl so
     returned (Some r) q l so = with_value r q l (written_before first y.op r.reply) refl so
 
     whole : (b : Bool) → nat_lt at y.number ≡ b → IsSome (cond b y (overlapping first y.number y.op y.returned)).returned → Late from at first y
-    whole true l so = let r = some_of y.returned so in record { return = r.0; was = r.1; either = inl (lt_true at y.number l) }
+    whole true l so = let r = some_of y.returned so in record { return = r.0; was = r.1; either = inl (less_by_test at y.number l) }
     whole false l so = returned y.returned refl l so
 
 -- ---- their replies

@@ -12,9 +12,9 @@ use Rattle.events.specs.declared.operations.End.TheVariants.{Returned, Pending, 
 use Rattle.events.specs.declared.operations.Invocation.{Invocation}
 use Rattle.events.specs.Operations.{call_with, call_of}
 use Rattle.projection.specs.Recasts.{recast}
-use Rattle.projection.specs.Pieces.{pending_piece, returned_piece, recast_end}
+use Rattle.projection.specs.CutOperations.{as_pending, as_returned, recast_end}
 use Rattle.projection.specs.Parts.{pending_call, returned_call}
-use Rattle.projection.proofs.Pieces.{bind, IsPieceOf}
+use Rattle.projection.proofs.CutOperations.{bind, IsCutOperationOf}
 use Rattle.projection.proofs.Overlaps.{IsTimed}
 use Rattle.projection.proofs.Mapped.{StepOf, Maps}
 
@@ -91,24 +91,24 @@ pub record IsInto (done : Done) (pending : Open) (into : AnyOp → Kind) : Type 
   pub returned : (kept : Bool) (op : AnyOp) (reply : AnyReply) → IfSome (done kept op reply) (λ f. kind_of f.0 ≡ into op)
   pub unfinished : (op : AnyOp) → IfSome (pending op) (λ f. kind_of f ≡ into op)
 
-pub recast_piece : (done : Done) (pending : Open) (into : AnyOp → Kind) → IsInto done pending into → (kept : Bool) (o p : Invocation)
-    → recast_end (done kept) pending o.number o.op o.«end» ≡ Some p → IsPieceOf (into o.op) o p
-recast_piece done pending into is kept o p e = go o.«end» refl e
+pub recast_operation : (done : Done) (pending : Open) (into : AnyOp → Kind) → IsInto done pending into → (kept : Bool) (o p : Invocation)
+    → recast_end (done kept) pending o.number o.op o.«end» ≡ Some p → IsCutOperationOf (into o.op) o p
+recast_operation done pending into is kept o p e = go o.«end» refl e
   where
     finished : (at : ℕ) (r : AnyReply) → o.«end» ≡ Returned at r → (f : Option (AnyOp × AnyReply)) → IfSome f (λ f. kind_of f.0 ≡ into o.op)
-        → option_map (returned_piece o.number at) f ≡ Some p → IsPieceOf (into o.op) o p
+        → option_map (as_returned o.number at) f ≡ Some p → IsCutOperationOf (into o.op) o p
     finished at r q None l e = absurd (cc e)
-    finished at r q (Some f) l e = subst (IsPieceOf (into o.op) o) (same_Some (returned_piece o.number at f) p e)
+    finished at r q (Some f) l e = subst (IsCutOperationOf (into o.op) o) (same_Some (as_returned o.number at f) p e)
         (record { number = refl; kind = l; returned = λ when reply w. (r, q ∙ ap (λ (z : ℕ). Returned z r) (same_at at f.1 when reply w)) })
       where
         same_at : (a : ℕ) (r : AnyReply) (b : ℕ) (t : AnyReply) → Returned a r ≡ Returned b t → a ≡ b
         same_at a r b t e = cc
 
-    unfinished : (f : Option AnyOp) → IfSome f (λ f. kind_of f ≡ into o.op) → option_map (pending_piece o.number) f ≡ Some p → IsPieceOf (into o.op) o p
+    unfinished : (f : Option AnyOp) → IfSome f (λ f. kind_of f ≡ into o.op) → option_map (as_pending o.number) f ≡ Some p → IsCutOperationOf (into o.op) o p
     unfinished None l e = absurd (cc e)
-    unfinished (Some op) l e = subst (IsPieceOf (into o.op) o) (same_Some (pending_piece o.number op) p e) (record { number = refl; kind = l; returned = λ when reply w. absurd (cc w) })
+    unfinished (Some op) l e = subst (IsCutOperationOf (into o.op) o) (same_Some (as_pending o.number op) p e) (record { number = refl; kind = l; returned = λ when reply w. absurd (cc w) })
 
-    go : (h : End) → o.«end» ≡ h → recast_end (done kept) pending o.number o.op h ≡ Some p → IsPieceOf (into o.op) o p
+    go : (h : End) → o.«end» ≡ h → recast_end (done kept) pending o.number o.op h ≡ Some p → IsCutOperationOf (into o.op) o p
     go (Returned at r) q e = finished at r q (done kept o.op r) (is.returned kept o.op r) e
     go Pending q e = unfinished (pending o.op) (is.unfinished o.op) e
     go Failed q e = absurd (cc e)
@@ -116,13 +116,13 @@ recast_piece done pending into is kept o p e = go o.«end» refl e
 pub recast_lives : (done : Done) (pending : Open) (kept : Bool) (o p : Invocation) → recast_end (done kept) pending o.number o.op o.«end» ≡ Some p → p.«end» ≢ Failed
 recast_lives done pending kept o p e = go o.«end» e
   where
-    finished : (at : ℕ) (f : Option (AnyOp × AnyReply)) → option_map (returned_piece o.number at) f ≡ Some p → p.«end» ≢ Failed
+    finished : (at : ℕ) (f : Option (AnyOp × AnyReply)) → option_map (as_returned o.number at) f ≡ Some p → p.«end» ≢ Failed
     finished at None e = absurd (cc e)
-    finished at (Some f) e = subst (λ (z : Invocation). z.«end» ≢ Failed) (same_Some (returned_piece o.number at f) p e) (λ q. absurd (cc q))
+    finished at (Some f) e = subst (λ (z : Invocation). z.«end» ≢ Failed) (same_Some (as_returned o.number at f) p e) (λ q. absurd (cc q))
 
-    unfinished : (f : Option AnyOp) → option_map (pending_piece o.number) f ≡ Some p → p.«end» ≢ Failed
+    unfinished : (f : Option AnyOp) → option_map (as_pending o.number) f ≡ Some p → p.«end» ≢ Failed
     unfinished None e = absurd (cc e)
-    unfinished (Some op) e = subst (λ (z : Invocation). z.«end» ≢ Failed) (same_Some (pending_piece o.number op) p e) (λ q. absurd (cc q))
+    unfinished (Some op) e = subst (λ (z : Invocation). z.«end» ≢ Failed) (same_Some (as_pending o.number op) p e) (λ q. absurd (cc q))
 
     go : (h : End) → recast_end (done kept) pending o.number o.op h ≡ Some p → p.«end» ≢ Failed
     go (Returned at r) e = finished at (done kept o.op r) e
@@ -133,11 +133,11 @@ pub recast_call : (done : Done) (pending : Open) (kept : ℕ → Bool) (o : Invo
     → bind (recast_end (done (kept o.number)) pending o.number o.op o.«end») call_of ≡ bind (call_of o) (λ e. recast (done (kept e.number)) pending e.number e.op e.returned)
 recast_call done pending kept o = go o.«end»
   where
-    finished : (at : ℕ) (f : Option (AnyOp × AnyReply)) → bind (option_map (returned_piece o.number at) f) call_of ≡ option_map (returned_call o.number at) f
+    finished : (at : ℕ) (f : Option (AnyOp × AnyReply)) → bind (option_map (as_returned o.number at) f) call_of ≡ option_map (returned_call o.number at) f
     finished at None = refl
     finished at (Some f) = refl
 
-    unfinished : (f : Option AnyOp) → bind (option_map (pending_piece o.number) f) call_of ≡ option_map (pending_call o.number) f
+    unfinished : (f : Option AnyOp) → bind (option_map (as_pending o.number) f) call_of ≡ option_map (pending_call o.number) f
     unfinished None = refl
     unfinished (Some op) = refl
 

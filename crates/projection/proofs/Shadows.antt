@@ -13,15 +13,13 @@ use Rattle.model.proofs.Lists.{all_at}
 use Rattle.events.specs.declared.operations.Invocation.{Invocation}
 use Rattle.events.specs.Operations.{calls_of, ObjectCalls, IsObjectHistory}
 use Rattle.projection.specs.Cuts.{IsPart}
-use Rattle.projection.specs.Pieces.{cell_piece}
+use Rattle.projection.specs.CutOperations.{cell_operation}
 use Rattle.projection.specs.Cells.{write_of, swap_done, cell_done, cell_open, cell_call, cell_calls}
-use Rattle.projection.proofs.Pieces.{IsPieceOf, pieces_into, pieces_calls, pieces_lives}
+use Rattle.projection.proofs.CutOperations.{IsCutOperationOf, cut_into, cut_calls, cut_lives}
 use Rattle.projection.proofs.Contents.{IsCellShadow, same_expected}
-use Rattle.projection.proofs.Recasts.{IsInto, DoneOf, OpenOf, Steps, recast_maps, recast_piece, recast_call, recast_lives}
+use Rattle.projection.proofs.Recasts.{IsInto, DoneOf, OpenOf, Steps, recast_maps, recast_operation, recast_call, recast_lives}
 use Rattle.projection.proofs.Mapped.{mapped_valid}
-
-unlike : false ≡ true → ⊥
-unlike e = absurd (cc e)
+use Rattle.projection.proofs.Booleans.{false_is_not_true}
 
 -- of another kind nothing stays, so the part says nothing
 abbrev IsCell : (ℤ → Bool) → Content → Content → Type 0
@@ -44,7 +42,7 @@ CellSteps keeps other op d after reply = Steps (IsCell keeps) (cell_done keeps o
 
 -- a value that is not kept says nothing of the part
 free : (keeps : ℤ → Bool) (v : ℤ) (y : Option ℤ) → keeps v ≡ false → IsCellShadow keeps (Some v) y
-free keeps v y f = λ k. absurd (unlike (sym f ∙ k))
+free keeps v y f = λ k. absurd (false_is_not_true (sym f ∙ k))
 
 writes : (keeps : ℤ → Bool) (other v : ℤ) (y : Option ℤ) → CellSteps keeps other (Write v) (register y) (register (Some v)) (Value (Some v))
 writes keeps other v y = record { returned = λ kept. done (keeps v) kept refl; unfinished = pending (keeps v) refl }
@@ -183,19 +181,19 @@ cell_valid kind calls keeps other kept order v =
     (recast_maps (IsCell keeps) (cell_done keeps other) (cell_open keeps) kept (record { step = steps keeps other })) (begins keeps kind) order v
 
 pub cell_history : (keeps : ℤ → Bool) (other : ℤ) (kept : ℕ → Bool) (h : ObjectCalls) → IsObjectHistory h
-    → IsObjectHistory (record { object = h.object; kind = h.kind; ops = filter_map (cell_piece keeps other kept) h.ops })
+    → IsObjectHistory (record { object = h.object; kind = h.kind; ops = filter_map (cell_operation keeps other kept) h.ops })
 cell_history keeps other kept h is =
-    pieces_into h.object h.kind h.kind h.ops (cell_piece keeps other kept)
-    (λ o p i e. subst (λ (k : Kind). IsPieceOf k o p) (all_at (λ (o : Invocation). kind_of o.op ≡ h.kind) h.ops is.of_kind o i)
-    (recast_piece (cell_done keeps other) (cell_open keeps) kind_of (cell_into keeps other) (kept o.number) o p e)) is
+    cut_into h.object h.kind h.kind h.ops (cell_operation keeps other kept)
+    (λ o p i e. subst (λ (k : Kind). IsCutOperationOf k o p) (all_at (λ (o : Invocation). kind_of o.op ≡ h.kind) h.ops is.of_kind o i)
+    (recast_operation (cell_done keeps other) (cell_open keeps) kind_of (cell_into keeps other) (kept o.number) o p e)) is
 
-pub cell_calls_of : (keeps : ℤ → Bool) (other : ℤ) (kept : ℕ → Bool) (ops : List Invocation) → calls_of (filter_map (cell_piece keeps other kept) ops) ≡ cell_calls keeps other kept (calls_of ops)
-cell_calls_of keeps other kept ops = pieces_calls (cell_piece keeps other kept) (cell_call keeps other kept) ops (recast_call (cell_done keeps other) (cell_open keeps) kept)
+pub cell_calls_of : (keeps : ℤ → Bool) (other : ℤ) (kept : ℕ → Bool) (ops : List Invocation) → calls_of (filter_map (cell_operation keeps other kept) ops) ≡ cell_calls keeps other kept (calls_of ops)
+cell_calls_of keeps other kept ops = cut_calls (cell_operation keeps other kept) (cell_call keeps other kept) ops (recast_call (cell_done keeps other) (cell_open keeps) kept)
 
-pub cell_shows : (keeps : ℤ → Bool) (other : ℤ) (kept : ℕ → Bool) (h : ObjectCalls) → IsPart h (record { object = h.object; kind = h.kind; ops = filter_map (cell_piece keeps other kept) h.ops })
+pub cell_shows : (keeps : ℤ → Bool) (other : ℤ) (kept : ℕ → Bool) (h : ObjectCalls) → IsPart h (record { object = h.object; kind = h.kind; ops = filter_map (cell_operation keeps other kept) h.ops })
 cell_shows keeps other kept h = record {
   object = refl;
-  none_failed = pieces_lives (cell_piece keeps other kept) h.ops (λ o p e. recast_lives (cell_done keeps other) (cell_open keeps) (kept o.number) o p e);
+  none_failed = cut_lives (cell_operation keeps other kept) h.ops (λ o p e. recast_lives (cell_done keeps other) (cell_open keeps) (kept o.number) o p e);
   shows = λ none order v.
       let r = cell_valid h.kind (calls_of h.ops) keeps other kept order v in
       none r.0 (subst (λ (cs : List Call). IsValidOrder h.kind cs r.0) (sym (cell_calls_of keeps other kept h.ops)) r.1);

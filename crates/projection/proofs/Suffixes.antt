@@ -24,9 +24,7 @@ use Rattle.projection.proofs.Fitting.{MayStep, all_step, closed_simulates}
 use Rattle.projection.proofs.Freshness.{on_key, is_free, free_keeps, all_fit, Begins, tells}
 use Rattle.projection.proofs.Sequences.{in_filter_map, in_filter_map_from, pairs_at, pairs_filter_map}
 use Rattle.projection.proofs.Overlaps.{later_replies, IsCutOf, cut_of, in_time_cut, front_call, IsFront, front_facts, late_facts, first_write, IsWrite, front_replies}
-
-lt_true : (a b : ℕ) → nat_lt a b ≡ true → a < b
-lt_true a b e = grind (arith, nat_tests)
+use Rattle.projection.proofs.Booleans.{less_by_test}
 
 -- ---- replies
 
@@ -38,9 +36,9 @@ record Behind (e : Call) (later : List Call) : Type 0 where
   agrees : IfSome e.returned (λ r. r.reply ≡ reply)
   replies : RepliesAlong after later
 
-replies_behind : (earlier : List Call) (e : Call) (later : List Call) (c : Content) → RepliesAlong c (earlier ++ e ∷ later) → Behind e later
-replies_behind [] e later c h = record { before = c; after = h.0; reply = h.1; does = h.2; agrees = h.3; replies = h.4 }
-replies_behind (x ∷ xs) e later c h = replies_behind xs e later h.0 h.4
+replies_after : (earlier : List Call) (e : Call) (later : List Call) (c : Content) → RepliesAlong c (earlier ++ e ∷ later) → Behind e later
+replies_after [] e later c h = record { before = c; after = h.0; reply = h.1; does = h.2; agrees = h.3; replies = h.4 }
+replies_after (x ∷ xs) e later c h = replies_after xs e later h.0 h.4
 
 -- ---- where the suffix begins
 
@@ -127,7 +125,7 @@ not_ended from None h = refl
 not_ended from (Some r) h = go (nat_lt r.at from) refl
   where
     go : (b : Bool) → nat_lt r.at from ≡ b → b ≡ false
-    go true e = absurd (h r refl (lt_true r.at from e))
+    go true e = absurd (h r refl (less_by_test r.at from e))
     go false e = refl
 
 front_cut : (from at : ℕ) (first : Option (AnyOp × AnyReply)) (y x : Call) → front_call from at first y ≡ Some x → IsCutOf x y
@@ -179,7 +177,7 @@ suffix_valid kind calls e r first order stands kinds ret fr on v =
     let s = in_split e v.entries (there e in_calls (ap is_some ret)) in
     let earlier : List Call = s.0 in
     let later : List Call = s.1 in
-    let b = replies_behind earlier e later (empty kind) (subst (RepliesAlong (empty kind)) s.2 v.replies) in
+    let b = replies_after earlier e later (empty kind) (subst (RepliesAlong (empty kind)) s.2 v.replies) in
     let same = subst (λ (o : Option Return). IfSome o (λ r. r.reply ≡ b.reply)) ret b.agrees in
     let told = subst (λ (o : Option (Content × AnyReply)). IfSome o (λ p. IfSome (leaves e.op p.1) (λ f. Begins (on_key (key_of e.op)) (kind_of e.op) f p.0))) b.does (tells b.before e.op) in
     let begins = subst (λ k. Begins (on_key (key_of e.op)) k first b.after) (of_kind e in_calls)

@@ -7,7 +7,7 @@ pub mod Cuts
 pub mod Listed
 pub mod Counts
 pub mod Ahead
-pub mod Pieces
+pub mod CutOperations
 pub use Rattle.model.specs.Objects
 pub use Rattle.model.specs.Orders
 pub use Rattle.events.specs.Operations

@@ -5,7 +5,7 @@ ghost use Rattle.std.specs.Prelude.{◌≡◌, true, IfOk, IfSome, None, count_b
 ghost use Rattle.events.specs.Operations.{calls_of};
 ghost use Rattle.projection.specs.Absent.{IsAbsent, IsRest};
 ghost use Rattle.projection.specs.Cuts.{IsPart};
-ghost use Rattle.projection.specs.Pieces.{is_late, is_put_before_end, is_taken_before_end};
+ghost use Rattle.projection.specs.CutOperations.{is_late, is_put_before_end, is_taken_before_end};
 
 use events::{End, Invocation, ObjectHistory};
 use seq_objects::{AnyOp, AnyReply};
@@ -75,7 +75,7 @@ fn is_absent(value: i64, before: u32, operations: &[Invocation]) -> bool
 }
 
 /// The operations that did not fail, without those puts and those removals.
-fn pieces(
+fn cut_operations(
     alloc: Global,
     value: i64,
     before: u32,
@@ -116,6 +116,6 @@ pub fn without(
     if !is_absent(value, before, operations) {
         return Ok(None);
     }
-    let ops = pieces(alloc, value, before, operations)?;
+    let ops = cut_operations(alloc, value, before, operations)?;
     Ok(Some(ObjectHistory::new(history.object(), history.kind(), ops)))
 }

@@ -11,10 +11,10 @@ ghost use Rattle.search.specs.Outcomes.{IsNoneValid};
 ghost use Rattle.projection.specs.Ahead as ahead;
 ghost use Rattle.projection.specs.Ahead.{IsBlocked};
 ghost use Rattle.projection.specs.Parts as parts;
-ghost use Rattle.projection.specs.Pieces as pieces;
-ghost use Rattle.projection.specs.Pieces.{ahead_before_end, first_put_end, found_end, is_put};
-ghost use Rattle.projection.specs.Pieces.{is_put_ahead_end, is_settled_end, IsRemoval};
-ghost use Rattle.projection.specs.Pieces.{may_precede_end, may_take_end};
+ghost use Rattle.projection.specs.CutOperations as cut_operations;
+ghost use Rattle.projection.specs.CutOperations.{ahead_before_end, first_put_end, found_end, is_put};
+ghost use Rattle.projection.specs.CutOperations.{is_put_ahead_end, is_settled_end, IsRemoval};
+ghost use Rattle.projection.specs.CutOperations.{may_precede_end, may_take_end};
 
 use crate::suffix::{is_before, operation_at};
 use events::{End, Invocation, ObjectHistory};
@@ -157,7 +157,7 @@ fn all_settled(operations: &[Invocation], value: i64, from: u32) -> bool
 
 /// Whether, if the removal found a value in a stack, each put of it returned before this number.
 fn are_settled(operations: &[Invocation], removal: Removal, from: u32) -> bool
-    ensures { result ≡ pieces.are_settled removal.found removal.op from operations.now }
+    ensures { result ≡ cut_operations.are_settled removal.found removal.op from operations.now }
 {
     match removal.found {
         None => true,

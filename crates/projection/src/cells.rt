@@ -5,7 +5,7 @@ ghost use Rattle.std.specs.List.{filter_map};
 ghost use Rattle.events.specs.Operations.{calls_of};
 ghost use Rattle.projection.specs.Cells as spec;
 ghost use Rattle.projection.specs.Cuts.{keeps_value, keeps_number, IsPart};
-ghost use Rattle.projection.specs.Pieces.{recast_end, cell_piece};
+ghost use Rattle.projection.specs.CutOperations.{recast_end, cell_operation};
 
 use crate::keeping::Values;
 use events::{End, Invocation, ObjectHistory};
@@ -90,7 +90,7 @@ fn pending_op(values: &Values, op: AnyOp) -> Option<AnyOp>
 }
 
 /// What an operation becomes; `None`: it is left out.
-fn piece(values: &Values, other: i64, kept: bool, operation: &Invocation) -> Option<Invocation>
+fn cut_operation(values: &Values, other: i64, kept: bool, operation: &Invocation) -> Option<Invocation>
     ensures { result ≡ recast_end (spec.cell_done (keeps_value values.now) other kept)
         (spec.cell_open (keeps_value values.now)) operation.now.number operation.now.op
         operation.now.«end» }
@@ -118,7 +118,7 @@ fn piece(values: &Values, other: i64, kept: bool, operation: &Invocation) -> Opt
 }
 
 /// The operations of the cell.
-fn pieces(
+fn cut_operations(
     alloc: Global,
     operations: &[Invocation],
     values: &Values,
@@ -126,11 +126,11 @@ fn pieces(
     numbers: &BTreeSet<u32>,
 ) -> Result<Vec<Invocation>, AllocError>
     ensures { IfOk result (λ v. v.items ≡ filter_map
-        (cell_piece (keeps_value values.now) other (keeps_number numbers.now)) operations.now) }
+        (cell_operation (keeps_value values.now) other (keeps_number numbers.now)) operations.now) }
 {
     operations
         .iter()
-        .filter_map(|o| piece(values, other, numbers.contains(&o.number), o))
+        .filter_map(|o| cut_operation(values, other, numbers.contains(&o.number), o))
         .collect(alloc)
 }
 
@@ -153,6 +153,6 @@ pub fn cell(
         ≡ spec.cell_calls (keeps_value values.now) other (keeps_number numbers.now)
         (calls_of history.now.ops)) }
 {
-    let ops = pieces(alloc, history.ops(), values, other, numbers)?;
+    let ops = cut_operations(alloc, history.ops(), values, other, numbers)?;
     Ok(ObjectHistory::new(history.object(), history.kind(), ops))
 }

@@ -6,7 +6,7 @@ ghost use Rattle.events.specs.Operations.{calls_of};
 ghost use Rattle.search.specs.Outcomes.{IsNoneValid};
 ghost use Rattle.projection.specs.Counts as counts;
 ghost use Rattle.projection.specs.Counts.{is_reply, IsOverdrawn};
-ghost use Rattle.projection.specs.Pieces.{is_set, is_gone};
+ghost use Rattle.projection.specs.CutOperations.{is_set, is_gone};
 
 use events::{End, Invocation, ObjectHistory};
 use seq_objects::{AnyOp, AnyReply, Kind};

@@ -4,7 +4,7 @@ ghost use Rattle.std.specs.Prelude.{◌≡◌, List, None, IfOk, IfSome, filter,
 ghost use Rattle.model.specs.Orders.{Call};
 ghost use Rattle.events.specs.Operations.{calls_of};
 ghost use Rattle.projection.specs.Cuts.{IsPart, Names, NamesPart, kind_cut, part_kind};
-ghost use Rattle.projection.specs.Pieces.{has_failed};
+ghost use Rattle.projection.specs.CutOperations.{has_failed};
 
 use crate::absent::without;
 use crate::cells::cell;

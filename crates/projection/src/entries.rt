@@ -6,7 +6,7 @@ ghost use Rattle.std.specs.List.{filter_map};
 ghost use Rattle.events.specs.Operations.{calls_of};
 ghost use Rattle.projection.specs.Entries as spec;
 ghost use Rattle.projection.specs.Cuts.{keeps_value, keeps_number, IsPart};
-ghost use Rattle.projection.specs.Pieces.{recast_end, entry_piece};
+ghost use Rattle.projection.specs.CutOperations.{recast_end, entry_operation};
 
 use crate::cells::{swap_done, write_of};
 use crate::keeping::Values;
@@ -113,7 +113,7 @@ fn pending_op(key: i64, values: &Values, op: AnyOp) -> Option<AnyOp>
 }
 
 /// What an operation becomes; `None`: it is left out.
-fn piece(place: Place, values: &Values, kept: bool, operation: &Invocation) -> Option<Invocation>
+fn cut_operation(place: Place, values: &Values, kept: bool, operation: &Invocation) -> Option<Invocation>
     ensures { result ≡ recast_end
         (spec.entry_done place.key (keeps_value values.now) place.other kept)
         (spec.entry_open place.key (keeps_value values.now)) operation.now.number operation.now.op
@@ -143,19 +143,19 @@ fn piece(place: Place, values: &Values, kept: bool, operation: &Invocation) -> O
 }
 
 /// The operations of the entry.
-fn pieces(
+fn cut_operations(
     alloc: Global,
     operations: &[Invocation],
     place: Place,
     values: &Values,
     numbers: &BTreeSet<u32>,
 ) -> Result<Vec<Invocation>, AllocError>
-    ensures { IfOk result (λ v. v.items ≡ filter_map (entry_piece place.key
+    ensures { IfOk result (λ v. v.items ≡ filter_map (entry_operation place.key
         (keeps_value values.now) place.other (keeps_number numbers.now)) operations.now) }
 {
     operations
         .iter()
-        .filter_map(|o| piece(place, values, numbers.contains(&o.number), o))
+        .filter_map(|o| cut_operation(place, values, numbers.contains(&o.number), o))
         .collect(alloc)
 }
 
@@ -180,6 +180,6 @@ pub fn entry(
         (calls_of history.now.ops)) }
 {
     let place = Place { key, other };
-    let ops = pieces(alloc, history.ops(), place, values, numbers)?;
+    let ops = cut_operations(alloc, history.ops(), place, values, numbers)?;
     Ok(ObjectHistory::new(history.object(), Kind::Register, ops))
 }

@@ -6,8 +6,8 @@ ghost use Rattle.std.specs.List.{list_all};
 ghost use Rattle.events.specs.Operations.{calls_of};
 ghost use Rattle.projection.specs.Parts.{fits, fits_removal, kept_calls};
 ghost use Rattle.projection.specs.Cuts.{keeps_all, keeps_value, keeps_number, IsClosedPart, IsPart};
-ghost use Rattle.projection.specs.Pieces.{fits_end, is_put, is_taken, is_open_removal, is_kept_call};
-ghost use Rattle.projection.specs.Pieces.{keeps_first};
+ghost use Rattle.projection.specs.CutOperations.{fits_end, is_put, is_taken, is_open_removal, is_kept_call};
+ghost use Rattle.projection.specs.CutOperations.{keeps_first};
 
 use events::{End, Invocation, ObjectHistory};
 use seq_objects::{AnyOp, AnyReply};
@@ -183,7 +183,7 @@ fn is_closed(values: &Values, numbers: &BTreeSet<u32>, operations: &[Invocation]
 }
 
 /// The operations with these numbers that did not fail.
-fn pieces(
+fn cut_operations(
     alloc: Global,
     numbers: &BTreeSet<u32>,
     operations: &[Invocation],
@@ -225,6 +225,6 @@ pub fn keep(
     if !is_closed(values, numbers, operations) {
         return Ok(None);
     }
-    let ops = pieces(alloc, numbers, operations)?;
+    let ops = cut_operations(alloc, numbers, operations)?;
     Ok(Some(ObjectHistory::new(history.object(), history.kind(), ops)))
 }

@@ -5,7 +5,7 @@ ghost use Rattle.std.specs.List.{filter_map};
 ghost use Rattle.events.specs.Operations.{calls_of};
 ghost use Rattle.projection.specs.Parts.{calls_before};
 ghost use Rattle.projection.specs.Cuts.{IsPart};
-ghost use Rattle.projection.specs.Pieces.{end_before, piece_before};
+ghost use Rattle.projection.specs.CutOperations.{end_before, operation_before};
 
 use events::{End, Invocation, ObjectHistory};
 use std::alloc::{AllocError, Global};
@@ -21,8 +21,8 @@ fn end_then(end: End, until: u32) -> End
 }
 
 /// The operation as it was before this number, if it did not fail and was invoked before.
-fn piece(operation: &Invocation, until: u32) -> Option<Invocation>
-    ensures { result ≡ piece_before until operation.now }
+fn cut_operation(operation: &Invocation, until: u32) -> Option<Invocation>
+    ensures { result ≡ operation_before until operation.now }
 {
     if operation.end == End::Failed {
         return None;
@@ -38,16 +38,16 @@ fn piece(operation: &Invocation, until: u32) -> Option<Invocation>
 }
 
 /// The operations as they were before this number.
-fn pieces(
+fn cut_operations(
     alloc: Global,
     operations: &[Invocation],
     until: u32,
 ) -> Result<Vec<Invocation>, AllocError>
-    ensures { IfOk result (λ v. v.items ≡ filter_map (piece_before until) operations.now) }
+    ensures { IfOk result (λ v. v.items ≡ filter_map (operation_before until) operations.now) }
 {
     operations
         .iter()
-        .filter_map(|o| piece(o, until))
+        .filter_map(|o| cut_operation(o, until))
         .collect(alloc)
 }
 
@@ -65,6 +65,6 @@ pub fn until(
     ensures calls { IfOk result (λ p.
         calls_of p.ops ≡ calls_before until (calls_of history.now.ops)) }
 {
-    let ops = pieces(alloc, history.ops(), until)?;
+    let ops = cut_operations(alloc, history.ops(), until)?;
     Ok(ObjectHistory::new(history.object(), history.kind(), ops))
 }

@@ -10,8 +10,8 @@ ghost use Rattle.events.specs.Operations.{calls_of};
 ghost use Rattle.projection.specs.Parts as parts;
 ghost use Rattle.projection.specs.Parts.{IsStart, leaves};
 ghost use Rattle.projection.specs.Cuts.{IsSuffix, IsPart};
-ghost use Rattle.projection.specs.Pieces.{has_failed, is_over, overlapping_piece, piece_later};
-ghost use Rattle.projection.specs.Pieces.{piece_from, IsOnKey};
+ghost use Rattle.projection.specs.CutOperations.{has_failed, is_over, overlapping_operation, operation_later};
+ghost use Rattle.projection.specs.CutOperations.{operation_from, IsOnKey};
 
 use events::{End, Invocation, ObjectHistory};
 use seq_objects::{AnyOp, AnyReply};
@@ -105,7 +105,7 @@ fn written_before(first: Option<First>, op: AnyOp, reply: AnyReply) -> Option<i6
 /// An operation that overlaps the first one. If the first one left a value, a write becomes a
 /// write, and so does a swap that was not refused. Any other is pending.
 fn overlapping(first: Option<First>, operation: &Invocation) -> Invocation
-    ensures { result ≡ overlapping_piece first operation.now.number operation.now.op
+    ensures { result ≡ overlapping_operation first operation.now.number operation.now.op
         operation.now.«end» }
 {
     if let End::Returned { at, reply } = operation.end {
@@ -129,7 +129,7 @@ fn overlapping(first: Option<First>, operation: &Invocation) -> Invocation
 
 /// What an operation becomes that did not return before the first one.
 fn later(start: Start, operation: &Invocation) -> Invocation
-    ensures { result ≡ piece_later start.first start.at operation.now }
+    ensures { result ≡ operation_later start.first start.at operation.now }
 {
     if operation.number > start.at {
         return *operation;
@@ -148,8 +148,8 @@ pub(crate) fn is_before(end: End, from: u32) -> bool
 }
 
 /// What an operation becomes; `None`: it is left out.
-fn piece(operation: &Invocation, from: u32, start: Start) -> Option<Invocation>
-    ensures { result ≡ piece_from from start.at start.first operation.now }
+fn cut_operation(operation: &Invocation, from: u32, start: Start) -> Option<Invocation>
+    ensures { result ≡ operation_from from start.at start.first operation.now }
 {
     if operation.end == End::Failed {
         return None;
@@ -172,18 +172,18 @@ fn piece(operation: &Invocation, from: u32, start: Start) -> Option<Invocation>
 }
 
 /// The operations of the suffix.
-fn pieces(
+fn cut_operations(
     alloc: Global,
     operations: &[Invocation],
     from: u32,
     start: Start,
 ) -> Result<Vec<Invocation>, AllocError>
     ensures { IfOk result (λ v. v.items
-        ≡ filter_map (piece_from from start.at start.first) operations.now) }
+        ≡ filter_map (operation_from from start.at start.first) operations.now) }
 {
     operations
         .iter()
-        .filter_map(|o| piece(o, from, start))
+        .filter_map(|o| cut_operation(o, from, start))
         .collect(alloc)
 }
 
@@ -264,6 +264,6 @@ pub fn from(
     let Some(start) = start_at(operations, number) else {
         return Ok(None);
     };
-    let ops = pieces(alloc, operations, number, start)?;
+    let ops = cut_operations(alloc, operations, number, start)?;
     Ok(Some(ObjectHistory::new(history.object(), history.kind(), ops)))
 }

@@ -1,2 +1,2 @@
 pub mod EventsFound
-pub mod PiecesLeft
+pub mod SegmentsLeft

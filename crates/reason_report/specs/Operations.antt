@@ -13,7 +13,7 @@ use Rattle.events.specs.declared.operations.End.{End}
 use Rattle.events.specs.declared.operations.End.TheVariants.{Returned, Pending, Failed}
 use Rattle.events.specs.declared.operations.Invocation.{Invocation}
 use Rattle.events.specs.contracts.operations.InvocationPartialEq.TheImpl as derived
-use Rattle.reason_report.specs.Pieces.{comment_text, value_text}
+use Rattle.reason_report.specs.Segments.{comment_text, value_text}
 
 -- ---- what the history says
 

@@ -3,7 +3,7 @@
 #![tactic(auto)]
 
 mod operations;
-mod pieces;
+mod segments;
 mod reasons;
 
 pub use operations::push_operations;

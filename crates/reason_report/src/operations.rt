@@ -4,9 +4,9 @@ ghost use Rattle.std.specs.Prelude.{◌≡◌, ◌++◌, codes, OnOk};
 ghost use Rattle.events.specs.Events.{IsProper};
 ghost use Rattle.reason_report.specs.Operations as spec;
 ghost use Rattle.reason_report.specs.Operations.{operation_line, operations_text};
-ghost use Rattle.reason_report.specs.Pieces.{comment_text};
+ghost use Rattle.reason_report.specs.Segments.{comment_text};
 
-use crate::pieces::{Piece, push_comment, push_pieces};
+use crate::segments::{Segment, push_comment, push_segments};
 use events::{Action, End, Event, History, Invocation, ObjectHistory};
 use seq_objects::{AnyOp, AnyReply, function_of, value_of_op, value_of_reply};
 use std::alloc::AllocError;
@@ -87,27 +87,27 @@ fn push_place(text: &mut Vec<u8>, operation: &Invocation) -> Result<(), AllocErr
     ensures { OnOk result (text.new.items ≡ text.old.items
         ++ spec.place_text operation.now.number operation.now.«end») }
 {
-    let number = Piece::Natural(u64::from(operation.number));
+    let number = Segment::Natural(u64::from(operation.number));
     match operation.end {
         End::Returned { at, .. } => {
-            let at = Piece::Natural(u64::from(at));
-            push_pieces(
+            let at = Segment::Natural(u64::from(at));
+            push_segments(
                 text,
-                &[Piece::Text(b"events "), number, Piece::Text(b" and "), at],
+                &[Segment::Text(b"events "), number, Segment::Text(b" and "), at],
             )
         }
-        End::Pending | End::Failed => push_pieces(text, &[Piece::Text(b"event "), number]),
+        End::Pending | End::Failed => push_segments(text, &[Segment::Text(b"event "), number]),
     }
 }
 
 fn push_op(text: &mut Vec<u8>, op: &AnyOp) -> Result<(), AllocError>
     ensures { OnOk result (text.new.items ≡ text.old.items ++ spec.op_text op.now) }
 {
-    let name = Piece::Text(function_of(op).name().as_bytes());
-    let argument = Piece::Value(value_of_op(op));
-    push_pieces(
+    let name = Segment::Text(function_of(op).name().as_bytes());
+    let argument = Segment::Value(value_of_op(op));
+    push_segments(
         text,
-        &[Piece::Text(b":"), name, Piece::Text(b" "), argument],
+        &[Segment::Text(b":"), name, Segment::Text(b" "), argument],
     )
 }
 
@@ -116,8 +116,8 @@ fn push_reply(text: &mut Vec<u8>, end: End) -> Result<(), AllocError>
 {
     match end {
         End::Returned { reply, .. } => {
-            let reply = Piece::Value(value_of_reply(&reply));
-            push_pieces(text, &[Piece::Text(b", :ok "), reply])
+            let reply = Segment::Value(value_of_reply(&reply));
+            push_segments(text, &[Segment::Text(b", :ok "), reply])
         }
         End::Pending | End::Failed => Ok(()),
     }
@@ -175,11 +175,11 @@ fn push_heading(
     ensures { OnOk result (text.new.items ≡ text.old.items
         ++ spec.heading_text events.now operation.now) }
 {
-    let process = Piece::Natural(process_in(event_at(events, operation.number)));
+    let process = Segment::Natural(process_in(event_at(events, operation.number)));
     push_place(text, operation)?;
-    push_pieces(
+    push_segments(
         text,
-        &[Piece::Text(b": process "), process, Piece::Text(b", ")],
+        &[Segment::Text(b": process "), process, Segment::Text(b", ")],
     )
 }
 

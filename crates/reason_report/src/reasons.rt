@@ -2,9 +2,9 @@
 
 ghost use Rattle.std.specs.Prelude.{◌≡◌, ◌++◌, OnOk, IfOk};
 ghost use Rattle.refutation.specs.Lines as spec;
-ghost use Rattle.reason_report.specs.Pieces.{comment_text};
+ghost use Rattle.reason_report.specs.Segments.{comment_text};
 
-use crate::pieces::push_comment;
+use crate::segments::push_comment;
 use edn::Out;
 use refutation::{Reason, write_reasons};
 use std::alloc::{AllocError, Global};

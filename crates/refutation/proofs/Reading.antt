@@ -32,7 +32,7 @@ only_fault earlier d NotAReason NotAReason h k = omega arith
 only_fault earlier d NotAReason NoMemory h k = omega arith
 only_fault earlier d NoMemory other h k = absurd h
 
-split_at : (fs : List Form) (i : ℕ) (f : Form) → i < length fs → f ≡ get_or fs i f
+pub split_at : (fs : List Form) (i : ℕ) (f : Form) → i < length fs → f ≡ get_or fs i f
     → views fs ≡ views (take i fs) ++ view f ∷ views (drop (i + 1) fs)
 split_at fs i f lt is =
     let at = drop_more fs i f lt ∙ ap (λ (y : Form). y ∷ drop (i + 1) fs) (sym is) in

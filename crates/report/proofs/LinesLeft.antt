@@ -2,13 +2,13 @@
 use Rattle.std.proofs.Common.{◌≡◌, ℕ, ◌+◌, ◌<◌, Bool, List, ◌++◌, length, drop, get_or, ap}
 use Rattle.std.proofs.lemmas.List.{drop_more}
 use Rattle.report.specs.Lines.{comment_text, kind_line, kind_lines}
-use Rattle.report.specs.Pieces.{piece_text, pieces_text}
-use Rattle.report.specs.declared.pieces.Piece.{Piece}
+use Rattle.report.specs.Segments.{segment_text, segments_text}
+use Rattle.report.specs.declared.segments.Segment.{Segment}
 use Rattle.report.specs.declared.verdict.KindCount.{KindCount}
 
-pub pieces_left : (ps : List Piece) (i : ℕ) (d : Piece) → i < length ps → pieces_text (drop i ps)
-    ≡ piece_text (get_or ps i d) ++ pieces_text (drop (i + 1) ps)
-pieces_left ps i d lt = ap pieces_text (drop_more ps i d lt)
+pub segments_left : (ps : List Segment) (i : ℕ) (d : Segment) → i < length ps → segments_text (drop i ps)
+    ≡ segment_text (get_or ps i d) ++ segments_text (drop (i + 1) ps)
+segments_left ps i d lt = ap segments_text (drop_more ps i d lt)
 
 pub kinds_left : (commented : Bool) (ks : List KindCount) (i : ℕ) (d : KindCount) → i < length ks
     → kind_lines commented (drop i ks) ≡ (comment_text commented ++ kind_line

@@ -2,4 +2,4 @@ pub mod Counts
 pub mod Invoked
 pub mod Verdicts
 pub mod Lines
-pub mod Pieces
+pub mod Segments

@@ -4,7 +4,7 @@
 mod checked;
 mod counting;
 mod lines;
-mod pieces;
+mod segments;
 mod verdict;
 mod writing;
 

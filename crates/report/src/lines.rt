@@ -1,39 +1,39 @@
-//! The lines of a verdict, each as its pieces.
+//! The lines of a verdict, each as its segments.
 
 ghost use Rattle.std.specs.Prelude.{◌≡◌, ◌++◌, codes, decimal};
 ghost use Rattle.std.specs.Fmt.{signed_decimal};
 ghost use Rattle.report.specs.Lines as text;
-ghost use Rattle.report.specs.Pieces.{pieces_text};
+ghost use Rattle.report.specs.Segments.{segments_text};
 
-use crate::pieces::Piece;
+use crate::segments::Segment;
 use crate::verdict::{Fault, KindCount, Summary};
 use checker::{OrderFault, Refusal};
 use seq_objects::{AnyReply, Value, kind_name, value_of_reply};
 
-/// The pieces of a line. After the one that has the line feed are empty ones.
-pub(crate) type Line = [Piece; 9];
+/// The segments of a line. After the one that has the line feed are empty ones.
+pub(crate) type Line = [Segment; 9];
 
-const EMPTY: Piece = Piece::Text(b"");
+const EMPTY: Segment = Segment::Text(b"");
 
 pub(crate) fn no_memory_line() -> Line
-    ensures { pieces_text result ≡ text.no_memory_line }
+    ensures { segments_text result ≡ text.no_memory_line }
 {
-    let words = Piece::Text(b"out of memory\n");
+    let words = Segment::Text(b"out of memory\n");
     [
         words, EMPTY, EMPTY, EMPTY, EMPTY, EMPTY, EMPTY, EMPTY, EMPTY,
     ]
 }
 
 pub(crate) fn kind_line(count: &KindCount) -> Line
-    ensures { pieces_text result ≡ text.kind_line count.now }
+    ensures { segments_text result ≡ text.kind_line count.now }
 {
     [
-        Piece::Text(kind_name(count.kind).as_bytes()),
-        Piece::Text(b": "),
-        Piece::Natural(count.objects),
-        Piece::Text(b" objects, "),
-        Piece::Natural(count.operations),
-        Piece::Text(b" operations\n"),
+        Segment::Text(kind_name(count.kind).as_bytes()),
+        Segment::Text(b": "),
+        Segment::Natural(count.objects),
+        Segment::Text(b" objects, "),
+        Segment::Natural(count.operations),
+        Segment::Text(b" operations\n"),
         EMPTY,
         EMPTY,
         EMPTY,
@@ -41,14 +41,14 @@ pub(crate) fn kind_line(count: &KindCount) -> Line
 }
 
 pub(crate) fn total_line(summary: &Summary) -> Line
-    ensures { pieces_text result ≡ text.total_line summary.now }
+    ensures { segments_text result ≡ text.total_line summary.now }
 {
     [
-        Piece::Text(b"yes: "),
-        Piece::Natural(summary.operations),
-        Piece::Text(b" operations, "),
-        Piece::Natural(summary.objects),
-        Piece::Text(b" objects\n"),
+        Segment::Text(b"yes: "),
+        Segment::Natural(summary.operations),
+        Segment::Text(b" operations, "),
+        Segment::Natural(summary.objects),
+        Segment::Text(b" objects\n"),
         EMPTY,
         EMPTY,
         EMPTY,
@@ -58,15 +58,15 @@ pub(crate) fn total_line(summary: &Summary) -> Line
 
 /// A line of an object's number, an integer and a text.
 fn entry_line(code: &'static [u8], object: u32, op: i64, fault: &'static [u8]) -> Line
-    ensures { pieces_text result ≡ code.now ++
+    ensures { segments_text result ≡ code.now ++
         (decimal object ++ (codes ": " ++ (signed_decimal op ++ fault.now))) }
 {
     [
-        Piece::Text(code),
-        Piece::Natural(object as usize),
-        Piece::Text(b": "),
-        Piece::Integer(op),
-        Piece::Text(fault),
+        Segment::Text(code),
+        Segment::Natural(object as usize),
+        Segment::Text(b": "),
+        Segment::Integer(op),
+        Segment::Text(fault),
         EMPTY,
         EMPTY,
         EMPTY,
@@ -75,53 +75,53 @@ fn entry_line(code: &'static [u8], object: u32, op: i64, fault: &'static [u8]) -
 }
 
 fn wrong_reply_line(object: u32, op: i64, gives: &AnyReply) -> Line
-    ensures { pieces_text result ≡ text.order_line object (OrderFault.WrongReply op gives.now) }
+    ensures { segments_text result ≡ text.order_line object (OrderFault.WrongReply op gives.now) }
 {
     let code = b"no: C6 object ";
     let (number, colon, entry) = (
-        Piece::Natural(object as usize),
-        Piece::Text(b": "),
-        Piece::Integer(op),
+        Segment::Natural(object as usize),
+        Segment::Text(b": "),
+        Segment::Integer(op),
     );
     match value_of_reply(gives) {
         Value::Nil => entry_line(code, object, op, b" gives nil\n"),
         Value::False => entry_line(code, object, op, b" gives false\n"),
         Value::Int(n) => [
-            Piece::Text(code),
+            Segment::Text(code),
             number,
             colon,
             entry,
-            Piece::Text(b" gives "),
-            Piece::Integer(n),
-            Piece::Text(b"\n"),
+            Segment::Text(b" gives "),
+            Segment::Integer(n),
+            Segment::Text(b"\n"),
             EMPTY,
             EMPTY,
         ],
         Value::Pair(a, b) => [
-            Piece::Text(code),
+            Segment::Text(code),
             number,
             colon,
             entry,
-            Piece::Text(b" gives ["),
-            Piece::Integer(a),
-            Piece::Text(b" "),
-            Piece::Integer(b),
-            Piece::Text(b"]\n"),
+            Segment::Text(b" gives ["),
+            Segment::Integer(a),
+            Segment::Text(b" "),
+            Segment::Integer(b),
+            Segment::Text(b"]\n"),
         ],
     }
 }
 
 fn too_late_line(object: u32, op: i64, by: u32) -> Line
-    ensures { pieces_text result ≡ text.order_line object (OrderFault.TooLate op by) }
+    ensures { segments_text result ≡ text.order_line object (OrderFault.TooLate op by) }
 {
     [
-        Piece::Text(b"no: C5 object "),
-        Piece::Natural(object as usize),
-        Piece::Text(b": "),
-        Piece::Integer(op),
-        Piece::Text(b" returned before "),
-        Piece::Natural(by as usize),
-        Piece::Text(b" was invoked\n"),
+        Segment::Text(b"no: C5 object "),
+        Segment::Natural(object as usize),
+        Segment::Text(b": "),
+        Segment::Integer(op),
+        Segment::Text(b" returned before "),
+        Segment::Natural(by as usize),
+        Segment::Text(b" was invoked\n"),
         EMPTY,
         EMPTY,
     ]
@@ -133,17 +133,17 @@ fn numbers_line(
     first: usize,
     between: &'static [u8],
     second: usize,
-    behind: &'static [u8],
+    after: &'static [u8],
 ) -> Line
-    ensures { pieces_text result ≡ before.now
-        ++ (decimal first ++ (between.now ++ (decimal second ++ behind.now))) }
+    ensures { segments_text result ≡ before.now
+        ++ (decimal first ++ (between.now ++ (decimal second ++ after.now))) }
 {
     [
-        Piece::Text(before),
-        Piece::Natural(first),
-        Piece::Text(between),
-        Piece::Natural(second),
-        Piece::Text(behind),
+        Segment::Text(before),
+        Segment::Natural(first),
+        Segment::Text(between),
+        Segment::Natural(second),
+        Segment::Text(after),
         EMPTY,
         EMPTY,
         EMPTY,
@@ -152,7 +152,7 @@ fn numbers_line(
 }
 
 fn order_line(object: u32, fault: &OrderFault) -> Line
-    ensures { pieces_text result ≡ text.order_line object fault.now }
+    ensures { segments_text result ≡ text.order_line object fault.now }
 {
     match *fault {
         OrderFault::UnknownOperation { op } => {
@@ -177,13 +177,13 @@ fn order_line(object: u32, fault: &OrderFault) -> Line
 }
 
 /// A line of a number between two texts.
-fn number_line(before: &'static [u8], n: usize, behind: &'static [u8]) -> Line
-    ensures { pieces_text result ≡ before.now ++ (decimal n ++ behind.now) }
+fn number_line(before: &'static [u8], n: usize, after: &'static [u8]) -> Line
+    ensures { segments_text result ≡ before.now ++ (decimal n ++ after.now) }
 {
     [
-        Piece::Text(before),
-        Piece::Natural(n),
-        Piece::Text(behind),
+        Segment::Text(before),
+        Segment::Natural(n),
+        Segment::Text(after),
         EMPTY,
         EMPTY,
         EMPTY,
@@ -194,7 +194,7 @@ fn number_line(before: &'static [u8], n: usize, behind: &'static [u8]) -> Line
 }
 
 pub(crate) fn refusal_line(refusal: &Refusal) -> Line
-    ensures { pieces_text result ≡ text.refusal_line refusal.now }
+    ensures { segments_text result ≡ text.refusal_line refusal.now }
 {
     match *refusal {
         Refusal::NoCertificate { object } => number_line(
@@ -213,7 +213,7 @@ pub(crate) fn refusal_line(refusal: &Refusal) -> Line
 }
 
 pub(crate) fn fault_line(fault: &Fault) -> Line
-    ensures { pieces_text result ≡ text.fault_line fault.now }
+    ensures { segments_text result ≡ text.fault_line fault.now }
 {
     match *fault {
         Fault::HistoryText(e) => numbers_line(

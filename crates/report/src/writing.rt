@@ -6,7 +6,7 @@ ghost use Rattle.report.specs.Lines as text;
 ghost use Rattle.report.specs.Lines.{comment_text};
 
 use crate::lines::{fault_line, kind_line, no_memory_line, refusal_line, total_line};
-use crate::pieces::write_line;
+use crate::segments::write_line;
 use crate::verdict::{KindCount, Summary, Verdict};
 use edn::{Failed, Sink, WriteFault};
 

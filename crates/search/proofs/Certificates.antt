@@ -15,7 +15,7 @@ use Rattle.search.specs.declared.found.Search.{Search}
 use Rattle.search.specs.declared.found.SearchOutcome.{SearchOutcome}
 use Rattle.search.specs.declared.found.SearchOutcome.TheVariants.{Impossible, OutOfSteps, TooLarge, NoMemory}
 use Rattle.search.specs.declared.found.SearchOutcome.TheVariants as found
-use Rattle.search.specs.Answers.{certificate_in, IfFound, IsFor, IsAnswer}
+use Rattle.search.specs.Answers.{certificate_in, IfFound, IsCertificateOf, IsAnswer}
 
 -- an answer within this limit
 abbrev pub IsWithin : ℕ → ℕ → Kind → List Call → Search → Type 0
@@ -31,8 +31,8 @@ if_found NoMemory P c h e = absurd (cc e)
 
 -- what is found is certified
 pub certifies : (Is : ℕ → Kind → List Call → Search → Type 0)
-    → ((x : ℕ) (kind : Kind) (calls : List Call) (s : Search) → Is x kind calls s → IfFound s.found (IsFor x kind calls)) → Certifies (λ s. certificate_in s.found) Is
-certifies Is found x kind calls s c h e = if_found s.found (IsFor x kind calls) c (found x kind calls s h) e
+    → ((x : ℕ) (kind : Kind) (calls : List Call) (s : Search) → Is x kind calls s → IfFound s.found (IsCertificateOf x kind calls)) → Certifies (λ s. certificate_in s.found) Is
+certifies Is found x kind calls s c h e = if_found s.found (IsCertificateOf x kind calls) c (found x kind calls s h) e
 
 -- an object of which no order is valid, against locality
 pub not_linearizable : (es : List Event) (Is : ℕ → Kind → List Call → Search → Type 0) (answers : List (ℕ × Search))

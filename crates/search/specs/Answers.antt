@@ -27,16 +27,16 @@ certificate_in TooLarge = None
 certificate_in NoMemory = None
 
 -- what an outcome is for the object with this number
-abbrev pub found_in : ℕ → Outcome → SearchOutcome
-found_in object (outcome.Found order) = found.Found (record { object = object; order = order })
-found_in object outcome.Impossible = Impossible
-found_in object outcome.OutOfSteps = OutOfSteps
-found_in object outcome.TooLarge = TooLarge
-found_in object outcome.NoMemory = NoMemory
+abbrev pub outcome_for : ℕ → Outcome → SearchOutcome
+outcome_for object (outcome.Found order) = found.Found (record { object = object; order = order })
+outcome_for object outcome.Impossible = Impossible
+outcome_for object outcome.OutOfSteps = OutOfSteps
+outcome_for object outcome.TooLarge = TooLarge
+outcome_for object outcome.NoMemory = NoMemory
 
 -- what a search for an order is for that object
-abbrev pub answer_in : ℕ → Attempt → Search
-answer_in object a = record { found = found_in object a.outcome; steps = a.steps }
+abbrev pub search_for : ℕ → Attempt → Search
+search_for object a = record { found = outcome_for object a.outcome; steps = a.steps }
 
 -- where a certificate was found, this holds of it
 abbrev pub IfFound : SearchOutcome → (Certificate → Type 0) → Type 0
@@ -50,14 +50,14 @@ abbrev pub IsFound : Search → Type 0
 IsFound s = IsSome (certificate_in s.found)
 
 -- the certificate is one of the object, and its order is valid
-abbrev pub IsFor : ℕ → Kind → List Call → Certificate → Type 0
-IsFor object kind calls c = (c.object ≡ object) × IsValidOrder kind calls c.order.items
+abbrev pub IsCertificateOf : ℕ → Kind → List Call → Certificate → Type 0
+IsCertificateOf object kind calls c = (c.object ≡ object) × IsValidOrder kind calls c.order.items
 
 -- what a search within a limit may answer of the calls of an object, however many they are
-pub record IsSound (object : ℕ) (kind : Kind) (calls : List Call) (limit : ℕ) (s : Search) : Type 0
+pub record IsSoundAnswer (object : ℕ) (kind : Kind) (calls : List Call) (limit : ℕ) (s : Search) : Type 0
   where
     -- what was found is valid
-    pub found : IfFound s.found (IsFor object kind calls)
+    pub found : IfFound s.found (IsCertificateOf object kind calls)
     -- impossible is answered only where no order is valid
     pub impossible : s.found ≡ Impossible → IsNoneValid kind calls
     -- The number of steps is at most the limit, and is the limit where that was not enough. Nothing
@@ -70,7 +70,7 @@ pub record IsSound (object : ℕ) (kind : Kind) (calls : List Call) (limit : ℕ
 -- what a search that takes on some calls alone may answer
 pub record IsAnswer (object : ℕ) (kind : Kind) (calls : List Call) (limit : ℕ) (s : Search) : Type 0
   where
-    pub sound : IsSound object kind calls limit s
+    pub sound : IsSoundAnswer object kind calls limit s
     pub too_large : (s.found ≡ TooLarge) ↔ (max_operations < length calls)
 
 -- an answer on the object with this number, in the history that the events denote

@@ -3,8 +3,8 @@
 ghost use Rattle.std.specs.Prelude.{◌≡◌, ◌<◌, ◌≤◌, ◌↔◌, length, Any, IsSome};
 ghost use Rattle.events.specs.Operations.{calls_of};
 ghost use Rattle.search.specs.Outcomes.{IsNoneValid, max_operations};
-ghost use Rattle.search.specs.Answers.{IfFound, IsFor, IsAnswer};
-ghost use Rattle.search.specs.Answers.{answer_in, found_in};
+ghost use Rattle.search.specs.Answers.{IfFound, IsCertificateOf, IsAnswer};
+ghost use Rattle.search.specs.Answers.{search_for, outcome_for};
 
 use crate::found::{Search, SearchOutcome};
 use crate::{Attempt, Outcome, TryFirst, find_order};
@@ -14,7 +14,7 @@ use std::alloc::Global;
 
 /// What was found, for the object with this number.
 fn found_of(object: u32, outcome: Outcome) -> SearchOutcome
-    ensures { result ≡ found_in object outcome }
+    ensures { result ≡ outcome_for object outcome }
 {
     match outcome {
         Outcome::Found(order) => SearchOutcome::Found(Certificate { object, order }),
@@ -27,7 +27,7 @@ fn found_of(object: u32, outcome: Outcome) -> SearchOutcome
 
 /// The answer for the object with this number.
 fn answer_of(object: u32, attempt: Attempt) -> Search
-    ensures { result ≡ answer_in object attempt }
+    ensures { result ≡ search_for object attempt }
 {
     let Attempt { outcome, steps } = attempt;
     let found = found_of(object, outcome);
@@ -41,7 +41,7 @@ fn answer_of(object: u32, attempt: Attempt) -> Search
 /// That a limit is enough is not promised.
 pub fn search(alloc: Global, history: &ObjectHistory, limit: u64) -> Search
     ensures found { IfFound result.found
-        (IsFor history.now.object history.now.kind (calls_of history.now.ops)) }
+        (IsCertificateOf history.now.object history.now.kind (calls_of history.now.ops)) }
     // No order is valid, and so the history is not linearizable.
     ensures impossible { result.found ≡ SearchOutcome.Impossible
         → IsNoneValid history.now.kind (calls_of history.now.ops) }

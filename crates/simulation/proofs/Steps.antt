@@ -44,7 +44,7 @@ steps_to fs i f steps s low is so_far one =
     let front = subst (λ ds. map step_of ds ≡ map (λ s. Some s) (steps ++ s ∷ [])) (sym (take-map view (i + 1) fs))
     more in
     record {
-      behind_header = omega arith;
+      after_header = omega arith;
       there = omega arith;
       steps = all_from_in (λ d. step_of d ≢ None) (take (i + 1) (views fs))
           (each_step (take (i + 1) (views fs)) (steps ++ s ∷ []) front);

@@ -25,7 +25,7 @@ pub record IsNoStepAt (ds : List Datum) (place : ℕ) : Type 0 where
 
 -- Of the same forms, those up to this one and with it are steps.
 pub record AreStepsTo (ds : List Datum) (place : ℕ) : Type 0 where
-  pub behind_header : 0 < place
+  pub after_header : 0 < place
   pub there : place ≤ length ds
   pub steps : All (λ d. step_of d ≢ None) (take place ds)
 

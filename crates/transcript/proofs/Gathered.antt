@@ -32,10 +32,10 @@ process_in l = l.event.process
 
 -- ---- the events of a journal's lines
 
-events_behind : (c : ℕ) (q : Call) (js : List AnyEvent) → events_in (lines_from c (Some q) js) ≡ events_from c q.object js
-events_behind c q [] = refl
-events_behind c q (Invoked t x op ∷ js) = ap (λ es. event_with c x (Invoked t x op) ∷ es) (events_behind c (record { object = x; op = op }) js)
-events_behind c q (Returned u a ∷ js) = ap (λ es. event_with c q.object (Returned u a) ∷ es) (events_behind c q js)
+events_after : (c : ℕ) (q : Call) (js : List AnyEvent) → events_in (lines_from c (Some q) js) ≡ events_from c q.object js
+events_after c q [] = refl
+events_after c q (Invoked t x op ∷ js) = ap (λ es. event_with c x (Invoked t x op) ∷ es) (events_after c (record { object = x; op = op }) js)
+events_after c q (Returned u a ∷ js) = ap (λ es. event_with c q.object (Returned u a) ∷ es) (events_after c q js)
 
 -- a process that is idle first invokes
 first_may : (p : ℕ) (s : State) (es : List Event) (f : Event) (fs : List Event) → Runs p s es → filter (λ e. e.process == p) es ≡ f ∷ fs → MayDo s f.object f.action
@@ -180,7 +180,7 @@ module _ (journals : ℕ → List AnyEvent) (es : List Event) (are : AreEventsOf
     where
       go : (js : List AnyEvent) → filter (λ (e : Event). e.process == c) es ≡ events_of c js → events_in (lines_of c js) ≡ events_of c js
       go [] h = refl
-      go (Invoked t x op ∷ js) h = ap (λ (fs : List Event). event_with c x (Invoked t x op) ∷ fs) (events_behind c (record { object = x; op = op }) js)
+      go (Invoked t x op ∷ js) h = ap (λ (fs : List Event). event_with c x (Invoked t x op) ∷ fs) (events_after c (record { object = x; op = op }) js)
       go (Returned u a ∷ js) h = absurd (no_return u 0 a (first_may c idle es (event_with c 0 (Returned u a)) (events_from c 0 js) (runs_from_start es c proper) h))
 
   lines_rise : (c : ℕ) → Pairs (λ a b. number_in a < number_in b) (lines_of c (journals c))

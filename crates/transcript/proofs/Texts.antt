@@ -1,4 +1,4 @@
--- The text of a line's form is that of its pieces.
+-- The text of a line's form is that of its segments.
 use Rattle.std.proofs.Common.{◌≡◌, ℕ, ◌+◌, ◌<◌, ◌++◌, [], ◌∷◌, List, length, drop, get_or, refl, ap, sym, ◌∙◌, append_assoc, codes, decimal}
 use Rattle.std.proofs.lemmas.List.{drop_more, append-nil}
 use Rattle.edn_reader.specs.Text.{text_of}
@@ -8,7 +8,7 @@ use Rattle.seq_objects.specs.declared.value.Value.{Value}
 use Rattle.seq_objects.specs.declared.value.Value.TheVariants.{Nil, False, Int, Pair}
 use Rattle.transcript.specs.declared.line.Line.{Line}
 use Rattle.transcript.specs.Lines.{type_of, value_form, value_of, form_of, history_text}
-use Rattle.transcript.specs.Pieces.{value_text, object_text, line_text, lines_text}
+use Rattle.transcript.specs.Segments.{value_text, object_text, line_text, lines_text}
 
 value_is : (v : Value) → text_of (value_form v) ≡ value_text v
 value_is Nil = refl

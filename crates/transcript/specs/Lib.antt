@@ -1,5 +1,5 @@
 pub mod Lines
 pub mod Accounts
-pub mod Pieces
+pub mod Segments
 pub mod Written
 pub mod Reading

@@ -8,7 +8,7 @@ ghost use Rattle.edn.specs.Sent.{WritesPrefix};
 ghost use Rattle.edn_reader.specs.Text.{InProfile, IsInt64};
 ghost use Rattle.recorder.specs.Histories.{journals_in};
 ghost use Rattle.transcript.specs.Lines as spec;
-ghost use Rattle.transcript.specs.Pieces as text;
+ghost use Rattle.transcript.specs.Segments as text;
 ghost use Rattle.transcript.specs.Written.{AppendsHistory, SendsFrontOfHistory};
 
 use crate::line::{Line, lines_of};

@@ -12,7 +12,7 @@ use Rattle.events.specs.declared.event.Event.{Event}
 use Rattle.events.specs.Events.{kind_at, denoted}
 use Rattle.checker.proofs.Collected.{Certifies, AreOnAll}
 use Rattle.search.specs.Outcomes.{IsNoneValid}
-use Rattle.search.specs.Answers.{IsFor}
+use Rattle.search.specs.Answers.{IsCertificateOf}
 use Rattle.verifying.specs.declared.claim.Claim.{Claim}
 use Rattle.verifying.specs.declared.claim.Claim.TheVariants as claim
 use Rattle.verifying.specs.Denotes.{object_of}
@@ -28,7 +28,7 @@ IsDecided claims limit object kind calls d = IsDecision claims limit object kind
 
 -- what is found is certified
 pub certifies : (claims : List Claim) (limit : ℕ) → Certifies certificate_in (IsDecided claims limit)
-certifies claims limit x kind calls (Order d) c h e = subst (IsFor x kind calls) (same_Some d c e) h.order.0
+certifies claims limit x kind calls (Order d) c h e = subst (IsCertificateOf x kind calls) (same_Some d c e) h.order.0
 certifies claims limit x kind calls (Impossible f) c h e = absurd (cc e)
 certifies claims limit x kind calls (OutOfSteps n) c h e = absurd (cc e)
 certifies claims limit x kind calls NoMemory c h e = absurd (cc e)

@@ -12,6 +12,7 @@ use Rattle.verifying.specs.Faults.{rank_of, IsFault, IsFirstFault, IsSoundBefore
 use Rattle.verifying.specs.declared.fault.ClaimFault.{ClaimFault}
 use Rattle.verifying.specs.declared.fault.ClaimFaultKind.{ClaimFaultKind}
 use Rattle.verifying.specs.declared.fault.ClaimFaultKind.TheVariants.{NotACertificate, NotAReason, NoMemory}
+use Rattle.refutation.proofs.Reading.{split_at}
 
 -- a form among those that are claims is one
 is_read : (earlier later : List Datum) (d : Datum) (rs : List Claim)
@@ -39,13 +40,6 @@ only_fault earlier d NotAReason NotACertificate h k = absurd (let e : true ≡ f
 only_fault earlier d NotAReason NotAReason h k = omega arith
 only_fault earlier d NotAReason NoMemory h k = omega arith
 only_fault earlier d NoMemory other h k = absurd h
-
-split_at : (fs : List Form) (i : ℕ) (f : Form) → i < length fs → f ≡ get_or fs i f
-    → views fs ≡ views (take i fs) ++ view f ∷ views (drop (i + 1) fs)
-split_at fs i f lt is =
-    let at = drop_more fs i f lt ∙ ap (λ (y : Form). y ∷ drop (i + 1) fs) (sym is) in
-    ap views (sym (take-append-drop i fs) ∙ ap (λ (xs : List Form). take i fs ++ xs) at)
-    ∙ map-append view (take i fs) (f ∷ drop (i + 1) fs)
 
 -- what is wrong with a form is wrong with it after any others
 after_any : (earlier : List Datum) (d : Datum) (kind : ClaimFaultKind) → IsFault [] d kind → IsFault earlier d kind

@@ -13,7 +13,7 @@ use Rattle.certificate.specs.Denotes.{AreDistinct}
 use Rattle.checker.specs.Refusals.{AreValid}
 use Rattle.search.specs.Outcomes.{IsNoneValid}
 use Rattle.projection.specs.Cuts.{NamesPart}
-use Rattle.search.specs.Answers.{IsFor}
+use Rattle.search.specs.Answers.{IsCertificateOf}
 use Rattle.refutation.specs.declared.reason.Reason.{Reason}
 use Rattle.refutation.specs.declared.refuting.Doubt.TheVariants.{Possible, NotExceeded}
 use Rattle.refutation.specs.Refutations.{HasNoValidOrder, IsDoubt, IsNamedPart, IsSearch}
@@ -149,7 +149,7 @@ pub record IsShownReason (x : ℕ) (kind : Kind) (calls : List Call) (f : ShownR
 -- what is decided of an object by one claim on it
 pub record IsAnswer (x : ℕ) (kind : Kind) (calls : List Call) (limit : ℕ) (e : Claim) (d : Decision)
     : Type 0 where
-  pub order : IfOrder d (λ c. IsFor x kind calls c × Orders c e)
+  pub order : IfOrder d (λ c. IsCertificateOf x kind calls c × Orders c e)
   pub impossible : IfImpossible d (λ f.
       IsShownReason x kind calls f × (e ≡ claim.Reason f.reason f.note))
   pub out_of_steps : IfOutOfSteps d (λ n. SearchesIn limit n e)
@@ -163,7 +163,7 @@ pub record IsDecision (claims : List Claim) (limit x : ℕ) (kind : Kind) (calls
     (d : Decision) : Type 0 where
   -- the order is valid, and comes from a claim
   pub order : IfOrder d (λ c.
-      IsFor x kind calls c × Any (λ e. (object_of e ≡ x) × Orders c e) claims)
+      IsCertificateOf x kind calls c × Any (λ e. (object_of e ≡ x) × Orders c e) claims)
   -- the reason is claimed, and shows that no order is valid
   pub impossible : IfImpossible d (λ f.
       IsShownReason x kind calls f × Contains claims (claim.Reason f.reason f.note))

@@ -42,7 +42,7 @@ returns-in-Err-Read g c =
     let other : c.in-Err-Read.field-0 ≢ fault.Write = search rules in
     let same : c.check_over.new.sink ≡ c.args.sink.now = c.in-Err-Read.ensures.nothing_written other in
     record {
-      leaves = rw (sym same) (leaves_as c.put_out_verdict.ensures.leaves (λ status out k.
+      leaves = rw (sym same) (leaves_as c.write_verdict_with_status.ensures.leaves (λ status out k.
           is_check h cs status out
           (k.0, subst (λ (v : Verdict). Holds h cs v) (sym k.1) c.judge.ensures.holds, k.2, k.3)));
     }

@@ -41,4 +41,4 @@ pub returns-in-Err-NoMemory-clause-leaves : goal.returns-in-Err-NoMemory-clause-
 returns-in-Err-NoMemory-clause-leaves g c =
     let other : c.in-Err-NoMemory.field-0 ≢ fault.Write = search rules in
     let same : c.check_over.new.sink ≡ c.args.sink.now = c.in-Err-NoMemory.ensures.nothing_written other in
-    rw (sym same) (leaves_as c.put_out.ensures.leaves (λ status out k. inr k))
+    rw (sym same) (leaves_as c.write_output.ensures.leaves (λ status out k. inr k))

@@ -12,21 +12,21 @@ returns-in-Check g c = record { performs = rw c.in-Check.is c.check_bytes.ensure
 pub returns-in-Search : goal.returns-in-Search
 returns-in-Search g c = record {
   performs = rw c.in-Search.is
-      (leaves_as c.put_out.ensures.leaves
+      (leaves_as c.write_output.ensures.leaves
       (made_as (IsSearch c.args.first.now c.in-Search.steps) c.search.result c.search.ensures));
 }
 
 pub returns-in-Refute : goal.returns-in-Refute
 returns-in-Refute g c = record {
   performs = rw c.in-Refute.is
-      (leaves_as c.put_out-in-Refute.ensures.leaves
+      (leaves_as c.write_output-in-Refute.ensures.leaves
       (made_as (IsRefute c.args.first.now c.args.second.now c.in-Refute.steps) c.refute.result c.refute.ensures));
 }
 
 pub returns-in-Verify : goal.returns-in-Verify
 returns-in-Verify g c = record {
   performs = rw c.in-Verify.is
-      (leaves_as c.put_out-in-Verify.ensures.leaves
+      (leaves_as c.write_output-in-Verify.ensures.leaves
       (made_as (IsVerification c.args.first.now c.args.second.now c.in-Verify.steps) c.verify.result
       c.verify.ensures));
 }
@@ -34,12 +34,12 @@ returns-in-Verify g c = record {
 pub returns-in-Run : goal.returns-in-Run
 returns-in-Run g c = record {
   performs = rw c.in-Run.is
-      (leaves_as c.put_out-in-Run.ensures.leaves (made_as (IsRun c.in-Run.options) c.run.result c.run.ensures));
+      (leaves_as c.write_output-in-Run.ensures.leaves (made_as (IsRun c.in-Run.options) c.run.result c.run.ensures));
 }
 
 pub returns-in-Simulate : goal.returns-in-Simulate
 returns-in-Simulate g c = record {
   performs = rw c.in-Simulate.is
-      (leaves_as c.put_out-in-Simulate.ensures.leaves
+      (leaves_as c.write_output-in-Simulate.ensures.leaves
       (made_as (IsSimulation c.args.first.now) c.play.result c.play.ensures));
 }

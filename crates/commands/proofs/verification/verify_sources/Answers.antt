@@ -10,7 +10,7 @@ pub returns-clause-leaves : goal.returns-clause-leaves
 returns-clause-leaves g c =
     let h = c.deref.result.now in
     let e = c.deref-2.result.now in
-    let is_read : IsHistoryRead h c.history_by-read.result = c.history_by-read.ensures in
+    let is_read : IsHistoryRead h c.history_of_text_by_workers-read.result = c.history_of_text_by_workers-read.ensures in
     let first = subst
     (λ (x : List ℕ). WasRead read_limit (g.H.Source.remaining c.args.history.now)
     (g.H.Source.remaining c.read_text.new.source) x)
@@ -19,7 +19,7 @@ returns-clause-leaves g c =
     (λ (x : List ℕ). WasRead read_limit (g.E.Source.remaining c.args.evidence.now)
     (g.E.Source.remaining c.read_text-2.new.source) x)
     (sym c.deref-2.ensures.value) c.in-Ok-read_text.ensures.read in
-    leaves_as c.put_out.ensures.leaves (λ status out k.
+    leaves_as c.write_output.ensures.leaves (λ status out k.
     inl (
       h,
       e,

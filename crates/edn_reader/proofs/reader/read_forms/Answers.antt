@@ -7,7 +7,7 @@ use Rattle.edn_reader.specs.Left.{left_of, start_of, keeping_in, tokens_in, inte
 use Rattle.edn_reader.specs.Spells.{Spells}
 use Rattle.edn_reader.specs.Token.{tokens_of}
 use Rattle.edn_reader.specs.View.{views}
-use Rattle.edn_reader.proofs.Following.{along_more, along_spells, reads_some, reads_none, sound_behind}
+use Rattle.edn_reader.proofs.Following.{along_more, along_spells, reads_some, reads_none, sound_after}
 use Rattle.edn_reader.proofs.Standing.{element_in, element_sound}
 use Rattle.edn_reader.proofs.reader.read_forms.Goals as goal
 
@@ -15,7 +15,7 @@ pub returns-in_err-advance-clause-memory : goal.returns-in_err-advance-clause-me
 returns-in_err-advance-clause-memory c =
     let p = err_from_is_err_and c.from_residual-in_err-advance.result c.from_residual-in_err-advance.ensures.1 in
     let a = c.elements.invariant.along in
-    rw (p.1, p.2) (λ m. sound_behind c.args.text.now (left_of c.elements.elements) a.forms (start_of c.elements.elements) _ c.elements.invariant.utf8
+    rw (p.1, p.2) (λ m. sound_after c.args.text.now (left_of c.elements.elements) a.forms (start_of c.elements.elements) _ c.elements.invariant.utf8
     a.front a.place (c.in_err-advance.ensures.memory m))
 
 pub returns-then-not-branch-clause-spelled : goal.returns-then-not-branch-clause-spelled
@@ -44,7 +44,7 @@ returns-in-Err-clause-memory c =
     let a = c.elements.invariant.along in
     let s = element_sound (left_of c.elements.elements) (left_of c.advance.new.self) e.element (start_of c.elements.elements) c.place-place.result
     c.elements.invariant.here e.front c.place-place.ensures in
-    λ _. sound_behind c.args.text.now (left_of c.elements.elements) a.forms (start_of c.elements.elements) c.place-place.result c.elements.invariant.utf8 a.front a.place s
+    λ _. sound_after c.args.text.now (left_of c.elements.elements) a.forms (start_of c.elements.elements) c.place-place.result c.elements.invariant.utf8 a.front a.place s
 
 pub elements-preserved : goal.elements-preserved
 elements-preserved c =

@@ -3,7 +3,7 @@ use Rattle.edn_reader.specs.Truncation.{Keeping, kept_of}
 use Rattle.edn_reader.specs.Token.{tokens_of}
 use Rattle.edn_reader.specs.Elements.{SpellsFront}
 use Rattle.edn_reader.specs.Left.{left_of, start_of, keeping_in, tokens_in, integer_vector_in}
-use Rattle.edn_reader.proofs.Following.{along_more, along_spells, reads_some, reads_none, sound_behind, unreadable_behind}
+use Rattle.edn_reader.proofs.Following.{along_more, along_spells, reads_some, reads_none, sound_after, unreadable_after}
 use Rattle.history.specs.Texts.{IsReading}
 use Rattle.history.proofs.TextReading.{along_passed, no_fault}
 use Rattle.history.proofs.text_reader.read_history_text.Goals as goal
@@ -45,10 +45,10 @@ pub returns-in-Err-advance-clause-fault : goal.returns-in-Err-advance-clause-fau
 returns-in-Err-advance-clause-fault c =
     let a = c.elements.invariant.along in
     let e = c.in-Err-advance.ensures in (
-      unreadable_behind (IsReading c.elements.reading) c.args.text.now (left_of c.elements.elements) (start_of c.elements.elements) c.in-Err-advance.fault c.elements.invariant.short a e.short e.none,
+      unreadable_after (IsReading c.elements.reading) c.args.text.now (left_of c.elements.elements) (start_of c.elements.elements) c.in-Err-advance.fault c.elements.invariant.short a e.short e.none,
       λ m. (
         c.elements.invariant.short,
-        sound_behind c.args.text.now (left_of c.elements.elements) a.forms (start_of c.elements.elements)
+        sound_after c.args.text.now (left_of c.elements.elements) a.forms (start_of c.elements.elements)
             c.in-Err-advance.fault.place c.elements.invariant.utf8 a.front a.place (e.memory m),
       ),
     )

@@ -4,7 +4,7 @@ use Rattle.judging.proofs.decision.judge.Goals as goal
 use Rattle.judging.proofs.decision.judge.Goals.{After-judge_read}
 
 holds : (g : Over) (c : After-judge_read g) → Holds c.args.history.now c.args.certificates.now c.judge_read.result
-holds g c = c.judge_read.ensures c.args.history.now c.history_by-read.ensures
+holds g c = c.judge_read.ensures c.args.history.now c.history_of_text_by_workers-read.ensures
 
 pub returns-clause-linearizable : goal.returns-clause-linearizable
 returns-clause-linearizable g c = (holds g c).linearizable

@@ -8,7 +8,7 @@ use Rattle.judging.proofs.decision.judge_alone.Goals.{After-with_certificates}
 read : (c : After-with_certificates) → AreBothRead (λ v. v.items) c.args.history.now c.args.certificates.now
     c.with_certificates.result
 read c =
-    let h = c.history_in.ensures in
+    let h = c.history_of_text.ensures in
     c.with_certificates.ensures.read c.args.history.now
     (record { denotes = h.denotes; only = h.only; short = h.short; stop = h.stop; accepts = h.accepts })
 

@@ -1,5 +1,5 @@
 use Rattle.std.proofs.Common.{◌≡◌, ◌<◌, length, get_or, IfOk, sym, subst, arith}
-use Rattle.parallel.specs.Parts.{IsPart, ArePartsOf}
+use Rattle.parallel.specs.Gathered.{IsGathered, AreGathered}
 use Rattle.parallel.proofs.Joining.{all_split}
 use Rattle.parallel.proofs.gathering.split_by_workers.Goals as goal
 
@@ -7,8 +7,8 @@ pub returns-then-workers-eq1 : goal.returns-then-workers-eq1
 returns-then-workers-eq1 g c =
     all_split (λ v. v.items) c.args.history.now c.split.result c.split.ensures.rising c.split.ensures.named c.split.ensures.kinds c.split.ensures.operations c.split.ensures.calls
 
-pub objects_of_parts-requires : goal.objects_of_parts-requires
-objects_of_parts-requires g c =
+pub objects_of_shares-requires : goal.objects_of_shares-requires
+objects_of_shares-requires g c =
     let ok = c.in_ok-found.found.ok in
     let long = c.in_ok-found.ensures.len in
     let some = c.requires in
@@ -21,6 +21,6 @@ returns g c =
     let ok = c.in_ok-found.found.ok in
     let len = c.in_ok-found.ensures.len in
     let long : length rs ≡ c.args.workers = omega (arith, ok, len) in
-    let parts : ArePartsOf (λ v. v.items) es rs =
-    λ i d l. subst (λ n. IfOk (get_or rs i d) (λ v. IsPart es i n v.items)) (sym long) (c.in_ok-found.ensures.each i d (subst (λ n. i < n) long l)).1.met in
-    c.objects_of_parts.ensures es parts
+    let parts : AreGathered (λ v. v.items) es rs =
+    λ i d l. subst (λ n. IfOk (get_or rs i d) (λ v. IsGathered es i n v.items)) (sym long) (c.in_ok-found.ensures.each i d (subst (λ n. i < n) long l)).1.met in
+    c.objects_of_shares.ensures es parts

@@ -2,7 +2,7 @@ use Rattle.std.proofs.Common.{◌<◌, List, get_or, refl, subst, sym, ◌∙◌
 use Rattle.std.proofs.Math.Nat.{le-max_left}
 use Rattle.checker.proofs.Certificates.{AreObjects, are_objects, all_valid, least_strange, strange_is_not_valid}
 use Rattle.events.specs.declared.event.Event.{Event}
-use Rattle.parallel.specs.Parts.{AreAll}
+use Rattle.parallel.specs.Gathered.{AreAll}
 use Rattle.parallel.specs.Shares.{IsShare}
 use Rattle.parallel.proofs.Sharing.{AreShares, first_of_all, all_are_fine}
 use Rattle.parallel.proofs.workers.check_objects.Given.{Over}

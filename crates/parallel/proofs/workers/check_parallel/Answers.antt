@@ -1,5 +1,5 @@
 use Rattle.std.proofs.Common.{sym, subst}
-use Rattle.parallel.specs.Parts.{AreAll}
+use Rattle.parallel.specs.Gathered.{AreAll}
 use Rattle.parallel.proofs.workers.check_parallel.Goals as goal
 
 pub returns-clause-answer : goal.returns-clause-answer

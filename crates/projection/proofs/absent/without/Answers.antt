@@ -4,8 +4,8 @@ use Rattle.events.specs.declared.operations.Invocation.{Invocation}
 use Rattle.events.specs.Operations.{ObjectCalls, IsObjectHistory, calls_of}
 use Rattle.projection.specs.Absent.{IsAbsent}
 use Rattle.projection.specs.Cuts.{IsPart}
-use Rattle.projection.specs.Pieces.{is_late}
-use Rattle.projection.proofs.Pieces.{same_history}
+use Rattle.projection.specs.CutOperations.{is_late}
+use Rattle.projection.proofs.CutOperations.{same_history}
 use Rattle.projection.proofs.Early.{late_history, late_calls_of, late_shows}
 use Rattle.projection.proofs.absent.without.Goals as goal
 

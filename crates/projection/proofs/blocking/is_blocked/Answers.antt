@@ -2,13 +2,13 @@ use Rattle.std.proofs.Common.{nat_lt, ◌&&◌, Bool, MatchBool, List, refl, sym
 use Rattle.events.specs.declared.operations.Invocation.{Invocation}
 use Rattle.events.specs.Operations.{calls_of}
 use Rattle.projection.specs.Ahead.{IsBlocked}
-use Rattle.projection.specs.Pieces.{IsRemoval}
-use Rattle.projection.proofs.Blocked.{blocked_shows, blocked_piece, decided_of}
+use Rattle.projection.specs.CutOperations.{IsRemoval}
+use Rattle.projection.proofs.Blocked.{blocked_shows, blocked_operation, decided_of}
 use Rattle.projection.proofs.blocking.is_blocked.Goals as goal
 
 pub returns-in_default-clause-counts : goal.returns-in_default-clause-counts
 returns-in_default-clause-counts c b =
-    let t = blocked_piece c.args.history.now.ops c.args.number c.args.from b in
+    let t = blocked_operation c.args.history.now.ops c.args.number c.args.from b in
     c.in_default.ensures.none refl b.removal.op b.at b.found
     (subst (λ (os : List Invocation). IsRemoval os c.args.number b.removal.op b.at b.found)
     (sym c.ops-operations.ensures.ops) t)

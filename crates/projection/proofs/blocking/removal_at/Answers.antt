@@ -2,7 +2,7 @@ use Rattle.std.proofs.Common.{◌≡◌, ◌<◌, ℕ, ℤ, Option, Some, None, 
 use Rattle.model.specs.declared.AnyOp.{AnyOp}
 use Rattle.model.proofs.Lists.{in_from_contains, pairs_from_all}
 use Rattle.events.specs.declared.operations.Invocation.{Invocation}
-use Rattle.projection.specs.Pieces.{found_end}
+use Rattle.projection.specs.CutOperations.{found_end}
 use Rattle.projection.proofs.Sequences.{one_number}
 use Rattle.projection.proofs.blocking.removal_at.Goals as goal
 

@@ -2,7 +2,7 @@ use Rattle.std.proofs.Common.{List, count_by, ap, ◌∙◌}
 use Rattle.events.specs.declared.operations.Invocation.{Invocation}
 use Rattle.model.specs.declared.Kind.{Kind}
 use Rattle.projection.specs.Counts.{most_before}
-use Rattle.projection.specs.Pieces.{is_set, is_gone}
+use Rattle.projection.specs.CutOperations.{is_set, is_gone}
 use Rattle.projection.proofs.Bounds.{decided, shown}
 use Rattle.projection.proofs.counting.is_overdrawn.Goals as goal
 

@@ -1,8 +1,8 @@
 use Rattle.std.proofs.Common.{ap, sym, ◌∙◌, subst, filter, not}
 use Rattle.events.specs.Operations.{ObjectCalls, IsObjectHistory, calls_of}
 use Rattle.projection.specs.Cuts.{IsPart}
-use Rattle.projection.specs.Pieces.{has_failed}
-use Rattle.projection.proofs.Pieces.{same_history}
+use Rattle.projection.specs.CutOperations.{has_failed}
+use Rattle.projection.proofs.CutOperations.{same_history}
 use Rattle.projection.proofs.Alone.{alone_history, alone_calls, alone_shows}
 use Rattle.projection.proofs.cutting.calls_alone.Goals as goal
 

@@ -2,7 +2,7 @@ use Rattle.std.proofs.Common.{◌<◌, w64, rules}
 use Rattle.std.proofs.lemmas.Int.{to_z-of_z}
 use Rattle.model.proofs.Lists.{pairs_from_all}
 use Rattle.events.specs.Operations.{calls_of}
-use Rattle.projection.proofs.Pieces.{rising_calls}
+use Rattle.projection.proofs.CutOperations.{rising_calls}
 use Rattle.projection.proofs.Naming.{from_one, without_named}
 use Rattle.projection.proofs.cutting.cut_by.Goals as goal
 

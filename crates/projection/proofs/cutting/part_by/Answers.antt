@@ -3,7 +3,7 @@ use Rattle.model.specs.Orders.{Call}
 use Rattle.events.specs.Operations.{ObjectCalls, calls_of}
 use Rattle.projection.specs.declared.cutting.Cut.{Cut}
 use Rattle.projection.specs.Cuts.{IsPart, Names, kind_cut, part_kind}
-use Rattle.projection.proofs.Pieces.{part_of_part}
+use Rattle.projection.proofs.CutOperations.{part_of_part}
 use Rattle.projection.proofs.Naming.{IsCutSoFar, not_cut, cut_further, kind_further}
 use Rattle.projection.proofs.cutting.part_by.Goals as goal
 

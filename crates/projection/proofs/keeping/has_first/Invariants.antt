@@ -1,6 +1,6 @@
 use Rattle.std.proofs.Common.{◌≡◌, drop}
 use Rattle.projection.specs.Cuts.{keeps_number}
-use Rattle.projection.specs.Pieces.{keeps_first}
+use Rattle.projection.specs.CutOperations.{keeps_first}
 use Rattle.projection.proofs.keeping.has_first.Given as goal
 
 abbrev pub invariant-loop-operation : goal.invariant-loop-operation

@@ -1,6 +1,6 @@
 use Rattle.std.proofs.Common.{ap, sym, ◌∙◌}
 use Rattle.projection.specs.Cuts.{keeps_number}
-use Rattle.projection.specs.Pieces.{keeps_first}
+use Rattle.projection.specs.CutOperations.{keeps_first}
 use Rattle.projection.proofs.Kept.{closed_calls, closed_fits, closed_first}
 use Rattle.projection.proofs.keeping.is_closed.Goals as goal
 

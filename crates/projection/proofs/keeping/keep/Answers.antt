@@ -2,8 +2,8 @@ use Rattle.std.proofs.Common.{◌<◌, List, AllPairs, ap, sym, ◌∙◌, subst
 use Rattle.events.specs.declared.operations.Invocation.{Invocation}
 use Rattle.events.specs.Operations.{ObjectCalls, IsObjectHistory, calls_of}
 use Rattle.projection.specs.Cuts.{keeps_number, IsClosedPart, IsPart}
-use Rattle.projection.specs.Pieces.{is_kept_call}
-use Rattle.projection.proofs.Pieces.{same_history}
+use Rattle.projection.specs.CutOperations.{is_kept_call}
+use Rattle.projection.proofs.CutOperations.{same_history}
 use Rattle.projection.proofs.Kept.{kept_history, kept_calls_of, kept_shows}
 use Rattle.projection.proofs.keeping.keep.Goals as goal
 

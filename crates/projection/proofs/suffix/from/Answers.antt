@@ -4,8 +4,8 @@ use Rattle.events.specs.declared.operations.Invocation.{Invocation}
 use Rattle.events.specs.Operations.{ObjectCalls, IsObjectHistory, calls_of}
 use Rattle.projection.specs.Parts.{IsStart}
 use Rattle.projection.specs.Cuts.{IsPart}
-use Rattle.projection.specs.Pieces.{piece_from}
-use Rattle.projection.proofs.Pieces.{same_history}
+use Rattle.projection.specs.CutOperations.{operation_from}
+use Rattle.projection.proofs.CutOperations.{same_history}
 use Rattle.projection.proofs.Later.{from_history, from_calls, from_shows}
 use Rattle.projection.proofs.suffix.from.Goals as goal
 
@@ -14,7 +14,7 @@ new-requires c =
     let h = c.args.history.now in
     let s = c.in-Some.start in
     let start = subst (λ (os : List Invocation). IsStart (calls_of os) c.args.number s.at s.first) c.ops-operations.ensures.ops c.in-Some.ensures.some in
-    subst IsObjectHistory (sym (same_history c.object.ensures c.kind.ensures (c.in_ok-ops.ensures ∙ ap (filter_map (piece_from c.args.number s.at s.first)) c.ops-operations.ensures.ops)))
+    subst IsObjectHistory (sym (same_history c.object.ensures c.kind.ensures (c.in_ok-ops.ensures ∙ ap (filter_map (operation_from c.args.number s.at s.first)) c.ops-operations.ensures.ops)))
     (from_history h c.args.number s.at s.first c.ops-operations.ensures.kept start)
 
 pub returns-clause-part : goal.returns-clause-part
@@ -22,7 +22,7 @@ returns-clause-part c =
     let h = c.args.history.now in
     let s = c.in-Some.start in
     let start = subst (λ (os : List Invocation). IsStart (calls_of os) c.args.number s.at s.first) c.ops-operations.ensures.ops c.in-Some.ensures.some in
-    subst (IsPart h) (sym (c.new.ensures ∙ same_history c.object.ensures c.kind.ensures (c.in_ok-ops.ensures ∙ ap (filter_map (piece_from c.args.number s.at s.first)) c.ops-operations.ensures.ops)))
+    subst (IsPart h) (sym (c.new.ensures ∙ same_history c.object.ensures c.kind.ensures (c.in_ok-ops.ensures ∙ ap (filter_map (operation_from c.args.number s.at s.first)) c.ops-operations.ensures.ops)))
     (from_shows h c.args.number s.at s.first c.ops-operations.ensures.kept start)
 
 pub returns-clause-calls : goal.returns-clause-calls
@@ -35,7 +35,7 @@ returns-clause-calls c =
       first = s.first;
       start = start;
       named = ap (λ (z : ObjectCalls). calls_of z.ops) c.new.ensures
-          ∙ ap calls_of (c.in_ok-ops.ensures ∙ ap (filter_map (piece_from c.args.number s.at s.first)) c.ops-operations.ensures.ops) ∙ from_calls c.args.number s.at s.first h.ops;
+          ∙ ap calls_of (c.in_ok-ops.ensures ∙ ap (filter_map (operation_from c.args.number s.at s.first)) c.ops-operations.ensures.ops) ∙ from_calls c.args.number s.at s.first h.ops;
     }
 
 pub returns-in_default-clause-refused : goal.returns-in_default-clause-refused

@@ -2,8 +2,8 @@ use Rattle.std.proofs.Common.{◌≡◌, ◌<◌, ◌≢◌, All, refl, ap, sym,
 use Rattle.model.proofs.Lists.{in_from_contains, all_at, pairs_from_all}
 use Rattle.events.specs.declared.operations.Invocation.{Invocation}
 use Rattle.projection.specs.Parts.{key_of, leaves}
-use Rattle.projection.specs.Pieces.{IsOnKey}
-use Rattle.projection.proofs.Later.{start_piece}
+use Rattle.projection.specs.CutOperations.{IsOnKey}
+use Rattle.projection.proofs.Later.{start_operation}
 use Rattle.projection.proofs.Sequences.{one_number}
 use Rattle.projection.proofs.suffix.start_at.Goals as goal
 
@@ -12,7 +12,7 @@ returns-clause-none c e at first s =
     let ops = c.args.operations.now in
     let o = c.in_ok-operation.operation in
     let here = c.in_ok-operation.ensures.some in
-    let w = start_piece ops c.args.number at first s in
+    let w = start_operation ops c.args.number at first s in
     let own : o ≡ w.operation = one_number (λ (z : Invocation). z.number) o w.operation ops
     (pairs_from_all (λ a b. a.number < b.number) ops c.requires) (in_from_contains ops o here.0) w.known (here.1 ∙ sym w.number) in
     c.start_by.ensures.none e at s.reply first (ap (λ (z : Invocation). z.«end») own ∙ w.ended)
@@ -21,5 +21,5 @@ returns-clause-none c e at first s =
 pub returns-in_err-operation-clause-none : goal.returns-in_err-operation-clause-none
 returns-in_err-operation-clause-none c e at first s =
     let ops = c.args.operations.now in
-    let w = start_piece ops c.args.number at first s in
+    let w = start_operation ops c.args.number at first s in
     all_at (λ (o : Invocation). o.number ≢ c.args.number) ops (c.in_err-operation.ensures.none refl) w.operation w.known w.number

@@ -1,5 +1,5 @@
 use Rattle.std.proofs.Common.{All, sym, ◌∙◌, subst}
-use Rattle.projection.specs.Pieces.{IsOnKey}
+use Rattle.projection.specs.CutOperations.{IsOnKey}
 use Rattle.projection.proofs.Later.{start_from}
 use Rattle.projection.proofs.suffix.start_by.Goals as goal
 

@@ -2,7 +2,7 @@ use Rattle.std.proofs.Common.{◌≡◌, ◌∙◌, ◌++◌, [], false, codes, 
 use Rattle.std.specs.Prelude.{if◌then◌else◌}
 use Rattle.std.proofs.lemmas.Result.{on_ok_weaker}
 use Rattle.reason_report.specs.Operations.{call_text, is_same}
-use Rattle.reason_report.proofs.PiecesLeft.{two_pushed}
+use Rattle.reason_report.proofs.SegmentsLeft.{two_pushed}
 use Rattle.reason_report.proofs.operations.push_counted.Goals as goal
 
 pub returns : goal.returns

@@ -1,4 +1,4 @@
-use Rattle.reason_report.proofs.PiecesLeft.{one_more, operations_left}
+use Rattle.reason_report.proofs.SegmentsLeft.{one_more, operations_left}
 use Rattle.reason_report.proofs.operations.push_lines.Goals as goal
 
 pub loop-operation-preserved : goal.loop-operation-preserved

@@ -2,7 +2,7 @@ use Rattle.std.proofs.Common.{rules}
 use Rattle.std.specs.Prelude.{OnOk}
 use Rattle.edn.specs.Sent.{Writes}
 use Rattle.edn_reader.specs.Text.{IsInt64}
-use Rattle.edn.proofs.Fronts.{front_of_first, fails, sends_behind}
+use Rattle.edn.proofs.Fronts.{front_of_first, fails, sends_after}
 use Rattle.refutation.specs.Lines.{other_text, cell_text}
 use Rattle.refutation.specs.Written.{AreNumberKeys, AreTypedValues}
 use Rattle.refutation.proofs.Sending.{on_ok_with}
@@ -19,7 +19,7 @@ returns-clause-sent g c =
     (g.S.Sink.sent c.write_other.new.sink)
     (g.S.Sink.broken c.write_other.new.sink) (other_text c.args.other c.args.numbers.now.keys) =
     search rules in
-    sends_behind _ _ _ _ _ (cell_text c.args.values.now)
+    sends_after _ _ _ _ _ (cell_text c.args.values.now)
     (other_text c.args.other c.args.numbers.now.keys) c.in_ok-write_cell_values.ensures.sent.0.0 h
 
 pub returns-clause-typed : goal.returns-clause-typed

@@ -1,7 +1,7 @@
 use Rattle.std.proofs.Common.{rules}
 use Rattle.std.specs.Prelude.{codes}
 use Rattle.edn_reader.specs.Text.{between}
-use Rattle.edn.proofs.Fronts.{front_of_first, fails, sends_behind}
+use Rattle.edn.proofs.Fronts.{front_of_first, fails, sends_after}
 use Rattle.refutation.specs.Lines.{cut_text}
 use Rattle.refutation.proofs.cut_writer.write_next_cut.Goals as goal
 
@@ -13,5 +13,5 @@ returns-in_err-write_between-clause-sent g c =
 
 pub returns-clause-sent : goal.returns-clause-sent
 returns-clause-sent g c =
-    sends_behind _ _ _ _ _ (between c.args.first (codes " ")) (cut_text c.args.cut.now)
+    sends_after _ _ _ _ _ (between c.args.first (codes " ")) (cut_text c.args.cut.now)
     c.in_ok-write_between.ensures.sent.0.0 c.write_cut.ensures.sent

@@ -3,7 +3,7 @@ use Rattle.std.specs.Prelude.{codes, decimal}
 use Rattle.std.specs.Fmt.{signed_decimal}
 use Rattle.std.specs.Io.KnownBytes.{Appends}
 use Rattle.edn.specs.Sent.{Writes, WritesPrefix}
-use Rattle.edn.proofs.Fronts.{front_of_first, fails, sends_behind}
+use Rattle.edn.proofs.Fronts.{front_of_first, fails, sends_after}
 use Rattle.refutation.proofs.cut_writer.write_without.Goals as goal
 
 pub returns-in_err-write_integer_after-clause-sent
@@ -24,5 +24,5 @@ returns-clause-sent g c =
     (g.S.Sink.sent c.write_number_after.new.sink)
     (g.S.Sink.broken c.write_number_after.new.sink)
     (codes ", :before " ++ decimal c.args.before) = search rules in
-    sends_behind _ _ _ _ _ (codes "{:without " ++ signed_decimal c.args.value)
+    sends_after _ _ _ _ _ (codes "{:without " ++ signed_decimal c.args.value)
     (codes ", :before " ++ decimal c.args.before) p0 h

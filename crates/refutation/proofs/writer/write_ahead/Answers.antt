@@ -1,6 +1,6 @@
 use Rattle.std.proofs.Common.{◌++◌, rules}
 use Rattle.std.specs.Prelude.{codes, decimal}
-use Rattle.edn.proofs.Fronts.{front_of_first, fails, sends_behind}
+use Rattle.edn.proofs.Fronts.{front_of_first, fails, sends_after}
 use Rattle.refutation.specs.Lines.{start_text}
 use Rattle.refutation.proofs.writer.write_ahead.Goals as goal
 
@@ -13,6 +13,6 @@ returns-in_err-write_number_after-clause-sent g c =
 
 pub returns-clause-sent : goal.returns-clause-sent
 returns-clause-sent g c =
-    sends_behind _ _ _ _ _ (codes ", :count {:ahead " ++ decimal c.args.number)
+    sends_after _ _ _ _ _ (codes ", :count {:ahead " ++ decimal c.args.number)
     (start_text c.args.from)
     c.in_ok-write_number_after.ensures.sent.0.0 c.write_later_start.ensures.sent

@@ -3,7 +3,7 @@ use Rattle.std.specs.Prelude.{codes}
 use Rattle.std.specs.Fmt.{signed_decimal}
 use Rattle.std.specs.Io.KnownBytes.{Appends}
 use Rattle.edn.specs.Sent.{Writes, WritesPrefix}
-use Rattle.edn.proofs.Fronts.{front_of_first, fails, sends_behind}
+use Rattle.edn.proofs.Fronts.{front_of_first, fails, sends_after}
 use Rattle.refutation.proofs.writer.write_entry.Goals as goal
 
 pub returns-in_err-write_integer_after-clause-sent
@@ -23,5 +23,5 @@ returns-clause-sent g c =
     (g.S.Sink.sent c.write_integer_after-2.new.sink)
     (g.S.Sink.broken c.write_integer_after-2.new.sink)
     (codes ", :value " ++ signed_decimal c.args.value) = search rules in
-    sends_behind _ _ _ _ _ (codes ":key " ++ signed_decimal c.args.key)
+    sends_after _ _ _ _ _ (codes ":key " ++ signed_decimal c.args.key)
     (codes ", :value " ++ signed_decimal c.args.value) p0 h

@@ -1,6 +1,6 @@
 use Rattle.std.proofs.Common.{◌++◌, rules}
 use Rattle.std.specs.Prelude.{codes, decimal}
-use Rattle.edn.proofs.Fronts.{front_of_first, fails, sends_behind}
+use Rattle.edn.proofs.Fronts.{front_of_first, fails, sends_after}
 use Rattle.refutation.proofs.writer.write_start.Goals as goal
 
 pub returns-in_err-write_number_after-clause-sent
@@ -12,5 +12,5 @@ returns-in_err-write_number_after-clause-sent g c =
 
 pub returns-clause-sent : goal.returns-clause-sent
 returns-clause-sent g c =
-    sends_behind _ _ _ _ _ (codes ", :from " ++ decimal c.args.from) (codes "}")
+    sends_after _ _ _ _ _ (codes ", :from " ++ decimal c.args.from) (codes "}")
     c.in_ok-write_number_after.ensures.sent.0.0 c.write_bytes.ensures.sent

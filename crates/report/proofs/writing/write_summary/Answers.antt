@@ -1,6 +1,6 @@
 use Rattle.std.proofs.Common.{rules, ap, sym}
 use Rattle.std.specs.Prelude.{◌++◌}
-use Rattle.edn.proofs.Fronts.{front_of_first, fails, sends_behind, sends_as}
+use Rattle.edn.proofs.Fronts.{front_of_first, fails, sends_after, sends_as}
 use Rattle.report.specs.Lines.{comment_text, kind_lines, total_line}
 use Rattle.report.proofs.writing.write_summary.Goals as goal
 
@@ -18,6 +18,6 @@ returns g c =
     let line = comment_text c.args.commented ++ total_line c.args.summary.now in
     let kinds = ap (λ ks. line ++ kind_lines c.args.commented ks) (sym c.deref.ensures.value) in
     record {
-      sent = sends_as _ _ _ _ _ _ kinds (sends_behind _ _ _ _ _ line _
+      sent = sends_as _ _ _ _ _ _ kinds (sends_after _ _ _ _ _ line _
           (rw c.total_line.ensures at c.in_ok-write_line.ensures.sent.0.0) c.write_kinds.ensures.sent);
     }

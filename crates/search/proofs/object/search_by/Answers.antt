@@ -1,6 +1,6 @@
 use Rattle.std.proofs.Common.{ℕ, ap, sym, subst, ◌∙◌}
 use Rattle.events.specs.Operations.{calls_of}
-use Rattle.search.specs.Answers.{IsAnswer, answer_in}
+use Rattle.search.specs.Answers.{IsAnswer, search_for}
 use Rattle.search.proofs.Answering.{answer_from}
 use Rattle.search.proofs.object.search_by.Goals as goal
 
@@ -10,5 +10,5 @@ returns c =
     let calls = calls_of h.ops in
     let r = c.find_order.result in
     let e = c.find_order.ensures in
-    subst (IsAnswer h.object h.kind calls c.args.limit) (sym (c.answer_of.ensures ∙ ap (λ (x : ℕ). answer_in x r) c.object.ensures))
+    subst (IsAnswer h.object h.kind calls c.args.limit) (sym (c.answer_of.ensures ∙ ap (λ (x : ℕ). search_for x r) c.object.ensures))
     (answer_from h.object h.kind calls c.args.limit r e.found e.impossible e.steps e.out_of_steps e.too_large e.memory)

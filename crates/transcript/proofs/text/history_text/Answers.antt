@@ -1,5 +1,5 @@
 use Rattle.std.proofs.Common.{◌≡◌, rules, sym, ◌∙◌}
-use Rattle.transcript.specs.Pieces.{lines_text}
+use Rattle.transcript.specs.Segments.{lines_text}
 use Rattle.transcript.proofs.Texts.{texts_are}
 use Rattle.transcript.proofs.text.history_text.Goals as goal
 

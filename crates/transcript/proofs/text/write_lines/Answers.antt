@@ -1,5 +1,5 @@
 use Rattle.edn.proofs.Fronts.{further}
-use Rattle.transcript.specs.Pieces.{lines_text}
+use Rattle.transcript.specs.Segments.{lines_text}
 use Rattle.transcript.proofs.Texts.{lines_left}
 use Rattle.transcript.proofs.Profiles.{profiles_more, all_profiles}
 use Rattle.transcript.proofs.text.write_lines.Goals as goal

@@ -2,7 +2,7 @@ use Rattle.std.proofs.Common.{◌≡◌, ℕ, List, ◌++◌, drop, take, All, f
 use Rattle.std.specs.Io.KnownBytes.{Appends}
 use Rattle.edn_reader.specs.Text.{InProfile}
 use Rattle.transcript.specs.Lines.{form_of}
-use Rattle.transcript.specs.Pieces.{lines_text}
+use Rattle.transcript.specs.Segments.{lines_text}
 use Rattle.transcript.proofs.text.write_lines.Given as goal
 
 abbrev pub invariant-loop-line : goal.invariant-loop-line

@@ -9,8 +9,8 @@ use Rattle.edn_reader.specs.Token.{leaf, tokens_of}
 use Rattle.edn_reader.specs.View.{view, views, pair_views}
 use Rattle.edn_reader.specs.declared.piece.Piece.{Piece}
 use Rattle.edn_reader.proofs.Consumed.{list_tokens, pairs_tokens}
-use Rattle.edn_reader.proofs.Formed.{some_form, vector_begins, map_begins, alone, key_own, value_begins, pairs_behind, pairs_more, pairs_with}
-use Rattle.edn_reader.proofs.Formed.{map_whole, item_begins, items_behind, items_more, views_with, vector_whole}
+use Rattle.edn_reader.proofs.Formed.{some_form, vector_begins, map_begins, alone, key_own, value_begins, pairs_after, pairs_more, pairs_with}
+use Rattle.edn_reader.proofs.Formed.{map_whole, item_begins, items_after, items_more, views_with, vector_whole}
 use Rattle.edn_reader.proofs.Pairs.{map_view, vector_view}
 use Rattle.edn_reader.proofs.forming.Tokens.+forms.Goals as goal
 
@@ -53,7 +53,7 @@ map-pairs-preserved t c =
     (pair_views c.pairs.pairs.items) (name_bytes key) value c.pairs.invariant.0 front c.in_ok-value.ensures.form in
     let pushed = pairs_with c.pairs.pairs.items c.push.new.self.items key c.in_ok-value.value c.in_ok-push.ensures.items in (
       more ∙ ap (λ (ps : List (List ℕ × Datum)). pairs_tokens ps ++ left_on c.form.new.self) (sym pushed),
-      pairs_behind (left_on c.pairs.self) (left_on c.next_key.new.self) (left_on c.form.new.self) (name_bytes key) value front c.in_ok-value.ensures.form c.pairs.invariant.1,
+      pairs_after (left_on c.pairs.self) (left_on c.next_key.new.self) (left_on c.form.new.self) (name_bytes key) value front c.in_ok-value.ensures.form c.pairs.invariant.1,
       omega (arith, c.in_ok-value.ensures.shorter, c.next_key.ensures.shorter, c.pairs.invariant.2),
     )
 
@@ -75,7 +75,7 @@ vector-items-preserved t c =
     let more = items_more (left_on c.args.self.now) (left_on c.items.self) (left_on c.form.new.self) (views c.items.forms.items) form c.items.invariant.0 front in
     let pushed = views_with c.items.forms.items c.push.new.self.items c.in_ok-form.form c.in_ok-push.ensures.items in (
       more ∙ ap (λ (ds : List Datum). list_tokens ds ++ left_on c.form.new.self) (sym pushed),
-      items_behind (left_on c.items.self) (left_on c.form.new.self) form (c.items-test.ensures.goes_on refl) front c.items.invariant.1,
+      items_after (left_on c.items.self) (left_on c.form.new.self) form (c.items-test.ensures.goes_on refl) front c.items.invariant.1,
       omega (arith, c.in_ok-form.ensures.shorter, c.ends_vector.ensures.within, c.items.invariant.2),
     )
 

@@ -1,0 +1,29 @@
+-- Segments and lines, one after the other.
+use Rattle.std.proofs.Common.{◌≡◌, ◌∙◌, ℕ, ◌+◌, ◌<◌, Bool, List, ◌++◌, length, drop, get_or, ap, sym, append_assoc}
+use Rattle.std.proofs.lemmas.List.{drop_more}
+use Rattle.events.specs.declared.event.Event.{Event}
+use Rattle.events.specs.declared.operations.Invocation.{Invocation}
+use Rattle.reason_report.specs.Operations.{operation_line, operations_text}
+use Rattle.reason_report.specs.Segments.{comment_text, segment_text, segments_text}
+use Rattle.reason_report.specs.declared.segments.Segment.{Segment}
+
+pub segments_left : (ps : List Segment) (i : ℕ) (d : Segment) → i < length ps
+    → segments_text (drop i ps) ≡ segment_text (get_or ps i d) ++ segments_text (drop (i + 1) ps)
+segments_left ps i d lt = ap segments_text (drop_more ps i d lt)
+
+pub operations_left : (commented : Bool) (es : List Event) (ops : List Invocation) (i : ℕ) (d : Invocation)
+    → i < length ops
+    → operations_text commented es (drop i ops)
+    ≡ (comment_text commented ++ operation_line es (get_or ops i d))
+    ++ operations_text commented es (drop (i + 1) ops)
+operations_left commented es ops i d lt = ap (operations_text commented es) (drop_more ops i d lt)
+
+-- one more goes to what went out
+pub one_more : (old new segment rest left all : List ℕ) → new ≡ old ++ segment → left ≡ segment ++ rest → old ++ left ≡ all
+    → new ++ rest ≡ all
+one_more old new segment rest left all is parts done =
+    ap (λ x. x ++ rest) is ∙ (append_assoc old segment rest ∙ (ap (λ x. old ++ x) (sym parts) ∙ done))
+
+pub two_pushed : (old first second new last : List ℕ) → new ≡ old ++ first → last ≡ new ++ second
+    → last ≡ old ++ (first ++ second)
+two_pushed old first second new last p q = q ∙ (ap (λ x. x ++ second) p ∙ append_assoc old first second)
