@@ -1,4 +1,4 @@
--- Forms read one after the other.
+-- Reading certificates form by form: the forms so far have no fault, or this is the first one.
 use Rattle.std.proofs.Common.{◌≡◌, ◌≢◌, ℕ, zero, suc, ◌+◌, ◌<◌, ◌≤◌, ◌==◌, Bool, true, false, cond, List, [], ◌∷◌, ◌++◌, length, take, drop, get_or}
 use Rattle.std.proofs.Common.{map, option_map, Option, Some, None, Contains, refl, ap, sym, ◌∙◌, length-append, arith}
 use Rattle.std.specs.Prelude.{ℤ, ◌||◌, codes}

@@ -72,8 +72,8 @@ rising_calls (o ∷ ops) h = go (call_of o) refl (rising_calls ops h.1)
     go (Some c) q rest = (above c q, rest)
 
 -- an operation, for a default that nothing reads
-abbrev pub nobody : Invocation
-nobody = record { number = 0; op = Enqueue (pos 0); «end» = Returned 0 (Value None) }
+abbrev pub placeholder_operation : Invocation
+placeholder_operation = record { number = 0; op = Enqueue (pos 0); «end» = Returned 0 (Value None) }
 
 -- a number that no call's operation has names no call
 pub not_named : (ops : List Invocation) (z : ℤ) (d : Invocation)

@@ -1,4 +1,4 @@
--- A valid order has no refusal.
+-- One object: Ok exactly where its order is valid.
 use Rattle.std.proofs.Common.{◌≡◌, ◌<◌, ℕ, ℤ, List, AllPairs, refl}
 use Rattle.std.specs.Result.{IfErr, OnOk}
 use Rattle.std.specs.declared.result.Result.{Result}

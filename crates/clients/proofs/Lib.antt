@@ -2,6 +2,6 @@ pub mod Streams
 pub mod DrawnCalls
 pub mod Works
 pub mod Meetings
-pub mod News
+pub mod NewClients
 pub mod Ends
 pub mod Workers

@@ -7,7 +7,7 @@ ghost use Rattle.clients.specs.Made.{HasWorked, HasMet, IsDeskFor, Keeps, HaveSe
 use publication::{Client, Desk};
 use seq_objects::AnyObject;
 
-// Both meet on each object.
+/// Both meet on each object.
 fn meet_on_all(
     desk: &Desk<AnyObject>,
     own: Client<AnyObject>,

@@ -11,14 +11,14 @@ use publication::{Client, Desk, Win};
 use seq_objects::AnyObject;
 use std::alloc::AllocError;
 
-// How many of these calls are on the object. Only a bound is proved: it is for room alone.
+/// How many of these calls are on the object. Only a bound is proved: it is for room alone.
 fn count_on(calls: &[(u32, AnyOp)], object: u32) -> usize
     ensures { result ≤ length calls.now }
 {
     calls.iter().filter(|call| call.0 == object).count()
 }
 
-// How many calls of the workload are on the object, of which also only a bound is proved.
+/// How many calls of the workload are on the object, of which also only a bound is proved.
 fn calls_on(workload: &Workload, object: u32) -> usize
     ensures { result ≤ max_clients * max_calls }
 {
@@ -29,9 +29,9 @@ fn calls_on(workload: &Workload, object: u32) -> usize
     count
 }
 
-// Makes room in the log of the object for each call of the workload on it, and for one more of each
-// client, since a pass needs that room before it serves. Where another client holds the object it
-// makes none.
+/// Makes room in the log of the object for each call of the workload on it, and for one more of each
+/// client, since a pass needs that room before it serves. Where another client holds the object it
+/// makes none.
 fn make_room(
     desk: &Desk<AnyObject>,
     workload: &Workload,
@@ -55,7 +55,7 @@ fn make_room(
     }
 }
 
-// Makes room in the log of each object, by one client.
+/// Makes room in the log of each object, by one client.
 fn make_all_room(
     desk: &Desk<AnyObject>,
     workload: &Workload,

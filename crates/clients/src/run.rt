@@ -46,7 +46,7 @@ impl<F: Drop> From<SpawnError<F>> for RunFault {
     }
 }
 
-// The client of this desk with this number has made its calls of the workload.
+/// The client of this desk with this number has made its calls of the workload.
 #[derive(Drop)]
 struct WorkerOf<'a>(&'a Desk<AnyObject>, &'a Workload, u32);
 
@@ -82,8 +82,8 @@ pub fn run_workers<R: Threads + Wait + Sync, G: Gate>(
 
 type Worker<'a> = PromisedHandle<Client<AnyObject>, WorkerOf<'a>>;
 
-// Runs the clients of a new desk, and hands client 0 back, which has met the others. There is room
-// for their threads.
+/// Runs the clients of a new desk, and hands client 0 back, which has met the others. There is room
+/// for their threads.
 fn run_all<'a, R: Threads + Wait + Sync, G: Gate>(
     rt: &R,
     gate: &G,
@@ -140,7 +140,7 @@ fn run_all<'a, R: Threads + Wait + Sync, G: Gate>(
     )
 }
 
-// Closes the desk with its last client, once the others have retired.
+/// Closes the desk with its last client, once the others have retired.
 fn close(desk: Desk<AnyObject>, last: Client<AnyObject>) -> Record<AnyObject>
     requires desk { last.desk ≡ desk.id }
     requires told { HaveTold desk last }
@@ -152,7 +152,7 @@ fn close(desk: Desk<AnyObject>, last: Client<AnyObject>) -> Record<AnyObject>
     }
 }
 
-// An object of each kind that contains nothing.
+/// An object of each kind that contains nothing.
 fn empty_objects(alloc: Global, kinds: &[Kind]) -> Result<Vec<AnyObject>, AllocError>
     ensures kinds { IfOk result (λ v.
         map (λ o. kind_with (⟦<AnyObject as SeqObject>⟧.content o)) v.items ≡ kinds.now) }

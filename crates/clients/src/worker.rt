@@ -31,7 +31,7 @@ pub(crate) fn work<R: Wait, G: Gate>(
     make_all(rt, gate, desk, client, calls)
 }
 
-// Makes these calls, one after another, up to the first to which memory is refused.
+/// Makes these calls, one after another, up to the first to which memory is refused.
 fn make_all<R: Wait, G: Gate>(
     rt: &R,
     gate: &G,
@@ -58,7 +58,7 @@ fn make_all<R: Wait, G: Gate>(
     client
 }
 
-// Makes one call, which `post` cannot refuse. Whether it is over: if not, it is outstanding.
+/// Makes one call, which `post` cannot refuse. Whether it is over: if not, it is outstanding.
 fn make<R: Wait>(
     rt: &R,
     desk: &Desk<AnyObject>,

@@ -36,6 +36,9 @@ const CLEANING: u64 = 64;
 /// A row that was of no use for more passes than this goes out of the list.
 const IDLE: u64 = 128;
 
+/// The most clients of a desk, and so the most rows of a list.
+const MAX_CLIENTS: usize = 32;
+
 /// Tries to win the object. If it is won, and the log has room for a call of each client, serves
 /// the client's own row, then each other row of the publication list, and then the own one again if
 /// its request was put back. A request whose operation is not possible is put back. In each pass
@@ -74,8 +77,8 @@ pub fn combine<S: SeqObject>(
     }
 }
 
-// Serves the own row, the others, and the own one again if its request was put back. Answers how
-// many were answered.
+/// Serves the own row, the others, and the own one again if its request was put back. Answers how
+/// many were answered.
 fn serve<S: SeqObject>(desk: &Desk<S>, pass: Pass<S>) -> (Pass<S>, u64)
     requires { pass.desk ≡ desk.now.id }
     ensures goes { Goes pass result.0 }
@@ -92,7 +95,7 @@ fn serve<S: SeqObject>(desk: &Desk<S>, pass: Pass<S>) -> (Pass<S>, u64)
     (pass, u64::from(again == Tried::Answered) + others)
 }
 
-// Walks the list, and makes the rows that were enlisted since the last walk as old as this pass.
+/// Walks the list, and makes the rows that were enlisted since the last walk as old as this pass.
 fn walk<S: SeqObject>(pass: &mut Pass<S>)
     ensures { IsSameBut pass.old pass.new }
 {
@@ -104,7 +107,7 @@ fn walk<S: SeqObject>(pass: &mut Pass<S>)
     }
 }
 
-// The row at this place of the list, if there is one.
+/// The row at this place of the list, if there is one.
 fn row_at<S: SeqObject>(pass: &Pass<S>, at: usize) -> Option<u32>
     ensures { IfSome result (λ row. row < max_clients) }
 {
@@ -116,7 +119,7 @@ fn row_at<S: SeqObject>(pass: &Pass<S>, at: usize) -> Option<u32>
     }
 }
 
-// Makes the row at this place as old as this pass.
+/// Makes the row at this place as old as this pass.
 fn make_current<S: SeqObject>(pass: &mut Pass<S>, at: usize)
     ensures { IsSameBut pass.old pass.new }
 {
@@ -126,7 +129,7 @@ fn make_current<S: SeqObject>(pass: &mut Pass<S>, at: usize)
     pass.set_age(row);
 }
 
-// Where it is this pass's turn, takes out the rows that were of no use for long, but not the first.
+/// Where it is this pass's turn, takes out the rows that were of no use for long, but not the first.
 #[inline(always)]
 fn clean<S: SeqObject>(pass: &mut Pass<S>, number: u64)
     ensures { IsSameBut pass.old pass.new }
@@ -141,7 +144,7 @@ fn clean<S: SeqObject>(pass: &mut Pass<S>, number: u64)
     }
 }
 
-// Takes out the row at this place, where it was of no use for long.
+/// Takes out the row at this place, where it was of no use for long.
 #[inline(always)]
 fn clean_at<S: SeqObject>(pass: &mut Pass<S>, at: usize, number: u64)
     requires { (1 ≤ at) × (at < length pass.old.state.list.rows) }
@@ -157,7 +160,7 @@ fn clean_at<S: SeqObject>(pass: &mut Pass<S>, at: usize, number: u64)
     pass.unlink(at);
 }
 
-// Serves each listed row but the own one, in the order of the list.
+/// Serves each listed row but the own one, in the order of the list.
 fn serve_others<S: SeqObject>(desk: &Desk<S>, pass: Pass<S>, own: u32) -> (Pass<S>, u64)
     requires { pass.desk ≡ desk.now.id }
     ensures goes { Goes pass result.0 }
@@ -165,7 +168,7 @@ fn serve_others<S: SeqObject>(desk: &Desk<S>, pass: Pass<S>, own: u32) -> (Pass<
 {
     let mut pass = pass;
     let mut count = 0;
-    for at in 0..32 {
+    for at in 0..MAX_CLIENTS {
         let Some(row) = row_at(&pass, at) else {
             break;
         };
@@ -180,8 +183,8 @@ fn serve_others<S: SeqObject>(desk: &Desk<S>, pass: Pass<S>, own: u32) -> (Pass<
     (pass, count)
 }
 
-// Tries a row once. A request that is there is answered, and the row is as old as this pass; or it
-// is put back.
+/// Tries a row once. A request that is there is answered, and the row is as old as this pass; or it
+/// is put back.
 fn try_row<S: SeqObject>(desk: &Desk<S>, pass: Pass<S>, row: u32) -> (Pass<S>, Tried)
     requires desk { pass.desk ≡ desk.now.id }
     requires row { row < max_clients }

@@ -53,7 +53,7 @@ impl Model for Bench {
     ghost invariant = { λ b. AreSeated b.desk.id b.seats };
 }
 
-// Empty objects of these kinds. Object 0 refuses the call after `left` others, or none.
+/// Empty objects of these kinds. Object 0 refuses the call after `left` others, or none.
 fn objects_of(
     alloc: Global,
     kinds: (Kind, Option<Kind>),
@@ -78,7 +78,7 @@ fn objects_of(
     Ok(objects)
 }
 
-// The last of the clients.
+/// The last of the clients.
 fn next(desk: &Desk<Refusing>, clients: &mut Vec<Client<Refusing>>) -> Client<Refusing>
     requires { (0 < length clients.old.items) × AllBegun desk.now.id clients.old.items }
     ensures client { result.desk ≡ desk.now.id }
@@ -91,7 +91,7 @@ fn next(desk: &Desk<Refusing>, clients: &mut Vec<Client<Refusing>>) -> Client<Re
     }
 }
 
-// The clients, each in the seat of its place in the list.
+/// The clients, each in the seat of its place in the list.
 fn seated(
     alloc: Global,
     desk: &Desk<Refusing>,

@@ -11,7 +11,7 @@ use seq_objects::{AnyOp, Kind};
 use std::process::Abort;
 use std::test::Fail;
 
-// Three clients of one call each.
+/// Three clients of one call each.
 const THREE: Setup = Setup {
     kinds: (Kind::Queue, Some(Kind::Stack)),
     left: None,
@@ -29,7 +29,7 @@ pub(crate) const PLAYS: [Play; 1] = [Play {
 }];
 
 impl Bench {
-    // The number that the client in this seat has of itself.
+    /// The number that the client in this seat has of itself.
     fn number(&mut self, seat: u64) -> Result<u32, Fail> {
         let Some(client) = self.take(seat) else {
             return Err(Fail::new("the bench has no client left"));
@@ -39,7 +39,7 @@ impl Bench {
         Ok(number)
     }
 
-    // The numbers of the clients 1 and 2 after a meeting over object 1.
+    /// The numbers of the clients 1 and 2 after a meeting over object 1.
     fn meet(&mut self) -> Result<(u32, u32), Fail> {
         let (Some(one), Some(two)) = (self.take(1), self.take(2)) else {
             return Err(Fail::new("a client is not there"));
@@ -66,7 +66,7 @@ fn a_desk_begins_with_its_clients(rt: HostRuntime) -> Result<(), Fail> {
     Ok(())
 }
 
-// The bench as it was, and the client that has not retired.
+/// The bench as it was, and the client that has not retired.
 fn closes_too_early<R: Abort>(rt: &R, bench: Bench, number: u64) -> Result<(Bench, u32), Fail> {
     match bench.close(number)? {
         Closing::Unretired(bench, client) => Ok((bench, client)),
@@ -97,7 +97,7 @@ queue: 1 objects, 1 operations
 stack: 1 objects, 1 operations
 ";
 
-// Client 0 tries to close the desk too early, and then once client 1 has retired.
+/// Client 0 tries to close the desk too early, and then once client 1 has retired.
 #[test]
 fn two_objects_have_one_record(rt: HostRuntime) -> Result<(), Fail> {
     let setup = Setup {

@@ -12,7 +12,7 @@ use std::alloc::{AllocError, Global};
 use std::test::Fail;
 use transcript::check_record;
 
-// What is drawn for one turn of a client.
+/// What is drawn for one turn of a client.
 #[derive(Drop)]
 struct Turn {
     choice: u32,
@@ -32,7 +32,7 @@ fn draw(words: &mut Lcg64Xsh32) -> Turn
     }
 }
 
-// The last object is a mutex.
+/// The last object is a mutex.
 fn kind_of(object: u32) -> Kind {
     match object {
         0 | 5 | 10 => Kind::Queue,
@@ -44,7 +44,7 @@ fn kind_of(object: u32) -> Kind {
     }
 }
 
-// An operation of the object's kind, of which there are three at most.
+/// An operation of the object's kind, of which there are three at most.
 fn op_of(object: u32, which: u32, n: i64) -> AnyOp {
     match (kind_of(object), which % 3) {
         (Kind::Queue, 0) => AnyOp::Enqueue(n),
@@ -75,7 +75,7 @@ fn sixteen(alloc: Global) -> Result<Vec<AnyObject>, AllocError>
     Ok(objects)
 }
 
-// All of these are clients of this desk.
+/// All of these are clients of this desk.
 fn take(desk: &Desk<AnyObject>, clients: &mut Vec<Client<AnyObject>>) -> Option<Client<AnyObject>>
     requires { All (λ c. c.desk ≡ desk.now.id) clients.old.items }
     ensures one { IfSome result (λ c. c.desk ≡ desk.now.id) }
@@ -94,7 +94,7 @@ fn give(desk: &Desk<AnyObject>, clients: &mut Vec<Client<AnyObject>>, client: Cl
     let _ = clients.push(client);
 }
 
-// A pass that tries one row: it answers a request that is possible, and puts back one that is not.
+/// A pass that tries one row: it answers a request that is possible, and puts back one that is not.
 fn serve_row(desk: &Desk<AnyObject>, pass: Pass<AnyObject>, row: u32) -> Client<AnyObject>
     requires pass { pass.desk ≡ desk.now.id }
     requires row { row < 32 }
@@ -112,7 +112,7 @@ fn serve_row(desk: &Desk<AnyObject>, pass: Pass<AnyObject>, row: u32) -> Client<
     }
 }
 
-// One turn of a client, and how many calls it posted.
+/// One turn of a client, and how many calls it posted.
 fn act(desk: &Desk<AnyObject>, client: Client<AnyObject>, turn: &Turn) -> (Client<AnyObject>, u32)
     requires client { client.desk ≡ desk.now.id }
     requires turn { (turn.now.object < 16) × (turn.now.row < 32) }
@@ -138,21 +138,21 @@ fn act(desk: &Desk<AnyObject>, client: Client<AnyObject>, turn: &Turn) -> (Clien
     }
 }
 
-// The clients whose turn comes, and those who had theirs.
+/// The clients whose turn comes, and those who had theirs.
 #[derive(Drop)]
 struct Clients {
     next: Vec<Client<AnyObject>>,
     over: Vec<Client<AnyObject>>,
 }
 
-// What was done so far.
+/// What was done so far.
 #[derive(Drop)]
 struct Done {
     calls: u32,
     retired: u32,
 }
 
-// Two clients meet.
+/// Two clients meet.
 fn meet(desk: &Desk<AnyObject>, all: &mut Clients, client: Client<AnyObject>, object: u32)
     requires client { client.desk ≡ desk.now.id }
     requires object { object < length desk.now.id.kinds }
@@ -171,7 +171,7 @@ fn meet(desk: &Desk<AnyObject>, all: &mut Clients, client: Client<AnyObject>, ob
     }
 }
 
-// One turn of the next client.
+/// One turn of the next client.
 fn step(desk: &Desk<AnyObject>, all: &mut Clients, turn: &Turn, done: &mut Done)
     requires turn { (turn.now.object < 16) × (turn.now.row < 32) }
     requires objects { length desk.now.id.kinds ≡ 16 }

@@ -33,7 +33,7 @@ fn text_of<S: SeqObject>(alloc: Global, record: &Record<S>) -> Result<Vec<u8>, A
     Ok(sink.into_inner())
 }
 
-// The record's history, certificates and verdict are these lines.
+/// The record's history, certificates and verdict are these lines.
 pub(crate) fn says<R: AllocGlobal + Abort, S: SeqObject>(
     rt: &R,
     record: &Record<S>,

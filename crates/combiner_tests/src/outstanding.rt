@@ -12,7 +12,7 @@ use std::process::Abort;
 use std::sync::Wait;
 use std::test::Fail;
 
-// A mutex, with this many clients of this many calls each.
+/// A mutex, with this many clients of this many calls each.
 fn mutex(clients: u32, quota: u32) -> Setup {
     Setup {
         kinds: (Kind::Mutex, None),
@@ -23,7 +23,7 @@ fn mutex(clients: u32, quota: u32) -> Setup {
 }
 
 impl Bench {
-    // What the client's outstanding call on object 0 gives; None: an allocation failed.
+    /// What the client's outstanding call on object 0 gives; None: an allocation failed.
     fn wait<R: Wait>(&mut self, rt: &R, number: u64) -> Result<Option<Got>, Fail> {
         let Some(client) = self.take(number) else {
             return Err(Fail::new("no client is left to wait"));
@@ -40,8 +40,8 @@ impl Bench {
     }
 }
 
-// A call of acquire was made, or it could not be made in its own pass. Then it is outstanding, and
-// `wait_for` goes on with it.
+/// A call of acquire was made, or it could not be made in its own pass. Then it is outstanding, and
+/// `wait_for` goes on with it.
 fn ends<R: Wait + Print + Abort>(
     rt: &R,
     bench: &mut Bench,
@@ -67,9 +67,9 @@ fn ends<R: Wait + Print + Abort>(
     take_turns(rt, bench, &[(number, Waits(false))], "over")
 }
 
-// The log has no room yet, so the pass of the first call must make some. `rt try --test
-// --fail-alloc N` refuses a test's Nth allocation: at the one of that room the test prints that the
-// call is outstanding.
+/// The log has no room yet, so the pass of the first call must make some. `rt try --test
+/// --fail-alloc N` refuses a test's Nth allocation: at the one of that room the test prints that the
+/// call is outstanding.
 #[test]
 fn a_call_whose_pass_gets_no_memory_is_outstanding(rt: HostRuntime) -> Result<(), Fail> {
     let mut bench = Bench::new(rt.alloc(), &mutex(1, 1))?;

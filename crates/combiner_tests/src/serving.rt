@@ -38,7 +38,7 @@ yes: 3 operations, 1 objects
 mutex: 1 objects, 3 operations
 ";
 
-// What a call of enqueue and then one of dequeue give.
+/// What a call of enqueue and then one of dequeue give.
 fn enqueue_and_dequeue<R: Wait>(
     rt: &R,
     desk: &Desk<Refusing>,
@@ -53,7 +53,7 @@ fn enqueue_and_dequeue<R: Wait>(
 }
 
 impl Bench {
-    // What the calls of the clients 0 and 1 give, each in a thread of its own.
+    /// What the calls of the clients 0 and 1 give, each in a thread of its own.
     fn both_call<R: Threads + Wait + Sync>(
         &mut self,
         rt: &R,
@@ -90,7 +90,7 @@ fn two_threads_are_answered(rt: HostRuntime) -> Result<(), Fail> {
     Ok(())
 }
 
-// Tries row 0 until it has answered a request there.
+/// Tries row 0 until it has answered a request there.
 fn serve_when_posted<R: Wait>(rt: &R, desk: &Desk<Refusing>, pass: Pass<Refusing>) -> Pass<Refusing>
     requires { pass.desk ≡ desk.now.id }
     ensures { result.desk ≡ pass.desk }
@@ -107,7 +107,7 @@ fn serve_when_posted<R: Wait>(rt: &R, desk: &Desk<Refusing>, pass: Pass<Refusing
     unreachable!()
 }
 
-// Wins object 0, and holds it until it has answered two requests in row 0.
+/// Wins object 0, and holds it until it has answered two requests in row 0.
 fn serve_two_calls<R: Wait>(rt: &R, desk: &Desk<Refusing>, client: Client<Refusing>)
     requires client { client.desk ≡ desk.now.id }
     requires object { 0 < length desk.now.id.kinds }
@@ -126,7 +126,7 @@ fn serve_two_calls<R: Wait>(rt: &R, desk: &Desk<Refusing>, client: Client<Refusi
     }
 }
 
-// Combines until object 0 is held by another client.
+/// Combines until object 0 is held by another client.
 fn wait_until_held<R: Wait>(
     rt: &R,
     desk: &Desk<Refusing>,
@@ -148,7 +148,7 @@ fn wait_until_held<R: Wait>(
     unreachable!()
 }
 
-// What a call gives that is made while object 0 is held. Once it is over, another one is posted.
+/// What a call gives that is made while object 0 is held. Once it is over, another one is posted.
 fn call_and_post<R: Wait>(rt: &R, desk: &Desk<Refusing>, client: Client<Refusing>, op: AnyOp) -> Got
     requires client { client.desk ≡ desk.now.id }
     requires object { 0 < length desk.now.id.kinds }
@@ -160,7 +160,7 @@ fn call_and_post<R: Wait>(rt: &R, desk: &Desk<Refusing>, client: Client<Refusing
 }
 
 impl Bench {
-    // What a call of client 0 gives, while client 1 holds the object until that call is over.
+    /// What a call of client 0 gives, while client 1 holds the object until that call is over.
     fn call_on_held<R: Threads + Wait + Sync>(&mut self, rt: &R, op: AnyOp) -> Result<Got, Fail> {
         let (Some(zero), Some(one)) = (self.take(0), self.take(1)) else {
             return Err(Fail::new("a client is not there"));
@@ -178,8 +178,8 @@ impl Bench {
     }
 }
 
-// Client 1 holds the object until client 0 has posted its second call. So the first one is over
-// before: its answer came by a poll, and not by a pass of its own.
+/// Client 1 holds the object until client 0 has posted its second call. So the first one is over
+/// before: its answer came by a poll, and not by a pass of its own.
 #[test]
 fn a_call_polls(rt: HostRuntime) -> Result<(), Fail> {
     let mut bench = Bench::new(

@@ -101,7 +101,7 @@ pub(crate) fn serve_row(
     }
 }
 
-// Picks up the request of the row, retires its client, and only then answers the request.
+/// Picks up the request of the row, retires its client, and only then answers the request.
 fn serve_late(
     desk: &Desk<Refusing>,
     pass: Pass<Refusing>,
@@ -126,7 +126,7 @@ fn serve_late(
     }
 }
 
-// Answers the requests of these rows, and counts them.
+/// Answers the requests of these rows, and counts them.
 fn serve_rows(desk: &Desk<Refusing>, pass: Pass<Refusing>, rows: &[u32]) -> (Pass<Refusing>, usize)
     requires desk { pass.desk ≡ desk.now.id }
     ensures { result.0.desk ≡ pass.desk }

@@ -7,7 +7,7 @@ use crate::steps::Step::{Calls, Combines, Enlists, IsSpent, Polls, Posts, Retire
 use publication::Enlist;
 use seq_objects::{AnyOp, Kind};
 
-// Client 0 waits with an enqueue in its row, and client 1 calls: its own row comes first.
+/// Client 0 waits with an enqueue in its row, and client 1 calls: its own row comes first.
 const OWN_FIRST: &str = "{:process 0, :type :invoke, :f :enqueue, :value 1, :object 0}
 {:process 1, :type :invoke, :f :enqueue, :value 2, :object 0}
 {:process 1, :type :ok, :f :enqueue, :value 2, :object 0}

@@ -4,4 +4,4 @@ pub mod Simulations
 pub mod Meanings
 pub mod Leaving
 pub mod InMemory
-pub mod Headlines
+pub mod StatusMeanings

@@ -10,7 +10,7 @@ use crate::checking::{check_bytes, check_sources};
 use crate::write_output::write_output;
 use crate::running::run;
 use crate::simulating::play;
-use crate::sources::{Unread, file_text, has_first, has_second, stop};
+use crate::sources::{Unread, file_text, has_first, has_second, end_unread};
 use crate::verification::verify_sources;
 use command_line::Line;
 use edn::{Sink, Source};
@@ -40,28 +40,15 @@ pub fn perform<R: Threads + Wait + Sync, S: Sink>(
     match line {
         // The program checks and verifies by `perform_over`, which frees the history's text; here a
         // caller has both texts in memory.
-        Line::Check {
-            history: _,
-            certs: _,
-            workers,
-        } => check_bytes(rt, alloc, first, second, *workers, sink),
+        Line::Check { workers, .. } => check_bytes(rt, alloc, first, second, *workers, sink),
         Line::Search {
-            history: _,
             steps,
             first: order,
+            ..
         } => write_output(search(alloc, first, *steps, *order), sink),
-        Line::Refute {
-            history: _,
-            reasons: _,
-            steps,
-        } => write_output(refute(alloc, first, second, *steps), sink),
+        Line::Refute { steps, .. } => write_output(refute(alloc, first, second, *steps), sink),
         // Without the workers: the library for C, which may start no thread, calls this `verify` too.
-        Line::Verify {
-            history: _,
-            evidence: _,
-            steps,
-            workers: _,
-        } => write_output(verify(alloc, first, second, *steps), sink),
+        Line::Verify { steps, .. } => write_output(verify(alloc, first, second, *steps), sink),
         Line::Run(options) => write_output(run(rt, alloc, *options), sink),
         Line::Simulate { .. } => write_output(play(alloc, first), sink),
     }
@@ -89,11 +76,11 @@ fn perform_on_sources<R: Threads + Wait + Sync, F: Source, G: Source, S: Sink>(
 {
     let one = match file_text(alloc, has_first(line), first) {
         Ok(text) => text,
-        Err(fault) => return stop(fault, Unread::First, sink),
+        Err(fault) => return end_unread(fault, Unread::First, sink),
     };
     let other = match file_text(alloc, has_second(line), second) {
         Ok(text) => text,
-        Err(fault) => return stop(fault, Unread::Second, sink),
+        Err(fault) => return end_unread(fault, Unread::Second, sink),
     };
     Ok(perform(rt, alloc, line, &one, &other, sink))
 }
@@ -131,17 +118,8 @@ pub fn perform_over<R: Threads + Wait + Sync, F: Source, G: Source, S: Sink>(
         sink.old sink.new) }
 {
     match line {
-        Line::Check {
-            history: _,
-            certs: _,
-            workers,
-        } => check_sources(rt, alloc, first, second, *workers, sink),
-        Line::Verify {
-            history: _,
-            evidence: _,
-            steps,
-            workers,
-        } => verify_sources(rt, alloc, first, second, *steps, *workers, sink),
+        Line::Check { workers, .. } => check_sources(rt, alloc, first, second, *workers, sink),
+        Line::Verify { steps, workers, .. } => verify_sources(rt, alloc, first, second, *steps, *workers, sink),
         _ => perform_on_sources(rt, alloc, line, first, second, sink),
     }
 }

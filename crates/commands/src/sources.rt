@@ -58,8 +58,8 @@ pub(crate) fn file_text<F: Source>(
     read_text(alloc, file)
 }
 
-/// What becomes of a command of which a text was not read.
-pub(crate) fn stop<S: Sink>(fault: ReadFault, which: Unread, sink: &mut S) -> Result<u8, Unread>
+/// How a command ends of which a text was not read.
+pub(crate) fn end_unread<S: Sink>(fault: ReadFault, which: Unread, sink: &mut S) -> Result<u8, Unread>
     requires working { S.broken sink.old ≡ false }
     ensures leaves { IfOk result (λ number. Leaves IsOutOfMemory
         (S.sent sink.old) number (S.sent sink.new) (S.broken sink.new)) }

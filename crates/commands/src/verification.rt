@@ -5,7 +5,7 @@ ghost use Rattle.commands.specs.Leaves.{Leaves};
 ghost use Rattle.commands.specs.Performed.{IsUnread, IsVerificationIn, OnTexts};
 
 use crate::write_output::write_output;
-use crate::sources::{Unread, stop};
+use crate::sources::{Unread, end_unread};
 use edn::{Sink, Source};
 use history_commands::verify_history;
 use judging::{history_of_text_by_workers, read_text};
@@ -37,13 +37,13 @@ pub(crate) fn verify_sources<R: Threads + Sync, H: Source, E: Source, S: Sink>(
 {
     let text = match read_text(alloc, history) {
         Ok(text) => text,
-        Err(fault) => return stop(fault, Unread::First, sink),
+        Err(fault) => return end_unread(fault, Unread::First, sink),
     };
     let read = history_of_text_by_workers(rt, alloc, &text, workers);
     drop(text);
     let claims = match read_text(alloc, evidence) {
         Ok(text) => text,
-        Err(fault) => return stop(fault, Unread::Second, sink),
+        Err(fault) => return end_unread(fault, Unread::Second, sink),
     };
     Ok(write_output(verify_history(alloc, read, &claims, steps), sink))
 }

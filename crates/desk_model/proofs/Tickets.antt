@@ -1,4 +1,4 @@
--- Journals and tickets: what holds of them goes on where nobody draws a ticket, and where one client draws the next.
+-- Journals and tickets: what holds of them goes on where no client draws a ticket, and where one client draws the next.
 use Rattle.std.proofs.Common.{◌≡◌, ◌≢◌, ◌⊎◌, ℕ, ◌+◌, ◌<◌, List, [], ◌∷◌, ◌++◌, Some, None, All, AllPairs, Contains, map, length, true, false, cond}
 use Rattle.std.proofs.Common.{eqb, refl, sym, ap, subst, ◌∙◌, ⊎_elim, inl, inr, arith, append_assoc}
 use mathlib.Core.Logic.{dite}
@@ -62,7 +62,7 @@ still_in_time : (w w' : World) (c : ℕ) (d : AnyDone) → ((x : ℕ) → Starts
 still_in_time w w' c d grows t =
     let g = grows d.request.object in (t.0, t.1 ++ g.0, g.1 ∙ (ap (λ z. z ++ g.0) t.2 ∙ append_assoc (t.0 ++ logged c d.request d.answer) t.1 g.0), t.3)
 
--- ---- nobody draws
+-- ---- no client draws
 
 module _ (kinds : List Kind) where
   pub journals_kept : (w w' : World) → w'.clock ≡ w.clock → ((c : ℕ) → w'.done c ≡ w.done c)

@@ -169,8 +169,8 @@ fn puts_back(alloc: Global, schedule: &Schedule) -> Result<bool, AllocError>
     Ok(found)
 }
 
-// Each record of a list of random steps is accepted. In half of the runs a third of the clients
-// have ended with a call outstanding, and in some of all runs a request is put back.
+/// Each record of a list of random steps is accepted. In half of the runs a third of the clients
+/// have ended with a call outstanding, and in some of all runs a request is put back.
 #[test]
 fn random_runs_are_accepted(rt: HostRuntime) -> Result<(), Fail> {
     let mut numbers = Numbers { state: 14 };

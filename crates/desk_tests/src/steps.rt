@@ -13,7 +13,7 @@ use std::test::Fail;
 
 type AnyStep = Step<AnyOp>;
 
-// A machine of one object.
+/// A machine of one object.
 fn machine_for(
     alloc: Global,
     kind: Kind,
@@ -29,7 +29,7 @@ fn machine_for(
     Machine::new(alloc, objects, clients, quota)
 }
 
-// Takes the steps, and says how many were passed over.
+/// Takes the steps, and says how many were passed over.
 fn run<R: Abort>(rt: &R, machine: &mut Machine<AnyObject>, steps: &[(u32, AnyStep)]) -> usize
     ensures kinds { machine.new.kinds ≡ machine.old.kinds }
     ensures clients { clients_of machine.new ≡ clients_of machine.old }
@@ -53,7 +53,7 @@ const fn entry(client: u32, ticket: u64, op: AnyOp, reply: AnyReply) -> LogEntry
     }
 }
 
-// One client serves both; the other ends with its call answered, and its return is never drawn.
+/// One client serves both; the other ends with its call answered, and its return is never drawn.
 #[test]
 fn an_ended_client_is_served(rt: HostRuntime) -> Result<(), Fail> {
     let mut machine = machine_for(rt.alloc(), Kind::Queue, 2, 1)?;
@@ -103,7 +103,7 @@ fn an_ended_client_is_served(rt: HostRuntime) -> Result<(), Fail> {
     Ok(())
 }
 
-// A step that is not possible is counted; so is one past the last client, object or row.
+/// A step that is not possible is counted; so is one past the last client, object or row.
 #[test]
 fn impossible_steps_are_counted(rt: HostRuntime) -> Result<(), Fail> {
     let mut machine = machine_for(rt.alloc(), Kind::Queue, 1, 1)?;
@@ -124,8 +124,8 @@ fn impossible_steps_are_counted(rt: HostRuntime) -> Result<(), Fail> {
     Ok(())
 }
 
-// A mutex that is held can't be acquired: the request goes back, and the least client is there
-// still.
+/// A mutex that is held can't be acquired: the request goes back, and the least client is there
+/// still.
 #[test]
 fn an_impossible_request_is_put_back(rt: HostRuntime) -> Result<(), Fail> {
     let mut machine = machine_for(rt.alloc(), Kind::Mutex, 2, 2)?;

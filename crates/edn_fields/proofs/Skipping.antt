@@ -1,4 +1,4 @@
--- Over the tokens of a value.
+-- `after_open` passes over exactly one vector or map.
 use Rattle.std.proofs.Common.{◌≡◌, ℕ, zero, suc, ◌+◌, ◌-◌, ◌<◌, List, [], ◌∷◌, ◌++◌, refl, ap, ◌∙◌, append_assoc, add-one, arith}
 use Rattle.edn_reader.specs.Datum.{Datum, atom, vector, dictionary, Items, no_items, item, Entries, no_entries, entry}
 use Rattle.edn_reader.specs.Token.{Token, open_vector, close_vector, open_map, close_map, leaf, tokens_of, items_tokens, entries_tokens}

@@ -3,7 +3,7 @@ use Rattle.std.proofs.Common.{◌≡◌, ℕ, ◌-◌, ◌<◌, ◌≤◌, Bool,
 use Rattle.std.specs.Prelude.{◌==◌}
 use Rattle.std.proofs.lemmas.Bool.{not-true, or_parts}
 use Rattle.edn_reader.specs.Text.{escape_text, escaped}
-use Rattle.edn_reader.proofs.Parts.{parts_by, rest_within, front_is}
+use Rattle.edn_reader.proofs.TakeAndDrop.{parts_by, rest_within, front_is}
 use Rattle.edn_reader.specs.Writing.{is_plain, plain, after_plain}
 
 pub plain_parts : (t : List ℕ) → plain t ++ after_plain t ≡ t

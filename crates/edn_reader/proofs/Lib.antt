@@ -1,7 +1,7 @@
 pub mod Names
 pub mod Keys
 pub mod Strings
-pub mod Parts
+pub mod TakeAndDrop
 pub mod Words
 pub mod Pairs
 pub mod Lexical
@@ -29,7 +29,7 @@ pub mod Cutting
 pub mod Noting
 pub mod Turns
 pub mod Tables
-pub mod Runs
+pub mod ByteRuns
 pub mod Following
 pub mod Fronts
 pub mod UsualFronts

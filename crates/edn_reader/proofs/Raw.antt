@@ -5,7 +5,7 @@ use Rattle.std.proofs.lemmas.Bool.{ne_eqb}
 use Rattle.edn_reader.specs.Spells.{escape_of, IsQuoted, IsEscaped}
 use Rattle.edn_reader.specs.Reading.{with_byte, string_at, string_end}
 use Rattle.edn_reader.specs.Pieces.{unquoted, unescaped}
-use Rattle.edn_reader.proofs.Parts.{front_is}
+use Rattle.edn_reader.proofs.TakeAndDrop.{front_is}
 use Rattle.edn_reader.proofs.Strings.{some_is, string_is, string_less}
 use Rattle.edn_reader.specs.Datum.{string, atom}
 use Rattle.edn_reader.specs.Token.{leaf}

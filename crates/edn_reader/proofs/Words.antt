@@ -3,7 +3,7 @@ use Rattle.std.proofs.Common.{◌≡◌, ℕ, ◌+◌, ◌-◌, ◌*◌, ◌≤�
 use Rattle.edn_reader.specs.Bytes.{is_token_byte}
 use Rattle.edn_reader.specs.Reading.{word, after_word}
 use Rattle.edn_reader.specs.Spells.{value_after}
-use Rattle.edn_reader.proofs.Parts.{parts_by, rest_within, front_is}
+use Rattle.edn_reader.proofs.TakeAndDrop.{parts_by, rest_within, front_is}
 
 pub word_parts : (t : List ℕ) → word t ++ after_word t ≡ t
 word_parts [] = refl

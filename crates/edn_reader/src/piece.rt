@@ -163,7 +163,7 @@ impl<'a> Piece<'a> {
 
     /// A keyword of the usual form, after its colon, and what follows it.
     #[inline(always)]
-    #[tactic(auto, using(crate::proofs::Runs::names_within))]
+    #[tactic(auto, using(crate::proofs::ByteRuns::names_within))]
     pub fn usual_keyword(text: &'a [u8]) -> Option<(&'a str, &'a [u8])>
         ensures { IfSome result (λ x.
             spec.first (58 ∷ text.entry.now) ≡ spec.got (leaf (atom (keyword x.0.now))) x.1.now) }
@@ -186,7 +186,7 @@ impl<'a> Piece<'a> {
 
     /// A number of the usual form, and what follows it.
     #[inline(always)]
-    #[tactic(auto, using(crate::proofs::Runs::integer_at))]
+    #[tactic(auto, using(crate::proofs::ByteRuns::integer_at))]
     pub fn usual_number(text: &'a [u8]) -> Option<(i64, &'a [u8])>
         ensures { IfSome result (λ x.
             spec.first text.entry.now ≡ spec.got (leaf (atom (integer x.0))) x.1.now) }

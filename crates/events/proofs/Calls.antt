@@ -11,7 +11,7 @@ use Rattle.events.specs.declared.event.Action.TheVariants.{Invoke, Ok, Fail, Inf
 use Rattle.events.specs.declared.event.Event.{Event}
 use Rattle.events.specs.Events.{next_event, is_fail, fails, denoted_by, denoted, IsProper}
 use Rattle.events.specs.Operations.{end_by, end_at, begun, operations_on, return_of, call_with, call_of, calls_of}
-use Rattle.events.proofs.Runs.{State, idle, busy, closed, state_by, MayDo, Runs, runs_from_start}
+use Rattle.events.proofs.ProcessRuns.{State, idle, busy, closed, state_by, MayDo, Runs, runs_from_start}
 use Rattle.events.proofs.WellFormed.{event_at}
 
 -- what stands before the responses of a process is of no matter to it

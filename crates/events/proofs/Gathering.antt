@@ -70,8 +70,8 @@ ahead_begun ends ends' kept kept' e op o later h invokes is own_kept others_kept
     go x false q = subst (λ k. IsGathered k (operations_on x later)) (sym (others_kept x (λ s. eqb-false e.object x q (sym s)))) (h.gathered x)
 
 -- an event, for a default that nothing reads
-abbrev pub nobody : Event
-nobody = record { number = 0; process = 0; object = 0; action = Invoke (Enqueue (pos 0)) }
+abbrev pub placeholder_event : Event
+placeholder_event = record { number = 0; process = 0; object = 0; action = Invoke (Enqueue (pos 0)) }
 
 -- one place back
 pub drop_back : {X : Type 0} (es : List X) (k : ℕ) (d : X) → 0 < k → k ≤ length es → drop (k - 1) es ≡ get_or es (k - 1) d ∷ drop k es

@@ -1,4 +1,4 @@
-pub mod Runs
+pub mod ProcessRuns
 pub mod WellFormed
 pub mod Calls
 pub mod Parts

@@ -8,7 +8,7 @@ use Rattle.events.specs.declared.event.Event.{Event}
 use Rattle.events.specs.declared.operations.Invocation.{Invocation}
 use Rattle.events.specs.Events.{next_event, IsProper}
 use Rattle.events.specs.Operations.{end_at, begun, operations_on, operations_in, IsGathered}
-use Rattle.events.proofs.Runs.{idle, busy, state_by, MayDo, Runs, runs_from_start}
+use Rattle.events.proofs.ProcessRuns.{idle, busy, state_by, MayDo, Runs, runs_from_start}
 use Rattle.events.proofs.Calls.{AllRun, all_run_later}
 
 -- the events on own objects

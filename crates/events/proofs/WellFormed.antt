@@ -12,7 +12,7 @@ use Rattle.events.specs.declared.event.Action.{Action}
 use Rattle.events.specs.declared.event.Action.TheVariants.{Invoke, Ok, Fail, Info}
 use Rattle.events.specs.declared.event.Event.{Event}
 use Rattle.events.specs.Events.{next_event, is_fail, fails, denoted_by, denoted, IsProper}
-use Rattle.events.proofs.Runs.{State, idle, busy, closed, state_by, MayDo, Runs, runs_from_start}
+use Rattle.events.proofs.ProcessRuns.{State, idle, busy, closed, state_by, MayDo, Runs, runs_from_start}
 
 -- the events of process p in what these events denote
 abbrev pub own : ℕ → List Event → List model.Event

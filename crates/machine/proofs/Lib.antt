@@ -3,7 +3,7 @@ pub mod States
 pub mod Kept
 pub mod Rows
 pub mod Journals
-pub mod Runs
+pub mod WorldRuns
 pub mod Looks
 pub mod Hands
 pub mod Trying

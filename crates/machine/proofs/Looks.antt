@@ -13,7 +13,7 @@ use Rattle.desk_model.specs.World.{AnyRequest, AnyDone, World, picked, journal_o
 use Rattle.desk_model.proofs.SameKind.{replays_once}
 use Rattle.machine.specs.Machines.{State, IsMachine, clients_of, world_of, stage_of}
 use Rattle.machine.specs.Steps.{CanDo, HasContent, HasPicked}
-use Rattle.machine.proofs.Runs.{run_sound}
+use Rattle.machine.proofs.WorldRuns.{run_sound}
 
 -- a list in a list of lists, of which each element is seen through f
 pub length_seen : {A B Z : Type 0} (f : A → B) (vs : List (Vec A Z)) (c : ℕ) (v : Vec A Z) → c < length vs → v ≡ get_or vs c v → length (get_or (map (map f) (items_of vs)) c []) ≡ length v.items

@@ -15,7 +15,7 @@ use Rattle.desk_model.proofs.RecordOrders.{sound_record}
 use Rattle.machine.specs.declared.machine.Machine.TheInside.{Inside}
 use Rattle.machine.specs.Machines.{State, IsMachine, clients_of, world_of}
 use Rattle.machine.proofs.Rows.{state_in}
-use Rattle.machine.proofs.Runs.{run_sound}
+use Rattle.machine.proofs.WorldRuns.{run_sound}
 
 module _ {S O R : Type 0} (content : S → Content) (op_in : O → AnyOp) (reply_in : R → AnyReply) (m : Inside S O R)
     (is : IsMachine (map content m.objects.items) (state_in content op_in reply_in m)) where

@@ -41,7 +41,7 @@ pub length-copies : {A : Type 0} (n : ℕ) (v : A) → length (replicate n v) �
 length-copies zero v = refl
 length-copies (suc n) v = ap suc (length-copies n v)
 
--- each client is idle, and past the last one nobody has come
+-- each client is idle, and no client has come past the last one
 pub at_start : (n c : ℕ) → get_or (replicate n world.idle) c world.absent ≡ (if nat_lt c n then world.idle else world.absent)
 at_start n c = elim (cases_order c n) [
   | inl same ↦ past (omega arith)

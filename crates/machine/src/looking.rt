@@ -30,7 +30,7 @@ impl<S: SeqObject> Machine<S> {
         self.stages.len() as u32
     }
 
-    // Whether there is such a client, and it has not ended.
+    /// Whether there is such a client, and it has not ended.
     pub(crate) fn is_going(&self, client: u32) -> bool
         ensures going { IsTrue result ↔ ((client < clients_of self.now)
             × ((world_of self.now).ended client ≡ false)) }
@@ -42,7 +42,7 @@ impl<S: SeqObject> Machine<S> {
         }
     }
 
-    // Whether there is such an object, of this kind.
+    /// Whether there is such an object, of this kind.
     pub(crate) fn has_kind(&self, object: u32, kind: Kind) -> bool
         ensures { IsTrue result ↔ ((object < length self.now.kinds)
             × (kind ≡ kind_at self.now.kinds object)) }
@@ -53,7 +53,7 @@ impl<S: SeqObject> Machine<S> {
         }
     }
 
-    // The object that the client holds.
+    /// The object that the client holds.
     pub(crate) fn held_by(&self, client: u32) -> Option<u32>
         ensures held { IfSome result (λ x. (x < length self.now.kinds)
             × ((world_of self.now).holder x ≡ Some client)) }
@@ -69,14 +69,14 @@ impl<S: SeqObject> Machine<S> {
         None
     }
 
-    // Whether the client holds no object.
+    /// Whether the client holds no object.
     pub(crate) fn holds_nothing(&self, client: u32) -> bool
         ensures { IsTrue result ↔ HoldsNothing (world_of self.now) client }
     {
         self.held_by(client).is_none()
     }
 
-    // Whether there is such an object, and no client holds it.
+    /// Whether there is such an object, and no client holds it.
     pub(crate) fn is_free(&self, object: u32) -> bool
         ensures { IsTrue result ↔ ((object < length self.now.kinds)
             × ((world_of self.now).holder object ≡ None)) }
@@ -87,7 +87,7 @@ impl<S: SeqObject> Machine<S> {
         }
     }
 
-    // How far the client's call has come.
+    /// How far the client's call has come.
     fn stage_at(&self, client: u32) -> Stage<S::Op, S::Reply>
         requires { client < clients_of self.now }
         ensures { (world_of self.now).stage client ≡ stage_of (stage_in S.op_in S.reply_in result) }
@@ -95,7 +95,7 @@ impl<S: SeqObject> Machine<S> {
         self.stages[client as usize]
     }
 
-    // How many events the client's journal has.
+    /// How many events the client's journal has.
     fn events_of(&self, client: u32) -> usize
         requires { client < clients_of self.now }
         ensures { result ≡ length (slice_index_or self.now.journals client []) }
@@ -103,7 +103,7 @@ impl<S: SeqObject> Machine<S> {
         self.journals[client as usize].len()
     }
 
-    // Whether the client is idle, and its quota is not used up.
+    /// Whether the client is idle, and its quota is not used up.
     pub(crate) fn may_call(&self, client: u32) -> bool
         requires { client < clients_of self.now }
         ensures { IsTrue result ↔ (((world_of self.now).stage client ≡ idle)
@@ -115,7 +115,7 @@ impl<S: SeqObject> Machine<S> {
         }
     }
 
-    // Whether no two steps of the client's call that follow each other have it between them.
+    /// Whether no two steps of the client's call that follow each other have it between them.
     pub(crate) fn may_end(&self, client: u32) -> bool
         requires { client < clients_of self.now }
         ensures { IsTrue result ↔ MayEnd ((world_of self.now).stage client) }
@@ -127,14 +127,14 @@ impl<S: SeqObject> Machine<S> {
         }
     }
 
-    // The ticket after the next one.
+    /// The ticket after the next one.
     pub(crate) fn next_ticket(&self) -> u64
         ensures { result ≡ self.now.clock + 1 }
     {
         self.clock + 1
     }
 
-    // The request for the object that is in the row, if there is one.
+    /// The request for the object that is in the row, if there is one.
     pub(crate) fn posted_at(&self, row: u32, object: u32) -> Option<Request<S::Op>>
         ensures found { IfSome result (λ q. (row < clients_of self.now)
             × ((world_of self.now).stage row ≡ posted (request_in S.op_in q))
@@ -155,7 +155,7 @@ impl<S: SeqObject> Machine<S> {
         }
     }
 
-    // The row that the holder of the object has in hand.
+    /// The row that the holder of the object has in hand.
     pub(crate) fn hand_of(&self, object: u32) -> Option<u32>
         requires { object < length self.now.kinds }
         ensures hand { (world_of self.now).hand object ≡ result }
@@ -165,7 +165,7 @@ impl<S: SeqObject> Machine<S> {
         self.hands[object as usize]
     }
 
-    // Whether the holder of the object has no row in hand.
+    /// Whether the holder of the object has no row in hand.
     pub(crate) fn is_hand_free(&self, object: u32) -> bool
         requires { object < length self.now.kinds }
         ensures { IsTrue result ↔ ((world_of self.now).hand object ≡ None) }
@@ -173,7 +173,7 @@ impl<S: SeqObject> Machine<S> {
         self.hand_of(object).is_none()
     }
 
-    // The request of the row that is in the hand of the object's holder.
+    /// The request of the row that is in the hand of the object's holder.
     fn picked_at(&self, object: u32, row: u32) -> Request<S::Op>
         requires row { row < clients_of self.now }
         requires picked { HasPicked self.now object row }
@@ -187,7 +187,7 @@ impl<S: SeqObject> Machine<S> {
         }
     }
 
-    // The object that the client holds, and the row and the request that it has in hand.
+    /// The object that the client holds, and the row and the request that it has in hand.
     pub(crate) fn in_hand(&self, client: u32) -> Option<(u32, u32, Request<S::Op>)>
         ensures found { IfSome result (λ h. IsInHand self.now client h.0 h.1
             (request_in S.op_in h.2)) }
@@ -199,7 +199,7 @@ impl<S: SeqObject> Machine<S> {
         Some((object, row, self.picked_at(object, row)))
     }
 
-    // Whether the object can do the operation of the request in hand.
+    /// Whether the object can do the operation of the request in hand.
     pub(crate) fn is_possible(&self, object: u32, request: &Request<S::Op>) -> bool
         requires object { object < length self.now.kinds }
         requires fits { kind_of (S.op_in request.now.op) ≡ kind_at self.now.kinds object }

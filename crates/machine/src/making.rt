@@ -12,7 +12,7 @@ use crate::step::Stage;
 use seq_objects::SeqObject;
 use std::alloc::{AllocError, Global};
 
-// The value n times.
+/// The value n times.
 fn copies<T: Copy + Drop>(alloc: Global, count: usize, value: T) -> Result<Vec<T>, AllocError>
     ensures { IfOk result (λ v. v.items ≡ replicate count value) }
 {
@@ -23,7 +23,7 @@ fn copies<T: Copy + Drop>(alloc: Global, count: usize, value: T) -> Result<Vec<T
     Ok(values)
 }
 
-// This many empty lists.
+/// This many empty lists.
 fn lists<T: Drop>(alloc: Global, count: usize) -> Result<Vec<Vec<T>>, AllocError>
     ensures { IfOk result (λ v. items_of v.items ≡ replicate count []) }
 {

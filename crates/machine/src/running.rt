@@ -59,7 +59,7 @@ impl<S: SeqObject> Machine<S> {
         Ok(Ran { refused })
     }
 
-    // Takes one step, or counts it if it is not possible now.
+    /// Takes one step, or counts it if it is not possible now.
     fn turn(&mut self, client: u32, step: Step<S::Op>) -> Result<usize, AllocError>
         ensures ok { IfOk result (λ n.
             TakesPossible self.old.kinds self.old.quota (world_of self.old)
@@ -77,7 +77,7 @@ impl<S: SeqObject> Machine<S> {
         }
     }
 
-    // The least client that has not ended.
+    /// The least client that has not ended.
     fn first_going(&self) -> Option<u32>
         ensures going { IfSome result (λ c. (c < clients_of self.now)
             × ((world_of self.now).ended c ≡ false)

@@ -11,7 +11,7 @@ use std::alloc::AllocError;
 use std::process::Abort;
 use std::test::Fail;
 
-// Does the operation where it is possible, through the bound alone.
+/// Does the operation where it is possible, through the bound alone.
 fn step<S: SeqObject>(object: &mut S, op: S::Op) -> Result<Option<S::Reply>, AllocError>
     requires { kind_of (S.op_in op) ≡ kind_with (S.content object.old) }
     ensures { IfOk result (λ reply. MatchOption reply
@@ -25,7 +25,7 @@ fn step<S: SeqObject>(object: &mut S, op: S::Op) -> Result<Option<S::Reply>, All
     }
 }
 
-// At the sum an operation and a reply stand for themselves.
+/// At the sum an operation and a reply stand for themselves.
 fn step_any(object: &mut AnyObject, op: AnyOp) -> Result<Option<AnyReply>, AllocError>
     requires { kind_of op ≡ kind_with (⟦<AnyObject as SeqObject>⟧.content object.old) }
     ensures { IfOk result (λ reply. MatchOption reply
@@ -35,8 +35,8 @@ fn step_any(object: &mut AnyObject, op: AnyOp) -> Result<Option<AnyReply>, Alloc
     step(object, op)
 }
 
-// From the object on each operation is answered so, or is not possible where none is given, and a
-// copy made then is the same.
+/// From the object on each operation is answered so, or is not possible where none is given, and a
+/// copy made then is the same.
 fn answers<S: SeqObject>(
     rt: &impl Abort,
     mut object: S,
@@ -52,7 +52,7 @@ fn answers<S: SeqObject>(
     Ok(())
 }
 
-// The same for an object of any kind, by the bound with its equalities of types.
+/// The same for an object of any kind, by the bound with its equalities of types.
 fn sum_answers<S: SeqObject<Op = AnyOp, Reply = AnyReply>>(
     rt: &impl Abort,
     object: S,

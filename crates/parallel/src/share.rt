@@ -23,8 +23,8 @@ pub(crate) struct RefusedObject {
     pub(crate) refusal: Refusal,
 }
 
-// The place as the number that the gate is given: it is at most the number of its object, since those
-// rise.
+/// The place as the number that the gate is given: it is at most the number of its object, since those
+/// rise.
 fn number_for_gate(objects: &[ObjectHistory], place: usize) -> u32
     requires rising { AllPairs (λ a b. a.object < b.object) objects.now }
     requires inside { place < length objects.now }
@@ -66,7 +66,7 @@ pub(crate) fn check_share<G: Gate>(
     Ok(())
 }
 
-// Of what was found so far and what this worker found, that of the lesser place.
+/// Of what was found so far and what this worker found, that of the lesser place.
 fn earlier(least: Option<RefusedObject>, share: &Result<(), RefusedObject>) -> Option<RefusedObject>
     ensures { IsEarlier least share.now result }
 {

@@ -1,4 +1,4 @@
--- The operations before a moment.
+-- Prefixes: what `operation_before` makes of the operations gives `calls_before`, and is a part.
 use Rattle.std.proofs.Common.{◌≡◌, ◌≢◌, ℕ, nat_lt, Bool, true, false, cond, List, Option, Some, None, refl, sym, ◌∙◌, subst}
 use Rattle.std.specs.List.{filter_map}
 use Rattle.std.proofs.lemmas.Option.{same_Some}

@@ -1,4 +1,4 @@
--- The operations that are kept.
+-- Closed projections: the checks of `keeping.rt` establish that the part is closed.
 use Rattle.std.proofs.Common.{◌≡◌, ◌≢◌, not, inl, inr, zero, suc, ℕ, ℤ, ◌<◌, ◌≤◌, ◌+◌, ◌-◌, ◌==◌, nat_lt, Bool, true, false, ◌&&◌, ◌||◌, cond, List, [], ◌∷◌}
 use Rattle.std.proofs.Common.{Option, Some, None, AllPairs, count_by, filter, length, get_or, drop, refl, ap, sym, ◌∙◌, subst, arith}
 use Rattle.std.specs.List.{filter_map, cons_option, list_all}

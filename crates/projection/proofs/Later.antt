@@ -1,4 +1,4 @@
--- The operations of a suffix.
+-- Suffixes: what `operation_from` makes of the operations gives `calls_from`, and is a part.
 use Rattle.std.proofs.Common.{◌≡◌, ◌≢◌, inl, inr, ℕ, ℤ, ◌<◌, ◌==◌, nat_lt, Bool, true, false, cond, List, Option, Some, None, IfSome, All, Contains, refl, ap, sym, ◌∙◌, subst}
 use Rattle.std.specs.Prelude.{option_map}
 use Rattle.std.specs.Option.{option_map_or}

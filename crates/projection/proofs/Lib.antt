@@ -23,7 +23,7 @@ pub mod Recasts
 pub mod Shadows
 pub mod Keyed
 pub mod Absences
-pub mod Early
+pub mod AbsentValues
 pub mod Alone
 pub mod Finds
 pub mod Emptied

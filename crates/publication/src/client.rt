@@ -37,7 +37,7 @@ impl Model for Places {
 }
 
 impl Places {
-    // Tries once to put the client's row in front of the list of the object.
+    /// Tries once to put the client's row in front of the list of the object.
     pub fn enlist(&mut self, object: usize) -> Enlist
         requires { object < max_objects }
         ensures { self.new ≡ trying object result self.old }
@@ -57,7 +57,7 @@ pub(crate) struct Member<O, R> {
 }
 
 impl<O: Copy, R: Copy> Member<O, R> {
-    // Writes the invocation of a call, which is outstanding then, into the journal.
+    /// Writes the invocation of a call, which is outstanding then, into the journal.
     pub fn note_invoked(&mut self, asked: Request<O>)
         requires calls { self.old.calls < self.old.quota }
         requires room { vec_len self.old.journal.events < vec_capacity self.old.journal.events }
@@ -80,7 +80,7 @@ impl<O: Copy, R: Copy> Member<O, R> {
         self.calls += 1;
     }
 
-    // Writes the return of the call that was outstanding into the journal.
+    /// Writes the return of the call that was outstanding into the journal.
     pub fn note_returned(&mut self, ticket: u64, answer: Answer<R>)
         requires room { vec_len self.old.journal.events < vec_capacity self.old.journal.events }
         ensures events { self.new.journal.events.items ≡ self.old.journal.events.items
@@ -111,14 +111,14 @@ impl<O, R> Model for BoxedMember<O, R> {
 }
 
 impl<O: Copy, R: Copy> BoxedMember<O, R> {
-    // Whether a call is outstanding.
+    /// Whether a call is outstanding.
     pub fn is_outstanding(&self) -> bool
         ensures { result ≡ self.now.outstanding }
     {
         self.inside.outstanding
     }
 
-    // Tries once to put the client's row in front of the list of the object.
+    /// Tries once to put the client's row in front of the list of the object.
     pub fn enlist(&mut self, object: usize) -> Enlist
         requires { object < max_objects }
         ensures { self.new
@@ -127,7 +127,7 @@ impl<O: Copy, R: Copy> BoxedMember<O, R> {
         self.inside.places.enlist(object)
     }
 
-    // Writes the invocation of a call, which is outstanding then, into the journal.
+    /// Writes the invocation of a call, which is outstanding then, into the journal.
     pub fn note_invoked(&mut self, asked: Request<O>)
         requires calls { self.old.calls < self.old.quota }
         requires room { vec_len self.old.journal.events < vec_capacity self.old.journal.events }
@@ -146,7 +146,7 @@ impl<O: Copy, R: Copy> BoxedMember<O, R> {
         self.inside.note_invoked(asked);
     }
 
-    // Writes the return of the call that was outstanding into the journal.
+    /// Writes the return of the call that was outstanding into the journal.
     pub fn note_returned(&mut self, ticket: u64, answer: Answer<R>)
         requires room { vec_len self.old.journal.events < vec_capacity self.old.journal.events }
         ensures events { self.new.journal.events.items ≡ self.old.journal.events.items
@@ -159,7 +159,7 @@ impl<O: Copy, R: Copy> BoxedMember<O, R> {
         self.inside.note_returned(ticket, answer);
     }
 
-    // The journal, at the client's end.
+    /// The journal, at the client's end.
     pub fn into_journal(self) -> Journal<O, R>
         ensures { result ≡ self.journal }
     {

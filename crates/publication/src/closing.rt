@@ -111,7 +111,7 @@ impl<S: SeqObject> Desk<S> {
     }
 }
 
-// Whether the client has ended. The last client knows that, or has found it there.
+/// Whether the client has ended. The last client knows that, or has found it there.
 fn sees_end<S: SeqObject>(desk: &Desk<S>, last: &mut Client<S>, client: u32) -> bool
     requires desk { last.old.desk ≡ desk.now.id }
     requires client { client < desk.now.clients }
@@ -126,7 +126,7 @@ fn sees_end<S: SeqObject>(desk: &Desk<S>, last: &mut Client<S>, client: u32) -> 
     shared.load::<SeesEnd>(&mut last.seat, ENDS + client as usize) == 1
 }
 
-// The least other client that has not ended.
+/// The least other client that has not ended.
 fn first_unretired<S: SeqObject>(desk: &Desk<S>, last: &mut Client<S>) -> Option<u32>
     requires { last.old.desk ≡ desk.now.id }
     ensures desk { last.new.desk ≡ last.old.desk }
@@ -144,7 +144,7 @@ fn first_unretired<S: SeqObject>(desk: &Desk<S>, last: &mut Client<S>) -> Option
     None
 }
 
-// The log of an object.
+/// The log of an object.
 fn take_log<S: SeqObject>(
     left: &mut Left<S, S::Op, S::Reply>,
     x: usize,
@@ -160,7 +160,7 @@ fn take_log<S: SeqObject>(
     }
 }
 
-// The logs of the objects, which come first.
+/// The logs of the objects, which come first.
 fn take_logs<S: SeqObject>(
     left: &mut Left<S, S::Op, S::Reply>,
     objects: usize,
@@ -177,7 +177,7 @@ fn take_logs<S: SeqObject>(
     }
 }
 
-// Drops what is from one slot up to another.
+/// Drops what is from one slot up to another.
 fn pass_over<S: SeqObject>(left: &mut Left<S, S::Op, S::Reply>, from: usize, to: usize)
     requires { IsTakenTo from left.old × (from ≤ to) × (to ≤ table_slots) }
     ensures { IsTakenTo to left.new × (values_of left.new ≡ values_of left.old) }
@@ -187,7 +187,7 @@ fn pass_over<S: SeqObject>(left: &mut Left<S, S::Op, S::Reply>, from: usize, to:
     }
 }
 
-// The journal that a client left.
+/// The journal that a client left.
 fn take_journal<S: SeqObject>(
     left: &mut Left<S, S::Op, S::Reply>,
     client: u32,
@@ -203,7 +203,7 @@ fn take_journal<S: SeqObject>(
     }
 }
 
-// The journals of the clients from one number up to another.
+/// The journals of the clients from one number up to another.
 fn take_journals<S: SeqObject>(
     left: &mut Left<S, S::Op, S::Reply>,
     from: u32,
@@ -223,7 +223,7 @@ fn take_journals<S: SeqObject>(
     }
 }
 
-// The journal of each client: the last one's own, and what the others left.
+/// The journal of each client: the last one's own, and what the others left.
 fn take_all_journals<S: SeqObject>(
     left: &mut Left<S, S::Op, S::Reply>,
     clients: u32,
@@ -247,7 +247,7 @@ fn take_all_journals<S: SeqObject>(
     take_journals(left, number + 1, clients, journals);
 }
 
-// The record of a desk that all other clients have left.
+/// The record of a desk that all other clients have left.
 fn gather<S: SeqObject>(desk: Desk<S>, last: Client<S>) -> Record<S>
     requires desk { last.desk ≡ desk.id }
     requires ended { HaveEnded desk.clients last }

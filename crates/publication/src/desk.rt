@@ -133,7 +133,7 @@ impl<S: SeqObject> Desk<S> {
         self.clients
     }
 
-    // Whether there is such an object, of this kind.
+    /// Whether there is such an object, of this kind.
     fn has_kind(&self, object: u32, kind: Kind) -> Result<(), Post>
         ensures ok { OnOk result ((object < length self.now.id.kinds)
             × (kind ≡ kind_at self.now.id.kinds object)) }
@@ -275,7 +275,7 @@ impl<S: SeqObject> Desk<S> {
     }
 }
 
-// Writes the ticket into the request in the slot.
+/// Writes the ticket into the request in the slot.
 #[inline(always)]
 fn set_ticket<S, O: Copy, R>(place: &mut Slot<S, O, R>, ticket: u64)
     requires { (q : Request O) × (place.old ≡ slots.Request q) }

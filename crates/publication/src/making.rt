@@ -29,7 +29,7 @@ pub(crate) const SLOTS: usize = 80;
 /// How many words the table has.
 const WORDS: usize = 81;
 
-// The kind of each object.
+/// The kind of each object.
 fn kinds_of<S: SeqObject>(alloc: Global, objects: &[S]) -> Result<Vec<Kind>, AllocError>
     ensures { IfOk result (λ v. v.items ≡ kinds_with S.content objects.now) }
 {
@@ -40,7 +40,7 @@ fn kinds_of<S: SeqObject>(alloc: Global, objects: &[S]) -> Result<Vec<Kind>, All
     Ok(kinds)
 }
 
-// For each client no place yet, and room for one in the list of each object that there may be.
+/// For each client no place yet, and room for one in the list of each object that there may be.
 fn no_places(alloc: Global, clients: u32) -> Result<Vec<Vec<SharedPlace>>, AllocError>
     ensures { IfOk result (λ v. AreDealt 0 clients [] v.items) }
 {
@@ -51,13 +51,13 @@ fn no_places(alloc: Global, clients: u32) -> Result<Vec<Vec<SharedPlace>>, Alloc
     Ok(owners)
 }
 
-// The publication lists, by the number of the object, and the walker of each.
+/// The publication lists, by the number of the object, and the walker of each.
 struct Dealt {
     rosters: Vec<SharedRoster>,
     walkers: Vec<SharedWalker>,
 }
 
-// A publication list for each object that there may be, in which each client has a place.
+/// A publication list for each object that there may be, in which each client has a place.
 fn lists(alloc: Global, owners: &mut Vec<Vec<SharedPlace>>) -> Result<Dealt, AllocError>
     requires few { (0 < length owners.old.items) × (length owners.old.items < 1 + max_clients) }
     requires owners { AreDealt 0 (length owners.old.items) [] owners.old.items }
@@ -76,7 +76,7 @@ fn lists(alloc: Global, owners: &mut Vec<Vec<SharedPlace>>) -> Result<Dealt, All
     Ok(Dealt { rosters, walkers })
 }
 
-// A slot for each object, with an empty log, and its publication list.
+/// A slot for each object, with an empty log, and its publication list.
 fn cores<S: SeqObject>(
     alloc: Global,
     objects: Vec<S>,
@@ -102,7 +102,7 @@ fn cores<S: SeqObject>(
     Ok(slots)
 }
 
-// All slots: after the objects there is nothing.
+/// All slots: after the objects there is nothing.
 fn lay<S: SeqObject>(
     alloc: Global,
     objects: Vec<S>,
@@ -120,7 +120,7 @@ fn lay<S: SeqObject>(
 
 type Opened<S, O, R> = (Board<S, O, R>, Place<S, O, R>);
 
-// The table, and the seat that makes the clients.
+/// The table, and the seat that makes the clients.
 fn open<S: SeqObject>(
     alloc: Global,
     objects: Vec<S>,
@@ -143,7 +143,7 @@ fn open<S: SeqObject>(
     }
 }
 
-// A journal for each client.
+/// A journal for each client.
 fn journals<O: Drop, R: Drop>(
     alloc: Global,
     clients: u32,
@@ -160,7 +160,7 @@ fn journals<O: Drop, R: Drop>(
     Ok(journals)
 }
 
-// What a client keeps itself, before its first call.
+/// What a client keeps itself, before its first call.
 fn keep<O: Drop, R: Drop>(
     alloc: Global,
     journal: Journal<O, R>,
@@ -181,7 +181,7 @@ fn keep<O: Drop, R: Drop>(
     Ok(BoxedMember { inside })
 }
 
-// A client more.
+/// A client more.
 fn make<S: SeqObject>(
     table: &Board<S, S::Op, S::Reply>,
     maker: &mut Place<S, S::Op, S::Reply>,
@@ -223,7 +223,7 @@ fn make<S: SeqObject>(
     }
 }
 
-// The clients, each with a journal and its places.
+/// The clients, each with a journal and its places.
 fn make_all<S: SeqObject>(
     alloc: Global,
     table: &Board<S, S::Op, S::Reply>,

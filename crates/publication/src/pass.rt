@@ -206,7 +206,7 @@ impl<S: SeqObject> Hand<S> {
     }
 }
 
-// Whether the object can do the operation.
+/// Whether the object can do the operation.
 fn can_do<S: SeqObject>(core: &BoxedCore<S, S::Op, S::Reply>, op: &S::Op) -> bool
     requires { kind_of (S.op_in op.now) ≡ kind_with (S.content core.now.object) }
     ensures { IsTrue result ↔ IsSome (next (S.content core.now.object) (S.op_in op.now)) }
@@ -214,7 +214,7 @@ fn can_do<S: SeqObject>(core: &BoxedCore<S, S::Op, S::Reply>, op: &S::Op) -> boo
     core.inside.object.possible(op)
 }
 
-// Does the operation, and logs it.
+/// Does the operation, and logs it.
 #[inline(always)]
 fn serve<S: SeqObject>(
     core: &mut BoxedCore<S, S::Op, S::Reply>,

@@ -38,7 +38,7 @@ impl Model for Roster {
         × (r.table.shared.table_id.slots ≡ 0) };
 }
 
-// The places of the first rows.
+/// The places of the first rows.
 fn make_all(table: &Board, seat: &mut Chair, rows: u32, made: &mut Vec<Place>)
     requires table { (seat.old.table_id ≡ table.now.shared.table_id)
         × (table.now.shared.table_id.words ≡ list_words) }

@@ -14,7 +14,7 @@ use Rattle.desk_model.specs.Records.{Denotes}
 use Rattle.events.specs.declared.event.Action.TheVariants.{Invoke}
 use Rattle.events.specs.declared.event.Event.{Event}
 use Rattle.events.specs.Events.{HasShape}
-use Rattle.events.proofs.Runs.{idle, busy, Runs}
+use Rattle.events.proofs.ProcessRuns.{idle, busy, Runs}
 use Rattle.recorder.specs.Histories.{action_of, events_from}
 
 -- a reply has the shape that the operation's replies have

@@ -12,7 +12,7 @@ use Rattle.desk_model.proofs.Owners.{owner, drawn_by}
 use Rattle.desk_model.proofs.Shares.{Shares, merged, merged_rises, merged_part}
 use Rattle.events.specs.declared.event.Event.{Event}
 use Rattle.events.specs.Events.{HasShape, IsProper}
-use Rattle.events.proofs.Runs.{idle, Runs}
+use Rattle.events.proofs.ProcessRuns.{idle, Runs}
 use Rattle.recorder.specs.Records.{Recorded}
 use Rattle.recorder.specs.Histories.{events_of, AreEventsOf, max_tickets, IsRecord, IsRecordOf, journals_in, logs_in}
 use Rattle.model.specs.declared.AnyOp.{AnyOp}

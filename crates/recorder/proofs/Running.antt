@@ -9,7 +9,7 @@ use Rattle.events.specs.declared.event.Action.{Action}
 use Rattle.events.specs.declared.event.Action.TheVariants.{Invoke, Ok, Fail, Info}
 use Rattle.events.specs.declared.event.Event.{Event}
 use Rattle.events.specs.Events.{last_event, IsIdle, IsIdleAfter, IsOfKindAt, Follows, IsProper}
-use Rattle.events.proofs.Runs.{State, idle, state_by, state_after, MayDo, Runs, last_push}
+use Rattle.events.proofs.ProcessRuns.{State, idle, state_by, state_after, MayDo, Runs, last_push}
 
 -- the process runs on after more events
 behind : (p : ℕ) (front earlier es : List Event) → Runs p (state_after (last_event p front)) (earlier ++ es) → Runs p (state_after (last_event p (front ++ earlier))) es

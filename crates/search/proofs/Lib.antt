@@ -10,6 +10,6 @@ pub mod Generations
 pub mod Measure
 pub mod Orders
 pub mod Keys
-pub mod Rows
+pub mod SortedArrays
 pub mod Answering
 pub mod Certificates

@@ -19,7 +19,7 @@ pub enum HeapOp {
 impl HeapOp {
     ghost use Rattle.seq_objects.specs.Operations.{heap_op};
 
-    // The operation of all kinds as one of a heap.
+    /// The operation of all kinds as one of a heap.
     pub(crate) fn from_any(op: &AnyOp) -> HeapOp
         requires { kind_of op.now ≡ Kind.Heap }
         ensures { heap_op result ≡ op.now }

@@ -20,7 +20,7 @@ pub enum MapOp {
 impl MapOp {
     ghost use Rattle.seq_objects.specs.Operations.{map_op};
 
-    // The operation of all kinds as one of a map.
+    /// The operation of all kinds as one of a map.
     pub(crate) fn from_any(op: &AnyOp) -> MapOp
         requires { kind_of op.now ≡ Kind.Map }
         ensures { map_op result ≡ op.now }

@@ -19,7 +19,7 @@ pub enum MutexOp {
 impl MutexOp {
     ghost use Rattle.seq_objects.specs.Operations.{mutex_op};
 
-    // The operation of all kinds as one of a mutex.
+    /// The operation of all kinds as one of a mutex.
     pub(crate) fn from_any(op: &AnyOp) -> MutexOp
         requires { kind_of op.now ≡ Kind.Mutex }
         ensures { mutex_op result ≡ op.now }

@@ -19,7 +19,7 @@ pub enum QueueOp {
 impl QueueOp {
     ghost use Rattle.seq_objects.specs.Operations.{queue_op};
 
-    // The operation of all kinds as one of a queue.
+    /// The operation of all kinds as one of a queue.
     pub(crate) fn from_any(op: &AnyOp) -> QueueOp
         requires { kind_of op.now ≡ Kind.Queue }
         ensures { queue_op result ≡ op.now }

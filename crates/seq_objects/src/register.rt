@@ -20,7 +20,7 @@ pub enum RegisterOp {
 impl RegisterOp {
     ghost use Rattle.seq_objects.specs.Operations.{register_op};
 
-    // The operation of all kinds as one of a register.
+    /// The operation of all kinds as one of a register.
     pub(crate) fn from_any(op: &AnyOp) -> RegisterOp
         requires { kind_of op.now ≡ Kind.Register }
         ensures { register_op result ≡ op.now }

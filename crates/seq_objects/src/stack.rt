@@ -18,7 +18,7 @@ pub enum StackOp {
 impl StackOp {
     ghost use Rattle.seq_objects.specs.Operations.{stack_op};
 
-    // The operation of all kinds as one of a stack.
+    /// The operation of all kinds as one of a stack.
     pub(crate) fn from_any(op: &AnyOp) -> StackOp
         requires { kind_of op.now ≡ Kind.Stack }
         ensures { stack_op result ≡ op.now }

@@ -17,7 +17,7 @@ use Rattle.history.specs.Denotes.{action_of}
 use Rattle.history.proofs.Naming.{named_is}
 use Rattle.transcript.specs.declared.line.Line.{Line}
 use Rattle.transcript.specs.Lines.{type_of, value_of, value_form, form_of}
-use Rattle.transcript.proofs.Runs.{MayFollow, Follows}
+use Rattle.transcript.proofs.ClientLines.{MayFollow, Follows}
 
 abbrev pub type_map : Action → MapType
 type_map (Invoke o) = invoke

@@ -17,7 +17,7 @@ use Rattle.desk_model.specs.World.{AnyAnswer, AnyEvent}
 use Rattle.events.specs.declared.event.Event.{Event}
 use Rattle.events.specs.Events.{IsProper}
 use Rattle.events.proofs.Parts.{same_event}
-use Rattle.events.proofs.Runs.{State, idle, MayDo, Runs, runs_from_start}
+use Rattle.events.proofs.ProcessRuns.{State, idle, MayDo, Runs, runs_from_start}
 use Rattle.recorder.specs.Histories.{action_of, events_from, events_of, AreEventsOf}
 use Rattle.recorder.proofs.Same.{same_rising, same_by_parts}
 use Rattle.transcript.specs.declared.line.Call.{Call}

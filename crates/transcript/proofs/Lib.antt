@@ -6,7 +6,7 @@ pub mod Certifying
 pub mod Denoting
 pub mod Accepting
 pub mod Texts
-pub mod Runs
+pub mod ClientLines
 pub mod Forms
 pub mod Turns
 pub mod ReadBack

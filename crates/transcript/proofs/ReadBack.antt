@@ -41,7 +41,7 @@ use Rattle.transcript.specs.Lines.{value_of, value_form, form_of, history_text, 
 use Rattle.transcript.specs.Reading.{DenotesEvents}
 use Rattle.transcript.proofs.Gathered.{same_events}
 use Rattle.transcript.proofs.Turns.{turns_in, one_kind}
-use Rattle.transcript.proofs.Runs.{MayFollow, Follows, last_line, line_follows}
+use Rattle.transcript.proofs.ClientLines.{MayFollow, Follows, last_line, line_follows}
 use Rattle.transcript.proofs.Forms.{type_map, map_of, client_is, action_is}
 
 -- ---- numbers from 0 on

@@ -10,7 +10,7 @@ use Rattle.desk_model.specs.World.{AnyAnswer, AnyEvent}
 use Rattle.events.specs.declared.event.Action.TheVariants.{Invoke}
 use Rattle.events.specs.declared.event.Event.{Event}
 use Rattle.events.specs.Events.{Follows, IsProper}
-use Rattle.events.proofs.Runs.{State, idle, MayDo, state_by, Runs, runs_from_start}
+use Rattle.events.proofs.ProcessRuns.{State, idle, MayDo, state_by, Runs, runs_from_start}
 use Rattle.recorder.specs.Histories.{AreEventsOf, action_of, events_from}
 use Rattle.recorder.proofs.Journals.{InTurn, none, last, call}
 

@@ -4,7 +4,7 @@ use Rattle.std.proofs.lemmas.Option.{slice_get-get_or}
 use Rattle.model.specs.declared.AnyReply.{AnyReply}
 use Rattle.checker.specs.Ends.{AreMarked, IsFirstUnmarked}
 use Rattle.checker.proofs.Deciding.{unknown_first}
-use Rattle.checker.proofs.Finding.{nobody}
+use Rattle.checker.proofs.Finding.{placeholder_operation}
 use Rattle.checker.proofs.Steps.{Walk}
 use Rattle.checker.proofs.Ending.{IsHere, refused_by, read_at, repeated_at, late_at, impossible_at, wrong_at, next_at, at_end, all_marked, omitted_at}
 use Rattle.checker.proofs.walk.check_entries.Given.{Over}
@@ -48,7 +48,7 @@ returns-then-index-clause-refused g c =
     let w = c.loop-entry.invariant in
     let len : c.in-Some.k < length c.loop-entry.seen.items = omega (arith, w.long, s.0) in
     let marked = read_at c.loop-entry.seen.items c.in-Some.k c.index.result.now true len c.index.ensures c.if-index.true in
-    refused_by _ _ _ _ _ _ c.refuse-then-index.ensures (repeated_at _ _ _ _ _ _ _ _ _ _ nobody w at (record { within = s.0; found = s.1.1; is = s.1.2 }) marked)
+    refused_by _ _ _ _ _ _ c.refuse-then-index.ensures (repeated_at _ _ _ _ _ _ _ _ _ _ placeholder_operation w at (record { within = s.0; found = s.1.1; is = s.1.2 }) marked)
 
 pub returns-in-Some-late_by-clause-refused : goal.returns-in-Some-late_by-clause-refused
 returns-in-Some-late_by-clause-refused g c =
@@ -78,9 +78,9 @@ pub returns-in-Some-first_omitted-clause-refused : goal.returns-in-Some-first_om
 returns-in-Some-first_omitted-clause-refused g c =
     let w = over g (goal.at.returns-in-Some-first_omitted-clause-refused g c).After-first_omitted in
     refused_by _ _ _ _ _ _ c.refuse-in-Some-first_omitted.ensures
-    (omitted_at _ _ _ _ _ _ _ nobody c.requires.rising w (subst (λ m. IsFirstUnmarked c.args.ops.now m c.in-Some-first_omitted.op) c.deref.ensures.value c.in-Some-first_omitted.ensures.some))
+    (omitted_at _ _ _ _ _ _ _ placeholder_operation c.requires.rising w (subst (λ m. IsFirstUnmarked c.args.ops.now m c.in-Some-first_omitted.op) c.deref.ensures.value c.in-Some-first_omitted.ensures.some))
 
 pub returns-clause-valid : goal.returns-clause-valid
 returns-clause-valid g c =
     let w = over g (goal.at.returns-clause-valid g c).After-first_omitted in
-    all_marked _ _ _ _ _ _ nobody c.requires.rising w (subst (λ m. AreMarked c.args.ops.now m (length c.args.ops.now)) c.deref.ensures.value c.in-None.ensures.none)
+    all_marked _ _ _ _ _ _ placeholder_operation c.requires.rising w (subst (λ m. AreMarked c.args.ops.now m (length c.args.ops.now)) c.deref.ensures.value c.in-None.ensures.none)

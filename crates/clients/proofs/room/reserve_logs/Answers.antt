@@ -1,5 +1,5 @@
 use Rattle.std.proofs.Common.{length}
-use Rattle.clients.proofs.News.{one_fewer, one_more, still_none}
+use Rattle.clients.proofs.NewClients.{one_fewer, one_more, still_none}
 use Rattle.clients.proofs.room.reserve_logs.Goals as goal
 
 pub make_all_room-requires : goal.make_all_room-requires

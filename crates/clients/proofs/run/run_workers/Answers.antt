@@ -2,7 +2,7 @@ use Rattle.std.proofs.Common.{◌<◌, ◌≤◌, ◌∙◌, length, sym, subst}
 use Rattle.clients.specs.Workloads.{calls_at}
 use Rattle.clients.specs.Made.{IsDeskFor}
 use Rattle.clients.proofs.Ends.{have_told, ran}
-use Rattle.clients.proofs.News.{all_new}
+use Rattle.clients.proofs.NewClients.{all_new}
 use Rattle.clients.proofs.run.run_workers.Goals as goal
 
 pub reserve_logs-requires : goal.reserve_logs-requires

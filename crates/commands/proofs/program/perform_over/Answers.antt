@@ -1,5 +1,5 @@
 use Rattle.std.proofs.lemmas.Result.{IfOk-weaker}
-use Rattle.commands.proofs.Headlines.{shows_no, shows_yes}
+use Rattle.commands.proofs.StatusMeanings.{shows_no, shows_yes}
 use Rattle.commands.proofs.program.perform_over.Goals as goal
 
 pub returns-in-Check-clause-performs : goal.returns-in-Check-clause-performs

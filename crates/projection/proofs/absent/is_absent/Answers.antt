@@ -1,7 +1,7 @@
 use Rattle.std.proofs.Common.{ℤ, count_by, ap, ◌∙◌, w64}
 use Rattle.std.proofs.lemmas.Int.{to_z-of_z}
 use Rattle.projection.specs.CutOperations.{is_put_before_end, is_taken_before_end}
-use Rattle.projection.proofs.Early.{absent_from, absent_to}
+use Rattle.projection.proofs.AbsentValues.{absent_from, absent_to}
 use Rattle.projection.proofs.absent.is_absent.Goals as goal
 
 pub returns-clause-yes : goal.returns-clause-yes

@@ -6,7 +6,7 @@ use Rattle.projection.specs.Absent.{IsAbsent}
 use Rattle.projection.specs.Cuts.{IsPart}
 use Rattle.projection.specs.CutOperations.{is_late}
 use Rattle.projection.proofs.CutOperations.{same_history}
-use Rattle.projection.proofs.Early.{late_history, late_calls_of, late_shows}
+use Rattle.projection.proofs.AbsentValues.{late_history, late_calls_of, late_shows}
 use Rattle.projection.proofs.absent.without.Goals as goal
 
 pub new-requires : goal.new-requires

@@ -5,7 +5,7 @@ use Rattle.edn_reader.specs.Token.{leaf}
 use Rattle.edn_reader.specs.Datum.{atom, keyword}
 use Rattle.edn_reader.specs.Reading.{got}
 use Rattle.std.specs.Prelude.{List, ℕ}
-use Rattle.edn_reader.proofs.Runs.{usual_keyword}
+use Rattle.edn_reader.proofs.ByteRuns.{usual_keyword}
 use Rattle.edn_reader.proofs.piece.Piece.usual_keyword.Goals as goal
 
 pub from_utf8_unchecked-name-requires : goal.from_utf8_unchecked-name-requires

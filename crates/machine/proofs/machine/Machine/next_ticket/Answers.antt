@@ -1,5 +1,5 @@
 use Rattle.std.proofs.Common.{arith}
-use Rattle.machine.proofs.Runs.{run_few}
+use Rattle.machine.proofs.WorldRuns.{run_few}
 use Rattle.machine.proofs.machine.Machine.next_ticket.Goals as goal
 
 pub overflow_add-result : goal.overflow_add-result

@@ -4,7 +4,7 @@ use Rattle.clients.specs.Workloads.{Work}
 use Rattle.clients.specs.Made.{HasMetBelow, HasWorked}
 use Rattle.clients.proofs.Ends.{is_new}
 use Rattle.clients.proofs.Meetings.{keeps_on, met_more, still_worked}
-use Rattle.clients.proofs.News.{one_fewer}
+use Rattle.clients.proofs.NewClients.{one_fewer}
 use Rattle.clients.proofs.Workers.{all_but_last, and_last}
 use Rattle.clients.proofs.run.fn.run_all.scope.Goals as goal
 

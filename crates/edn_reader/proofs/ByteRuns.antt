@@ -11,7 +11,7 @@ use Rattle.edn_reader.specs.Datum.{integer, keyword, atom}
 use Rattle.edn_reader.specs.Token.{leaf}
 use Rattle.edn_reader.specs.Spells.{value_after, is_decimal, EndsToken, IsWord}
 use Rattle.edn_reader.specs.Reading.{got, first, names, after_names, digits, after_digits}
-use Rattle.edn_reader.proofs.Parts.{parts_by, rest_within, front_is}
+use Rattle.edn_reader.proofs.TakeAndDrop.{parts_by, rest_within, front_is}
 use Rattle.edn_reader.proofs.Next.{begins_reads}
 
 pub names_parts : (t : List ℕ) → names t ++ after_names t ≡ t
