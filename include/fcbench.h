@@ -86,7 +86,7 @@ uint32_t fcbench_judge(const uint8_t *history, size_t history_length, uint32_t s
 
 /* Finds evidence for fcbench_verify, and writes it: a line for each object. FCBENCH_YES: each of them is
  * an order, and fcbench_check accepts them, which is proved. FCBENCH_UNDECIDED: some line is a reason or a
- * search, or fcbench_check was refused memory. It never answers FCBENCH_NO. */
+ * search, or fcbench_check ran out of memory. It never answers FCBENCH_NO. */
 uint32_t fcbench_find(const uint8_t *history, size_t history_length,
                       uint8_t *out, size_t capacity, size_t *needed);
 

@@ -39,7 +39,7 @@
  * Jepsen's threads do, and says so with journal_give_up. Use journal_fail only where the call definitely
  * did not happen: if a call that timed out is written as failed, a correct queue gets a no.
  *
- * Needs C11 and sched_yield of POSIX. Where memory is refused the program ends: a history with a gap would be worth nothing. */
+ * Needs C11 and sched_yield of POSIX. Where an allocation fails the program ends: a history with a gap would be worth nothing. */
 #ifndef FCBENCH_RECORDER_H
 #define FCBENCH_RECORDER_H
 

@@ -32,7 +32,7 @@ const (
 	No Verdict = 1
 	// Malformed says that a text is malformed.
 	Malformed Verdict = 2
-	// Undecided says that it is not decided: an object stays open, or memory was refused.
+	// Undecided says that it is not decided: an object stays open, or an allocation failed.
 	Undecided Verdict = 3
 )
 

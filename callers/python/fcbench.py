@@ -18,7 +18,7 @@ PLACES = (f"{HERE}/../../crates/embedding/out/libfcbench.so", f"{HERE}/../../lib
 
 class Verdict(enum.IntEnum):
     """YES: the history is linearizable, which is proved. NO of judge, refute and verify: it is not, which is proved; of check: the
-    certificates are refused. UNDECIDED: an object stays open, or memory was refused."""
+    certificates are refused. UNDECIDED: an object stays open, or an allocation failed."""
 
     YES = 0
     NO = 1

@@ -76,7 +76,7 @@ pub enum Verdict {
     No,
     /// A text is malformed.
     Malformed,
-    /// An object stays open, or memory was refused.
+    /// An object stays open, or an allocation failed.
     Undecided,
 }
 

@@ -29,9 +29,9 @@ fn calls_on(workload: &Workload, object: u32) -> usize
     count
 }
 
-/// Makes room in the log of the object for each call of the workload on it, and for one more of each
-/// client, since a pass needs that room before it serves. Where another client holds the object it
-/// makes none.
+/// Makes room in the log of the object for each call of the workload on it, and for one more of
+/// each client, since a pass needs that room before it serves. Where another client holds the
+/// object it makes none.
 fn make_room(
     desk: &Desk<AnyObject>,
     workload: &Workload,

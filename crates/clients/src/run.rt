@@ -56,9 +56,9 @@ impl<'a> Promise<Client<AnyObject>> for WorkerOf<'a> {
     ghost kept_by = { λ p client. HasWorked p.0.now p.1.now p.2 client };
 }
 
-/// Makes the calls of the workload on a new desk, and closes it. Before the first call it makes room
-/// in the log of each object for all calls on it, so that no pass allocates memory for a log; no
-/// clause says that the room is kept. Client 0 runs in the calling thread, and each other in a
+/// Makes the calls of the workload on a new desk, and closes it. Before the first call it makes
+/// room in the log of each object for all calls on it, so that no pass allocates memory for a log;
+/// no clause says that the room is kept. Client 0 runs in the calling thread, and each other in a
 /// thread of its own; then client 0 meets each other on each object. A client to whose call memory
 /// is refused makes no more, and that call is pending in the record. That memory was refused there
 /// is in no clause: `Ran` lets a client stop at any call. The gate is called around each call.

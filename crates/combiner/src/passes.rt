@@ -129,7 +129,8 @@ fn make_current<S: SeqObject>(pass: &mut Pass<S>, at: usize)
     pass.set_age(row);
 }
 
-/// Where it is this pass's turn, takes out the rows that were of no use for long, but not the first.
+/// Where it is this pass's turn, takes out the rows that were of no use for long, but not the
+/// first.
 #[inline(always)]
 fn clean<S: SeqObject>(pass: &mut Pass<S>, number: u64)
     ensures { IsSameBut pass.old pass.new }

@@ -68,8 +68,8 @@ fn ends<R: Wait + Print + Abort>(
 }
 
 /// The log has no room yet, so the pass of the first call must make some. `rt try --test
-/// --fail-alloc N` refuses a test's Nth allocation: at the one of that room the test prints that the
-/// call is outstanding.
+/// --fail-alloc N` refuses a test's Nth allocation: at the one of that room the test prints that
+/// the call is outstanding.
 #[test]
 fn a_call_whose_pass_gets_no_memory_is_outstanding(rt: HostRuntime) -> Result<(), Fail> {
     let mut bench = Bench::new(rt.alloc(), &mutex(1, 1))?;

@@ -70,7 +70,8 @@ pub(crate) enum Step {
     Waits(bool),
     /// Wins object 0, and holds it while this client combines, which finds it busy.
     HoldsAgainst(u64),
-    /// Wins object 0, serves row 0, whose client is this one, and before the answer that one retires.
+    /// Wins object 0, serves row 0, whose client is this one, and before the answer that one
+    /// retires.
     ServesAsItRetires(u64),
     /// Wins object 0 and reserves more room than there can be, and then some, which is there.
     ReservesTooMuch,

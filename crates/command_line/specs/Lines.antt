@@ -93,7 +93,7 @@ IsLine v rows (Simulate schedule) =
 abbrev pub rows_in : ArgMatches → List Row
 rows_in m = rows_of (found_of m)
 
--- the line of this command that was read, or there is none, unless memory was refused
+-- the line of this command that was read, or there is none, unless an allocation failed
 abbrev pub IsRead : Verb → List Row → Result Line NoLine → Type 0
 IsRead v rows r =
     MatchResult r (IsLine v rows) (λ u. u ≢ unread.NoMemory → (line : Line) → IsLine v rows line → ⊥)
@@ -123,7 +123,7 @@ pub record AskFor (words : List Text) (line : Line) : Type 0 where
 abbrev pub IsHelp : ErrorKind → Type 0
 IsHelp k = (k ≡ DisplayHelp) ⊎ (k ≡ DisplayVersion)
 
--- what is answered for an error of this kind of clap, where no memory is refused
+-- what is answered for an error of this kind of clap, where no allocation fails
 abbrev pub IsClapFaultFor : ErrorKind → LineFault → Type 0
 IsClapFaultFor k (Help text) = IsHelp k
 IsClapFaultFor k (Refused text) = (k ≢ OutOfMemory) × (IsHelp k → ⊥)
@@ -142,8 +142,8 @@ pub record IsUnfit (words : List Text) (fault : LineFault) : Type 0 where
   pub none : (line : Line) → Finds (subcommand_of command words) line → ⊥
   pub refused : AreWordsRefused fault
 
--- Memory was refused, or clap refuses the words with an error of a kind for which the fault is, or
--- what it finds in them fits no line.
+-- An allocation failed, or clap refuses the words with an error of a kind for which the fault is,
+-- or what it finds in them fits no line.
 abbrev pub IsFault : List Text → LineFault → Type 0
 IsFault words fault =
     (fault ≡ NoMemory)

@@ -67,7 +67,7 @@ pub enum Line {
     },
 }
 
-/// Why there is no command: help was asked for, the words are wrong, or memory was refused.
+/// Why there is no command: help was asked for, the words are wrong, or an allocation failed.
 #[derive(Debug, Drop, ErrorText)]
 pub enum LineFault {
     /// They ask for help: this text.

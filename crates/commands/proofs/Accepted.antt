@@ -1,4 +1,4 @@
--- The output for a sound record is a yes, except where memory is refused.
+-- The output for a sound record is a yes, except where an allocation fails.
 use Rattle.std.proofs.Common.{◌≡◌, ◌≢◌, ◌∙◌, ℕ, List, [], ◌++◌, true, inl, inr, refl, sym, ap, append_assoc}
 use Rattle.model.specs.declared.Kind.{Kind}
 use Rattle.desk_model.specs.World.{AnyEntry, AnyEvent}

@@ -59,7 +59,7 @@ module _ (status : Status) (lines : List ℕ) {before after : Option (List ℕ)}
 
 -- ---- what was made
 
--- what was made has this property, or memory was refused
+-- what was made has this property, or an allocation failed
 pub made_as : (P : Status → List ℕ → Type 0) (made : Result Output AllocError)
     → IfOk made (λ o. P o.status o.text.items)
     → (status : Status) (out : List ℕ) → IsMade made status out → P status out ⊎ IsOutOfMemory status out

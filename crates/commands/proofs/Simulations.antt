@@ -1,4 +1,4 @@
--- The output for a schedule of which there is a record is a yes, except where memory is refused.
+-- The output for a schedule of which there is a record is a yes, except where an allocation fails.
 use Rattle.std.proofs.Common.{◌≡◌, ◌≢◌, ◌∙◌, ℕ, List, inl, inr, sym}
 use Rattle.simulation.specs.Plays.{kinds_of}
 use Rattle.history_commands.specs.declared.status.Status.{Status}

@@ -16,13 +16,14 @@ use Rattle.commands.specs.declared.sources.Unread.TheVariants.{First, Second}
 use Rattle.commands.specs.Runs.{IsRun}
 use Rattle.commands.specs.Simulated.{IsSimulation}
 
--- a verification, or one line says that memory was refused
+-- a verification, or one line says that an allocation failed
 abbrev pub IsVerificationIn : ℕ → List ℕ → List ℕ → Status → List ℕ → Type 0
 IsVerificationIn steps first second status out =
     IsVerification first second steps status out ⊎ IsOutOfMemory status out
 
 -- The status and the lines are an output of the command that the line asks for, on the texts of its
--- first and second file; or one line says that memory was refused. A check says so by its verdict.
+-- first and second file; or one line says that an allocation failed. A check says so by its
+-- verdict.
 abbrev pub IsPerformed : Line → List ℕ → List ℕ → Status → List ℕ → Type 0
 IsPerformed (Check history certs workers) first second status out = IsCheck first second status out
 IsPerformed (Search history steps order) first second status out =

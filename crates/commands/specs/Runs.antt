@@ -62,7 +62,7 @@ pub record IsTextOf (journals : ℕ → List AnyEvent) (logs : ℕ → List AnyE
   pub text_is : text ≡ history ++ (between ++ comment_lines certificates)
 
 -- The same, and the verdict on the record as comments. That of a sound record is yes, except where
--- memory is refused.
+-- an allocation fails.
 pub record IsReported (journals : ℕ → List AnyEvent) (logs : ℕ → List AnyEntry) (between : List ℕ)
     (status : Status) (text : List ℕ) : Type 0 where
   pub own : List ℕ

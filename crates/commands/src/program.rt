@@ -22,9 +22,9 @@ use std::thread::Threads;
 /// Does the command on the bytes of its first and second file (empty where it has none), writes its
 /// output, and gives the exit status: 0 for yes, or where each object has a certificate; 1 for no,
 /// or where an object is impossible; 2 where a text other than evidence is malformed or a client of
-/// a schedule has not ended; 3 where memory was refused, a thread could not be started, some object
-/// stays open, no reason shows that the history is not linearizable, or evidence is malformed; 4
-/// where the output failed.
+/// a schedule has not ended; 3 where an allocation failed, a thread could not be started, some
+/// object stays open, no reason shows that the history is not linearizable, or evidence is
+/// malformed; 4 where the output failed.
 pub fn perform<R: Threads + Wait + Sync, S: Sink>(
     rt: &R,
     alloc: Global,
@@ -47,7 +47,8 @@ pub fn perform<R: Threads + Wait + Sync, S: Sink>(
             ..
         } => write_output(search(alloc, first, *steps, *order), sink),
         Line::Refute { steps, .. } => write_output(refute(alloc, first, second, *steps), sink),
-        // Without the workers: the library for C, which may start no thread, calls this `verify` too.
+        // Without the workers: the library for C, which may start no thread, calls this `verify`
+        // too.
         Line::Verify { steps, .. } => write_output(verify(alloc, first, second, *steps), sink),
         Line::Run(options) => write_output(run(rt, alloc, *options), sink),
         Line::Simulate { .. } => write_output(play(alloc, first), sink),

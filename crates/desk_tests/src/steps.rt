@@ -36,7 +36,7 @@ fn run<R: Abort>(rt: &R, machine: &mut Machine<AnyObject>, steps: &[(u32, AnySte
 {
     match machine.run(steps) {
         Ok(Ran { refused }) => refused,
-        Err(NoMemoryAt { .. }) => panic!(rt; "memory was refused"),
+        Err(NoMemoryAt { .. }) => panic!(rt; "an allocation failed"),
     }
 }
 

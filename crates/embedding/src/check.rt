@@ -15,7 +15,7 @@ use std::alloc::Global;
 /// there is room for. `needed` is how long they are.
 ///
 /// 0: the history is linearizable. 1: the certificates are refused. 2: a text is malformed. 3:
-/// memory was refused.
+/// an allocation failed.
 #[unsafe(no_mangle)]
 pub extern "C" fn fcbench_check(
     alloc: Global,
@@ -29,7 +29,7 @@ pub extern "C" fn fcbench_check(
     // The lines are those of a verdict that holds, with its status, or memory for them was refused.
     ensures checked { IsAnswered (IsCheck history.now certificates.now)
         result out.old out.new needed.new }
-    // Valid certificates are accepted, except where memory is refused.
+    // Valid certificates are accepted, except where an allocation fails.
     ensures accepts { AreValidTexts history.now certificates.now →
         (result ≡ number_of Status.Yes) ⊎ (result ≡ number_of Status.OutOfMemory) }
 {

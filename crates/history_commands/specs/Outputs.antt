@@ -22,8 +22,8 @@ number_of NoThread = 3
 number_of Failed = 4
 number_of Usage = 64
 
--- How a command ends with a verdict. `judge` never answers a No with the refusal `NoMemory`, but the
--- verdict `NoMemory`.
+-- How a command ends with a verdict. `judge` never answers a No with the refusal `NoMemory`, but
+-- the verdict `NoMemory`.
 abbrev pub status_of : Verdict → Status
 status_of (verdict.Yes s) = Yes
 status_of (verdict.No refusal.NoMemory) = OutOfMemory
@@ -52,7 +52,7 @@ lines_on line (a ∷ rest) = line a.0 a.1 ++ lines_on line rest
 abbrev pub IsExactly : Status → List ℕ → Status → List ℕ → Type 0
 IsExactly own lines status out = (status ≡ own) × (out ≡ lines)
 
--- one line says that memory was refused
+-- one line says that an allocation failed
 abbrev pub IsOutOfMemory : Status → List ℕ → Type 0
 IsOutOfMemory status out = IsExactly OutOfMemory (codes "out of memory\n") status out
 

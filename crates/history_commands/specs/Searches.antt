@@ -75,7 +75,7 @@ abbrev pub IsSearched : List ℕ → ℕ → Status → List ℕ → Type 0
 IsSearched h limit status text =
     IsShort h × (es : List Event) × DenotesHistory h es × AreSearched es limit status text
 
--- the text could not be read, or memory was refused
+-- the text could not be read, or an allocation failed
 abbrev pub IsHistoryUnread : List ℕ → Verdict → Type 0
 IsHistoryUnread h (verdict.Yes s) = ⊥
 IsHistoryUnread h (verdict.No r) = ⊥

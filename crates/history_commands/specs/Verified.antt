@@ -135,7 +135,7 @@ pub record IsCertified (es : List Event) (claims : List Claim) (limit : ℕ) (s 
   pub linearizable : IsLinearizable (kind_at es) (events (denoted es))
   pub counts : AreCountsOf es s
 
--- The verdict where each object has an order, or memory was refused.
+-- The verdict where each object has an order, or an allocation failed.
 abbrev pub IsVerdictBy : List Event → List Claim → ℕ → Verdict → Type 0
 IsVerdictBy es claims limit (verdict.Yes s) = IsCertified es claims limit s
 IsVerdictBy es claims limit (verdict.No r) = ⊥

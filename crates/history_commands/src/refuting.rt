@@ -50,7 +50,7 @@ fn fault_line(alloc: Global, fault: ReasonTextFault) -> Result<Vec<u8>, AllocErr
     }
 }
 
-/// Whether memory was refused.
+/// Whether an allocation failed.
 fn lacks_memory(fault: ReasonTextFault) -> bool
     ensures { result ≡ false → IsOfText fault }
 {

@@ -63,7 +63,8 @@ fn search_history(
     output_of(alloc, history, &answers)
 }
 
-/// Searches for certificates of the history in the text, with a limit of `steps` steps for each object.
+/// Searches for certificates of the history in the text, with a limit of `steps` steps for each
+/// object.
 pub fn search(alloc: Global, text: &[u8], steps: u32, first: TryFirst) -> Result<Output, AllocError>
     ensures { IfOk result (λ o. IsSearch text.now steps o.status o.text.items) }
 {

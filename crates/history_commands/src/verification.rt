@@ -1,5 +1,5 @@
-//! The verification of a history by claims, from any source: the claims are checked, and the history is
-//! judged by what they show. Of an object that has no order it is said why.
+//! The verification of a history by claims, from any source: the claims are checked, and the
+//! history is judged by what they show. Of an object that has no order it is said why.
 
 ghost use Rattle.std.specs.Prelude.{◌≡◌, ◌⊎◌, ◌++◌, ℕ, List, true, false, All, IfOk, OnOk};
 ghost use Rattle.std.specs.Prelude.{IsSome, codes, decimal};
@@ -72,7 +72,7 @@ fn fault_line(alloc: Global, fault: ClaimTextFault) -> Result<Vec<u8>, AllocErro
     }
 }
 
-/// Whether memory was refused.
+/// Whether an allocation failed.
 fn lacks_memory(fault: ClaimTextFault) -> bool
     ensures { result ≡ false → IsOfText fault }
 {
@@ -108,8 +108,8 @@ fn push_note(text: &mut Vec<u8>, note: &Option<Vec<u8>>) -> Result<(), AllocErro
     text.extend_from_slice(b"\n")
 }
 
-/// The lines on an object of which no order is valid: that it is so, the sentence, the operations of
-/// the part of which no order is valid, and the reason that names this part.
+/// The lines on an object of which no order is valid: that it is so, the sentence, the operations
+/// of the part of which no order is valid, and the reason that names this part.
 fn push_impossible(
     alloc: Global,
     text: &mut Vec<u8>,

@@ -61,7 +61,7 @@ pub record DenoteOnly (h c : List ℕ) (es : List Event) (cs : List Certificate)
   pub no_other_orders : (ds : List Certificate) → DenotesCertificates c ds
       → map certificate_meaning.reading_of ds ≡ map certificate_meaning.reading_of cs
 
--- the fault is that memory was refused
+-- the fault is that an allocation failed
 abbrev pub IsNoMemory : Fault → Type 0
 IsNoMemory (HistoryText e) = e.kind ≡ edn_kind.NoMemory
 IsNoMemory (HistoryMaps f) = f.kind ≡ history_kind.NoMemory

@@ -37,7 +37,7 @@ OnYes (No r) P = ⊤
 OnYes (Malformed f) P = ⊤
 OnYes NoMemory P = ⊤
 
--- it is Yes, or memory was refused
+-- it is Yes, or an allocation failed
 abbrev pub IsYesUnlessMemory : Verdict → Type 0
 IsYesUnlessMemory (Yes s) = ⊤
 IsYesUnlessMemory (No r) = ⊥

@@ -37,7 +37,7 @@ pub enum ToolFault {
     /// X2: the sink failed. A beginning of the verdict's lines was written.
     #[error("the output failed")]
     Write,
-    /// X3: memory was refused before the texts were judged. Nothing was written.
+    /// X3: an allocation failed before the texts were judged. Nothing was written.
     #[error("out of memory")]
     NoMemory,
 }

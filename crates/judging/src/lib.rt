@@ -1,5 +1,5 @@
-//! Judges histories of concurrent objects by certificates: texts in memory, and texts that come from
-//! sources.
+//! Judges histories of concurrent objects by certificates: texts in memory, and texts that come
+//! from sources.
 #![tactic(auto)]
 
 mod check;

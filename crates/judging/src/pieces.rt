@@ -18,8 +18,8 @@ pub(crate) const MAX_WORKERS: u32 = 16;
 const LEAST_LENGTH: usize = 1_000_000;
 
 /// The history that the text denotes, read in pieces by this many workers. None says nothing of the
-/// text: there is one worker, the text is short or too long, its maps are not in lines of their own,
-/// one of them has a fault, or memory was refused.
+/// text: there is one worker, the text is short or too long, its maps are not in lines of their
+/// own, one of them has a fault, or an allocation failed.
 fn history_in_pieces<R: Threads + Sync>(
     rt: &R,
     alloc: Global,
@@ -49,9 +49,9 @@ fn history_in_pieces<R: Threads + Sync>(
     join_parts(alloc, parts)
 }
 
-/// The history that a text denotes, or the first fault of the text, as `history_of_text` gives it. A text
-/// of 1 MB or more whose maps are in lines of their own is read by `workers` threads, at most 16, each
-/// a piece of it. With 0 or 1 it starts no thread.
+/// The history that a text denotes, or the first fault of the text, as `history_of_text` gives it.
+/// A text of 1 MB or more whose maps are in lines of their own is read by `workers` threads, at
+/// most 16, each a piece of it. With 0 or 1 it starts no thread.
 pub fn history_of_text_by_workers<R: Threads + Sync>(
     rt: &R,
     alloc: Global,

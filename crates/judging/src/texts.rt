@@ -17,7 +17,7 @@ use history::{History, HistoryFaultKind, TextFault, read_history_text};
 use report::{Fault, Verdict};
 use std::alloc::Global;
 
-/// What stops the reading of a text: a fault of it, or that memory was refused.
+/// What stops the reading of a text: a fault of it, or that an allocation failed.
 #[derive(Clone, Copy, Debug, PartialEq, Eq)]
 pub enum TextFailure {
     Faulty(Fault),
@@ -38,7 +38,7 @@ impl From<TextFailure> for Verdict {
     }
 }
 
-/// Whether the fault is that memory was refused.
+/// Whether the fault is that an allocation failed.
 fn is_no_memory(fault: &Fault) -> bool
     ensures { MatchBool result (IsNoMemory fault.now) (¬ (IsNoMemory fault.now)) }
 {

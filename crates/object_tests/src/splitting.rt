@@ -44,7 +44,7 @@ fn three_operations(alloc: Global) -> Result<History, Fail> {
         },
     ];
     let Ok(events) = Vec::from_array(alloc, events) else {
-        return Err(Fail::new("memory is refused"));
+        return Err(Fail::new("an allocation fails"));
     };
     Ok(History::new(events))
 }

@@ -23,8 +23,8 @@ pub(crate) struct RefusedObject {
     pub(crate) refusal: Refusal,
 }
 
-/// The place as the number that the gate is given: it is at most the number of its object, since those
-/// rise.
+/// The place as the number that the gate is given: it is at most the number of its object, since
+/// those rise.
 fn number_for_gate(objects: &[ObjectHistory], place: usize) -> u32
     requires rising { AllPairs (λ a b. a.object < b.object) objects.now }
     requires inside { place < length objects.now }

@@ -59,7 +59,7 @@ fn next_reason(alloc: Global, form: &Form) -> Result<Reason, ReasonFaultKind>
 /// The reasons that the forms are, one by one and in order. Several may be of one object.
 ///
 /// The error names the first form that is no reason, or the one that was being read when the
-/// allocator refused memory.
+/// allocation failed.
 pub fn read_reasons(alloc: Global, forms: &[Form]) -> Result<Vec<Reason>, ReasonFault>
     ensures denotes { IfOk result (λ v. Denotes (views forms.now) v.items) }
     ensures fault { IfErr result (λ e. e.kind ≢ ReasonFaultKind.NoMemory

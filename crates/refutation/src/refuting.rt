@@ -25,7 +25,7 @@ pub enum Doubt {
     NotExceeded,
     /// The search reached its limit of steps.
     OutOfSteps,
-    /// The search was refused memory.
+    /// The search ran out of memory.
     NoMemory,
 }
 

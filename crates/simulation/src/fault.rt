@@ -9,7 +9,7 @@ pub enum ScheduleFaultKind {
     NoHeader,
     /// S2: it is no step.
     NotAStep,
-    /// Memory was refused at this form, in which nothing is wrong.
+    /// An allocation failed at this form, in which nothing is wrong.
     NoMemory,
 }
 

@@ -157,8 +157,8 @@ pub record IsAnswer (x : ℕ) (kind : Kind) (calls : List Call) (limit : ℕ) (e
   pub unshown : is_shown d ≡ false → IsUntrue kind calls e ⊎ Searches e
   pub refused : d ≡ Open → IsUntrue kind calls e
 
--- What is decided of an object, with its kind and calls, by claims, where a search for which none of
--- them names a number of steps takes at most `limit`.
+-- What is decided of an object, with its kind and calls, by claims, where a search for which none
+-- of them names a number of steps takes at most `limit`.
 pub record IsDecision (claims : List Claim) (limit x : ℕ) (kind : Kind) (calls : List Call)
     (d : Decision) : Type 0 where
   -- the order is valid, and comes from a claim
@@ -170,7 +170,7 @@ pub record IsDecision (claims : List Claim) (limit x : ℕ) (kind : Kind) (calls
   -- a claim on the object asks for a search with this limit (that it took the steps is not said)
   pub out_of_steps : IfOutOfSteps d (λ n.
       Any (λ e. (object_of e ≡ x) × SearchesIn limit n e) claims)
-  -- a search was refused memory, for which a claim on the object asks
+  -- a search ran out of memory, for which a claim on the object asks
   pub memory : d ≡ NoMemory → Any (λ e. (object_of e ≡ x) × Searches e) claims
   -- where nothing is shown each claim on the object is not true, or asks for a search
   pub unshown : is_shown d ≡ false

@@ -11,12 +11,13 @@ use Rattle.verifying.specs.declared.fault.ClaimFaultKind.TheVariants.{NoMemory}
 use Rattle.verifying.specs.declared.fault.ClaimTextFault.{ClaimTextFault}
 use Rattle.verifying.specs.declared.fault.ClaimTextFault.TheVariants.{Text, Forms}
 
--- The first fault of the forms; or memory was refused for one of them, and before it there is none.
+-- The first fault of the forms; or an allocation failed for one of them, and before it there is
+-- none.
 abbrev pub IsFoundIn : List Datum → ClaimFault → Type 0
 IsFoundIn ds f =
     (f.kind ≢ NoMemory → IsFirstFault ds f) × (f.kind ≡ NoMemory → IsSoundBefore ds f.form)
 
--- The text is unreadable, or memory was refused for a token; or it is short and spells forms in
+-- The text is unreadable, or an allocation failed for a token; or it is short and spells forms in
 -- which this was found.
 abbrev pub IsTextFault : List ℕ → ClaimTextFault → Type 0
 IsTextFault text (Text e) =

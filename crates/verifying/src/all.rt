@@ -29,7 +29,7 @@ fn all_open(alloc: Global, objects: &[ObjectHistory]) -> Result<Vec<(u32, Decisi
 /// What is decided of an object by one more claim on it, where this was decided by those before.
 /// What was shown stays.
 ///
-/// An error: memory was refused.
+/// An error: an allocation failed.
 fn decide_further(
     alloc: Global,
     history: &ObjectHistory,
@@ -55,7 +55,7 @@ fn decide_further(
 
 /// Decides further by a claim, where it is on one of these objects, which are in rising number.
 ///
-/// An error: memory was refused.
+/// An error: an allocation failed.
 fn take_claim(
     alloc: Global,
     objects: &[ObjectHistory],
@@ -78,8 +78,9 @@ fn take_claim(
 
 /// Decides on each object of a history by the claims on it, in their order, and answers in rising
 /// number of the objects. The first claim that is shown decides (no clause says that it is the
-/// first): an order that is valid, a reason by which no order is, or the search of the whole object,
-/// if a claim asks for it. A search for which a claim names no number of steps has the limit `limit`.
+/// first): an order that is valid, a reason by which no order is, or the search of the whole
+/// object, if a claim asks for it. A search for which a claim names no number of steps has the
+/// limit `limit`.
 ///
 /// An error: an allocation failed for the split, the list of answers, a part or the check of an
 /// order.

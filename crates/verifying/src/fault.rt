@@ -9,7 +9,7 @@ pub enum ClaimFaultKind {
     NotACertificate,
     /// N1: it has no `:order`, and is no reason.
     NotAReason,
-    /// Memory was refused.
+    /// An allocation failed.
     NoMemory,
 }
 
@@ -23,8 +23,8 @@ pub struct ClaimFault {
 /// Why a text denotes no claims.
 #[derive(Clone, Copy, Debug, PartialEq, Eq)]
 pub enum ClaimTextFault {
-    /// The text spells no forms, or memory was refused for one of its tokens.
+    /// The text spells no forms, or an allocation failed for one of its tokens.
     Text(EdnFault),
-    /// The forms denote no claims, or memory was refused for one of them.
+    /// The forms denote no claims, or an allocation failed for one of them.
     Forms(ClaimFault),
 }

@@ -20,7 +20,7 @@ use std::alloc::{AllocError, Global};
 
 /// What is decided by an order.
 ///
-/// An error: memory was refused.
+/// An error: an allocation failed.
 fn decide_by_order(
     alloc: Global,
     history: &ObjectHistory,
@@ -60,7 +60,7 @@ fn decide_by_doubt(reason: &Reason, limit: u64, doubt: Doubt) -> Decision
 
 /// What is decided by a reason. Where it names no number of steps a search has the limit `limit`.
 ///
-/// An error: memory was refused.
+/// An error: an allocation failed.
 fn decide_by_reason(
     alloc: Global,
     history: &ObjectHistory,
@@ -86,7 +86,7 @@ fn decide_by_reason(
 /// What is decided of an object by a claim on it. Where a reason names no number of steps a search
 /// has the limit `limit`.
 ///
-/// An error: memory was refused.
+/// An error: an allocation failed.
 pub fn decide_by_claim(
     alloc: Global,
     history: &ObjectHistory,

@@ -86,7 +86,7 @@ fn next_claim(alloc: Global, form: &Form) -> Result<Claim, ClaimFaultKind>
 /// The claims that the forms are, one by one and in order. Several may be of one object.
 ///
 /// The error names the first form that is no claim, or the one that was being read when the
-/// allocator refused memory.
+/// allocation failed.
 pub fn read_claims(alloc: Global, forms: &[Form]) -> Result<Vec<Claim>, ClaimFault>
     ensures denotes { IfOk result (λ v. Denotes (views forms.now) v.items) }
     ensures fault { IfErr result (λ e. e.kind ≢ ClaimFaultKind.NoMemory
@@ -94,7 +94,7 @@ pub fn read_claims(alloc: Global, forms: &[Form]) -> Result<Vec<Claim>, ClaimFau
     // Such a fault means that the forms denote no claims.
     ensures refused { IfErr result (λ e. e.kind ≢ ClaimFaultKind.NoMemory
         → (cs : List Claim) → Denotes (views forms.now) cs → ⊥) }
-    // Memory was refused where nothing was wrong before this form.
+    // An allocation failed where nothing was wrong before this form.
     ensures memory { IfErr result (λ e. e.kind ≡ ClaimFaultKind.NoMemory
         → IsSoundBefore (views forms.now) e.form) }
 {
