@@ -6,8 +6,8 @@ ghost use Rattle.commands.specs.Performed.{IsUnread, OnTexts};
 ghost use Rattle.history_commands.specs.Checked.{IsCheck};
 ghost use Rattle.history_commands.specs.Outputs.{IsVerdictOutput};
 
-use crate::write_output::write_output;
 use crate::sources::Unread;
+use crate::write_output::write_output;
 use edn::{Sink, Source};
 use history_commands::{Status, status_of};
 use judging::{In, Text, ToolFault, check_over, judge};

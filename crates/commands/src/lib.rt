@@ -3,12 +3,12 @@
 
 mod checking;
 mod program;
-mod write_output;
 mod running;
 mod simulating;
 mod sources;
 mod statuses;
 mod verification;
+mod write_output;
 
 pub use command_line::{Line, LineFault, RunOptions, line};
 pub use history_commands::Status;

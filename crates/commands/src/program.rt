@@ -7,11 +7,11 @@ ghost use Rattle.commands.specs.Leaves.{Leaves};
 ghost use Rattle.commands.specs.Performed.{IsPerformed, IsPerformedOn, IsUnread, says_no, says_yes};
 
 use crate::checking::{check_bytes, check_sources};
-use crate::write_output::write_output;
 use crate::running::run;
 use crate::simulating::play;
-use crate::sources::{Unread, file_text, has_first, has_second, end_unread};
+use crate::sources::{Unread, end_unread, file_text, has_first, has_second};
 use crate::verification::verify_sources;
+use crate::write_output::write_output;
 use command_line::Line;
 use edn::{Sink, Source};
 use history_commands::{Status, refute, search, verify};
@@ -120,7 +120,9 @@ pub fn perform_over<R: Threads + Wait + Sync, F: Source, G: Source, S: Sink>(
 {
     match line {
         Line::Check { workers, .. } => check_sources(rt, alloc, first, second, *workers, sink),
-        Line::Verify { steps, workers, .. } => verify_sources(rt, alloc, first, second, *steps, *workers, sink),
+        Line::Verify { steps, workers, .. } => verify_sources(
+            rt, alloc, first, second, *steps, *workers, sink,
+        ),
         _ => perform_on_sources(rt, alloc, line, first, second, sink),
     }
 }

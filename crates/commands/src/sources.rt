@@ -59,7 +59,11 @@ pub(crate) fn file_text<F: Source>(
 }
 
 /// How a command ends of which a text was not read.
-pub(crate) fn end_unread<S: Sink>(fault: ReadFault, which: Unread, sink: &mut S) -> Result<u8, Unread>
+pub(crate) fn end_unread<S: Sink>(
+    fault: ReadFault,
+    which: Unread,
+    sink: &mut S,
+) -> Result<u8, Unread>
     requires working { S.broken sink.old ≡ false }
     ensures leaves { IfOk result (λ number. Leaves IsOutOfMemory
         (S.sent sink.old) number (S.sent sink.new) (S.broken sink.new)) }

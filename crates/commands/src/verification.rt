@@ -4,8 +4,8 @@ ghost use Rattle.std.specs.Prelude.{◌≡◌, false, true, IfOk, IfErr};
 ghost use Rattle.commands.specs.Leaves.{Leaves};
 ghost use Rattle.commands.specs.Performed.{IsUnread, IsVerificationIn, OnTexts};
 
-use crate::write_output::write_output;
 use crate::sources::{Unread, end_unread};
+use crate::write_output::write_output;
 use edn::{Sink, Source};
 use history_commands::verify_history;
 use judging::{history_of_text_by_workers, read_text};

@@ -28,7 +28,6 @@ use Rattle.projection.proofs.Bounds.{passes, count_calls}
 use Rattle.projection.specs.Ahead.{found_by, is_value_ahead, first_put, ahead_before, is_settled}
 use Rattle.projection.specs.Ahead.{is_put_ahead, may_precede, IsBlocked}
 use Rattle.projection.proofs.Conserved.{and_false}
-
 use Rattle.projection.proofs.Ahead.{pair_first, ahead_bounded}
 use Rattle.projection.proofs.Booleans.{false_is_not_true}
 

@@ -90,7 +90,12 @@ fn pending_op(values: &Values, op: AnyOp) -> Option<AnyOp>
 }
 
 /// What an operation becomes; `None`: it is left out.
-fn cut_operation(values: &Values, other: i64, kept: bool, operation: &Invocation) -> Option<Invocation>
+fn cut_operation(
+    values: &Values,
+    other: i64,
+    kept: bool,
+    operation: &Invocation,
+) -> Option<Invocation>
     ensures { result ≡ recast_end (spec.cell_done (keeps_value values.now) other kept)
         (spec.cell_open (keeps_value values.now)) operation.now.number operation.now.op
         operation.now.«end» }

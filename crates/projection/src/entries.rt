@@ -113,7 +113,12 @@ fn pending_op(key: i64, values: &Values, op: AnyOp) -> Option<AnyOp>
 }
 
 /// What an operation becomes; `None`: it is left out.
-fn cut_operation(place: Place, values: &Values, kept: bool, operation: &Invocation) -> Option<Invocation>
+fn cut_operation(
+    place: Place,
+    values: &Values,
+    kept: bool,
+    operation: &Invocation,
+) -> Option<Invocation>
     ensures { result ≡ recast_end
         (spec.entry_done place.key (keeps_value values.now) place.other kept)
         (spec.entry_open place.key (keeps_value values.now)) operation.now.number operation.now.op

@@ -3,8 +3,8 @@
 #![tactic(auto)]
 
 mod operations;
-mod segments;
 mod reasons;
+mod segments;
 
 pub use operations::push_operations;
 pub use reasons::push_reason;

@@ -93,7 +93,12 @@ fn push_place(text: &mut Vec<u8>, operation: &Invocation) -> Result<(), AllocErr
             let at = Segment::Natural(u64::from(at));
             push_segments(
                 text,
-                &[Segment::Text(b"events "), number, Segment::Text(b" and "), at],
+                &[
+                    Segment::Text(b"events "),
+                    number,
+                    Segment::Text(b" and "),
+                    at,
+                ],
             )
         }
         End::Pending | End::Failed => push_segments(text, &[Segment::Text(b"event "), number]),
