@@ -60,12 +60,12 @@ closed_as d (f ∷ fs) z h e =
     let m = mapped (λ (g : Frame). let x : State = record { inner = g; outer = fs } in x) (put f d) z e in
     subst (λ (x : State). IsGrounded x.inner x.outer) m.2 (same_place f m.0 d fs m.1 h)
 
-behind : (f : Frame) (fs : List Frame) → IsGrounded f fs → Behind fs
-behind f [] h = tt
-behind (in_text ds) (g ∷ gs) h = absurd cc
-behind (in_vector ds) (g ∷ gs) h = h.1
-behind (in_map es) (g ∷ gs) h = h.1
-behind (in_pair es k) (g ∷ gs) h = h.1
+remains : (f : Frame) (fs : List Frame) → IsGrounded f fs → Behind fs
+remains f [] h = tt
+remains (in_text ds) (g ∷ gs) h = absurd cc
+remains (in_vector ds) (g ∷ gs) h = h.1
+remains (in_map es) (g ∷ gs) h = h.1
+remains (in_pair es k) (g ∷ gs) h = h.1
 
 vector_closed : (i : Frame) (fs : List Frame) (z : State) → Behind fs → close_vector_at i fs ≡ Some z → IsGrounded z.inner z.outer
 vector_closed (in_text ds) fs z h e = absurd cc
@@ -83,8 +83,8 @@ pub step_grounded : (t : Token) (s z : State) → IsGrounded s.inner s.outer →
 unfolding step
 step_grounded open_vector s z h e = opened (in_vector []) s z (λ g gs q k. (q, k)) h e
 step_grounded open_map s z h e = opened (in_map []) s z (λ g gs q k. (q, k)) h e
-step_grounded close_vector s z h e = vector_closed s.inner s.outer z (behind s.inner s.outer h) e
-step_grounded close_map s z h e = map_closed s.inner s.outer z (behind s.inner s.outer h) e
+step_grounded close_vector s z h e = vector_closed s.inner s.outer z (remains s.inner s.outer h) e
+step_grounded close_map s z h e = map_closed s.inner s.outer z (remains s.inner s.outer h) e
 step_grounded (leaf d) s z h e =
     let m = mapped (λ (f : Frame). let x : State = record s { inner = f } in x) (put s.inner d) z e in
     subst (λ (x : State). IsGrounded x.inner x.outer) m.2 (same_place s.inner m.0 d s.outer m.1 h)

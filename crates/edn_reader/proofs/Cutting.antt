@@ -28,13 +28,13 @@ higher : (t : Token) (ts : List Token) (m : Bool) (n r : ℕ) → pass_over t (a
 higher t ts m n r e = let l : suc (suc (suc n)) - 1 ≡ suc (suc n) = omega arith in past t ts m (suc n) r ∙ e ∙ ap (λ (b : ℕ). at ts m b r) l
 
 -- what is between two brackets
-between_passed : (inner us ts : List Token) (m : Bool) (n r : ℕ) (before behind : Token)
-    → keep before (at ts m (suc (suc n)) r) ≡ at ts m (suc (suc (suc n))) r → keep behind (at ts m (suc (suc (suc n))) r) ≡ at ts m (suc (suc n)) r
-    → keep_all (inner ++ behind ∷ us) (at ts m (suc (suc (suc n))) r) ≡ keep_all (behind ∷ us) (at ts m (suc (suc (suc n))) r)
-    → keep_all ((before ∷ (inner ++ behind ∷ [])) ++ us) (at ts m (suc (suc n)) r) ≡ keep_all us (at ts m (suc (suc n)) r)
-between_passed inner us ts m n r before behind a b h =
-    ap (keep_all ((inner ++ behind ∷ []) ++ us)) a
-    ∙ ap (λ (vs : List Token). keep_all vs (at ts m (suc (suc (suc n))) r)) (append_assoc inner (behind ∷ []) us)
+between_passed : (inner us ts : List Token) (m : Bool) (n r : ℕ) (before remains : Token)
+    → keep before (at ts m (suc (suc n)) r) ≡ at ts m (suc (suc (suc n))) r → keep remains (at ts m (suc (suc (suc n))) r) ≡ at ts m (suc (suc n)) r
+    → keep_all (inner ++ remains ∷ us) (at ts m (suc (suc (suc n))) r) ≡ keep_all (remains ∷ us) (at ts m (suc (suc (suc n))) r)
+    → keep_all ((before ∷ (inner ++ remains ∷ [])) ++ us) (at ts m (suc (suc n)) r) ≡ keep_all us (at ts m (suc (suc n)) r)
+between_passed inner us ts m n r before remains a b h =
+    ap (keep_all ((inner ++ remains ∷ []) ++ us)) a
+    ∙ ap (λ (vs : List Token). keep_all vs (at ts m (suc (suc (suc n))) r)) (append_assoc inner (remains ∷ []) us)
     ∙ h
     ∙ ap (keep_all us) b
 

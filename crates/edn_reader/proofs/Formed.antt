@@ -26,15 +26,15 @@ same_leaf a b ts us e = (cc, cc)
 pub leaf_own : (a : Atom) (ts : List Token) → BeginsForm (leaf (atom a) ∷ ts) → AtomInProfile a
 leaf_own a ts b = by_form b.form b.own b.are
   where
-    by_form : (d : Datum) → InProfile d → leaf (atom a) ∷ ts ≡ tokens_of d ++ b.behind → AtomInProfile a
-    by_form (atom x) p e = subst AtomInProfile (sym (same_leaf a x ts b.behind e).0) p
+    by_form : (d : Datum) → InProfile d → leaf (atom a) ∷ ts ≡ tokens_of d ++ b.remains → AtomInProfile a
+    by_form (atom x) p e = subst AtomInProfile (sym (same_leaf a x ts b.remains e).0) p
     by_form (vector ds) p e = absurd cc
     by_form (dictionary es) p e = absurd cc
 
 pub nothing_begins : BeginsForm [] → ⊥
 nothing_begins b = by_form b.form b.are
   where
-    by_form : (d : Datum) → [] ≡ tokens_of d ++ b.behind → ⊥
+    by_form : (d : Datum) → [] ≡ tokens_of d ++ b.remains → ⊥
     by_form (atom x) e = cc
     by_form (vector ds) e = cc
     by_form (dictionary es) e = cc
@@ -42,7 +42,7 @@ nothing_begins b = by_form b.form b.are
 pub close_vector_begins : (ts : List Token) → BeginsForm (close_vector ∷ ts) → ⊥
 close_vector_begins ts b = by_form b.form b.are
   where
-    by_form : (d : Datum) → close_vector ∷ ts ≡ tokens_of d ++ b.behind → ⊥
+    by_form : (d : Datum) → close_vector ∷ ts ≡ tokens_of d ++ b.remains → ⊥
     by_form (atom x) e = cc
     by_form (vector ds) e = cc
     by_form (dictionary es) e = cc
@@ -50,7 +50,7 @@ close_vector_begins ts b = by_form b.form b.are
 pub close_map_begins : (ts : List Token) → BeginsForm (close_map ∷ ts) → ⊥
 close_map_begins ts b = by_form b.form b.are
   where
-    by_form : (d : Datum) → close_map ∷ ts ≡ tokens_of d ++ b.behind → ⊥
+    by_form : (d : Datum) → close_map ∷ ts ≡ tokens_of d ++ b.remains → ⊥
     by_form (atom x) e = cc
     by_form (vector ds) e = cc
     by_form (dictionary es) e = cc
@@ -59,13 +59,13 @@ close_map_begins ts b = by_form b.form b.are
 pub open_vector_alone : BeginsForm (open_vector ∷ []) → ⊥
 open_vector_alone b = by_form b.form b.are
   where
-    by_items : (ds : Items) → [] ≡ (items_tokens ds ++ close_vector ∷ []) ++ b.behind → ⊥
+    by_items : (ds : Items) → [] ≡ (items_tokens ds ++ close_vector ∷ []) ++ b.remains → ⊥
     by_items no_items e = cc
     by_items (item (atom x) ds) e = cc
     by_items (item (vector es) ds) e = cc
     by_items (item (dictionary es) ds) e = cc
 
-    by_form : (d : Datum) → open_vector ∷ [] ≡ tokens_of d ++ b.behind → ⊥
+    by_form : (d : Datum) → open_vector ∷ [] ≡ tokens_of d ++ b.remains → ⊥
     by_form (atom x) e = cc
     by_form (vector ds) e = by_items ds (tails open_vector open_vector _ _ e)
     by_form (dictionary es) e = cc
@@ -73,11 +73,11 @@ open_vector_alone b = by_form b.form b.are
 pub open_map_alone : BeginsForm (open_map ∷ []) → ⊥
 open_map_alone b = by_form b.form b.are
   where
-    by_pairs : (es : Entries) → [] ≡ (entries_tokens es ++ close_map ∷ []) ++ b.behind → ⊥
+    by_pairs : (es : Entries) → [] ≡ (entries_tokens es ++ close_map ∷ []) ++ b.remains → ⊥
     by_pairs no_entries e = cc
     by_pairs (entry k d es) e = cc
 
-    by_form : (d : Datum) → open_map ∷ [] ≡ tokens_of d ++ b.behind → ⊥
+    by_form : (d : Datum) → open_map ∷ [] ≡ tokens_of d ++ b.remains → ⊥
     by_form (atom x) e = cc
     by_form (vector ds) e = cc
     by_form (dictionary es) e = by_pairs es (tails open_map open_map _ _ e)
@@ -85,40 +85,40 @@ open_map_alone b = by_form b.form b.are
 pub vector_begins : (ts : List Token) → BeginsForm (open_vector ∷ ts) → BeginsItems ts
 vector_begins ts b = by_form b.form b.own b.are
   where
-    by_form : (d : Datum) → InProfile d → open_vector ∷ ts ≡ tokens_of d ++ b.behind → BeginsItems ts
+    by_form : (d : Datum) → InProfile d → open_vector ∷ ts ≡ tokens_of d ++ b.remains → BeginsItems ts
     by_form (atom x) p e = absurd cc
-    by_form (vector ds) p e = record { items = ds; behind = b.behind; own = p; are = tails open_vector open_vector _ _ e ∙ append_assoc (items_tokens ds) (close_vector ∷ []) b.behind }
+    by_form (vector ds) p e = record { items = ds; remains = b.remains; own = p; are = tails open_vector open_vector _ _ e ∙ append_assoc (items_tokens ds) (close_vector ∷ []) b.remains }
     by_form (dictionary es) p e = absurd cc
 
 pub map_begins : (ts : List Token) → BeginsForm (open_map ∷ ts) → BeginsPairs ts
 map_begins ts b = by_form b.form b.own b.are
   where
-    by_form : (d : Datum) → InProfile d → open_map ∷ ts ≡ tokens_of d ++ b.behind → BeginsPairs ts
+    by_form : (d : Datum) → InProfile d → open_map ∷ ts ≡ tokens_of d ++ b.remains → BeginsPairs ts
     by_form (atom x) p e = absurd cc
     by_form (vector ds) p e = absurd cc
-    by_form (dictionary es) p e = record { pairs = es; behind = b.behind; own = p; are = tails open_map open_map _ _ e ∙ append_assoc (entries_tokens es) (close_map ∷ []) b.behind }
+    by_form (dictionary es) p e = record { pairs = es; remains = b.remains; own = p; are = tails open_map open_map _ _ e ∙ append_assoc (entries_tokens es) (close_map ∷ []) b.remains }
 
 -- a leaf, without what follows it
 pub leaf_alone : (a : Atom) (ts : List Token) → BeginsForm (leaf (atom a) ∷ ts) → BeginsForm (leaf (atom a) ∷ [])
-leaf_alone a ts b = record { form = atom a; behind = []; own = leaf_own a ts b; are = refl }
+leaf_alone a ts b = record { form = atom a; remains = []; own = leaf_own a ts b; are = refl }
 
 -- ---- along the elements of a vector
 
 pub item_begins : (ts : List Token) → ((us : List Token) → ts ≡ close_vector ∷ us → ⊥) → BeginsItems ts → BeginsForm ts
 item_begins ts apart b = by_items b.items b.own b.are
   where
-    by_items : (ds : Items) → ItemsInProfile ds → ts ≡ items_tokens ds ++ close_vector ∷ b.behind → BeginsForm ts
-    by_items no_items p e = absurd (apart b.behind e)
-    by_items (item d ds) p e = record { form = d; behind = items_tokens ds ++ close_vector ∷ b.behind; own = p.0; are = e ∙ append_assoc (tokens_of d) (items_tokens ds) (close_vector ∷ b.behind) }
+    by_items : (ds : Items) → ItemsInProfile ds → ts ≡ items_tokens ds ++ close_vector ∷ b.remains → BeginsForm ts
+    by_items no_items p e = absurd (apart b.remains e)
+    by_items (item d ds) p e = record { form = d; remains = items_tokens ds ++ close_vector ∷ b.remains; own = p.0; are = e ∙ append_assoc (tokens_of d) (items_tokens ds) (close_vector ∷ b.remains) }
 
 pub items_after : (ts us : List Token) (d : Datum) → ((vs : List Token) → ts ≡ close_vector ∷ vs → ⊥) → ts ≡ tokens_of d ++ us → BeginsItems ts → BeginsItems us
 items_after ts us d apart is b = by_items b.items b.own b.are
   where
-    by_items : (ds : Items) → ItemsInProfile ds → ts ≡ items_tokens ds ++ close_vector ∷ b.behind → BeginsItems us
-    by_items no_items p e = absurd (apart b.behind e)
+    by_items : (ds : Items) → ItemsInProfile ds → ts ≡ items_tokens ds ++ close_vector ∷ b.remains → BeginsItems us
+    by_items no_items p e = absurd (apart b.remains e)
     by_items (item x ds) p e =
-        let q = same_datum d x us (items_tokens ds ++ close_vector ∷ b.behind) (sym is ∙ e ∙ append_assoc (tokens_of x) (items_tokens ds) (close_vector ∷ b.behind)) in
-        record { items = ds; behind = b.behind; own = p.1; are = q.1 }
+        let q = same_datum d x us (items_tokens ds ++ close_vector ∷ b.remains) (sym is ∙ e ∙ append_assoc (tokens_of x) (items_tokens ds) (close_vector ∷ b.remains)) in
+        record { items = ds; remains = b.remains; own = p.1; are = q.1 }
 
 -- ---- along the pairs of a map
 
@@ -126,38 +126,38 @@ items_after ts us d apart is b = by_items b.items b.own b.are
 pub key_own : (ts us : List Token) (k : List ℕ) → ts ≡ leaf (atom (keyword k)) ∷ us → BeginsPairs ts → is_name k ≡ true
 key_own ts us k q b = by_pairs b.pairs b.own (sym q ∙ b.are)
   where
-    by_pairs : (es : Entries) → EntriesInProfile es → leaf (atom (keyword k)) ∷ us ≡ entries_tokens es ++ close_map ∷ b.behind → is_name k ≡ true
+    by_pairs : (es : Entries) → EntriesInProfile es → leaf (atom (keyword k)) ∷ us ≡ entries_tokens es ++ close_map ∷ b.remains → is_name k ≡ true
     by_pairs no_entries p e = absurd cc
     by_pairs (entry l d es) p e = let h : keyword k ≡ keyword l = (same_leaf (keyword k) (keyword l) us _ e).0 in subst AtomInProfile (sym h) p.0
 
 pub value_begins : (ts us : List Token) (k : List ℕ) → ts ≡ leaf (atom (keyword k)) ∷ us → BeginsPairs ts → BeginsForm us
 value_begins ts us k q b = by_pairs b.pairs b.own (sym q ∙ b.are)
   where
-    by_pairs : (es : Entries) → EntriesInProfile es → leaf (atom (keyword k)) ∷ us ≡ entries_tokens es ++ close_map ∷ b.behind → BeginsForm us
+    by_pairs : (es : Entries) → EntriesInProfile es → leaf (atom (keyword k)) ∷ us ≡ entries_tokens es ++ close_map ∷ b.remains → BeginsForm us
     by_pairs no_entries p e = absurd cc
     by_pairs (entry l d es) p e =
         record {
           form = d;
-          behind = entries_tokens es ++ close_map ∷ b.behind;
+          remains = entries_tokens es ++ close_map ∷ b.remains;
           own = p.1;
           are = (same_leaf (keyword k) (keyword l) us _ e).1
-              ∙ append_assoc (tokens_of d) (entries_tokens es) (close_map ∷ b.behind);
+              ∙ append_assoc (tokens_of d) (entries_tokens es) (close_map ∷ b.remains);
         }
 
 pub pairs_after : (ts us vs : List Token) (k : List ℕ) (d : Datum) → ts ≡ leaf (atom (keyword k)) ∷ us → us ≡ tokens_of d ++ vs → BeginsPairs ts → BeginsPairs vs
 pairs_after ts us vs k d q is b = by_pairs b.pairs b.own (sym q ∙ b.are)
   where
-    by_pairs : (es : Entries) → EntriesInProfile es → leaf (atom (keyword k)) ∷ us ≡ entries_tokens es ++ close_map ∷ b.behind → BeginsPairs vs
+    by_pairs : (es : Entries) → EntriesInProfile es → leaf (atom (keyword k)) ∷ us ≡ entries_tokens es ++ close_map ∷ b.remains → BeginsPairs vs
     by_pairs no_entries p e = absurd cc
     by_pairs (entry l x es) p e =
         let t = (same_leaf (keyword k) (keyword l) us _ e).1 in
-        let r = same_datum d x vs (entries_tokens es ++ close_map ∷ b.behind) (sym is ∙ t ∙ append_assoc (tokens_of x) (entries_tokens es) (close_map ∷ b.behind)) in
-        record { pairs = es; behind = b.behind; own = p.2; are = r.1 }
+        let r = same_datum d x vs (entries_tokens es ++ close_map ∷ b.remains) (sym is ∙ t ∙ append_assoc (tokens_of x) (entries_tokens es) (close_map ∷ b.remains)) in
+        record { pairs = es; remains = b.remains; own = p.2; are = r.1 }
 
 pub no_pairs : BeginsPairs [] → ⊥
 no_pairs b = by_pairs b.pairs b.are
   where
-    by_pairs : (es : Entries) → [] ≡ entries_tokens es ++ close_map ∷ b.behind → ⊥
+    by_pairs : (es : Entries) → [] ≡ entries_tokens es ++ close_map ∷ b.remains → ⊥
     by_pairs no_entries e = cc
     by_pairs (entry l d es) e = cc
 
@@ -168,34 +168,34 @@ NoKey t = (k : List ℕ) → t ≡ leaf (atom (keyword k)) → ⊥
 pub pairs_end : (t : Token) (ts : List Token) → NoKey t → BeginsPairs (t ∷ ts) → t ∷ ts ≡ close_map ∷ ts
 pairs_end t ts apart b = by_pairs b.pairs b.are
   where
-    by_pairs : (es : Entries) → t ∷ ts ≡ entries_tokens es ++ close_map ∷ b.behind → t ∷ ts ≡ close_map ∷ ts
+    by_pairs : (es : Entries) → t ∷ ts ≡ entries_tokens es ++ close_map ∷ b.remains → t ∷ ts ≡ close_map ∷ ts
     by_pairs no_entries e = let h : t ≡ close_map = cc in ap (λ (x : Token). x ∷ ts) h
     by_pairs (entry l d es) e = let h : t ≡ leaf (atom (keyword l)) = cc in absurd (apart l h)
 
 -- ---- the tokens so far
 
 -- one form more
-pub items_more : (all rest behind : List Token) (ds : List Datum) (d : Datum) → all ≡ list_tokens ds ++ rest → rest ≡ tokens_of d ++ behind → all ≡ list_tokens (ds ++ d ∷ []) ++ behind
-items_more all rest behind ds d e f =
-    e ∙ ap (λ (t : List Token). list_tokens ds ++ t) f ∙ sym (append_assoc (list_tokens ds) (tokens_of d) behind) ∙ ap (λ (t : List Token). t ++ behind) (sym (list_tokens-append ds d))
+pub items_more : (all rest remains : List Token) (ds : List Datum) (d : Datum) → all ≡ list_tokens ds ++ rest → rest ≡ tokens_of d ++ remains → all ≡ list_tokens (ds ++ d ∷ []) ++ remains
+items_more all rest remains ds d e f =
+    e ∙ ap (λ (t : List Token). list_tokens ds ++ t) f ∙ sym (append_assoc (list_tokens ds) (tokens_of d) remains) ∙ ap (λ (t : List Token). t ++ remains) (sym (list_tokens-append ds d))
 
-pub pairs_more : (all rest value behind : List Token) (es : List (List ℕ × Datum)) (k : List ℕ) (d : Datum) → all ≡ pairs_tokens es ++ rest
-    → rest ≡ leaf (atom (keyword k)) ∷ value → value ≡ tokens_of d ++ behind
-    → all ≡ pairs_tokens (es ++ (k, d) ∷ []) ++ behind
-pairs_more all rest value behind es k d e f g =
+pub pairs_more : (all rest value remains : List Token) (es : List (List ℕ × Datum)) (k : List ℕ) (d : Datum) → all ≡ pairs_tokens es ++ rest
+    → rest ≡ leaf (atom (keyword k)) ∷ value → value ≡ tokens_of d ++ remains
+    → all ≡ pairs_tokens (es ++ (k, d) ∷ []) ++ remains
+pairs_more all rest value remains es k d e f g =
     e ∙ ap (λ (t : List Token). pairs_tokens es ++ t) (f ∙ ap (λ (t : List Token). leaf (atom (keyword k)) ∷ t) g)
-    ∙ sym (append_assoc (pairs_tokens es) (leaf (atom (keyword k)) ∷ tokens_of d) behind)
-    ∙ ap (λ (t : List Token). t ++ behind) (sym (pairs_tokens-append es k d))
+    ∙ sym (append_assoc (pairs_tokens es) (leaf (atom (keyword k)) ∷ tokens_of d) remains)
+    ∙ ap (λ (t : List Token). t ++ remains) (sym (pairs_tokens-append es k d))
 
 -- the whole vector, and the whole map
-pub vector_whole : (all rest behind : List Token) (ds : List Datum) → all ≡ list_tokens ds ++ rest → rest ≡ close_vector ∷ behind → open_vector ∷ all ≡ tokens_of (vector (items_of ds)) ++ behind
-vector_whole all rest behind ds e f =
-    ap (λ (t : List Token). open_vector ∷ t) (e ∙ ap (λ (t : List Token). list_tokens ds ++ t) f ∙ sym (append_assoc (list_tokens ds) (close_vector ∷ []) behind))
+pub vector_whole : (all rest remains : List Token) (ds : List Datum) → all ≡ list_tokens ds ++ rest → rest ≡ close_vector ∷ remains → open_vector ∷ all ≡ tokens_of (vector (items_of ds)) ++ remains
+vector_whole all rest remains ds e f =
+    ap (λ (t : List Token). open_vector ∷ t) (e ∙ ap (λ (t : List Token). list_tokens ds ++ t) f ∙ sym (append_assoc (list_tokens ds) (close_vector ∷ []) remains))
 
-pub map_whole : (all rest behind : List Token) (es : List (List ℕ × Datum)) → all ≡ pairs_tokens es ++ rest → rest ≡ close_map ∷ behind
-    → open_map ∷ all ≡ tokens_of (dictionary (entries_of es)) ++ behind
-map_whole all rest behind es e f =
-    ap (λ (t : List Token). open_map ∷ t) (e ∙ ap (λ (t : List Token). pairs_tokens es ++ t) f ∙ sym (append_assoc (pairs_tokens es) (close_map ∷ []) behind))
+pub map_whole : (all rest remains : List Token) (es : List (List ℕ × Datum)) → all ≡ pairs_tokens es ++ rest → rest ≡ close_map ∷ remains
+    → open_map ∷ all ≡ tokens_of (dictionary (entries_of es)) ++ remains
+map_whole all rest remains es e f =
+    ap (λ (t : List Token). open_map ∷ t) (e ∙ ap (λ (t : List Token). pairs_tokens es ++ t) f ∙ sym (append_assoc (pairs_tokens es) (close_map ∷ []) remains))
 
 -- ---- some tokens
 

@@ -42,12 +42,12 @@ abbrev noted_from : List Token → List ℕ → Stage → IntegerVector
 noted_from ts key s = note_all ts (at key s [])
 
 -- what is between two brackets
-between_passed : (inner us : List Token) (key : List ℕ) (n : ℕ) (before behind : Token) → after_other (suc n) before ≡ Other (suc n + 1) → after_other (suc (suc n)) behind ≡ Other (suc n)
-    → noted_from (inner ++ behind ∷ us) key (Other (suc (suc n))) ≡ noted_from (behind ∷ us) key (Other (suc (suc n)))
-    → noted_from ((before ∷ (inner ++ behind ∷ [])) ++ us) key (Other (suc n)) ≡ noted_from us key (Other (suc n))
-between_passed inner us key n before behind a b h =
-    ap (noted_from ((inner ++ behind ∷ []) ++ us) key) (a ∙ opened n)
-    ∙ ap (λ (vs : List Token). noted_from vs key (Other (suc (suc n)))) (append_assoc inner (behind ∷ []) us)
+between_passed : (inner us : List Token) (key : List ℕ) (n : ℕ) (before remains : Token) → after_other (suc n) before ≡ Other (suc n + 1) → after_other (suc (suc n)) remains ≡ Other (suc n)
+    → noted_from (inner ++ remains ∷ us) key (Other (suc (suc n))) ≡ noted_from (remains ∷ us) key (Other (suc (suc n)))
+    → noted_from ((before ∷ (inner ++ remains ∷ [])) ++ us) key (Other (suc n)) ≡ noted_from us key (Other (suc n))
+between_passed inner us key n before remains a b h =
+    ap (noted_from ((inner ++ remains ∷ []) ++ us) key) (a ∙ opened n)
+    ∙ ap (λ (vs : List Token). noted_from vs key (Other (suc (suc n)))) (append_assoc inner (remains ∷ []) us)
     ∙ h
     ∙ ap (noted_from us key) b
 
@@ -78,14 +78,14 @@ other_passed (dictionary es) us key = ap (λ (vs : List Token). noted_from vs ke
 
 -- ---- the value of the key
 
-abbrev behind : List ℤ → Option (List ℤ) → Option (List ℤ)
-behind done o = option_map (λ zs. done ++ zs) o
+abbrev remains : List ℤ → Option (List ℤ) → Option (List ℤ)
+remains done o = option_map (λ zs. done ++ zs) o
 
-one_more : (done : List ℤ) (z : ℤ) (o : Option (List ℤ)) → behind (done ++ z ∷ []) o ≡ behind done (option_map (λ zs. z ∷ zs) o)
+one_more : (done : List ℤ) (z : ℤ) (o : Option (List ℤ)) → remains (done ++ z ∷ []) o ≡ remains done (option_map (λ zs. z ∷ zs) o)
 one_more done z None = refl
 one_more done z (Some zs) = ap Some (append_assoc done (z ∷ []) zs)
 
-integer_vector_noted : (ds : Items) (us : List Token) (key : List ℕ) (done : List ℤ) → noted (note_all (items_tokens ds ++ close_vector ∷ us) (at key Numbers done)) ≡ behind done (integers_in ds)
+integer_vector_noted : (ds : Items) (us : List Token) (key : List ℕ) (done : List ℤ) → noted (note_all (items_tokens ds ++ close_vector ∷ us) (at key Numbers done)) ≡ remains done (integers_in ds)
 integer_vector_noted no_items us key done = whole_stays us key done ∙ ap Some (sym (append-nil done))
 integer_vector_noted (item (atom nil) ds) us key done = over_stays (items_tokens ds ++ close_vector ∷ us) key done
 integer_vector_noted (item (atom (boolean b)) ds) us key done = over_stays (items_tokens ds ++ close_vector ∷ us) key done
@@ -95,7 +95,7 @@ integer_vector_noted (item (atom (keyword k)) ds) us key done = over_stays (item
 integer_vector_noted (item (vector es) ds) us key done = over_stays (((items_tokens es ++ close_vector ∷ []) ++ items_tokens ds) ++ close_vector ∷ us) key done
 integer_vector_noted (item (dictionary es) ds) us key done = over_stays (((entries_tokens es ++ close_map ∷ []) ++ items_tokens ds) ++ close_vector ∷ us) key done
 
-none_before : (o : Option (List ℤ)) → behind [] o ≡ o
+none_before : (o : Option (List ℤ)) → remains [] o ≡ o
 none_before None = refl
 none_before (Some zs) = refl
 

@@ -28,8 +28,8 @@ cut xs ys c h u =
     sub_self : (n : ℕ) → n - n ≡ 0
     sub_self n = omega arith
 
-pub behind : (c : ℕ) (ys : List ℕ) → c < 128 → IsUtf8 (c ∷ ys) → IsUtf8 ys
-behind c ys h u = IsUtf8-past_char (c ∷ ys) ys c u (ap (λ (x : List ℕ). x ++ ys) (sym (encode_ascii c h)))
+pub remains : (c : ℕ) (ys : List ℕ) → c < 128 → IsUtf8 (c ∷ ys) → IsUtf8 ys
+remains c ys h u = IsUtf8-past_char (c ∷ ys) ys c u (ap (λ (x : List ℕ). x ++ ys) (sym (encode_ascii c h)))
 
 -- ---- what stands before a token
 
@@ -70,7 +70,7 @@ after_low : (gap after : List ℕ) → EndsLow gap → IsUtf8 (gap ++ after) →
 after_low gap after (inl e) u = subst (λ (x : List ℕ). IsUtf8 (x ++ after)) e u
 after_low gap after (inr (front, c, h, e)) u =
     let v : IsUtf8 ((front ++ c ∷ []) ++ after) = subst (λ (x : List ℕ). IsUtf8 (x ++ after)) e u in
-    behind c after h (cut front after c h (subst IsUtf8 (append_assoc front (c ∷ []) after) v)).1
+    remains c after h (cut front after c h (subst IsUtf8 (append_assoc front (c ∷ []) after) v)).1
 
 pub after_gap : (bytes gap after : List ℕ) → IsGap gap → bytes ≡ gap ++ after → IsUtf8 bytes → IsUtf8 after
 after_gap bytes gap after g e u = after_low gap after (gap_low gap g) (subst IsUtf8 e u)
@@ -86,12 +86,12 @@ after_word_utf8 own [] e u = IsUtf8-nil
 after_word_utf8 own (b ∷ bs) e u = (cut own bs b (ends_low b e) u).1
 
 pub after_begins : (bytes : List ℕ) (t : Token) (rest : List ℕ) → Begins bytes t rest → IsUtf8 bytes → IsUtf8 rest
-after_begins bytes open_vector rest h u = behind 91 rest (lit< tt) (subst IsUtf8 h u)
-after_begins bytes close_vector rest h u = behind 93 rest (lit< tt) (subst IsUtf8 h u)
-after_begins bytes open_map rest h u = behind 123 rest (lit< tt) (subst IsUtf8 h u)
-after_begins bytes close_map rest h u = behind 125 rest (lit< tt) (subst IsUtf8 h u)
+after_begins bytes open_vector rest h u = remains 91 rest (lit< tt) (subst IsUtf8 h u)
+after_begins bytes close_vector rest h u = remains 93 rest (lit< tt) (subst IsUtf8 h u)
+after_begins bytes open_map rest h u = remains 123 rest (lit< tt) (subst IsUtf8 h u)
+after_begins bytes close_map rest h u = remains 125 rest (lit< tt) (subst IsUtf8 h u)
 after_begins bytes (leaf d) rest (inl (a, own, q, w, e, p)) u = after_word_utf8 own rest e (subst IsUtf8 p u)
-after_begins bytes (leaf d) rest (inr (s, own, q, k, p)) u = behind 34 rest (lit< tt) (cut own rest 34 (lit< tt) (behind 34 (own ++ 34 ∷ rest) (lit< tt) (subst IsUtf8 p u))).1
+after_begins bytes (leaf d) rest (inr (s, own, q, k, p)) u = remains 34 rest (lit< tt) (cut own rest 34 (lit< tt) (remains 34 (own ++ 34 ∷ rest) (lit< tt) (subst IsUtf8 p u))).1
 
 -- ---- what a string holds
 

@@ -11,7 +11,7 @@ use Rattle.edn_reader.specs.Text.{IsInt64, AtomInProfile, InProfile, ItemsInProf
 use Rattle.edn_reader.specs.Token.{Token, open_vector, close_vector, open_map, close_map, leaf, tokens_of, items_tokens, entries_tokens}
 use Rattle.edn_reader.proofs.Lexical.{skip_within}
 use Rattle.edn_reader.proofs.Next.{skip_gap, begins_reads}
-use Rattle.edn_reader.proofs.Splits.{after_gap, after_begins, behind, string_at_utf8}
+use Rattle.edn_reader.proofs.Splits.{after_gap, after_begins, remains, string_at_utf8}
 use Rattle.edn_reader.proofs.Strings.{string_from}
 
 -- ---- a token
@@ -52,7 +52,7 @@ token_in open_map bytes rest u b = tt
 token_in close_map bytes rest u b = tt
 token_in (leaf d) bytes rest u (inl (a, own, e, w, k, p)) = subst InProfile (sym e) (word_in a own w)
 token_in (leaf d) bytes rest u (inr (s, own, e, q, p)) =
-    subst InProfile (sym e) (string_at_utf8 (own ++ 34 ∷ rest) s rest (string_from own s rest q) (behind 34 (own ++ 34 ∷ rest) (lit< tt) (subst IsUtf8 p u)))
+    subst InProfile (sym e) (string_at_utf8 (own ++ 34 ∷ rest) s rest (string_from own s rest q) (remains 34 (own ++ 34 ∷ rest) (lit< tt) (subst IsUtf8 p u)))
 
 -- ---- all tokens of a form
 

@@ -9,20 +9,20 @@ use Rattle.edn_reader.specs.Token.{entries_tokens}
 -- keywords are spelled as keywords.
 pub record BeginsForm (tokens : List Token) : Type 0 where
   pub form : Datum
-  pub behind : List Token
+  pub remains : List Token
   pub own : InProfile form
-  pub are : tokens ≡ tokens_of form ++ behind
+  pub are : tokens ≡ tokens_of form ++ remains
 
 -- the same of a vector's elements and the bracket after them
 pub record BeginsItems (tokens : List Token) : Type 0 where
   pub items : Items
-  pub behind : List Token
+  pub remains : List Token
   pub own : ItemsInProfile items
-  pub are : tokens ≡ items_tokens items ++ close_vector ∷ behind
+  pub are : tokens ≡ items_tokens items ++ close_vector ∷ remains
 
 -- and of a map's pairs, and the brace after them
 pub record BeginsPairs (tokens : List Token) : Type 0 where
   pub pairs : Entries
-  pub behind : List Token
+  pub remains : List Token
   pub own : EntriesInProfile pairs
-  pub are : tokens ≡ entries_tokens pairs ++ close_map ∷ behind
+  pub are : tokens ≡ entries_tokens pairs ++ close_map ∷ remains

@@ -134,8 +134,8 @@ impl<'p, 'a> Tokens<'p, 'a> {
 /// The form whose tokens are at the front.
 pub(crate) fn form_at(alloc: Global, pieces: &[Piece]) -> Result<Form, AllocError>
     requires { BeginsForm (token_buffer_tokens pieces.now) }
-    ensures { IfOk result (λ form. (behind : List Token)
-        × (token_buffer_tokens pieces.now ≡ tokens_of (view form) ++ behind)) }
+    ensures { IfOk result (λ form. (remains : List Token)
+        × (token_buffer_tokens pieces.now ≡ tokens_of (view form) ++ remains)) }
 {
     let mut tokens = Tokens { rest: pieces };
     tokens.form(alloc)

@@ -34,7 +34,7 @@ pub struct TokenBuffer<'a> {
     truncated: TruncatedTokens<'a>,
     integer_vector: IntegerVector<'a>,
     levels: Levels<'a>,
-    behind: &'a [u8],
+    remains: &'a [u8],
     left: usize,
 }
 
@@ -50,7 +50,7 @@ impl<'a> TokenBuffer<'a> {
             truncated: TruncatedTokens::new(alloc),
             integer_vector: IntegerVector::new(alloc),
             levels: Levels::new(alloc),
-            behind: b"",
+            remains: b"",
             left: 0,
         }
     }
@@ -71,14 +71,14 @@ impl<'a> TokenBuffer<'a> {
         requires place { self.old.left ≡ length here.now }
         ensures taken { MatchResult result
             (λ _. after_piece (open_on self.old) (reading.first here.entry.now)
-            ≡ Some (open_on self.new, self.new.behind.now))
+            ≡ Some (open_on self.new, self.new.remains.now))
             (λ cause. Denies cause (after_piece (open_on self.old) (reading.first here.entry.now))) }
         ensures place { self.new.left ≡ length here.entry.now }
         ensures kept { OnOk result
             (HoldsToken (held_on self.old) (reading.first here.entry.now) (held_on self.new)) }
     {
         self.levels.step(alloc, &piece)?;
-        self.behind = rest;
+        self.remains = rest;
         self.integer_vector.note(&piece)?;
         self.truncated.keep(piece)?;
         Ok(())
@@ -91,7 +91,7 @@ impl<'a> TokenBuffer<'a> {
         requires place { self.old.left ≡ length here.now }
         ensures taken { MatchResult result
             (λ _. after_piece (open_on self.old) (reading.first here.entry.now)
-            ≡ Some (open_on self.new, self.new.behind.now))
+            ≡ Some (open_on self.new, self.new.remains.now))
             (λ cause. Denies cause (after_piece (open_on self.old) (reading.first here.entry.now))) }
         ensures place { IfErr result (λ cause. cause ≡ Cause.NoMemory →
             self.new.left ≡ length here.entry.now) }
@@ -119,7 +119,7 @@ impl<'a> TokenBuffer<'a> {
         requires { 0 < length here.now }
         ensures taken { MatchResult result
             (λ _. after_piece (open_on self.old) (reading.first here.entry.now)
-            ≡ Some (open_on self.new, self.new.behind.now))
+            ≡ Some (open_on self.new, self.new.remains.now))
             (λ cause. Denies cause (after_piece (open_on self.old) (reading.first here.entry.now))) }
         ensures place { IfErr result (λ cause. cause ≡ Cause.NoMemory →
             self.new.left ≡ length here.entry.now) }
@@ -174,14 +174,14 @@ impl<'a> TokenBuffer<'a> {
         }
         self.take(alloc, here)?;
         'tokens: while !self.levels.is_outermost() {
-            let here = skip(self.behind);
+            let here = skip(self.remains);
             if here.is_empty() {
                 self.left = 0;
                 return Err(Cause::Unfinished);
             }
             self.take(alloc, here)?;
         }
-        Ok(Some(self.behind))
+        Ok(Some(self.remains))
     }
 
     /// Reads the next element of a text, and gives what follows it, or none where there is no

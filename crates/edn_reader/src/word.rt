@@ -87,11 +87,11 @@ pub(crate) fn fault_of(word: &[u8]) -> Cause
         [b'-', tail @ ..] => tail,
         _ => word,
     };
-    let behind = after_digits(digits);
-    if behind.len() == digits.len() {
+    let remains = after_digits(digits);
+    if remains.len() == digits.len() {
         return Cause::NotInProfile;
     }
-    match behind {
+    match remains {
         [b'.', ..] | [b'e', ..] | [b'E', ..] | [b'N', ..] | [b'M', ..] => Cause::NotInProfile,
         [] if is_decimal(digits) => Cause::NumberRange,
         _ => Cause::BadToken,

@@ -32,7 +32,7 @@ put_form-requires c =
     (integer_vector_in c.advance.new.self) (left_of c.advance.new.self) c.if-not-branch.false c.in_ok-advance.ensures.reads in
     record {
       form = e.element;
-      behind = [];
+      remains = [];
       own = element_in (left_of c.elements.elements) (left_of c.advance.new.self) e.element c.elements.invariant.here e.front;
       are = c.pieces.ensures ∙ e.own ∙ ap (λ (x : Keeping). tokens_of (kept_of x.cuts e.element)) c.elements.invariant.keeps ∙ sym (append-nil (tokens_of e.element));
     }
