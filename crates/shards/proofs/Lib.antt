@@ -1,0 +1,5 @@
+pub mod Proper
+pub mod Renumbered
+pub mod Naming
+pub mod Deciding
+pub mod WorkedShards

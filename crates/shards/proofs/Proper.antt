@@ -1,0 +1,199 @@
+-- The events of a proper list that are on some objects alone are proper. Numbers rise, invocations are of their
+-- object's kind, and each process runs as before, idle while its operation is on another object: that makes a proper list.
+use Rattle.std.proofs.Common.{◌≡◌, ℕ, ◌==◌, ◌<◌, Bool, true, false, cond, inl, inr, List, [], ◌∷◌, ◌++◌, Option, Some, None}
+use Rattle.std.proofs.Common.{AllPairs, refl, ap, sym, ◌∙◌, subst, append_assoc}
+use Rattle.std.proofs.lemmas.List.{append-nil}
+use Rattle.std.proofs.lemmas.Bool.{eqb-true, eq-eqb}
+use Rattle.model.specs.declared.Kind.{Kind}
+use Rattle.model.specs.declared.AnyOp.{AnyOp}
+use Rattle.model.specs.Objects.{kind_of}
+use Rattle.model.proofs.Lists.{In, in_filter, in_left, in_middle, in_split, contains_from_in, in_from_contains}
+use Rattle.model.proofs.Lists.{pairs_filter, all_from_pairs, pairs_from_all}
+use Rattle.events.specs.declared.event.Action.{Action}
+use Rattle.events.specs.declared.event.Action.TheVariants.{Invoke, Ok, Fail, Info}
+use Rattle.events.specs.declared.event.Event.{Event}
+use Rattle.events.specs.Events.{last_event, kind_in, kind_at, IsIdleAfter, IsIdle, IsOfKindAt, IsOutstanding, Follows, IsProper}
+use Rattle.events.proofs.Runs.{State, idle, busy, closed, state_by, state_after, MayDo, Runs, last_push, runs_from_start}
+use Rattle.shards.specs.Shards.{events_on}
+
+-- ---- the kinds of invocations
+
+-- each invocation is of the kind of its object
+abbrev pub AreOfKinds : (ℕ → Kind) → List Event → Type 0
+AreOfKinds kinds es = (e : Event) (op : AnyOp) → In e es → e.action ≡ Invoke op → kind_of op ≡ kinds e.object
+
+-- an invocation has the kind of its object where those before it on this object have its own
+kind_there : (earlier later : List Event) (e : Event) (op : AnyOp) → e.action ≡ Invoke op
+    → ((d : Event) (o : AnyOp) → In d earlier → d.object ≡ e.object → d.action ≡ Invoke o → kind_of o ≡ kind_of op)
+    → kind_at (earlier ++ e ∷ later) e.object ≡ kind_of op
+kind_there [] later e op q same =
+    let others : Kind = kind_at later e.object in
+    ap (λ b. cond b (kind_in e.action others) others) (eq-eqb e.object e.object refl) ∙ ap (λ a. kind_in a others) q
+kind_there (d ∷ earlier) later e op q same =
+    go (d.object == e.object) refl (kind_there earlier later e op q (λ c o i. same c o (inr i)))
+  where
+    own : (a : Action) → d.action ≡ a → d.object ≡ e.object → kind_at (earlier ++ e ∷ later) e.object ≡ kind_of op
+        → kind_in a (kind_at (earlier ++ e ∷ later) e.object) ≡ kind_of op
+    own (Invoke o) r s f = same d o (inl refl) s r
+    own (Ok v) r s f = f
+    own Fail r s f = f
+    own Info r s f = f
+
+    go : (b : Bool) → (d.object == e.object) ≡ b → kind_at (earlier ++ e ∷ later) e.object ≡ kind_of op
+        → cond b (kind_in d.action (kind_at (earlier ++ e ∷ later) e.object)) (kind_at (earlier ++ e ∷ later) e.object) ≡ kind_of op
+    go true s f = own d.action refl (eqb-true d.object e.object s) f
+    go false s f = f
+
+pub proper_of_kinds : (es : List Event) → IsProper es → AreOfKinds (kind_at es) es
+proper_of_kinds es proper e op i q =
+    let parts = in_split e es i in
+    let follows : Follows parts.0 e.process e.object (Invoke op) =
+    subst (Follows parts.0 e.process e.object) q (proper.each parts.0 parts.1 e parts.2) in
+    let there : kind_at (parts.0 ++ e ∷ parts.1) e.object ≡ kind_of op =
+    kind_there parts.0 parts.1 e op q (λ d o j. follows.1 d o (contains_from_in parts.0 d j)) in
+    sym (ap (λ (whole : List Event). kind_at whole e.object) parts.2 ∙ there)
+
+-- ---- from runs to a proper list
+
+idle_after : (last : Option Event) → state_after last ≡ idle → IsIdle last
+idle_after None q = tt
+idle_after (Some e) q = go e.action q
+  where
+    go : (a : Action) → state_by e.object a ≡ idle → IsIdleAfter a
+    go (Invoke op) s = absurd (cc s)
+    go (Ok r) s = tt
+    go Fail s = tt
+    go Info s = absurd (cc s)
+
+outstanding : (last : Option Event) (x : ℕ) (op : AnyOp) → state_after last ≡ busy x op → IsOutstanding last x op
+outstanding None x op q = absurd (cc q)
+outstanding (Some e) x op q = go e.action refl q
+  where
+    go : (a : Action) → e.action ≡ a → state_by e.object a ≡ busy x op → IsOutstanding (Some e) x op
+    go (Invoke o) r s = let y : e.object ≡ x = cc in let same : o ≡ op = cc in (e, refl, y, r ∙ ap Invoke same)
+    go (Ok v) r s = absurd (cc s)
+    go Fail r s = absurd (cc s)
+    go Info r s = absurd (cc s)
+
+-- an event fits where its process may do so, and the invocations on its object are of one kind
+follows : (earlier : List Event) (p : ℕ) (s : State) (x : ℕ) (a : Action) → state_after (last_event p earlier) ≡ s → MayDo s x a
+    → ((op : AnyOp) → a ≡ Invoke op → IsOfKindAt earlier x op) → Follows earlier p x a
+follows earlier p idle x (Invoke op) q may kinds = (idle_after (last_event p earlier) q, kinds op refl)
+follows earlier p idle x (Ok r) q may kinds = absurd may
+follows earlier p idle x Fail q may kinds = absurd may
+follows earlier p idle x Info q may kinds = absurd may
+follows earlier p (busy y op) x (Invoke o) q may kinds = absurd may
+follows earlier p (busy y op) x (Ok r) q may kinds =
+    (op, outstanding (last_event p earlier) x op (q ∙ ap (λ z. busy z op) (sym may.0)), may.1)
+follows earlier p (busy y op) x Fail q may kinds =
+    (op, outstanding (last_event p earlier) x op (q ∙ ap (λ z. busy z op) (sym may)))
+follows earlier p (busy y op) x Info q may kinds =
+    (op, outstanding (last_event p earlier) x op (q ∙ ap (λ z. busy z op) (sym may)))
+follows earlier p closed x a q may kinds = absurd may
+
+-- what a process that runs may do when it comes to an event of its own
+reaches : (p : ℕ) (done earlier later : List Event) (e : Event) → Runs p (state_after (last_event p done)) (earlier ++ e ∷ later)
+    → (e.process == p) ≡ true → MayDo (state_after (last_event p (done ++ earlier))) e.object e.action
+reaches p done [] later e runs q =
+    subst (λ d. MayDo (state_after (last_event p d)) e.object e.action) (sym (append-nil done)) (runs.0 q).0
+reaches p done (d ∷ earlier) later e runs q =
+    subst (λ d. MayDo (state_after (last_event p d)) e.object e.action) (append_assoc done (d ∷ []) earlier)
+    (reaches p (done ++ d ∷ []) earlier later e
+    (subst (λ l. Runs p (state_after l) (earlier ++ e ∷ later)) (sym (last_push p done d)) (go (d.process == p) refl)) q)
+  where
+    go : (b : Bool) → (d.process == p) ≡ b → Runs p (state_after (cond b (Some d) (last_event p done))) (earlier ++ e ∷ later)
+    go true r = (runs.0 r).1
+    go false r = runs.1 r
+
+pub proper_from : (kinds : ℕ → Kind) (es : List Event) → AllPairs (λ a b. a.number < b.number) es → ((p : ℕ) → Runs p idle es)
+    → AreOfKinds kinds es → IsProper es
+proper_from kinds es rising runs of_kinds = record { rising = rising; each = each }
+  where
+    each : (earlier later : List Event) (e : Event) → es ≡ earlier ++ e ∷ later → Follows earlier e.process e.object e.action
+    each earlier later e is = follows earlier e.process (state_after (last_event e.process earlier)) e.object e.action refl
+        (reaches e.process [] earlier later e (subst (Runs e.process idle) is (runs e.process)) (eq-eqb e.process e.process refl))
+        one_kind
+      where
+        one_kind : (op : AnyOp) → e.action ≡ Invoke op → IsOfKindAt earlier e.object op
+        one_kind op q d o contains on_object invokes =
+            let among : In d es = subst (In d) (sym is) (in_left d earlier (e ∷ later) (in_from_contains earlier d contains)) in
+            let here : In e es = subst (In e) (sym is) (in_middle e earlier later) in
+            of_kinds d o among invokes ∙ (ap kinds on_object ∙ sym (of_kinds e op here q))
+
+-- ---- events on some objects alone
+
+-- a busy process does nothing on another object
+same_object : (y : ℕ) (op : AnyOp) (x : ℕ) (a : Action) → MayDo (busy y op) x a → x ≡ y
+same_object y op x (Invoke o) may = absurd may
+same_object y op x (Ok r) may = may.0
+same_object y op x Fail may = may
+same_object y op x Info may = may
+
+-- what a process is doing, as far as the events on these objects show
+abbrev seen : (ℕ → Bool) → State → State
+seen has idle = idle
+seen has (busy x op) = cond (has x) (busy x op) idle
+seen has closed = closed
+
+seen_by : (has : ℕ → Bool) (x : ℕ) (a : Action) → has x ≡ true → seen has (state_by x a) ≡ state_by x a
+seen_by has x (Invoke op) q = ap (λ b. cond b (busy x op) idle) q
+seen_by has x (Ok r) q = refl
+seen_by has x Fail q = refl
+seen_by has x Info q = refl
+
+may_seen : (has : ℕ → Bool) (s : State) (x : ℕ) (a : Action) → has x ≡ true → MayDo s x a → MayDo (seen has s) x a
+may_seen has idle x a q may = may
+may_seen has (busy y op) x a q may =
+    let here : has y ≡ true = ap has (sym (same_object y op x a may)) ∙ q in
+    subst (λ b. MayDo (cond b (busy y op) idle) x a) (sym here) may
+may_seen has closed x a q may = may
+
+closed_does_nothing : (p : ℕ) (s : State) (es : List Event) → Runs p closed es → Runs p s es
+closed_does_nothing p s [] runs = tt
+closed_does_nothing p s (e ∷ es) runs = (λ q. absurd (runs.0 q).0, λ q. closed_does_nothing p s es (runs.1 q))
+
+-- an event that is not seen leaves a process as it is seen
+unseen : (has : ℕ → Bool) (p : ℕ) (s : State) (x : ℕ) (a : Action) (es : List Event) → has x ≡ false → MayDo s x a
+    → Runs p (seen has (state_by x a)) es → Runs p (seen has s) es
+unseen has p idle x (Invoke op) es q may runs = subst (λ b. Runs p (cond b (busy x op) idle) es) q runs
+unseen has p idle x (Ok r) es q may runs = absurd may
+unseen has p idle x Fail es q may runs = absurd may
+unseen has p idle x Info es q may runs = absurd may
+unseen has p (busy y op) x a es q may runs =
+    let here : has y ≡ false = ap has (sym (same_object y op x a may)) ∙ q in
+    subst (λ b. Runs p (cond b (busy y op) idle) es) (sym here) (ended a may runs)
+  where
+    ended : (a : Action) → MayDo (busy y op) x a → Runs p (seen has (state_by x a)) es → Runs p idle es
+    ended (Invoke o) m r = absurd m
+    ended (Ok v) m r = r
+    ended Fail m r = r
+    ended Info m r = closed_does_nothing p idle es r
+unseen has p closed x a es q may runs = absurd may
+
+runs_on : (has : ℕ → Bool) (p : ℕ) (s : State) (es : List Event) → Runs p s es → Runs p (seen has s) (events_on has es)
+runs_on has p s [] runs = tt
+runs_on has p s (e ∷ es) runs = go (has e.object) refl (λ t. runs_on has p t es)
+  where
+    go : (b : Bool) → has e.object ≡ b → ((t : State) → Runs p t es → Runs p (seen has t) (events_on has es))
+        → Runs p (seen has s) (cond b (e ∷ events_on has es) (events_on has es))
+    go true here later = (
+      λ q. (
+        may_seen has s e.object e.action here (runs.0 q).0,
+        subst (λ t. Runs p t (events_on has es)) (seen_by has e.object e.action here)
+            (later (state_by e.object e.action) (runs.0 q).1),
+      ),
+      λ q. later s (runs.1 q),
+    )
+    go false elsewhere later = own (e.process == p) refl
+      where
+        own : (c : Bool) → (e.process == p) ≡ c → Runs p (seen has s) (events_on has es)
+        own true q = unseen has p s e.object e.action (events_on has es) elsewhere (runs.0 q).0
+            (later (state_by e.object e.action) (runs.0 q).1)
+        own false q = later s (runs.1 q)
+
+pub proper_on : (has : ℕ → Bool) (es : List Event) → IsProper es → IsProper (events_on has es)
+proper_on has es proper = proper_from (kind_at es) (events_on has es)
+    (all_from_pairs (λ a b. a.number < b.number) (events_on has es) (pairs_filter (λ a b. a.number < b.number)
+    (λ e. has e.object) es (pairs_from_all (λ a b. a.number < b.number) es proper.rising)))
+    (λ p. runs_on has p idle es (runs_from_start es p proper))
+    (λ e op i q. proper_of_kinds es proper e op (in_filter (λ (d : Event). has d.object) e es i) q)

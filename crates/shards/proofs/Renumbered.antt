@@ -1,0 +1,130 @@
+-- Numbers do not matter to what events denote: the same events with other numbers are proper where their numbers rise,
+-- and denote the same history without its numbers. Each lemma goes along both lists, an event at a time.
+use Rattle.std.proofs.Common.{◌≡◌, ℕ, ◌==◌, Bool, true, false, cond, inl, inr, List, [], ◌∷◌, ◌++◌, map, Some}
+use Rattle.std.proofs.Common.{refl, ap, sym, ◌∙◌, subst}
+use Rattle.std.proofs.lemmas.List.{map-append}
+use Rattle.model.specs.declared.Kind.{Kind}
+use Rattle.model.specs.Objects.{specification}
+use Rattle.model.specs.Histories as model
+use Rattle.model.specs.Histories.{by_object}
+use Rattle.model.specs.Linearizable.{InSpecification, IsLinearizable}
+use Rattle.model.specs.Orders.{Numbered, events}
+use Rattle.model.proofs.Lists.{In}
+use Rattle.events.specs.declared.event.Action.{Action}
+use Rattle.events.specs.declared.event.Action.TheVariants.{Invoke, Ok, Fail, Info}
+use Rattle.events.specs.declared.event.Event.{Event}
+use Rattle.events.specs.Events.{next_event, is_fail, fails, denoted_by, denoted, kind_in, kind_at, IsProper}
+use Rattle.events.proofs.Runs.{State, idle, state_by, MayDo, Runs, runs_from_start}
+use Rattle.shards.specs.Shards.{said, AreRenumbered, DenoteLinearizable}
+use Rattle.shards.proofs.Proper.{proper_of_kinds, proper_from}
+
+-- the same events, one by one
+abbrev pub AreSame : List Event → List Event → Type 0
+AreSame [] [] = Unit {0}
+AreSame [] (f ∷ fs) = ⊥
+AreSame (e ∷ es) [] = ⊥
+AreSame (e ∷ es) (f ∷ fs) = (said e ≡ said f) × AreSame es fs
+
+pub same_from : (es fs : List Event) → map said es ≡ map said fs → AreSame es fs
+same_from [] [] q = tt
+same_from [] (f ∷ fs) q = absurd (cc q)
+same_from (e ∷ es) [] q = absurd (cc q)
+same_from (e ∷ es) (f ∷ fs) q =
+    let first : said e ≡ said f = cc in let others : map said es ≡ map said fs = cc in (first, same_from es fs others)
+
+pub in_same : (es fs : List Event) → AreSame es fs → (f : Event) → In f fs → (e : Event) × In e es × (said e ≡ said f)
+in_same [] [] same f i = absurd i
+in_same [] (g ∷ fs) same f i = absurd same
+in_same (d ∷ es) [] same f i = absurd same
+in_same (d ∷ es) (g ∷ fs) same f i = elim i [
+  | inl q ↦ (d, inl refl, same.0 ∙ ap said (sym q))
+  | inr j ↦ let e = in_same es fs same.1 f j in (e.0, inr e.1, e.2)
+]
+
+-- ---- a proper list
+
+runs_same : (p : ℕ) (es fs : List Event) → AreSame es fs → (s : State) → Runs p s es → Runs p s fs
+runs_same p [] [] same s runs = tt
+runs_same p [] (f ∷ fs) same s runs = absurd same
+runs_same p (e ∷ es) [] same s runs = absurd same
+runs_same p (e ∷ es) (f ∷ fs) same s runs =
+    let later : (t : State) → Runs p t es → Runs p t fs = runs_same p es fs same.1 in
+    subst (λ t. ((t.0 == p) ≡ true → MayDo s t.1 t.2 × Runs p (state_by t.1 t.2) fs) × ((t.0 == p) ≡ false → Runs p s fs))
+    same.0 (λ q. ((runs.0 q).0, later (state_by e.object e.action) (runs.0 q).1), λ q. later s (runs.1 q))
+
+pub proper_renumbered : (es others : List Event) → IsProper es → AreRenumbered es others → IsProper others
+proper_renumbered es others proper renumbered =
+    let same = same_from es others (sym renumbered.same) in
+    proper_from (kind_at es) others renumbered.rising (λ p. runs_same p es others same idle (runs_from_start es p proper))
+    (λ f op i q.
+    let e = in_same es others same f i in
+    proper_of_kinds es proper e.0 op e.1 (ap (λ t. t.2) e.2 ∙ q) ∙ ap (λ t. kind_at es t.1) e.2)
+
+-- ---- what it denotes
+
+-- each object has the same kind
+pub kinds_same : (x : ℕ) (es fs : List Event) → AreSame es fs → kind_at es x ≡ kind_at fs x
+kinds_same x [] [] same = refl
+kinds_same x [] (f ∷ fs) same = absurd same
+kinds_same x (e ∷ es) [] same = absurd same
+kinds_same x (e ∷ es) (f ∷ fs) same =
+    ap (λ k. cond (e.object == x) (kind_in e.action k) k) (kinds_same x es fs same.1)
+    ∙ ap (λ t. cond (t.1 == x) (kind_in t.2 (kind_at fs x)) (kind_at fs x)) same.0
+
+-- each operation that is outstanding fails in both or in neither
+fails_same : (p : ℕ) (es fs : List Event) → AreSame es fs → fails (next_event p es) ≡ fails (next_event p fs)
+fails_same p [] [] same = refl
+fails_same p [] (f ∷ fs) same = absurd same
+fails_same p (e ∷ es) [] same = absurd same
+fails_same p (e ∷ es) (f ∷ fs) same =
+    go (e.process == p) (fails_same p es fs same.1) ∙ ap (λ t. fails (cond (t.0 == p) (Some f) (next_event p fs))) same.0
+  where
+    go : (b : Bool) → fails (next_event p es) ≡ fails (next_event p fs)
+        → fails (cond b (Some e) (next_event p es)) ≡ fails (cond b (Some f) (next_event p fs))
+    go true later = ap (λ t. is_fail t.2) same.0
+    go false later = later
+
+unnumbered : (n m p x : ℕ) (a : Action) (failed : Bool) → events (denoted_by n p x a failed) ≡ events (denoted_by m p x a failed)
+unnumbered n m p x (Invoke op) true = refl
+unnumbered n m p x (Invoke op) false = refl
+unnumbered n m p x (Ok r) failed = refl
+unnumbered n m p x Fail failed = refl
+unnumbered n m p x Info failed = refl
+
+-- what one event denotes, before what those after it denote
+first_of_history : (e : Event) (es : List Event) → events (denoted (e ∷ es))
+    ≡ events (denoted_by e.number e.process e.object e.action (fails (next_event e.process es))) ++ events (denoted es)
+first_of_history e es = map-append (λ (m : Numbered). m.event)
+    (denoted_by e.number e.process e.object e.action (fails (next_event e.process es))) (denoted es)
+
+pub history_same : (es fs : List Event) → AreSame es fs → events (denoted es) ≡ events (denoted fs)
+history_same [] [] same = refl
+history_same [] (f ∷ fs) same = absurd same
+history_same (e ∷ es) [] same = absurd same
+history_same (e ∷ es) (f ∷ fs) same =
+    let others : List model.Event = events (denoted fs) in
+    first_of_history e es
+    ∙ (ap (λ later. events (denoted_by e.number e.process e.object e.action (fails (next_event e.process es))) ++ later)
+    (history_same es fs same.1)
+    ∙ (ap (λ b. events (denoted_by e.number e.process e.object e.action b) ++ others) (fails_same e.process es fs same.1)
+    ∙ (ap (λ t. events (denoted_by e.number t.0 t.1 t.2 (fails (next_event t.0 fs))) ++ others) same.0
+    ∙ (ap (λ first. first ++ others)
+    (unnumbered e.number f.number f.process f.object f.action (fails (next_event f.process fs)))
+    ∙ sym (first_of_history f fs)))))
+
+-- where each object has the same kind, the same histories are linearizable
+with_kinds : (kinds others : ℕ → Kind) (h : List model.Event) → ((x : ℕ) → kinds x ≡ others x) → IsLinearizable kinds h
+    → IsLinearizable others h
+with_kinds kinds others h same l = record {
+  completion = l.completion;
+  completes = l.completes;
+  sequence = l.sequence;
+  sequential = l.sequential;
+  legal = λ x. subst (λ k. InSpecification (specification k) (by_object x l.sequence)) (same x) (l.legal x);
+  equivalent = l.equivalent;
+  order = l.order;
+}
+
+pub linearizable_same : (es fs : List Event) → AreSame es fs → DenoteLinearizable es → DenoteLinearizable fs
+linearizable_same es fs same l = subst (IsLinearizable (kind_at fs)) (history_same es fs same)
+    (with_kinds (kind_at es) (kind_at fs) (events (denoted es)) (λ x. kinds_same x es fs same) l)

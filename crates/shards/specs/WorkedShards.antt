@@ -1,0 +1,52 @@
+-- Small lists of events that show what the shards of a list are, and why processes are checked on the
+-- whole. Each object is in a shard of its own.
+use Rattle.std.specs.Prelude.{ℕ, ◌==◌, pos, List, [], ◌∷◌, Some, if◌then◌else◌}
+use Rattle.model.specs.declared.AnyOp.TheVariants.{Enqueue}
+use Rattle.model.specs.declared.AnyReply.TheVariants.{Value}
+use Rattle.events.specs.declared.event.Action.{Action}
+use Rattle.events.specs.declared.event.Action.TheVariants.{Invoke, Ok}
+use Rattle.events.specs.declared.event.Event.{Event}
+use Rattle.shards.specs.Shards.{events_on}
+
+-- each object in the shard that has its number
+abbrev pub own_shard : ℕ → ℕ
+own_shard x = x
+
+-- with this number, this process does this on this object
+abbrev pub does : ℕ → ℕ → ℕ → Action → Event
+does n p x a = record { number = n; object = x; process = p; action = a }
+
+-- Process 3 enqueues 7 on object 1, and meanwhile process 4 enqueues 8 on object 2.
+abbrev pub one_each : List Event
+one_each =
+    does 0 3 1 (Invoke (Enqueue (pos 7)))
+    ∷ does 1 4 2 (Invoke (Enqueue (pos 8)))
+    ∷ does 2 3 1 (Ok (Value (Some (pos 7))))
+    ∷ does 3 4 2 (Ok (Value (Some (pos 8))))
+    ∷ []
+
+-- the shard with object 2, whose two events are counted anew, as the maps of a text of its own are
+abbrev pub counted_anew : List Event
+counted_anew =
+    does 0 4 2 (Invoke (Enqueue (pos 8)))
+    ∷ does 1 4 2 (Ok (Value (Some (pos 8))))
+    ∷ []
+
+-- the shards: that one, and the others with the numbers of the whole
+abbrev pub shards_of_one_each : ℕ → List Event
+shards_of_one_each s =
+    if own_shard 2 == s then counted_anew else events_on (λ x. own_shard x == s) one_each
+
+-- Process 3 invokes an enqueue on object 1, and, before that returns, another on object 2. Then both
+-- return.
+abbrev pub two_at_once : List Event
+two_at_once =
+    does 0 3 1 (Invoke (Enqueue (pos 7)))
+    ∷ does 1 3 2 (Invoke (Enqueue (pos 8)))
+    ∷ does 2 3 1 (Ok (Value (Some (pos 7))))
+    ∷ does 3 3 2 (Ok (Value (Some (pos 8))))
+    ∷ []
+
+-- the shards, with the numbers of the whole
+abbrev pub shards_of_two_at_once : ℕ → List Event
+shards_of_two_at_once s = events_on (λ x. own_shard x == s) two_at_once

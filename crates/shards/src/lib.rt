@@ -1,0 +1,54 @@
+//! A history in shards: each object is in one of them, and the whole is linearizable exactly where
+//! each shard is. Functions that do nothing, and whose contracts are theorems. They follow from
+//! locality: Herlihy and Wing, "Linearizability: A Correctness Condition for Concurrent Objects",
+//! TOPLAS 1990, section 3.
+#![tactic(auto)]
+
+ghost use Rattle.std.specs.Prelude.{◌≡◌, ◌↔◌, ℕ, List};
+ghost use Rattle.events.specs.declared.event.Event.{Event};
+ghost use Rattle.events.specs.Events.{IsNamed, IsProper};
+ghost use Rattle.shards.specs.Shards.{AreShards, DenoteLinearizable};
+ghost use Rattle.shards.specs.WorkedShards.{one_each, own_shard, shards_of_one_each};
+ghost use Rattle.shards.specs.WorkedShards.{shards_of_two_at_once, two_at_once};
+
+/// The shards of a proper list of events are proper.
+pub fn shards_are_proper()
+    ensures { (shard_of : ℕ → ℕ) (es : List Event) (shards : ℕ → List Event)
+        → IsProper es
+        → AreShards shard_of es shards
+        → (s : ℕ) → IsProper (shards s) }
+{}
+
+/// Each object that the whole names is named in exactly one shard, and a shard names no others.
+pub fn shards_name_objects()
+    ensures { (shard_of : ℕ → ℕ) (es : List Event) (shards : ℕ → List Event)
+        → AreShards shard_of es shards
+        → (s x : ℕ) → (IsNamed (shards s) x ↔ (IsNamed es x × (shard_of x ≡ s))) }
+{}
+
+/// The history that proper events denote is linearizable exactly where that of each shard is.
+pub fn shards_decide()
+    ensures { (shard_of : ℕ → ℕ) (es : List Event) (shards : ℕ → List Event)
+        → IsProper es → AreShards shard_of es shards
+        → (DenoteLinearizable es ↔ ((s : ℕ) → DenoteLinearizable (shards s))) }
+{}
+
+/// A shard may count its own events, as that of object 2 does here: the shards of this whole are
+/// linearizable, and so is the whole.
+pub fn a_shard_may_be_counted_anew()
+    ensures whole_proper { IsProper one_each }
+    ensures divided { AreShards own_shard one_each shards_of_one_each }
+    ensures shards_linearizable { (s : ℕ) → DenoteLinearizable (shards_of_one_each s) }
+    ensures whole_linearizable { DenoteLinearizable one_each }
+{}
+
+/// Each shard may be proper, and linearizable, where the whole is neither: a process that waits for a
+/// response in one shard may invoke an operation in another. So a tool that divides a history has to
+/// check on the whole what each process does.
+pub fn proper_shards_do_not_make_a_proper_whole()
+    ensures divided { AreShards own_shard two_at_once shards_of_two_at_once }
+    ensures shards_proper { (s : ℕ) → IsProper (shards_of_two_at_once s) }
+    ensures shards_linearizable { (s : ℕ) → DenoteLinearizable (shards_of_two_at_once s) }
+    ensures whole_not_proper { ¬ IsProper two_at_once }
+    ensures whole_not_linearizable { ¬ DenoteLinearizable two_at_once }
+{}
