@@ -1,10 +1,11 @@
 -- A whole is linearizable exactly where each shard is: by locality and its converse, since an object has the same calls
 -- and the same kind in its shard as in the whole, and so the same valid orders.
-use Rattle.std.proofs.Common.{◌≡◌, ◌↔◌, ℕ, ℤ, ◌==◌, Bool, true, false, cond, List, [], ◌∷◌, filter, refl, ap, sym, ◌∙◌, subst}
+use Rattle.std.proofs.Common.{◌≡◌, ◌↔◌, ℕ, ℤ, ◌==◌, Bool, true, false, cond, List, [], ◌∷◌, filter}
+use Rattle.std.proofs.Common.{refl, ap, sym, ◌∙◌, subst}
 use Rattle.std.proofs.lemmas.Bool.{eq-eqb, ne_eqb}
 use Rattle.model.specs.declared.Kind.{Kind}
 use Rattle.model.specs.Objects.{any}
-use Rattle.model.specs.Orders.{Call, ProcessCall, calls_in, calls_on, IsValidOrderOf, IsHistory}
+use Rattle.model.specs.Orders.{Call, ProcessCall, calls_in, calls_on, IsValidOrderOf}
 use Rattle.model.proofs.Lists.{In, in_filter_from, in_map_from, all_from_in}
 use Rattle.locality.specs.Locality.{HasValidOrder}
 use Rattle.locality.proofs.OneKind.{locality_of_kinds, named_kinds, orders_of_kinds}
@@ -24,7 +25,8 @@ calls_kept : (has : ℕ → Bool) (x : ℕ) (es : List Event) → has x ≡ true
     → calls_on x (denoted (events_on has es)) ≡ calls_on x (denoted es)
 calls_kept has x es own proper =
     sym (proper_calls (events_on has es) (proper_on has es proper) x)
-    ∙ (ap calls_of (operations_owned has x es own (λ p. (idle, runs_from_start es p proper))) ∙ proper_calls es proper x)
+    ∙ (ap calls_of (operations_owned has x es own (λ p. (idle, runs_from_start es p proper)))
+    ∙ proper_calls es proper x)
 
 -- and the same kind
 kind_kept : (has : ℕ → Bool) (x : ℕ) (es : List Event) → has x ≡ true → kind_at (events_on has es) x ≡ kind_at es x
@@ -35,7 +37,8 @@ kind_kept has x (e ∷ es) own = go (has e.object) refl (kind_kept has x es own)
         → kind_at (cond b (e ∷ events_on has es) (events_on has es)) x ≡ kind_at (e ∷ es) x
     go true q later = ap (λ k. cond (e.object == x) (kind_in e.action k) k) later
     go false q later =
-        let ne : (e.object == x) ≡ false = ne_eqb e.object x (λ s. let t : has e.object ≡ true = ap has s ∙ own in absurd (cc (q, t))) in
+        let own_object : e.object ≡ x → has e.object ≡ true = λ s. ap has s ∙ own in
+        let ne : (e.object == x) ≡ false = ne_eqb e.object x (λ s. let t = own_object s in absurd (cc (q, t))) in
         later ∙ sym (ap (λ b. cond b (kind_in e.action (kind_at es x)) (kind_at es x)) ne)
 
 -- so it has a valid order among them where it has one among all
@@ -69,13 +72,14 @@ called_is_own has es proper call i = go (has call.object) refl
         let part = events_on has es in
         let none : calls_on x (denoted part) ≡ [] =
         sym (proper_calls part (proper_on has es proper) x) ∙ ap calls_of (no_operations has x es q) in
-        let among : In call (filter (λ (c : ProcessCall). c.object == x) (calls_in (denoted part))) =
-        in_filter_from (λ (c : ProcessCall). c.object == x) call (calls_in (denoted part)) i (eq-eqb x x refl) in
-        absurd (subst (In call.call) none
-        (in_map_from (λ (c : ProcessCall). c.call) call (filter (λ (c : ProcessCall). c.object == x) (calls_in (denoted part))) among))
+        let there = λ (c : ProcessCall). c.object == x in
+        let on_x = filter there (calls_in (denoted part)) in
+        let among : In call on_x = in_filter_from there call (calls_in (denoted part)) i (eq-eqb x x refl) in
+        absurd (subst (In call.call) none (in_map_from (λ (c : ProcessCall). c.call) call on_x among))
 
 -- the events on some objects of a linearizable whole
-part_linearizable : (has : ℕ → Bool) (es : List Event) → IsProper es → DenoteLinearizable es → DenoteLinearizable (events_on has es)
+part_linearizable : (has : ℕ → Bool) (es : List Event) → IsProper es → DenoteLinearizable es
+    → DenoteLinearizable (events_on has es)
 part_linearizable has es proper l =
     let part = events_on has es in
     let orders = orders_of_kinds (kind_at es) (denoted es) (denoted_is_history es proper) l in
@@ -94,13 +98,14 @@ whole_linearizable has es proper own each = locality_of_kinds (kind_at es) (deno
 
 -- ---- shards
 
-pub proper_shards : (shard_of : ℕ → ℕ) (es : List Event) (shards : ℕ → List Event) → IsProper es → AreShards shard_of es shards
-    → (s : ℕ) → IsProper (shards s)
+pub proper_shards : (shard_of : ℕ → ℕ) (es : List Event) (shards : ℕ → List Event) → IsProper es
+    → AreShards shard_of es shards → (s : ℕ) → IsProper (shards s)
 proper_shards shard_of es shards proper are s =
-    let has = λ (x : ℕ). shard_of x == s in proper_renumbered (events_on has es) (shards s) (proper_on has es proper) (are s)
+    let has = λ (x : ℕ). shard_of x == s in
+    proper_renumbered (events_on has es) (shards s) (proper_on has es proper) (are s)
 
-pub decided_by_shards : (shard_of : ℕ → ℕ) (es : List Event) (shards : ℕ → List Event) → IsProper es → AreShards shard_of es shards
-    → (DenoteLinearizable es ↔ ((s : ℕ) → DenoteLinearizable (shards s)))
+pub decided_by_shards : (shard_of : ℕ → ℕ) (es : List Event) (shards : ℕ → List Event) → IsProper es
+    → AreShards shard_of es shards → (DenoteLinearizable es ↔ ((s : ℕ) → DenoteLinearizable (shards s)))
 decided_by_shards shard_of es shards proper are = (
   λ l s.
       let has = λ (x : ℕ). shard_of x == s in

@@ -1,8 +1,8 @@
 -- A shard names the objects that the whole names and that are in the shard. Each invocation in a shard is one of the
 -- whole with another number, and each one of the whole on an object of the shard is in the shard.
-use Rattle.std.proofs.Common.{◌≡◌, ◌↔◌, ℕ, ◌==◌, List, refl, ap, sym, ◌∙◌}
+use Rattle.std.proofs.Common.{◌≡◌, ◌↔◌, ℕ, ◌==◌, List, ap, sym, ◌∙◌}
 use Rattle.std.proofs.lemmas.Bool.{eqb-true, eq-eqb}
-use Rattle.model.proofs.Lists.{In, in_filter, in_filter_passes, in_filter_from, contains_from_in, in_from_contains}
+use Rattle.model.proofs.Lists.{in_filter, in_filter_passes, in_filter_from, contains_from_in, in_from_contains}
 use Rattle.events.specs.declared.event.Event.{Event}
 use Rattle.events.specs.Events.{IsNamed}
 use Rattle.shards.specs.Shards.{events_on, AreShards}
@@ -39,17 +39,18 @@ named_there : (shard_of : ℕ → ℕ) (s x : ℕ) (es : List Event) → IsNamed
 named_there shard_of s x es both =
     let n = both.0 in
     let test = λ (e : Event). shard_of e.object == s in
+    let own = eq-eqb (shard_of n.event.object) s (ap shard_of n.on_object ∙ both.1) in
     record {
       event = n.event;
       op = n.op;
-      stands = contains_from_in (events_on (λ y. shard_of y == s) es) n.event (in_filter_from test n.event es
-          (in_from_contains es n.event n.stands) (eq-eqb (shard_of n.event.object) s (ap shard_of n.on_object ∙ both.1)));
+      stands = contains_from_in (events_on (λ y. shard_of y == s) es) n.event
+          (in_filter_from test n.event es (in_from_contains es n.event n.stands) own);
       on_object = n.on_object;
       invokes = n.invokes;
     }
 
-pub shards_name : (shard_of : ℕ → ℕ) (es : List Event) (shards : ℕ → List Event) → AreShards shard_of es shards → (s x : ℕ)
-    → (IsNamed (shards s) x ↔ (IsNamed es x × (shard_of x ≡ s)))
+pub shards_name : (shard_of : ℕ → ℕ) (es : List Event) (shards : ℕ → List Event) → AreShards shard_of es shards
+    → (s x : ℕ) → (IsNamed (shards s) x ↔ (IsNamed es x × (shard_of x ≡ s)))
 shards_name shard_of es shards are s x =
     let own = events_on (λ y. shard_of y == s) es in (
       λ n. named_on shard_of s x es (named_same own (shards s) x (same_from own (shards s) (sym (are s).same)) n),

@@ -1,7 +1,7 @@
--- The events of a proper list that are on some objects alone are proper. Numbers rise, invocations are of their
--- object's kind, and each process runs as before, idle while its operation is on another object: that makes a proper list.
-use Rattle.std.proofs.Common.{◌≡◌, ℕ, ◌==◌, ◌<◌, Bool, true, false, cond, inl, inr, List, [], ◌∷◌, ◌++◌, Option, Some, None}
-use Rattle.std.proofs.Common.{AllPairs, refl, ap, sym, ◌∙◌, subst, append_assoc}
+-- The events of a proper list that are on some objects alone are proper. Numbers rise, invocations are of the kind of
+-- their object, and each process runs as before, but is idle while its operation is on another object.
+use Rattle.std.proofs.Common.{◌≡◌, ℕ, ◌==◌, ◌<◌, Bool, true, false, cond, inl, inr, List, [], ◌∷◌, ◌++◌}
+use Rattle.std.proofs.Common.{Option, Some, None, AllPairs, refl, ap, sym, ◌∙◌, subst, append_assoc}
 use Rattle.std.proofs.lemmas.List.{append-nil}
 use Rattle.std.proofs.lemmas.Bool.{eqb-true, eq-eqb}
 use Rattle.model.specs.declared.Kind.{Kind}
@@ -12,8 +12,10 @@ use Rattle.model.proofs.Lists.{pairs_filter, all_from_pairs, pairs_from_all}
 use Rattle.events.specs.declared.event.Action.{Action}
 use Rattle.events.specs.declared.event.Action.TheVariants.{Invoke, Ok, Fail, Info}
 use Rattle.events.specs.declared.event.Event.{Event}
-use Rattle.events.specs.Events.{last_event, kind_in, kind_at, IsIdleAfter, IsIdle, IsOfKindAt, IsOutstanding, Follows, IsProper}
-use Rattle.events.proofs.Runs.{State, idle, busy, closed, state_by, state_after, MayDo, Runs, last_push, runs_from_start}
+use Rattle.events.specs.Events.{last_event, kind_in, kind_at, IsIdleAfter, IsIdle, IsOfKindAt, IsOutstanding, Follows}
+use Rattle.events.specs.Events.{IsProper}
+use Rattle.events.proofs.Runs.{State, idle, busy, closed, state_by, state_after, MayDo, Runs, last_push}
+use Rattle.events.proofs.Runs.{runs_from_start}
 use Rattle.shards.specs.Shards.{events_on}
 
 -- ---- the kinds of invocations
@@ -40,7 +42,8 @@ kind_there (d ∷ earlier) later e op q same =
     own Info r s f = f
 
     go : (b : Bool) → (d.object == e.object) ≡ b → kind_at (earlier ++ e ∷ later) e.object ≡ kind_of op
-        → cond b (kind_in d.action (kind_at (earlier ++ e ∷ later) e.object)) (kind_at (earlier ++ e ∷ later) e.object) ≡ kind_of op
+        → cond b (kind_in d.action (kind_at (earlier ++ e ∷ later) e.object)) (kind_at (earlier ++ e ∷ later) e.object)
+        ≡ kind_of op
     go true s f = own d.action refl (eqb-true d.object e.object s) f
     go false s f = f
 
@@ -76,8 +79,8 @@ outstanding (Some e) x op q = go e.action refl q
     go Info r s = absurd (cc s)
 
 -- an event fits where its process may do so, and the invocations on its object are of one kind
-follows : (earlier : List Event) (p : ℕ) (s : State) (x : ℕ) (a : Action) → state_after (last_event p earlier) ≡ s → MayDo s x a
-    → ((op : AnyOp) → a ≡ Invoke op → IsOfKindAt earlier x op) → Follows earlier p x a
+follows : (earlier : List Event) (p : ℕ) (s : State) (x : ℕ) (a : Action) → state_after (last_event p earlier) ≡ s
+    → MayDo s x a → ((op : AnyOp) → a ≡ Invoke op → IsOfKindAt earlier x op) → Follows earlier p x a
 follows earlier p idle x (Invoke op) q may kinds = (idle_after (last_event p earlier) q, kinds op refl)
 follows earlier p idle x (Ok r) q may kinds = absurd may
 follows earlier p idle x Fail q may kinds = absurd may
@@ -92,31 +95,39 @@ follows earlier p (busy y op) x Info q may kinds =
 follows earlier p closed x a q may kinds = absurd may
 
 -- what a process that runs may do when it comes to an event of its own
-reaches : (p : ℕ) (done earlier later : List Event) (e : Event) → Runs p (state_after (last_event p done)) (earlier ++ e ∷ later)
-    → (e.process == p) ≡ true → MayDo (state_after (last_event p (done ++ earlier))) e.object e.action
+reaches : (p : ℕ) (done earlier later : List Event) (e : Event)
+    → Runs p (state_after (last_event p done)) (earlier ++ e ∷ later) → (e.process == p) ≡ true
+    → MayDo (state_after (last_event p (done ++ earlier))) e.object e.action
 reaches p done [] later e runs q =
     subst (λ d. MayDo (state_after (last_event p d)) e.object e.action) (sym (append-nil done)) (runs.0 q).0
 reaches p done (d ∷ earlier) later e runs q =
     subst (λ d. MayDo (state_after (last_event p d)) e.object e.action) (append_assoc done (d ∷ []) earlier)
     (reaches p (done ++ d ∷ []) earlier later e
-    (subst (λ l. Runs p (state_after l) (earlier ++ e ∷ later)) (sym (last_push p done d)) (go (d.process == p) refl)) q)
+    (subst (λ l. Runs p (state_after l) (earlier ++ e ∷ later)) (sym (last_push p done d)) (go (d.process == p) refl))
+    q)
   where
-    go : (b : Bool) → (d.process == p) ≡ b → Runs p (state_after (cond b (Some d) (last_event p done))) (earlier ++ e ∷ later)
+    go : (b : Bool) → (d.process == p) ≡ b
+        → Runs p (state_after (cond b (Some d) (last_event p done))) (earlier ++ e ∷ later)
     go true r = (runs.0 r).1
     go false r = runs.1 r
 
-pub proper_from : (kinds : ℕ → Kind) (es : List Event) → AllPairs (λ a b. a.number < b.number) es → ((p : ℕ) → Runs p idle es)
-    → AreOfKinds kinds es → IsProper es
+pub proper_from : (kinds : ℕ → Kind) (es : List Event) → AllPairs (λ a b. a.number < b.number) es
+    → ((p : ℕ) → Runs p idle es) → AreOfKinds kinds es → IsProper es
 proper_from kinds es rising runs of_kinds = record { rising = rising; each = each }
   where
-    each : (earlier later : List Event) (e : Event) → es ≡ earlier ++ e ∷ later → Follows earlier e.process e.object e.action
-    each earlier later e is = follows earlier e.process (state_after (last_event e.process earlier)) e.object e.action refl
-        (reaches e.process [] earlier later e (subst (Runs e.process idle) is (runs e.process)) (eq-eqb e.process e.process refl))
+    each : (earlier later : List Event) (e : Event) → es ≡ earlier ++ e ∷ later
+        → Follows earlier e.process e.object e.action
+    each earlier later e is =
+        let state = state_after (last_event e.process earlier) in
+        let own = eq-eqb e.process e.process refl in
+        follows earlier e.process state e.object e.action refl
+        (reaches e.process [] earlier later e (subst (Runs e.process idle) is (runs e.process)) own)
         one_kind
       where
         one_kind : (op : AnyOp) → e.action ≡ Invoke op → IsOfKindAt earlier e.object op
         one_kind op q d o contains on_object invokes =
-            let among : In d es = subst (In d) (sym is) (in_left d earlier (e ∷ later) (in_from_contains earlier d contains)) in
+            let before = in_from_contains earlier d contains in
+            let among : In d es = subst (In d) (sym is) (in_left d earlier (e ∷ later) before) in
             let here : In e es = subst (In e) (sym is) (in_middle e earlier later) in
             of_kinds d o among invokes ∙ (ap kinds on_object ∙ sym (of_kinds e op here q))
 

@@ -49,13 +49,15 @@ runs_same p [] (f ∷ fs) same s runs = absurd same
 runs_same p (e ∷ es) [] same s runs = absurd same
 runs_same p (e ∷ es) (f ∷ fs) same s runs =
     let later : (t : State) → Runs p t es → Runs p t fs = runs_same p es fs same.1 in
-    subst (λ t. ((t.0 == p) ≡ true → MayDo s t.1 t.2 × Runs p (state_by t.1 t.2) fs) × ((t.0 == p) ≡ false → Runs p s fs))
+    subst
+    (λ t. ((t.0 == p) ≡ true → MayDo s t.1 t.2 × Runs p (state_by t.1 t.2) fs) × ((t.0 == p) ≡ false → Runs p s fs))
     same.0 (λ q. ((runs.0 q).0, later (state_by e.object e.action) (runs.0 q).1), λ q. later s (runs.1 q))
 
 pub proper_renumbered : (es others : List Event) → IsProper es → AreRenumbered es others → IsProper others
 proper_renumbered es others proper renumbered =
     let same = same_from es others (sym renumbered.same) in
-    proper_from (kind_at es) others renumbered.rising (λ p. runs_same p es others same idle (runs_from_start es p proper))
+    proper_from (kind_at es) others renumbered.rising
+    (λ p. runs_same p es others same idle (runs_from_start es p proper))
     (λ f op i q.
     let e = in_same es others same f i in
     proper_of_kinds es proper e.0 op e.1 (ap (λ t. t.2) e.2 ∙ q) ∙ ap (λ t. kind_at es t.1) e.2)
@@ -77,14 +79,16 @@ fails_same p [] [] same = refl
 fails_same p [] (f ∷ fs) same = absurd same
 fails_same p (e ∷ es) [] same = absurd same
 fails_same p (e ∷ es) (f ∷ fs) same =
-    go (e.process == p) (fails_same p es fs same.1) ∙ ap (λ t. fails (cond (t.0 == p) (Some f) (next_event p fs))) same.0
+    go (e.process == p) (fails_same p es fs same.1)
+    ∙ ap (λ t. fails (cond (t.0 == p) (Some f) (next_event p fs))) same.0
   where
     go : (b : Bool) → fails (next_event p es) ≡ fails (next_event p fs)
         → fails (cond b (Some e) (next_event p es)) ≡ fails (cond b (Some f) (next_event p fs))
     go true later = ap (λ t. is_fail t.2) same.0
     go false later = later
 
-unnumbered : (n m p x : ℕ) (a : Action) (failed : Bool) → events (denoted_by n p x a failed) ≡ events (denoted_by m p x a failed)
+unnumbered : (n m p x : ℕ) (a : Action) (failed : Bool)
+    → events (denoted_by n p x a failed) ≡ events (denoted_by m p x a failed)
 unnumbered n m p x (Invoke op) true = refl
 unnumbered n m p x (Invoke op) false = refl
 unnumbered n m p x (Ok r) failed = refl
@@ -106,7 +110,8 @@ history_same (e ∷ es) (f ∷ fs) same =
     first_of_history e es
     ∙ (ap (λ later. events (denoted_by e.number e.process e.object e.action (fails (next_event e.process es))) ++ later)
     (history_same es fs same.1)
-    ∙ (ap (λ b. events (denoted_by e.number e.process e.object e.action b) ++ others) (fails_same e.process es fs same.1)
+    ∙ (ap (λ b. events (denoted_by e.number e.process e.object e.action b) ++ others)
+    (fails_same e.process es fs same.1)
     ∙ (ap (λ t. events (denoted_by e.number t.0 t.1 t.2 (fails (next_event t.0 fs))) ++ others) same.0
     ∙ (ap (λ first. first ++ others)
     (unnumbered e.number f.number f.process f.object f.action (fails (next_event f.process fs)))

@@ -1,7 +1,7 @@
 -- The worked events. Each shard has one enqueue or nothing, and so is proper, and linearizable by the order of its one
 -- call: so a proper whole is linearizable. Where a process invokes twice before a response, the whole is neither.
-use Rattle.std.proofs.Common.{◌≡◌, ℕ, ℤ, pos, ◌==◌, ◌<◌, Bool, true, false, cond, inl, inr, List, [], ◌∷◌, map, filter, Some}
-use Rattle.std.proofs.Common.{AllPairs, lit<, refl, ap, sym, ◌∙◌, subst, arith}
+use Rattle.std.proofs.Common.{◌≡◌, ℕ, ℤ, pos, ◌==◌, ◌<◌, Bool, true, false, cond, inl, inr, List, [], ◌∷◌}
+use Rattle.std.proofs.Common.{map, filter, Some, AllPairs, lit<, refl, ap, sym, ◌∙◌, subst, arith}
 use Rattle.std.proofs.lemmas.Bool.{eqb-true}
 use Rattle.model.specs.declared.Kind.TheVariants.{Queue}
 use Rattle.model.specs.declared.AnyOp.TheVariants.{Enqueue}
@@ -19,7 +19,8 @@ use Rattle.events.specs.Events.{denoted, kind_at, IsProper}
 use Rattle.events.proofs.Runs.{idle, Runs}
 use Rattle.events.proofs.WellFormed.{denoted_is_history}
 use Rattle.shards.specs.Shards.{events_on, AreRenumbered, AreShards, DenoteLinearizable}
-use Rattle.shards.specs.WorkedShards.{own_shard, does, one_each, counted_anew, shards_of_one_each, two_at_once, shards_of_two_at_once}
+use Rattle.shards.specs.WorkedShards.{own_shard, does, one_each, counted_anew, shards_of_one_each}
+use Rattle.shards.specs.WorkedShards.{two_at_once, shards_of_two_at_once}
 use Rattle.shards.proofs.Proper.{AreOfKinds, proper_from, proper_on}
 use Rattle.shards.proofs.Deciding.{decided_by_shards}
 
@@ -57,10 +58,8 @@ one_call : (es : List Event) (x n m : ℕ) (v : ℤ) → IsProper es → kind_at
     → calls_on x (denoted es) ≡ returned n (Enqueue v) m (Some v) ∷ [] → DenoteLinearizable es
 one_call es x n m v proper kind objects calls = named_kinds (kind_at es) (denoted es) (denoted_is_history es proper)
     (all_from_in (λ (c : ProcessCall). HasValidOrder (kind_at es) (denoted es) c.object) (calls_in (denoted es))
-    (λ c i. elim (subst (In c.object) objects (in_map_from (λ (d : ProcessCall). d.object) c (calls_in (denoted es)) i)) [
-      | inl q ↦ subst (HasValidOrder (kind_at es) (denoted es)) (sym q) order
-      | inr j ↦ absurd j
-    ]))
+    (λ c i. of_one c.object (subst (In c.object) objects
+    (in_map_from (λ (d : ProcessCall). d.object) c (calls_in (denoted es)) i))))
   where
     valid : IsValidOrder Queue (returned n (Enqueue v) m (Some v) ∷ []) (pos n ∷ [])
     valid = valid_order Queue (returned n (Enqueue v) m (Some v) ∷ []) (returned n (Enqueue v) m (Some v) ∷ []) refl
@@ -73,11 +72,15 @@ one_call es x n m v proper kind objects calls = named_kinds (kind_at es) (denote
           (subst (λ cs. IsValidOrder Queue cs (pos n ∷ [])) (sym calls) valid),
     )
 
+    of_one : (y : ℕ) → In y (x ∷ []) → HasValidOrder (kind_at es) (denoted es) y
+    of_one y i = elim i [ inl q ↦ subst (HasValidOrder (kind_at es) (denoted es)) (sym q) order | inr j ↦ absurd j ]
+
 nothing-proper : IsProper []
 nothing-proper = proper_from (λ y. Queue) [] (λ i j d l m. absurd (omega arith)) (λ p. tt) (λ e op i q. absurd i)
 
 nothing-linearizable : DenoteLinearizable []
-nothing-linearizable = named_kinds (kind_at []) [] (denoted_is_history [] nothing-proper) (λ k d l. absurd (omega arith))
+nothing-linearizable =
+    named_kinds (kind_at []) [] (denoted_is_history [] nothing-proper) (λ k d l. absurd (omega arith))
 
 abbrev pub IsGood : List Event → Type 0
 IsGood es = IsProper es × DenoteLinearizable es
@@ -130,7 +133,8 @@ two_at_once-not_linearizable l = let s = l.completes.well_formed 3 in let m = s.
 -- ---- two processes, of which each has one operation
 
 pub one_each-proper : IsProper one_each
-one_each-proper = proper_from (λ y. Queue) one_each (all_from_pairs (λ (a b : Event). a.number < b.number) one_each rising) runs of_kinds
+one_each-proper = proper_from (λ y. Queue) one_each
+    (all_from_pairs (λ (a b : Event). a.number < b.number) one_each rising) runs of_kinds
   where
     rising : Pairs (λ (a b : Event). a.number < b.number) one_each
     rising = (λ e i. grind arith, (λ e i. grind arith, (λ e i. grind arith, (λ e i. absurd i, tt))))
@@ -144,27 +148,37 @@ one_each-proper = proper_from (λ y. Queue) one_each (all_from_pairs (λ (a b : 
         go true false q r =
             let other : (4 == p) ≡ true → ⊥ = λ t. cc (r, t) in
             let own : (3 == p) ≡ false → ⊥ = λ t. cc (q, t) in (
-              λ t. (tt, (λ u. absurd (other u), λ u. (λ t. ((refl, refl), (λ u. absurd (other u), λ u. tt)), λ t. absurd (own t)))),
+              λ t. (
+                tt,
+                (
+                  λ u. absurd (other u),
+                  λ u. (λ v. ((refl, refl), (λ w. absurd (other w), λ w. tt)), λ v. absurd (own v)),
+                ),
+              ),
               λ t. absurd (own t),
             )
         go false true q r =
             let other : (3 == p) ≡ true → ⊥ = λ t. cc (q, t) in
             let own : (4 == p) ≡ false → ⊥ = λ t. cc (r, t) in (
               λ t. absurd (other t),
-              λ t. (λ u. (tt, (λ t. absurd (other t), λ t. (λ u. ((refl, refl), tt), λ u. absurd (own u)))), λ u. absurd (own u)),
+              λ t. (
+                λ u. (tt, (λ v. absurd (other v), λ v. (λ w. ((refl, refl), tt), λ w. absurd (own w)))),
+                λ u. absurd (own u),
+              ),
             )
         go false false q r =
             let three : (3 == p) ≡ true → ⊥ = λ t. cc (q, t) in
             let four : (4 == p) ≡ true → ⊥ = λ t. cc (r, t) in (
               λ t. absurd (three t),
-              λ t. (λ u. absurd (four u), λ u. (λ t. absurd (three t), λ t. (λ u. absurd (four u), λ u. tt))),
+              λ t. (λ u. absurd (four u), λ u. (λ v. absurd (three v), λ v. (λ w. absurd (four w), λ w. tt))),
             )
 
     of_kinds : AreOfKinds (λ y. Queue) one_each
     of_kinds e op i q = grind arith
 
 -- the shard with object 2 is counted anew, and another has one enqueue or nothing
-one_each-shard : (one two : Bool) → (one ≡ true → two ≡ true → ⊥) → IsGood (cond two counted_anew (shard_with one_each one two))
+one_each-shard : (one two : Bool) → (one ≡ true → two ≡ true → ⊥)
+    → IsGood (cond two counted_anew (shard_with one_each one two))
 one_each-shard one true apart = counted_anew-good
 one_each-shard true false apart = first-good
 one_each-shard false false apart = nothing-good

@@ -1,5 +1,5 @@
--- Small lists of events that show what the shards of a list are, and why processes are checked on the
--- whole. Each object is in a shard of its own.
+-- Small lists of events that show what the shards of a list are, and why processes are checked on
+-- the whole. Each object is in a shard of its own.
 use Rattle.std.specs.Prelude.{ℕ, ◌==◌, pos, List, [], ◌∷◌, Some, if◌then◌else◌}
 use Rattle.model.specs.declared.AnyOp.TheVariants.{Enqueue}
 use Rattle.model.specs.declared.AnyReply.TheVariants.{Value}
@@ -37,8 +37,8 @@ abbrev pub shards_of_one_each : ℕ → List Event
 shards_of_one_each s =
     if own_shard 2 == s then counted_anew else events_on (λ x. own_shard x == s) one_each
 
--- Process 3 invokes an enqueue on object 1, and, before that returns, another on object 2. Then both
--- return.
+-- Process 3 invokes an enqueue on object 1, and, before that returns, another on object 2. Then
+-- both return.
 abbrev pub two_at_once : List Event
 two_at_once =
     does 0 3 1 (Invoke (Enqueue (pos 7)))

@@ -42,9 +42,9 @@ pub fn a_shard_may_be_counted_anew()
     ensures whole_linearizable { DenoteLinearizable one_each }
 {}
 
-/// Each shard may be proper, and linearizable, where the whole is neither: a process that waits for a
-/// response in one shard may invoke an operation in another. So a tool that divides a history has to
-/// check on the whole what each process does.
+/// Each shard may be proper, and linearizable, where the whole is neither: a process that waits for
+/// a response in one shard may invoke an operation in another. So a tool that divides a history has
+/// to check on the whole what each process does.
 pub fn proper_shards_do_not_make_a_proper_whole()
     ensures divided { AreShards own_shard two_at_once shards_of_two_at_once }
     ensures shards_proper { (s : ℕ) → IsProper (shards_of_two_at_once s) }
