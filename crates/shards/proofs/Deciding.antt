@@ -21,7 +21,7 @@ use Rattle.shards.proofs.Proper.{proper_on}
 use Rattle.shards.proofs.Renumbered.{same_from, proper_renumbered, linearizable_same}
 
 -- an object has the same calls among the events on objects with it
-calls_kept : (has : ℕ → Bool) (x : ℕ) (es : List Event) → has x ≡ true → IsProper es
+pub calls_kept : (has : ℕ → Bool) (x : ℕ) (es : List Event) → has x ≡ true → IsProper es
     → calls_on x (denoted (events_on has es)) ≡ calls_on x (denoted es)
 calls_kept has x es own proper =
     sym (proper_calls (events_on has es) (proper_on has es proper) x)
@@ -29,7 +29,7 @@ calls_kept has x es own proper =
     ∙ proper_calls es proper x)
 
 -- and the same kind
-kind_kept : (has : ℕ → Bool) (x : ℕ) (es : List Event) → has x ≡ true → kind_at (events_on has es) x ≡ kind_at es x
+pub kind_kept : (has : ℕ → Bool) (x : ℕ) (es : List Event) → has x ≡ true → kind_at (events_on has es) x ≡ kind_at es x
 kind_kept has x [] own = refl
 kind_kept has x (e ∷ es) own = go (has e.object) refl (kind_kept has x es own)
   where

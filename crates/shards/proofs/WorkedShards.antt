@@ -19,7 +19,7 @@ use Rattle.events.specs.Events.{denoted, kind_at, IsProper}
 use Rattle.events.proofs.Runs.{idle, Runs}
 use Rattle.events.proofs.WellFormed.{denoted_is_history}
 use Rattle.shards.specs.Shards.{events_on, AreRenumbered, AreShards, DenoteLinearizable}
-use Rattle.shards.specs.WorkedShards.{own_shard, does, one_each, counted_anew, shards_of_one_each}
+use Rattle.shards.specs.WorkedShards.{own_shard, does, one_each, renumbered_shard, shards_of_one_each}
 use Rattle.shards.specs.WorkedShards.{two_at_once, shards_of_two_at_once}
 use Rattle.shards.proofs.Proper.{AreOfKinds, proper_from, proper_on}
 use Rattle.shards.proofs.Deciding.{decided_by_shards}
@@ -95,10 +95,10 @@ second-good =
     let proper = enqueued-proper 3 1 3 2 (pos 8) (lit< tt) in
     (proper, one_call (enqueued 3 1 3 2 (pos 8)) 2 1 3 (pos 8) proper refl refl refl)
 
-counted_anew-good : IsGood counted_anew
-counted_anew-good =
+renumbered_shard-good : IsGood renumbered_shard
+renumbered_shard-good =
     let proper = enqueued-proper 4 0 1 2 (pos 8) (lit< tt) in
-    (proper, one_call counted_anew 2 0 1 (pos 8) proper refl refl refl)
+    (proper, one_call renumbered_shard 2 0 1 (pos 8) proper refl refl refl)
 
 nothing-good : IsGood []
 nothing-good = (nothing-proper, nothing-linearizable)
@@ -176,10 +176,10 @@ one_each-proper = proper_from (λ y. Queue) one_each
     of_kinds : AreOfKinds (λ y. Queue) one_each
     of_kinds e op i q = grind arith
 
--- the shard with object 2 is counted anew, and another has one enqueue or nothing
+-- the shard with object 2 has numbers of its own, and another has one enqueue or nothing
 one_each-shard : (one two : Bool) → (one ≡ true → two ≡ true → ⊥)
-    → IsGood (cond two counted_anew (shard_with one_each one two))
-one_each-shard one true apart = counted_anew-good
+    → IsGood (cond two renumbered_shard (shard_with one_each one two))
+one_each-shard one true apart = renumbered_shard-good
 one_each-shard true false apart = first-good
 one_each-shard false false apart = nothing-good
 
@@ -190,8 +190,8 @@ pub one_each-divided : AreShards own_shard one_each shards_of_one_each
 one_each-divided s = go (2 == s) refl
   where
     go : (b : Bool) → (2 == s) ≡ b
-        → AreRenumbered (events_on (λ x. x == s) one_each) (cond b counted_anew (events_on (λ x. x == s) one_each))
-    go true q = subst (λ t. AreRenumbered (events_on (λ x. x == t) one_each) counted_anew) (eqb-true 2 s q)
+        → AreRenumbered (events_on (λ x. x == s) one_each) (cond b renumbered_shard (events_on (λ x. x == s) one_each))
+    go true q = subst (λ t. AreRenumbered (events_on (λ x. x == t) one_each) renumbered_shard) (eqb-true 2 s q)
         (record { same = refl; rising = (enqueued-proper 4 0 1 2 (pos 8) (lit< tt)).rising })
     go false q = record { same = refl; rising = (proper_on (λ x. x == s) one_each one_each-proper).rising }
 

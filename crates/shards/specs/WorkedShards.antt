@@ -25,17 +25,17 @@ one_each =
     ∷ does 3 4 2 (Ok (Value (Some (pos 8))))
     ∷ []
 
--- the shard with object 2, whose two events are counted anew, as the maps of a text of its own are
-abbrev pub counted_anew : List Event
-counted_anew =
+-- the shard with object 2, which counts its own two events, as a text of its own counts its maps
+abbrev pub renumbered_shard : List Event
+renumbered_shard =
     does 0 4 2 (Invoke (Enqueue (pos 8)))
     ∷ does 1 4 2 (Ok (Value (Some (pos 8))))
     ∷ []
 
--- the shards: that one, and the others with the numbers of the whole
+-- the shards: that one, and the others with the numbers that their events have in the whole
 abbrev pub shards_of_one_each : ℕ → List Event
 shards_of_one_each s =
-    if own_shard 2 == s then counted_anew else events_on (λ x. own_shard x == s) one_each
+    if own_shard 2 == s then renumbered_shard else events_on (λ x. own_shard x == s) one_each
 
 -- Process 3 invokes an enqueue on object 1, and, before that returns, another on object 2. Then
 -- both return.
@@ -47,6 +47,6 @@ two_at_once =
     ∷ does 3 3 2 (Ok (Value (Some (pos 8))))
     ∷ []
 
--- the shards, with the numbers of the whole
+-- its shards, with the numbers that their events have in the whole
 abbrev pub shards_of_two_at_once : ℕ → List Event
 shards_of_two_at_once s = events_on (λ x. own_shard x == s) two_at_once

@@ -33,9 +33,9 @@ pub fn shards_decide()
         → (DenoteLinearizable es ↔ ((s : ℕ) → DenoteLinearizable (shards s))) }
 {}
 
-/// A shard may count its own events, as that of object 2 does here: the shards of this whole are
+/// A shard may have numbers of its own, as that with object 2 has here. The shards of this whole are
 /// linearizable, and so is the whole.
-pub fn a_shard_may_be_counted_anew()
+pub fn shards_may_be_renumbered()
     ensures whole_proper { IsProper one_each }
     ensures divided { AreShards own_shard one_each shards_of_one_each }
     ensures shards_linearizable { (s : ℕ) → DenoteLinearizable (shards_of_one_each s) }

@@ -1,5 +1,5 @@
 use Rattle.shards.proofs.WorkedShards.{one_each-proper, one_each-divided, one_each-shards, one_each-linearizable}
-use Rattle.shards.proofs.a_shard_may_be_counted_anew.Goals as goal
+use Rattle.shards.proofs.shards_may_be_renumbered.Goals as goal
 
 pub returns : goal.returns
 returns c = record {
