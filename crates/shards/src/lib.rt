@@ -33,8 +33,8 @@ pub fn shards_decide()
         → (DenoteLinearizable es ↔ ((s : ℕ) → DenoteLinearizable (shards s))) }
 {}
 
-/// A shard may have numbers of its own, as that with object 2 has here. The shards of this whole are
-/// linearizable, and so is the whole.
+/// A shard may have numbers of its own, as that with object 2 has here. The shards of this whole
+/// are linearizable, and so is the whole.
 pub fn shards_may_be_renumbered()
     ensures whole_proper { IsProper one_each }
     ensures divided { AreShards own_shard one_each shards_of_one_each }
