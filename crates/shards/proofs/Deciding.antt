@@ -12,7 +12,7 @@ use Rattle.locality.proofs.OneKind.{locality_of_kinds, named_kinds, orders_of_ki
 use Rattle.events.specs.declared.event.Event.{Event}
 use Rattle.events.specs.Events.{denoted, kind_in, kind_at, IsProper}
 use Rattle.events.specs.Operations.{calls_of}
-use Rattle.events.proofs.Runs.{idle, runs_from_start}
+use Rattle.events.proofs.ProcessRuns.{idle, runs_from_start}
 use Rattle.events.proofs.Calls.{proper_calls}
 use Rattle.events.proofs.Owned.{operations_owned, no_operations}
 use Rattle.events.proofs.WellFormed.{denoted_is_history}

@@ -14,8 +14,8 @@ use Rattle.events.specs.declared.event.Action.TheVariants.{Invoke, Ok, Fail, Inf
 use Rattle.events.specs.declared.event.Event.{Event}
 use Rattle.events.specs.Events.{last_event, kind_in, kind_at, IsIdleAfter, IsIdle, IsOfKindAt, IsOutstanding, Follows}
 use Rattle.events.specs.Events.{IsProper}
-use Rattle.events.proofs.Runs.{State, idle, busy, closed, state_by, state_after, MayDo, Runs, last_push}
-use Rattle.events.proofs.Runs.{runs_from_start}
+use Rattle.events.proofs.ProcessRuns.{State, idle, busy, closed, state_by, state_after, MayDo, Runs, last_push}
+use Rattle.events.proofs.ProcessRuns.{runs_from_start}
 use Rattle.shards.specs.Shards.{events_on}
 
 -- ---- the kinds of invocations

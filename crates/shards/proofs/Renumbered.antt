@@ -14,7 +14,7 @@ use Rattle.events.specs.declared.event.Action.{Action}
 use Rattle.events.specs.declared.event.Action.TheVariants.{Invoke, Ok, Fail, Info}
 use Rattle.events.specs.declared.event.Event.{Event}
 use Rattle.events.specs.Events.{next_event, is_fail, fails, denoted_by, denoted, kind_in, kind_at, IsProper}
-use Rattle.events.proofs.Runs.{State, idle, state_by, MayDo, Runs, runs_from_start}
+use Rattle.events.proofs.ProcessRuns.{State, idle, state_by, MayDo, Runs, runs_from_start}
 use Rattle.shards.specs.Shards.{said, AreRenumbered, DenoteLinearizable}
 use Rattle.shards.proofs.Proper.{proper_of_kinds, proper_from}
 

@@ -16,7 +16,7 @@ use Rattle.locality.proofs.WorkedOrders.{returned}
 use Rattle.events.specs.declared.event.Action.TheVariants.{Invoke, Ok}
 use Rattle.events.specs.declared.event.Event.{Event}
 use Rattle.events.specs.Events.{denoted, kind_at, IsProper}
-use Rattle.events.proofs.Runs.{idle, Runs}
+use Rattle.events.proofs.ProcessRuns.{idle, Runs}
 use Rattle.events.proofs.WellFormed.{denoted_is_history}
 use Rattle.shards.specs.Shards.{events_on, AreRenumbered, AreShards, DenoteLinearizable}
 use Rattle.shards.specs.WorkedShards.{own_shard, does, one_each, renumbered_shard, shards_of_one_each}
