@@ -3,6 +3,8 @@ pub mod Pairs
 pub mod FirstFaults
 pub mod Noting
 pub mod OneMore
+pub mod MapLimit
+pub mod Pushing
 pub mod Laws
 pub mod Proper
 pub mod Reading

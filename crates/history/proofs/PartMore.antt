@@ -1,5 +1,5 @@
 -- One more map of a part.
-use Rattle.std.proofs.Common.{◌≡◌, ◌≢◌, ℕ, ◌+◌, ◌<◌, ◌≤◌, inl, inr, true, List, [], ◌∷◌, ◌++◌}
+use Rattle.std.proofs.Common.{◌≡◌, ◌≢◌, ℕ, ◌+◌, inl, inr, true, List, [], ◌∷◌, ◌++◌}
 use Rattle.std.proofs.Common.{map, length, Option, Some, None, All, refl, ap, sym, ◌∙◌, subst}
 use Rattle.std.proofs.Common.{append_assoc, zero-add, arith}
 use Rattle.std.specs.Prelude.{Result, Ok, Err, is_ok, Contains, if◌then◌else◌}
@@ -23,7 +23,7 @@ use Rattle.history.specs.declared.part.FirstMap.{FirstMap}
 use Rattle.history.specs.declared.part.Part.{Part}
 use Rattle.history.specs.declared.fault.HistoryFaultKind.TheVariants.{AfterInfo}
 use Rattle.history.specs.Maps.{ClientMap, client_of, is_ignored, clients}
-use Rattle.history.specs.Faults.{last_map, IsFaultless, max_maps}
+use Rattle.history.specs.Faults.{last_map, IsMapFault, IsFaultlessAtAnyLength}
 use Rattle.history.specs.Denotes.{action_of, event_with, event_of, events_from}
 use Rattle.history.specs.Seen.{doing_after, IsKept, IsKindOf, IsNoOther, IsProcessFault, IsSeen, IsSeenBy}
 use Rattle.history.specs.Noting.{IsFirstOrAllowed, NotesProcess, NotesObject}
@@ -39,22 +39,22 @@ use Rattle.history.proofs.Reading.{events_push, faultless_push}
 -- one map more, after any forms after which its process and its object allow it
 pub goes_on_more : (ds : List Datum) (d : Datum) (m : ClientMap) (f : Function) (a : Action)
     (old new : ℕ → Option Process) (was now : ℕ → Option Kind)
-    → IsSeenBy old was ds → IsFaultless ds → client_of d ≡ Some m → m.function ≡ Some f → action_of m.type m
-    ≡ Some a → length ds < max_maps
+    → IsSeenBy old was ds → IsFaultlessAtAnyLength ds → client_of d ≡ Some m → m.function ≡ Some f
+    → action_of m.type m ≡ Some a
     → IsProcessFault (old m.process) m.type f m.object None → IsNoOther (was m.object) (kind_of_function f)
     → new m.process ≡ Some (doing_after m.type f m.object) → ((p : ℕ) → p ≢ m.process → new p ≡ old p)
     → now m.object ≡ Some (kind_of_function f)
-    → ((x : ℕ) → x ≢ m.object → now x ≡ was x) → IsFaultless (ds ++ d ∷ []) × IsSeenBy new now (ds ++ d ∷ [])
-goes_on_more ds d m f a old new was now seen faultless is known action few allowed kind own others own_kind
-    other_kinds =
+    → ((x : ℕ) → x ≢ m.object → now x ≡ was x)
+    → IsFaultlessAtAnyLength (ds ++ d ∷ []) × IsSeenBy new now (ds ++ d ∷ [])
+goes_on_more ds d m f a old new was now seen faultless is known action allowed kind own others own_kind other_kinds =
     let shape : PassesShape m f a = record { known = known; action = action } in
     let passes : PassesAll ds m f a = record {
       kind = passes_kind ds m f a (was m.object) shape (seen.kinds m.object) kind;
       process = process_allows (clients ds) m f (old m.process) known (seen.processes m.process)
           (seen.closed m.process) allowed;
     } in
-    let none = none_of_all ds m f a passes few in (
-      faultless_push ds d faultless (no_fault_of ds d m is none),
+    let none = none_of_all ds m f a passes in (
+      faultless_push IsMapFault ds d faultless (no_fault_of ds d m is none),
       kept_more_of old new was now ds d m f (doing_after m.type f m.object) seen is known kind (none AfterInfo)
           (does_so m.type f m refl known) own others own_kind other_kinds,
     )
@@ -97,12 +97,10 @@ pub continues_more : (old new : Part) (ds : List Datum) (d : Datum) (c : code.Cl
     (noted_map c f)
     → NotesObject (value_of old.seen.kinds) (value_of new.seen.kinds) old.objects.items new.objects.items c.object f
     → ContinuesWhereItFits new (ds ++ d ∷ [])
-continues_more old new ds d c w f a h is known action process object before s k seen faultless fits few =
+continues_more old new ds d c w f a h is known action process object before s k seen faultless fits =
     let m = client_map c w in
     let own = value_of old.seen.processes in
     let kinds = value_of old.seen.kinds in
-    let long : length (ds ++ d ∷ []) ≡ length ds + 1 = length-append ds (d ∷ []) in
-    let both : length (before ++ ds) ≡ length before + length ds = length-append before ds in
     let kind_fits : IsNoOther (k c.object) (kind_of_function f) = fits.of_kind c.object
     (kind_of_function f) object.own in
     let of_kind : (x : ℕ) (kind : Kind) → kinds x ≡ Some kind
@@ -117,22 +115,21 @@ continues_more old new ds d c w f a h is known action process object before s k 
           (noted_map c f) process.checked fits.allowed;
       of_kind = of_kind;
     } in
-    let so_far = h before s k seen faultless fits_before (omega (arith, few, long)) in
-    let room : length (before ++ ds) < max_maps = omega (arith, few, long, both) in
+    let so_far = h before s k seen faultless fits_before in
     let allowed = allowed_after (own c.process) (s c.process) old.firsts.items new.firsts.items
     (noted_map c f) process.checked
     (λ q. all_at (IsAllowed s) (old.firsts.items ++ noted_map c f ∷ []) (subst (All (IsAllowed s)) q fits.allowed)
     (noted_map c f) (in_right (noted_map c f) old.firsts.items (noted_map c f ∷ []) (inl refl))) in
     let more = goes_on_more (before ++ ds) d m f a (kept_after s own) (kept_after s (value_of new.seen.processes))
     (kept_after k kinds) (kept_after k (value_of new.seen.kinds))
-    so_far.1 so_far.0 is known action room allowed
+    so_far.1 so_far.0 is known action allowed
     (no_other_after (kinds c.object) (k c.object) (kind_of_function f) object.checked kind_fits)
     (ap (λ (o : Option Process). option_or o (s c.process)) process.own)
     (λ p ne. ap (λ (o : Option Process). option_or o (s p)) (process.others p ne))
     (ap (λ (o : Option Kind). option_or o (k c.object)) object.own)
     (λ x ne. ap (λ (o : Option Kind). option_or o (k x)) (object.others x ne)) in
     let same = append_assoc before ds (d ∷ []) in (
-      subst IsFaultless same more.0,
+      subst IsFaultlessAtAnyLength same more.0,
       subst (IsSeenBy (kept_after s (value_of new.seen.processes))
           (kept_after k (value_of new.seen.kinds))) same more.1,
     )
@@ -208,18 +205,14 @@ part_more old new ds d c w f a h is known action process object count events = r
 continues_skip : (part : Part) (ds : List Datum) (d : Datum) → client_of d ≡ None → is_ignored d ≡ true
     → ContinuesWhereItFits part ds
     → (before : List Datum) (s : ℕ → Option Process) (k : ℕ → Option Kind) → IsSeenBy s k before
-    → IsFaultless before → FitsAfter part s k
-    → length before + length (ds ++ d ∷ []) ≤ max_maps
-    → IsFaultless (before ++ (ds ++ d ∷ [])) × IsSeenBy (kept_after s (value_of part.seen.processes))
+    → IsFaultlessAtAnyLength before → FitsAfter part s k
+    → IsFaultlessAtAnyLength (before ++ (ds ++ d ∷ [])) × IsSeenBy (kept_after s (value_of part.seen.processes))
     (kept_after k (value_of part.seen.kinds)) (before ++ (ds ++ d ∷ []))
-continues_skip part ds d none ignored h before s k seen faultless fits few =
-    let long : length (ds ++ d ∷ []) ≡ length ds + 1 = length-append ds (d ∷ []) in
-    let both : length (before ++ ds) ≡ length before + length ds = length-append before ds in
-    let so_far = h before s k seen faultless fits (omega (arith, few, long)) in
-    let room : length (before ++ ds) < max_maps = omega (arith, few, long, both) in
+continues_skip part ds d none ignored h before s k seen faultless fits =
+    let so_far = h before s k seen faultless fits in
     let same = append_assoc before ds (d ∷ []) in (
-      subst IsFaultless same (faultless_push (before ++ ds) d so_far.0
-          (ignored_faultless (before ++ ds) d none ignored room)),
+      subst IsFaultlessAtAnyLength same (faultless_push IsMapFault (before ++ ds) d so_far.0
+          (ignored_faultless (before ++ ds) d none ignored)),
       subst (IsSeenBy (kept_after s (value_of part.seen.processes)) (kept_after k (value_of part.seen.kinds))) same
           (kept_skip (kept_after s (value_of part.seen.processes)) (kept_after k (value_of part.seen.kinds))
           (before ++ ds) d so_far.1 none),
@@ -242,8 +235,8 @@ part_skip old new ds d h none ignored same =
       events = h.events ∙ sym events;
       processes = h.processes;
       objects = h.objects;
-      continues = λ before s k seen faultless fits few. continues_skip old ds d none ignored h.continues before s k
-          seen faultless (record { allowed = fits.allowed; of_kind = fits.of_kind }) few;
+      continues = λ before s k seen faultless fits. continues_skip old ds d none ignored h.continues before s k
+          seen faultless (record { allowed = fits.allowed; of_kind = fits.of_kind });
     })
 
 -- ---- no maps
@@ -276,8 +269,8 @@ no_maps part seen count events =
       events = events;
       processes = λ p. inl (processes p);
       objects = λ x. inl (kinds x);
-      continues = λ before s k kept faultless fits few. (
-        subst IsFaultless (sym (append-nil before)) faultless,
+      continues = λ before s k kept faultless fits. (
+        subst IsFaultlessAtAnyLength (sym (append-nil before)) faultless,
         subst (IsSeenBy (kept_after s (value_of part.seen.processes)) (kept_after k (value_of part.seen.kinds)))
             (sym (append-nil before))
             (seen_same s (kept_after s (value_of part.seen.processes)) k

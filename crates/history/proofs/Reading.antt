@@ -1,6 +1,6 @@
 -- The forms read so far.
-use Rattle.std.proofs.Common.{◌≡◌, ℕ, ◌+◌, ◌<◌, ◌≤◌, ◌⊎◌, inl, inr, List, [], ◌∷◌, ◌++◌, length, take, drop, get_or, map, zero, suc, append_assoc, zero-add, refl, ap, sym, ◌∙◌, subst, arith}
-use Rattle.std.proofs.lemmas.List.{append-nil, take_more, take_all}
+use Rattle.std.proofs.Common.{◌≡◌, ℕ, ◌+◌, ◌<◌, ◌≤◌, ◌⊎◌, inl, inr, List, [], ◌∷◌, ◌++◌, length, take, drop, get_or, zero, suc, append_assoc, zero-add, refl, ap, sym, ◌∙◌, subst, arith}
+use Rattle.std.proofs.lemmas.List.{append-nil, length-append, map-append, take_more, take_all}
 use Rattle.edn_reader.specs.Datum.{Datum}
 use Rattle.edn_reader.specs.View.{view, views}
 use Rattle.edn_reader.specs.declared.form.Form.{Form}
@@ -9,14 +9,12 @@ use Rattle.history.specs.declared.seen.Seen.{Seen}
 use Rattle.history.specs.declared.fault.HistoryFault.{HistoryFault}
 use Rattle.history.specs.declared.fault.HistoryFaultKind.{HistoryFaultKind}
 use Rattle.history.specs.Maps.{client_of}
-use Rattle.history.specs.Faults.{IsFault, IsFaultless, IsFirstFault}
+use Rattle.edn_fields.specs.FirstFaults.{AreFaultless}
+use Rattle.history.specs.Faults.{max_maps, IsFault, IsFaultless, IsFirstFault}
 use Rattle.history.specs.Denotes.{event_of, events_from, Denotes}
 use Rattle.history.specs.Seen.{IsSeen, HasNoFault, HasFirst, IsRead}
-
-pub record IsSoFar (seen : Seen) (ds : List Datum) (es : List Event) : Type 0 where
-  pub kept : IsSeen seen ds
-  pub faultless : IsFaultless ds
-  pub events : es ≡ events_from 0 ds
+use Rattle.history.specs.Texts.{AreRead}
+use Rattle.history.proofs.MapLimit.{none_within}
 
 pub events_push : (n : ℕ) (ds : List Datum) (d : Datum) → events_from n (ds ++ d ∷ []) ≡ events_from n ds ++ event_of (n + length ds) (client_of d)
 events_push n [] d = append-nil (event_of n (client_of d)) ∙ ap (λ k. event_of k (client_of d)) (let e : n ≡ n + 0 = omega arith in e)
@@ -43,50 +41,62 @@ split_push (y ∷ ds) d (x ∷ earlier) later e q =
       | inr h ↦ inr (h.0, ap (λ z. z ∷ ds) head ∙ ap (λ t. x ∷ t) h.1)
     ]
 
-pub faultless_push : (ds : List Datum) (d : Datum) → IsFaultless ds → HasNoFault ds d → IsFaultless (ds ++ d ∷ [])
-faultless_push ds d h none earlier later e k q f = elim (split_push ds d earlier later e q) [
+pub faultless_push : (IsFault : List Datum → Datum → HistoryFaultKind → Type 0) (ds : List Datum) (d : Datum) → AreFaultless IsFault ds
+    → HasNoFault IsFault ds d → AreFaultless IsFault (ds ++ d ∷ [])
+faultless_push IsFault ds d h none earlier later e k q f = elim (split_push ds d earlier later e q) [
   | inl s ↦ none k (subst (λ x. IsFault ds x k) s.1 (subst (λ x. IsFault x e k) s.0 f))
   | inr s ↦ h earlier s.0 e k s.1 f
 ]
 
--- the forms so far, and one more
-one_more : (fs : List Form) (i : ℕ) (f : Form) → i < length fs → f ≡ get_or fs i f → views (take (i + 1) fs) ≡ views (take i fs) ++ view f ∷ []
-one_more fs i f l is = ap views (take_more fs i f l) ∙ (map-append view (take i fs) (get_or fs i f ∷ []) ∙ ap (λ x. views (take i fs) ++ view x ∷ []) (sym is))
+pub nothing_faulty : (IsFault : List Datum → Datum → HistoryFaultKind → Type 0) → AreFaultless IsFault []
+nothing_faulty IsFault earlier later d k e f = no_split earlier e
   where
-    map-append : {X Y : Type 0} (g : X → Y) (xs ys : List X) → map g (xs ++ ys) ≡ map g xs ++ map g ys
-    map-append g [] ys = refl
-    map-append g (x ∷ xs) ys = ap (λ zs. g x ∷ zs) (map-append g xs ys)
+    no_split : (earlier : List Datum) → [] ≡ earlier ++ d ∷ later → ⊥
+    no_split [] e = cc
+    no_split (x ∷ earlier) e = cc
+
+-- ---- what is read
+
+pub nothing_read : (seen : Seen) (es : List Event) → IsSeen seen [] → es ≡ [] → AreRead seen 0 [] es
+nothing_read seen es h e = record { kept = h; faultless = nothing_faulty IsFault; events = e; count = refl }
+
+-- one map more
+pub one_more : (old new : Seen) (number : ℕ) (ds : List Datum) (d : Datum) (es more : List Event) → AreRead old number ds es → number < max_maps
+    → IsRead new ds d more → AreRead new (number + 1) (ds ++ d ∷ []) (es ++ more)
+one_more old new number ds d es more h few r =
+    record {
+      kept = r.seen;
+      faultless = faultless_push IsFault ds d h.faultless (none_within ds d r.no_fault (subst (λ (n : ℕ). n < max_maps) (sym h.count) few));
+      events = ap (λ (x : List Event). x ++ more) h.events
+          ∙ (ap (λ (x : List Event). events_from 0 ds ++ x) r.events ∙ sym (events_push 0 ds d ∙ ap (λ (k : ℕ). events_from 0 ds ++ event_of k (client_of d)) (zero-add (length ds))));
+      count = omega (arith, length-append ds (d ∷ []), h.count);
+    }
+
+-- ---- the forms so far
+
+-- and one more
+one_form : (fs : List Form) (i : ℕ) (f : Form) → i < length fs → f ≡ get_or fs i f → views (take (i + 1) fs) ≡ views (take i fs) ++ view f ∷ []
+one_form fs i f l is = ap views (take_more fs i f l) ∙ (map-append view (take i fs) (get_or fs i f ∷ []) ∙ ap (λ x. views (take i fs) ++ view x ∷ []) (sym is))
 
 pub faultless_more : (seen : Seen) (fs : List Form) (i : ℕ) (f : Form) (es : List Event) → i < length fs → f ≡ get_or fs i f
-    → IsSoFar seen (views (take i fs)) es → HasNoFault (views (take i fs)) (view f) → IsFaultless (views (take (i + 1) fs))
-faultless_more seen fs i f es l is h none = subst IsFaultless (sym (one_more fs i f l is)) (faultless_push (views (take i fs)) (view f) h.faultless none)
+    → AreRead seen i (views (take i fs)) es → HasNoFault IsFault (views (take i fs)) (view f) → IsFaultless (views (take (i + 1) fs))
+faultless_more seen fs i f es l is h none =
+    let ds = views (take i fs) in subst IsFaultless (sym (one_form fs i f l is)) (faultless_push IsFault ds (view f) h.faultless none)
 
 -- one form more
-pub one_read : (old new : Seen) (fs : List Form) (i : ℕ) (f : Form) (es more : List Event) → i < length fs → f ≡ get_or fs i f
-    → IsSoFar old (views (take i fs)) es → IsRead old new (views (take i fs)) (view f) more → IsSoFar new (views (take (i + 1) fs)) (es ++ more)
-one_read old new fs i f es more l is h r =
-    let ds = views (take i fs) in
-    subst (λ xs. IsSoFar new xs (es ++ more)) (sym (one_more fs i f l is)) (record {
-      kept = r.seen;
-      faultless = faultless_push ds (view f) h.faultless r.no_fault;
-      events = ap (λ x. x ++ more) h.events
-          ∙ (ap (λ x. events_from 0 ds ++ x) r.events ∙ sym (events_push 0 ds (view f) ∙ ap (λ k. events_from 0 ds ++ event_of k (client_of (view f))) (zero-add (length ds))));
-    })
-
--- the length of the forms so far is the number of the next
-pub number_is : (fs : List Form) (i : ℕ) → i < length fs → length (views (take i fs)) ≡ i
-number_is [] i l = absurd (omega arith)
-number_is (f ∷ fs) zero l = refl
-number_is (f ∷ fs) (suc i) l = ap suc (number_is fs i (omega arith))
+pub one_read : (old new : Seen) (fs : List Form) (i : ℕ) (f : Form) (es more : List Event) → i < length fs → f ≡ get_or fs i f → i < max_maps
+    → AreRead old i (views (take i fs)) es → IsRead new (views (take i fs)) (view f) more → AreRead new (i + 1) (views (take (i + 1) fs)) (es ++ more)
+one_read old new fs i f es more l is few h r =
+    subst (λ xs. AreRead new (i + 1) xs (es ++ more)) (sym (one_form fs i f l is)) (one_more old new i (views (take i fs)) (view f) es more h few r)
 
 pub first_fault : (seen : Seen) (fs : List Form) (i : ℕ) (f : Form) (es : List Event) (k : HistoryFaultKind) → i < length fs → f ≡ get_or fs i f
-    → IsSoFar seen (views (take i fs)) es → HasFirst (views (take i fs)) (view f) k → IsFirstFault (views fs) (record { kind = k; map = i })
+    → AreRead seen i (views (take i fs)) es → HasFirst IsFault (views (take i fs)) (view f) k → IsFirstFault (views fs) (record { kind = k; map = i })
 first_fault seen fs i f es k l is h first = record {
   earlier = views (take i fs);
   form = view f;
   later = views (drop (suc i) fs);
   split = parts fs i l ∙ ap (λ x. views (take i fs) ++ view x ∷ views (drop (suc i) fs)) (sym is);
-  place = number_is fs i l;
+  place = h.count;
   stands = first.stands;
   least = h.faultless;
   first = first.first;
@@ -101,5 +111,5 @@ first_fault seen fs i f es k l is h first = record {
 pub fault_refutes : (ds : List Datum) (fault : HistoryFault) (es : List Event) → IsFirstFault ds fault → Denotes ds es → ⊥
 fault_refutes ds fault es h d = d.faultless h.earlier h.later h.form fault.kind h.split h.stands
 
-pub all_read : (seen : Seen) (fs : List Form) (i : ℕ) (es : List Event) → length fs ≤ i → IsSoFar seen (views (take i fs)) es → Denotes (views fs) es
+pub all_read : (seen : Seen) (fs : List Form) (i : ℕ) (es : List Event) → length fs ≤ i → AreRead seen i (views (take i fs)) es → Denotes (views fs) es
 all_read seen fs i es l h = subst (λ x. Denotes (views x) es) (take_all i fs l) (record { faultless = h.faultless; events = h.events })

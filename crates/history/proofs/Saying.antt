@@ -6,20 +6,18 @@ use Rattle.edn_reader.specs.Datum.{nil, boolean, integer, string, keyword, Datum
 use Rattle.edn_reader.specs.Token.{Token, close_vector, leaf, tokens_of, items_tokens}
 use Rattle.edn_reader.specs.Pieces.{token_buffer_tokens}
 use Rattle.edn_reader.specs.declared.Piece.{Piece}
-use Rattle.edn_reader.proofs.Prefixes.{not_nothing}
 use Rattle.seq_objects.specs.declared.value.Value.{Value}
 use Rattle.seq_objects.specs.declared.value.Value.TheVariants.{Pair}
 use Rattle.edn_fields.specs.Fields.{value_at, natural_in, keyword_in, object_in, value_in}
 use Rattle.edn_fields.specs.Values.{IsValue, natural_first, keyword_first}
 use Rattle.edn_fields.specs.Operations.{HasValues, IsMapWith}
 use Rattle.edn_fields.specs.declared.operation.OperationValues.{OperationValues}
-use Rattle.edn_fields.proofs.Operating.{empty_is}
 use Rattle.edn_fields.proofs.Shapes.{natural_is, keyword_is}
 use Rattle.history.specs.Maps as spec
 use Rattle.history.specs.Maps.{type_named, object_at, pair_in, plain_value, client_with, client_in}
 use Rattle.history.specs.Views.{client_map, IsClient, Says, pair_first, plain_first}
 use Rattle.history.specs.declared.client_map.ClientMap.{ClientMap}
-use Rattle.history.specs.declared.client_map.OperationMap.TheVariants.{OfClient, Ignored, Neither}
+use Rattle.history.specs.declared.client_map.OperationMap.TheVariants.{Neither}
 
 -- ---- the value, by its first tokens
 

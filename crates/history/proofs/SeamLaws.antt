@@ -23,6 +23,7 @@ use Rattle.history.specs.Seen.{IsProcessFault}
 use Rattle.history.specs.Views.{map_type}
 use Rattle.history.specs.Noting.{TakesOver, IsOneKind, shift_event}
 use Rattle.history.specs.Parts.{kept_after, IsAllowed, FitsAfter, IsPartOf, AreJoined}
+use Rattle.history.proofs.MapLimit.{at_any_length, faultless_within}
 use Rattle.history.proofs.PartMore.{seen_same}
 use Rattle.history.proofs.PartEvents.{events_after}
 
@@ -94,15 +95,14 @@ pub joined_more : (old new : Seams) (part : Part) (ds es : List Datum) → AreJo
 joined_more old new part ds es h p allowed one few processes kinds events maps =
     let counted : length ds ≡ old.maps = h.count in
     let own : part.maps ≡ length es = p.count in
-    let whole = p.continues ds (value_of old.seen.processes) (value_of old.seen.kinds) h.kept h.faultless
-    (fits part es (value_of old.seen.processes) (value_of old.seen.kinds) p allowed one)
-    (omega (arith, few, counted, own)) in
+    let whole = p.continues ds (value_of old.seen.processes) (value_of old.seen.kinds) h.kept
+    (at_any_length ds h.faultless) (fits part es (value_of old.seen.processes) (value_of old.seen.kinds) p allowed one) in
     record {
       kept = seen_same (kept_after (value_of old.seen.processes) (value_of part.seen.processes))
           (value_of new.seen.processes)
           (kept_after (value_of old.seen.kinds) (value_of part.seen.kinds)) (value_of new.seen.kinds) (ds ++ es) whole.1
           (λ k. processes k (p.processes k)) (λ x. kinds x (p.objects x));
-      faultless = whole.0;
+      faultless = faultless_within (ds ++ es) whole.0 (omega (arith, length-append ds es, few, counted, own));
       events = events ∙ (ap (λ xs. xs ++ map (shift_event old.maps) part.events.items) h.events
           ∙ (ap (λ xs. events_from 0 ds ++ map (shift_event old.maps) xs) p.events
           ∙ (ap (λ n. events_from 0 ds ++ map (shift_event n) (events_from 0 es)) (sym counted)

@@ -1,5 +1,5 @@
 -- The maps of a text, one by one: what was found stays found, whatever follows.
-use Rattle.std.proofs.Common.{◌≡◌, ◌≢◌, ℕ, ◌+◌, ◌<◌, ◌≤◌, true, false, Option, Some, None, List, [], ◌∷◌, ◌++◌, length, take, refl, sym, ap, subst, ◌∙◌, zero-add, arith}
+use Rattle.std.proofs.Common.{◌≡◌, ◌≢◌, ℕ, ◌+◌, ◌<◌, ◌≤◌, true, false, Option, Some, None, List, [], ◌∷◌, ◌++◌, length, take, refl, sym, subst, ◌∙◌, arith}
 use Rattle.std.specs.Option.{is_some}
 use Rattle.std.proofs.lemmas.List.{length-append, take_all, take-append-le}
 use Rattle.edn_reader.specs.Datum.{Datum}
@@ -13,20 +13,11 @@ use Rattle.history.specs.declared.fault.HistoryFault.{HistoryFault}
 use Rattle.history.specs.declared.fault.HistoryFaultKind.{HistoryFaultKind}
 use Rattle.history.specs.declared.fault.HistoryFaultKind.TheVariants.{NoMemory}
 use Rattle.history.specs.declared.text_reader.Reading.{Reading}
-use Rattle.history.specs.Maps.{client_of}
-use Rattle.history.specs.Faults.{IsFaultless}
-use Rattle.history.specs.Denotes.{event_of, events_from}
-use Rattle.history.specs.Seen.{HasFirst, HasNoFault, IsRead}
+use Rattle.history.specs.Faults.{IsFault, IsFaultless}
+use Rattle.history.specs.Seen.{HasFirst, HasNoFault}
 use Rattle.history.specs.Texts.{IsFoundIn, AreRead, IsReadOrFaulty, IsReading}
-use Rattle.history.proofs.Reading.{events_push, faultless_push}
+use Rattle.history.proofs.Reading.{faultless_push}
 use Rattle.history.proofs.Proper.{proper_events}
-
-no_split : (earlier later : List Datum) (d : Datum) → [] ≡ earlier ++ d ∷ later → ⊥
-no_split [] later d e = cc
-no_split (x ∷ earlier) later d e = cc
-
-pub nothing_faulty : IsFaultless []
-nothing_faulty earlier later d kind e f = no_split earlier later d e
 
 -- more forms after a fault
 found_more : (ds : List Datum) (d : Datum) (f : HistoryFault) → IsFoundIn ds f → IsFoundIn (ds ++ d ∷ []) f
@@ -57,27 +48,15 @@ faulty_stays r ds d e h = by_fault r.fault refl e
 pub are_read : (r : Reading) (ds : List Datum) → r.fault ≡ None → IsReading r ds → AreRead r.seen r.map ds r.events.items
 are_read r ds e h = subst (λ (o : Option HistoryFault). IsReadOrFaulty o r.seen r.map ds r.events.items) e h
 
--- one map more
-pub one_more : (old new : Seen) (number : ℕ) (ds : List Datum) (d : Datum) (es more : List Event) → AreRead old number ds es
-    → IsRead old new ds d more → AreRead new (number + 1) (ds ++ d ∷ []) (es ++ more)
-one_more old new number ds d es more h r =
-    record {
-      kept = r.seen;
-      faultless = faultless_push ds d h.faultless r.no_fault;
-      events = ap (λ (x : List Event). x ++ more) h.events
-          ∙ (ap (λ (x : List Event). events_from 0 ds ++ x) r.events ∙ sym (events_push 0 ds d ∙ ap (λ (k : ℕ). events_from 0 ds ++ event_of k (client_of d)) (zero-add (length ds))));
-      count = omega (arith, length-append ds (d ∷ []), h.count);
-    }
-
 -- what is wrong with the map after those that were read
 pub found : (seen : Seen) (number : ℕ) (ds : List Datum) (d : Datum) (es : List Event) (k : HistoryFaultKind) → AreRead seen number ds es
-    → (k ≢ NoMemory → HasFirst ds d k) → (k ≡ NoMemory → HasNoFault ds d) → IsFoundIn (ds ++ d ∷ []) (record { kind = k; map = number })
+    → (k ≢ NoMemory → HasFirst IsFault ds d k) → (k ≡ NoMemory → HasNoFault IsFault ds d) → IsFoundIn (ds ++ d ∷ []) (record { kind = k; map = number })
 found seen number ds d es k h first none = (
   λ n. (let f = first n in record { earlier = ds; form = d; later = []; split = refl; place = h.count; stands = f.stands; least = h.faultless; first = f.first }),
   λ m. (
       let long = length-append ds (d ∷ []) in
       let count : length ds ≡ number = h.count in
-      (omega (arith, long, count), subst IsFaultless (sym (take_all (number + 1) (ds ++ d ∷ []) (omega (arith, long, count)))) (faultless_push ds d h.faultless (none m)))
+      (omega (arith, long, count), subst IsFaultless (sym (take_all (number + 1) (ds ++ d ∷ []) (omega (arith, long, count)))) (faultless_push IsFault ds d h.faultless (none m)))
       ),
 )
 

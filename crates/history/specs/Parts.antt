@@ -1,5 +1,5 @@
 -- What a part of a history's text says by itself, and the parts that are joined so far.
-use Rattle.std.specs.Prelude.{◌≡◌, ℕ, ◌+◌, ◌≤◌, List, ◌++◌, length, map, Option, Some, None, All}
+use Rattle.std.specs.Prelude.{◌≡◌, ℕ, List, ◌++◌, length, map, Option, Some, None, All}
 use Rattle.std.specs.Option.{option_or}
 use Rattle.number_map.specs.Lookup.{value_of}
 use Rattle.edn_reader.specs.Datum.{Datum}
@@ -9,7 +9,7 @@ use Rattle.history.specs.declared.seen.Process.{Process}
 use Rattle.history.specs.declared.part.FirstMap.{FirstMap}
 use Rattle.history.specs.declared.part.Part.{Part}
 use Rattle.history.specs.declared.seams.Seams.{Seams}
-use Rattle.history.specs.Faults.{IsFaultless, max_maps}
+use Rattle.history.specs.Faults.{IsFaultlessAtAnyLength}
 use Rattle.history.specs.Denotes.{events_from}
 use Rattle.history.specs.Seen.{IsProcessFault, IsNoOther, IsSeenBy}
 use Rattle.history.specs.Texts.{AreRead}
@@ -35,14 +35,14 @@ pub record FitsAfter (part : Part) (processes : ℕ → Option Process) (kinds :
   pub of_kind : (x : ℕ) (kind : Kind) → value_of part.seen.kinds x ≡ Some kind
       → IsNoOther (kinds x) kind
 
--- After any forms without a fault after which the part fits, these forms have no fault either, if
--- they are not too many; and what the part keeps says what is kept after them.
+-- After any forms without a fault after which the part fits, these forms have no fault either,
+-- however many they are; and what the part keeps says what is kept after them.
 abbrev pub ContinuesWhereItFits : Part → List Datum → Type 0
 ContinuesWhereItFits part ds =
     (before : List Datum) (processes : ℕ → Option Process) (kinds : ℕ → Option Kind)
-    → IsSeenBy processes kinds before → IsFaultless before → FitsAfter part processes kinds
-    → length before + length ds ≤ max_maps
-    → IsFaultless (before ++ ds)
+    → IsSeenBy processes kinds before → IsFaultlessAtAnyLength before
+    → FitsAfter part processes kinds
+    → IsFaultlessAtAnyLength (before ++ ds)
     × IsSeenBy (kept_after processes (value_of part.seen.processes))
     (kept_after kinds (value_of part.seen.kinds)) (before ++ ds)
 

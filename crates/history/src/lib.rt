@@ -4,6 +4,7 @@
 mod attempts;
 mod client_map;
 mod fault;
+mod limit;
 mod map_faults;
 mod part;
 mod pieces;
@@ -17,6 +18,7 @@ mod usual_map;
 pub use client_map::{function, plain_value};
 pub use events::{Action, End, Event, History, Invocation, ObjectHistory, split};
 pub use fault::{HistoryFault, HistoryFaultKind, TextFault};
+pub use limit::length_is_the_only_limit;
 pub use part::Part;
 pub use pieces::{join_parts, part_of, pieces_of};
 pub use reader::read_history;

@@ -1,6 +1,6 @@
 -- The lines of a record are read back as its events.
 use Rattle.std.proofs.Common.{◌≡◌, ◌≢◌, ℕ, ◌+◌, ◌<◌, ◌≤◌, ◌==◌, Bool, true, false, cond, inl, inr, List, [], ◌∷◌, ◌++◌, map, length, find, reverse}
-use Rattle.std.proofs.Common.{Option, Some, None, option_map, All, lit<, refl, ap, sym, ◌∙◌, subst, eq-eqb, length-append, arith}
+use Rattle.std.proofs.Common.{Option, Some, None, option_map, All, lit<, refl, ap, sym, ◌∙◌, subst, eq-eqb, arith}
 use Rattle.std.specs.List.{cons_option}
 use Rattle.std.proofs.lemmas.Option.{same_Some}
 use Rattle.std.proofs.lemmas.List.{reverse-append, map-append, length-map}
@@ -22,9 +22,9 @@ use Rattle.edn_fields.specs.Fields.{max_object}
 use Rattle.history.specs.declared.fault.HistoryFaultKind.{HistoryFaultKind}
 use Rattle.history.specs.declared.fault.HistoryFaultKind.TheVariants.{NotAnOperation, UnknownF, BadValue, MixedKinds, Busy, Stray, Mismatch, AfterInfo, TooMany, NoMemory}
 use Rattle.history.specs.Maps.{ClientMap, MapType, invoke, ok, fail, info, client_of, clients, op_in, reply_in}
-use Rattle.history.specs.Faults.{last_map, HasBadValue, ClientFault, IsFaultless, IsOutstanding, IsClosed}
+use Rattle.history.specs.Faults.{last_map, HasBadValue, ClientFault, IsFaultless, IsFaultlessAtAnyLength, IsOutstanding, IsClosed}
 use Rattle.history.specs.Denotes.{action_of, event_with, event_of, events_from}
-use Rattle.history.specs.Seen.{FaultOf}
+use Rattle.history.proofs.MapLimit.{faultless_within}
 use Rattle.history.proofs.OneMore.{fault_of}
 use Rattle.history.proofs.Laws.{kind_of_op}
 use Rattle.desk_model.specs.declared.JournalEvent.TheVariants.{Invoked, Returned}
@@ -339,25 +339,19 @@ module _ (objects : ℕ) (journals : ℕ → List AnyEvent) (logs : ℕ → List
     none_unknown = λ k i. not_info k (subst (In k) (sym is) (in_left k before (l ∷ after) i));
   }
 
-  faultless : IsFaultless (map form_of ls)
-  faultless earlier later d kind is fault =
+  at_any_length : IsFaultlessAtAnyLength (map form_of ls)
+  at_any_length earlier later d kind is fault =
       let r = split_forms ls earlier later d is in
       let before = r.0 in
       let l = r.2 in
       let here : In l ls = subst (In l) (sym r.3) (in_middle l before r.1) in
       let client : client_of d ≡ Some (map_of l) = ap client_of r.5 ∙ client_is l (object_low l here) in
       let maps : clients earlier ≡ map map_of before = ap clients r.4 ∙ clients_are before (λ k i. object_low k (subst (In k) (sym r.3) (in_left k before (l ∷ r.1) i))) in
-      let long : length earlier ≡ length before = ap length r.4 ∙ length-map before form_of in
-      let whole = ap length r.3 ∙ length-append before (l ∷ r.1) in
-      let fewer = few_lines in
-      let short : length before < 1000000 = omega arith in
-      go kind (fault_of earlier d (map_of l) kind client fault) maps (omega arith) (fine_at before r.1 l r.3)
-    where
-      go : (kind : HistoryFaultKind) → {before : List Line} {l : Line} → FaultOf earlier (map_of l) kind → clients earlier ≡ map map_of before → length earlier < 1000000 → IsFine before l → ⊥
-      go NotAnOperation h maps short fine = h
-      go UnknownF {before} {l} h maps short fine = absurd (cc (h))
-      go TooMany h maps short fine = absurd (omega arith)
-      go kind {before} {l} h maps short fine = no_fault before l fine kind (subst (λ (ms : List ClientMap). ClientFault ms (map_of l) kind) maps h)
+      no_fault before l (fine_at before r.1 l r.3) kind
+      (subst (λ (ms : List ClientMap). ClientFault ms (map_of l) kind) maps (fault_of earlier d (map_of l) kind client fault))
+
+  faultless : IsFaultless (map form_of ls)
+  faultless = let few = few_lines in let long = length-map ls form_of in faultless_within (map form_of ls) at_any_length (omega arith)
 
   says_action : (l : Line) → In l ls → action_of (map_of l).type (map_of l) ≡ Some l.event.action
   says_action l i = let r = in_split l ls i in action_is l (last_line l.event.process r.0) (follows_at r.0 r.1 l r.2)

@@ -2,14 +2,15 @@ use Rattle.std.proofs.Common.{Option, List, ◌++◌, ◌∷◌, [], ◌+◌, sy
 use Rattle.events.specs.declared.event.Event.{Event}
 use Rattle.history.specs.declared.fault.HistoryFault.{HistoryFault}
 use Rattle.history.specs.Texts.{AreRead, IsReadOrFaulty}
-use Rattle.history.proofs.TextReading.{are_read, one_more, found}
+use Rattle.history.proofs.Reading.{one_more}
+use Rattle.history.proofs.TextReading.{are_read, found}
 use Rattle.history.proofs.text_reader.Reading.take_said.Goals as goal
 
 pub returns-in-Ok : goal.returns-in-Ok
 returns-in-Ok c = λ ds d says h.
     let a = are_read c.args.self.now ds c.requires h in
     let r = c.in-Ok.ensures.read ds d says a.kept a.count in
-    let more = one_more c.args.self.now.seen c.read_next.new.seen c.args.self.now.map ds d c.args.self.now.events.items r.0 a r.1 in
+    let more = one_more c.args.self.now.seen c.read_next.new.seen c.args.self.now.map ds d c.args.self.now.events.items r.0 a c.in-Ok.ensures.few r.1 in
     let all = subst (λ (es : List Event). AreRead c.read_next.new.seen (c.args.self.now.map + 1) (ds ++ d ∷ []) es) (sym r.2) more in
     subst (λ (o : Option HistoryFault). IsReadOrFaulty o c.read_next.new.seen (c.args.self.now.map + 1) (ds ++ d ∷ []) c.read_next.new.events.items) (sym c.requires) all
 
