@@ -120,7 +120,7 @@ def no_thread(program, report):
     program.write(EVIDENCE, worked_rows.TWO_ORDERS)
     report.answers("verify: no thread can be started", program.run("verify", HISTORY, EVIDENCE, **how), worked_rows.QUEUES_YES, 0)
     ran = program.run("judge", HISTORY, **how)
-    said = b"fcbench: the proved program cannot be started: "
+    said = b"fcbench: the verifier cannot be started: "
     report.holds("judge: no process can be started", (ran.status, ran.out) == (70, b"") and ran.err.startswith(said), ran)
 
 

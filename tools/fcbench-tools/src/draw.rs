@@ -1,4 +1,4 @@
-//! The command that draws: the answer of the proved program on a page.
+//! The command that draws: the answer of the verifier on a page.
 
 use crate::answer::{Answer, answer_of};
 use crate::command_line::Draw;
@@ -12,18 +12,18 @@ use pages::{Asides, Drawn, Fault, Verdict, Which, Words, malformed_page, memory_
 use std::panic::{AssertUnwindSafe, catch_unwind};
 use std::process::{ChildStdin, Command, Stdio};
 
-/// What the proved program said: its status, and its lines without the end of the last one.
+/// What the verifier said: its status, and its lines without the end of the last one.
 struct Said {
     status: Status,
     lines: String,
 }
 
-/// Runs the proved program, and hands its input to a function meanwhile.
+/// Runs the verifier, and hands its input to a function meanwhile.
 fn said_by(mut program: Command, give: impl FnOnce(ChildStdin)) -> Result<Said, Status> {
     let program = program.stdin(Stdio::piped()).stdout(Stdio::piped());
     let mut child = program.spawn().map_err(|error| {
-        say(format_args!("the proved program cannot be started: {error}"));
-        Status::NO_VERIFIER
+        say(format_args!("the verifier cannot be started: {error}"));
+        Status::BROKEN
     })?;
     if let Some(input) = child.stdin.take() {
         give(input);
@@ -165,7 +165,7 @@ fn drawn(command: &Draw) -> Result<Status, Status> {
     }
     let Some(page) = drawing.page(&lines) else {
         say(format_args!("there is no page on this answer: {lines}"));
-        return Err(Status::NO_VERIFIER);
+        return Err(Status::BROKEN);
     };
     put_out(&page)?;
     Ok(status)

@@ -1,7 +1,7 @@
 //! The command that writes evidence.
 
 use crate::command_line::Find;
-use crate::limit::{Limit, Progress};
+use crate::limit::{BETWEEN_LIMIT_CHECKS, Limit, Progress};
 use crate::program::{note, output_failed, say};
 use crate::status::Status;
 use finder::{
@@ -12,10 +12,6 @@ use std::fs::File;
 use std::io::{self, BufWriter, Read, Write};
 use std::sync::mpsc::{RecvTimeoutError, channel};
 use std::thread::Builder;
-use std::time::Duration;
-
-/// How often the limit is checked.
-const BETWEEN_LOOKS: Duration = Duration::from_millis(10);
 
 /// The result of reading a file, or why there is none. The file - is standard input.
 pub fn read_with<T>(path: &str, read: impl FnOnce(File) -> io::Result<T>) -> Result<T, Status> {
@@ -53,7 +49,7 @@ fn decisions_by(limit: Limit, history: History, command: &Find) -> Vec<Decision>
     let mut progress = Progress::new(limit, all, command.shows_progress);
     let mut decisions = Vec::with_capacity(all);
     while !limit.is_over() {
-        match decided.recv_timeout(BETWEEN_LOOKS) {
+        match decided.recv_timeout(BETWEEN_LIMIT_CHECKS) {
             Ok(decision) => decisions.push(decision),
             Err(RecvTimeoutError::Timeout) => {}
             Err(RecvTimeoutError::Disconnected) => break,
@@ -91,7 +87,7 @@ pub fn find(command: &Find) -> Status {
     }
 }
 
-/// Says for which objects the search for evidence failed. Whether there are some.
+/// Reports for which objects the search for evidence failed, and returns whether any did.
 pub fn say_failures(decisions: &[Decision]) -> bool {
     let failed = |it: &&Decision| matches!(it.evidence, Evidence::Open);
     let failures = decisions.iter().filter(failed);
@@ -102,7 +98,7 @@ pub fn say_failures(decisions: &[Decision]) -> bool {
 fn status_of(decisions: &[Decision], all: usize) -> Status {
     let is_order = |it: &Decision| matches!(it.evidence, Evidence::Order(_));
     if say_failures(decisions) {
-        Status::NO_VERIFIER
+        Status::BROKEN
     } else if decisions.len() == all && decisions.iter().all(is_order) {
         Status::YES
     } else {
@@ -120,7 +116,7 @@ mod tests {
         let order = || found(Evidence::Order(Vec::new()));
         assert_eq!(status_of(&[], 0), Status::YES);
         assert_eq!(status_of(&[order()], 1), Status::YES);
-        assert_eq!(status_of(&[order(), found(Evidence::Open)], 2), Status::NO_VERIFIER);
+        assert_eq!(status_of(&[order(), found(Evidence::Open)], 2), Status::BROKEN);
     }
 
     #[test]

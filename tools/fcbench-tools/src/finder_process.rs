@@ -1,7 +1,7 @@
 //! The finder as a process of its own: how it is started, heard, stopped at the limit, and ended.
 
 use crate::command_line::Find;
-use crate::limit::{Limit, PROGRESS};
+use crate::limit::{BETWEEN_LIMIT_CHECKS, Limit, PROGRESS};
 use crate::program::say;
 use crate::signals::send_sigterm;
 use crate::status::Status;
@@ -13,12 +13,10 @@ use std::sync::mpsc::{Receiver, RecvTimeoutError, Sender, channel};
 use std::thread::{self, Builder, JoinHandle};
 use std::time::{Duration, Instant};
 
-/// How often, when the answer is there, it is checked whether the finder has ended.
-const LOOKS: u32 = 100;
-const BETWEEN_LOOKS: Duration = Duration::from_millis(1);
-
-/// How often the limit is checked.
-const BETWEEN_LIMITS: Duration = Duration::from_millis(10);
+/// How often, when the answer is there, it is checked whether the finder has ended, and the time between
+/// two checks.
+const EXIT_CHECKS: u32 = 100;
+const BETWEEN_EXIT_CHECKS: Duration = Duration::from_millis(1);
 
 /// How long a finder that was asked to end may write what it has.
 const LAST_WORDS: Duration = Duration::from_secs(5);
@@ -38,7 +36,7 @@ pub fn finder(command: &Find) -> io::Result<Command> {
     if let Some(steps) = command.steps {
         finder.args(["--steps", &steps.to_string()]);
     }
-    // What is wrong with a history, the proved program says. Of another finder nothing else is known.
+    // What is wrong with a history, the verifier says. Of another finder nothing else is known.
     if is_own {
         finder.arg("--summary");
         if io::stderr().is_terminal() {
@@ -57,9 +55,9 @@ fn has_found(ended: ExitStatus) -> bool {
 
 /// How a finder ended, where it did so by itself: its output may be closed a moment before it ends.
 fn end_of(finder: &mut Child) -> Option<ExitStatus> {
-    (0..LOOKS).find_map(|look| {
+    (0..EXIT_CHECKS).find_map(|look| {
         if look > 0 {
-            thread::sleep(BETWEEN_LOOKS);
+            thread::sleep(BETWEEN_EXIT_CHECKS);
         }
         finder.try_wait().ok().flatten()
     })
@@ -83,7 +81,7 @@ fn end(finder: &mut Child, was_stopped: bool) {
 /// One that is heard says itself that it is stopped.
 fn stop_at_limit(finder: &mut Child, is_heard: bool, limit: Limit, answer: &Receiver<()>) {
     let mut stopped = None;
-    while answer.recv_timeout(BETWEEN_LIMITS) == Err(RecvTimeoutError::Timeout) {
+    while answer.recv_timeout(BETWEEN_LIMIT_CHECKS) == Err(RecvTimeoutError::Timeout) {
         match stopped {
             None if limit.is_over() && send_sigterm(finder) => {
                 if !is_heard {

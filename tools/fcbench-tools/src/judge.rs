@@ -1,6 +1,6 @@
-//! The command that judges. The finder and the proved program are two processes, joined by a pipe.
-//! The proved program reads the history while the finder works, and gives the answer and the
-//! status. Whatever becomes of the finder, no more follows from it than from the evidence that came.
+//! The command that judges. The finder and the verifier are two processes, joined by a pipe.
+//! The verifier reads the history while the finder works, and gives the answer and the
+//! status. If the finder dies, the verifier judges by the evidence written so far.
 
 use crate::answer::{Answer, answer_of};
 use crate::command_line::{Find, Judge};
@@ -34,30 +34,31 @@ impl Lines<'_> {
         let named = self.names.map(|names| with_names(names, &String::from_utf8_lossy(answer)));
         let lines = named.as_deref().map_or(answer, str::as_bytes);
         let mut out = io::stdout().lock();
-        match self.is_shortened {
-            true => copy_shortened(lines, &mut out)?,
-            false => out.write_all(lines)?,
+        if self.is_shortened {
+            copy_shortened(lines, &mut out)?;
+        } else {
+            out.write_all(lines)?;
         }
         out.flush()
     }
 }
 
 /// The answer to a judgement, if there is one, and what the finder said of the history.
-struct Judged {
+struct Judgement {
     answer: Result<Answer, Status>,
     summary: String,
 }
 
 /// Runs the two programs, the finder's output being the verifier's input. SIGTERM stops the finder
 /// alone, as the limit does: the verifier then judges by what came.
-fn run(mut verifier: Command, finder: io::Result<Command>, limit: Limit) -> Judged {
+fn run(mut verifier: Command, finder: io::Result<Command>, limit: Limit) -> Judgement {
     let verifier =
         ignore_sigterm(&mut verifier).stdin(Stdio::piped()).stdout(Stdio::piped()).spawn();
     let mut verifier = match verifier {
         Ok(verifier) => verifier,
         Err(error) => {
-            say(format_args!("the proved program cannot be started: {error}"));
-            return Judged { answer: Err(Status::NO_VERIFIER), summary: String::new() };
+            say(format_args!("the verifier cannot be started: {error}"));
+            return Judgement { answer: Err(Status::BROKEN), summary: String::new() };
         }
     };
     let evidence = verifier.stdin.take().map_or_else(Stdio::null, Stdio::from);
@@ -67,16 +68,13 @@ fn run(mut verifier: Command, finder: io::Result<Command>, limit: Limit) -> Judg
         say(format_args!("the finder cannot be started, so there is no evidence: {error}"));
     }
     let answer = answer_of(&mut verifier);
-    Judged { answer, summary: finder.map(Finder::end).unwrap_or_default() }
+    Judgement { answer, summary: finder.map(Finder::end).unwrap_or_default() }
 }
 
-/// Whether a warning is printed: that hardly any operations overlap only with a yes, which then says little; and of puts that
-/// tell nothing only without a yes, since a right store may get a no by them.
+/// Whether a warning is printed. Little overlap matters only with a yes; puts without replies only
+/// without one, since a right store may then get a no.
 fn warns(warning: &str, is_yes: bool) -> bool {
-    match is_yes {
-        true => !warning.contains(SILENT_PUTS),
-        false => !warning.contains(OVERLAP),
-    }
+    !warning.contains(if is_yes { SILENT_PUTS } else { OVERLAP })
 }
 
 /// Prints the summary of a history, if it is asked for, and what is suspicious in it in any case. On a terminal it
@@ -87,9 +85,8 @@ fn summarize(summary: &str, is_yes: bool, is_printed: bool) -> Result<(), Status
         return put_out(&lines().map(|line| format!("; {line}\n")).collect::<String>());
     }
     let is_shown = io::stderr().is_terminal();
-    let is_told = |line: &&str| match line.starts_with("warning: ") {
-        true => warns(line, is_yes),
-        false => is_shown,
+    let is_told = |line: &&str| {
+        if line.starts_with("warning: ") { warns(line, is_yes) } else { is_shown }
     };
     lines().filter(is_told).for_each(|line| say(format_args!("{line}")));
     Ok(())
@@ -112,13 +109,14 @@ fn options_of_import(text: &[u8]) -> Option<&'static str> {
 /// A path as a word of a shell.
 fn quoted(path: &str) -> String {
     let is_plain = |it: char| it.is_alphanumeric() || "/._-+=:,@%".contains(it);
-    match path.chars().all(is_plain) {
-        true => path.to_owned(),
-        false => format!("'{}'", path.replace('\'', "'\\''")),
+    if path.chars().all(is_plain) {
+        path.to_owned()
+    } else {
+        format!("'{}'", path.replace('\'', "'\\''"))
     }
 }
 
-/// Reads the beginning of a file or folder, and says why if that fails: the proved program says only that it does. Pipes and other files
+/// Reads the beginning of a file or folder, and says why if that fails: the verifier says only that it does. Pipes and other files
 /// are not read, since what is read here would be missing there.
 fn try_to_read(history: &str) -> Result<(), Status> {
     let is_other = fs::metadata(history).is_ok_and(|it| !it.is_file() && !it.is_dir());
@@ -160,7 +158,7 @@ fn explanation(history: &str, fault: Fault) -> Option<String> {
     Some(lines)
 }
 
-/// Explains a malformed history, of which these are the lines of the proved program.
+/// Explains a malformed history, of which these are the lines of the verifier.
 fn explain(history: &str, lines: &[u8]) -> Result<(), Status> {
     let first = String::from_utf8_lossy(lines.split(|it| *it == b'\n').next().unwrap_or_default());
     let Some(Verdict::Malformed(fault)) = Verdict::read(&first) else {
@@ -169,15 +167,15 @@ fn explain(history: &str, lines: &[u8]) -> Result<(), Status> {
     explanation(history, fault).map_or(Ok(()), |lines| put_out(&lines))
 }
 
-/// The judgement, with the status of the proved program, or that of what went wrong.
-fn judged(command: &Judge) -> Result<Status, Status> {
+/// The judgement, with the status of the verifier, or that of what went wrong.
+fn try_judge(command: &Judge) -> Result<Status, Status> {
     let limit = Limit::begin(command.find.seconds);
     let history = path_for_both(&command.find.history)?;
     try_to_read(&history)?;
     let names = command.names.as_deref().map(names_in).transpose()?;
     let find = Find { history, ..command.find.clone() };
     let verifier = verifier(&find.history, find.steps, find.workers);
-    let Judged { answer, summary } = run(verifier, finder(&find), limit);
+    let Judgement { answer, summary } = run(verifier, finder(&find), limit);
     let Answer { status, lines } = answer?;
     let is_shortened = io::stdout().is_terminal() && !command.shows_all;
     Lines { names: names.as_ref(), is_shortened }.write(&lines).map_err(output_failed)?;
@@ -187,9 +185,9 @@ fn judged(command: &Judge) -> Result<Status, Status> {
     Ok(status)
 }
 
-/// Judges a history: looks for evidence, and answers what the proved program makes of it.
+/// Judges a history: looks for evidence, and answers what the verifier makes of it.
 pub fn judge(command: &Judge) -> Status {
-    judged(command).unwrap_or_else(|status| status)
+    try_judge(command).unwrap_or_else(|status| status)
 }
 
 #[cfg(test)]
@@ -286,7 +284,7 @@ mod tests {
             assert_eq!(run_of(shell(verifier), finder(), None), Status::UNDECIDED);
         }
         let missing = Command::new("/not/there");
-        assert_eq!(run_of(missing, finder(), None), Status::NO_VERIFIER);
+        assert_eq!(run_of(missing, finder(), None), Status::BROKEN);
     }
 
     #[test]

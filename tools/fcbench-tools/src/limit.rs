@@ -4,6 +4,9 @@ use crate::program::note;
 use crate::signals::{catch_sigterm, got_sigterm};
 use std::time::{Duration, Instant};
 
+/// How often the limit is checked.
+pub const BETWEEN_LIMIT_CHECKS: Duration = Duration::from_millis(10);
+
 /// When the search for evidence began, and its most seconds, if they are given. SIGTERM ends it too.
 #[derive(Clone, Copy)]
 pub struct Limit {

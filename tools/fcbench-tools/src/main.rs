@@ -1,4 +1,4 @@
-//! Commands around the proved program `fcbench`, which alone decides what is true.
+//! Commands around the verifier, `fcbench`, which alone decides what is true.
 //!
 //! - `find HISTORY` writes evidence for a history: for each object an order of its operations, a
 //!   reason why there is none, or the search that is to decide.

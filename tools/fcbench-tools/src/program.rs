@@ -1,4 +1,4 @@
-//! The proved program.
+//! The verifier.
 
 use crate::status::Status;
 use std::env;
@@ -10,7 +10,7 @@ use std::process::Command;
 
 const NAME: &str = "fcbench";
 
-/// Where the proved program is: what the environment variable FCBENCH says, or else beside this
+/// Where the verifier is: what the environment variable FCBENCH says, or else beside this
 /// program, or else on the path.
 fn path() -> OsString {
     if let Some(path) = env::var_os("FCBENCH") {
@@ -20,7 +20,7 @@ fn path() -> OsString {
     beside.filter(|path| path.is_file()).map_or_else(|| NAME.into(), OsString::from)
 }
 
-/// The proved program with these words, and with a limit of steps where one is given.
+/// The verifier with these words, and with a limit of steps where one is given.
 pub fn proved(words: &[&str], steps: Option<u64>) -> Command {
     let mut command = Command::new(path());
     command.args(words);
@@ -45,7 +45,7 @@ pub fn path_for_both(history: &str) -> Result<String, Status> {
         return Err(Status::FAILED);
     }
     if history.starts_with('-') {
-        // Else the proved program takes it for an option.
+        // Else the verifier takes it for an option.
         return Ok(format!("./{history}"));
     }
     let is_open_file = history.starts_with("/dev/") || history.starts_with("/proc/");
@@ -53,7 +53,7 @@ pub fn path_for_both(history: &str) -> Result<String, Status> {
     Ok(path.and_then(|path| path.into_os_string().into_string().ok()).unwrap_or(history.into()))
 }
 
-/// Says that the output failed. The status of that.
+/// Reports that the output failed, and returns that status.
 pub fn output_failed(error: io::Error) -> Status {
     say(format_args!("the output failed: {error}"));
     Status::FAILED

@@ -17,9 +17,8 @@ impl Status {
     pub const FAILED: Status = Status(4);
     /// The command line is wrong.
     pub const USAGE: Status = Status(64);
-    /// The proved program could not be started, or there is no page on its answer; or the finder
-    /// failed.
-    pub const NO_VERIFIER: Status = Status(70);
+    /// The verifier could not be started, or the finder or the drawing failed.
+    pub const BROKEN: Status = Status(70);
 
     /// Whether a command that ends so has printed an answer: yes, no, malformed, or undecided.
     pub fn is_answer(self) -> bool {

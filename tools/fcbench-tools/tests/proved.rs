@@ -1,4 +1,4 @@
-//! `judge` and `draw` with a stand-in for the proved program, which answers by a table.
+//! `judge` and `draw` with a stand-in for the verifier, which answers by a table.
 
 use std::fs;
 use std::os::unix::fs::PermissionsExt;
