@@ -3,3 +3,8 @@ pub mod Renumbered
 pub mod Naming
 pub mod Deciding
 pub mod WorkedShards
+pub mod FewerMaps
+pub mod FewerForms
+pub mod FewerEvents
+pub mod WrittenShards
+pub mod DecidingTexts

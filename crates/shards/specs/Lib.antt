@@ -1,2 +1,4 @@
 pub mod Shards
 pub mod WorkedShards
+pub mod Forms
+pub mod ShardTexts

@@ -1,8 +1,11 @@
 //! A history in shards: each object is in one of them, and the whole is linearizable exactly where
-//! each shard is. Functions that do nothing, and whose contracts are theorems. They follow from
+//! each shard is; of events in memory, and of texts (`texts.rt`), also of a text that is longer than
+//! `judge` reads. Functions that do nothing, and whose contracts are theorems. They follow from
 //! locality: Herlihy and Wing, "Linearizability: A Correctness Condition for Concurrent Objects",
 //! TOPLAS 1990, section 3.
 #![tactic(auto)]
+
+mod texts;
 
 ghost use Rattle.std.specs.Prelude.{◌≡◌, ◌↔◌, ℕ, List};
 ghost use Rattle.events.specs.declared.event.Event.{Event};
@@ -10,6 +13,10 @@ ghost use Rattle.events.specs.Events.{IsNamed, IsProper};
 ghost use Rattle.shards.specs.Shards.{AreShards, DenoteLinearizable};
 ghost use Rattle.shards.specs.WorkedShards.{one_each, own_shard, shards_of_one_each};
 ghost use Rattle.shards.specs.WorkedShards.{shards_of_two_at_once, two_at_once};
+
+pub use texts::{
+    judged_shards_decide, shards_denote, shards_have_no_fault, texts_of_shards_decide,
+};
 
 /// The shards of a proper list of events are proper.
 pub fn shards_are_proper()

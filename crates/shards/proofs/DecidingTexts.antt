@@ -1,0 +1,155 @@
+-- What a split denotes: each shard denotes the events on its objects, renumbered; so the shards decide
+-- whether the whole is linearizable. A text denotes one list of forms only.
+use Rattle.std.proofs.Common.{◌≡◌, ℕ, ◌==◌, ◌⊎◌, inl, inr, Bool, List, [], map, filter, refl, sym, ◌∙◌, ap, subst}
+use Rattle.edn_reader.specs.Datum.{Datum}
+use Rattle.edn_reader.specs.Spells.{Spells}
+use Rattle.edn_reader.proofs.Progress.{one_reading_of}
+use Rattle.events.specs.declared.event.Event.{Event}
+use Rattle.events.specs.Events.{IsProper}
+use Rattle.history.specs.Denotes.{events_from}
+use Rattle.shards.specs.Shards.{AreRenumbered, AreShards, DenoteLinearizable, events_on}
+use Rattle.shards.proofs.Deciding.{decided_by_shards}
+use Rattle.judging.specs.Texts.{IsLinearizableText, IsNotLinearizableText}
+use Rattle.history.proofs.MapLimit.{at_any_length}
+use Rattle.history.proofs.TextReading.{nothing_faulty}
+use Rattle.history.proofs.Proper.{proper_events}
+use Rattle.events.specs.Events.{denoted, kind_at}
+use Rattle.events.proofs.WellFormed.{denoted_is_history}
+use Rattle.locality.proofs.OneKind.{named_kinds}
+use Rattle.edn_reader.proofs.Joined.{nothing_spelled}
+use Rattle.history.specs.Faults.{IsFaultlessAtAnyLength}
+use Rattle.history.proofs.Proper.{proper_at_any_length}
+use Rattle.shards.specs.Forms.{forms_on}
+use Rattle.shards.specs.ShardTexts.{SpelledMap, IsSplit, IsLinearizableAtAnyLength, IsShardOf, TextDenotes}
+use Rattle.shards.proofs.FewerForms.{faultless_on}
+use Rattle.shards.proofs.FewerEvents.{said_on}
+use Rattle.shards.proofs.WrittenShards.{shard_spells}
+
+-- the objects of a shard
+abbrev objects_of : (ℕ → ℕ) → ℕ → ℕ → Bool
+objects_of shard_of s x = shard_of x == s
+
+abbrev forms_of : {shard_of : ℕ → ℕ} {whole : List ℕ} {shards : ℕ → List ℕ} → IsSplit shard_of whole shards → List Datum
+forms_of h = map (λ (m : SpelledMap). m.form) h.maps
+
+module _ {shard_of : ℕ → ℕ} {whole : List ℕ} {shards : ℕ → List ℕ} (h : IsSplit shard_of whole shards) where
+
+  abbrev own_forms : ℕ → List Datum
+  own_forms s = forms_on (objects_of shard_of s) (forms_of h)
+
+  abbrev own_events : ℕ → List Event
+  own_events s = events_from 0 (own_forms s)
+
+  own_faultless : (s : ℕ) → IsFaultlessAtAnyLength (own_forms s)
+  own_faultless s = faultless_on (objects_of shard_of s) (forms_of h) h.faultless
+
+  own_spelled : (s : ℕ) → Spells (own_forms s) (shards s)
+  own_spelled s = subst (Spells (own_forms s)) (sym (h.texts s)) (shard_spells (objects_of shard_of s) h.maps h.each)
+
+  own_denoted : (s : ℕ) → TextDenotes (shards s) (own_events s)
+  own_denoted s = record {
+    forms = own_forms s;
+    spelled = own_spelled s;
+    denoted = record { faultless = own_faultless s; events = refl };
+  }
+
+  abbrev whole_events : List Event
+  whole_events = events_from 0 (forms_of h)
+
+  whole_denoted : TextDenotes whole whole_events
+  whole_denoted = record {
+    forms = forms_of h;
+    spelled = h.spelled;
+    denoted = record { faultless = h.faultless; events = refl };
+  }
+
+  are_shards : AreShards shard_of whole_events own_events
+  are_shards s = record {
+    same = said_on (objects_of shard_of s) (forms_of h) 0 0;
+    rising = (proper_at_any_length (own_forms s) (own_faultless s)).rising;
+  }
+
+  -- a text denotes what its one list of forms denotes
+  whole_is : (es : List Event) → TextDenotes whole es → es ≡ whole_events
+  whole_is es d = d.denoted.events ∙ ap (events_from 0) (one_reading_of d.forms (forms_of h) whole d.spelled h.spelled)
+
+  own_is : (s : ℕ) (es : List Event) → TextDenotes (shards s) es → es ≡ own_events s
+  own_is s es d =
+      d.denoted.events ∙ ap (events_from 0) (one_reading_of d.forms (own_forms s) (shards s) d.spelled (own_spelled s))
+
+  pub shard_is : (es : List Event) → TextDenotes whole es → (s : ℕ)
+      → IsShardOf (λ x. shard_of x == s) es (shards s)
+  shard_is es d s = record {
+    events = own_events s;
+    denoted = own_denoted s;
+    renumbered = subst (λ xs. AreRenumbered (events_on (objects_of shard_of s) xs) (own_events s)) (sym (whole_is es d))
+        (are_shards s);
+  }
+
+  pub shards_of_linearizable : IsLinearizableAtAnyLength whole
+      → (s : ℕ) → IsLinearizableAtAnyLength (shards s)
+  shards_of_linearizable l s = record {
+    events = own_events s;
+    denoted = own_denoted s;
+    linearizable = (decided_by_shards shard_of whole_events own_events
+        (proper_at_any_length (forms_of h) h.faultless) are_shards).0
+        (subst DenoteLinearizable (whole_is l.events l.denoted) l.linearizable) s;
+  }
+
+  pub linearizable_by_shards : ((s : ℕ) → IsLinearizableAtAnyLength (shards s))
+      → IsLinearizableAtAnyLength whole
+  linearizable_by_shards l = record {
+    events = whole_events;
+    denoted = whole_denoted;
+    linearizable = (decided_by_shards shard_of whole_events own_events
+        (proper_at_any_length (forms_of h) h.faultless) are_shards).1
+        (λ s. subst DenoteLinearizable (own_is s (l s).events (l s).denoted) (l s).linearizable);
+  }
+
+-- ---- what `judge` says of a shard
+
+-- what denotes a history within the limit denotes it at any length
+at_length : (text : List ℕ) → IsLinearizableText text → IsLinearizableAtAnyLength text
+at_length text l = record {
+  events = l.client_events;
+  denoted = record {
+    forms = l.history_text.forms;
+    spelled = l.history_text.spelled;
+    denoted = record {
+      faultless = at_any_length l.history_text.forms l.history_text.denoted.faultless;
+      events = l.history_text.denoted.events;
+    };
+  };
+  linearizable = l.linearizable;
+}
+
+nothing_linearizable : IsLinearizableAtAnyLength []
+nothing_linearizable = record {
+  events = [];
+  denoted = record {
+    forms = [];
+    spelled = nothing_spelled;
+    denoted = record { faultless = at_any_length [] nothing_faulty; events = refl };
+  };
+  linearizable = named_kinds (kind_at []) (denoted []) (denoted_is_history [] (proper_events [] nothing_faulty)) tt;
+}
+
+judged : (text : List ℕ) → (text ≡ []) ⊎ IsLinearizableText text → IsLinearizableAtAnyLength text
+judged text (inl e) = subst IsLinearizableAtAnyLength (sym e) nothing_linearizable
+judged text (inr l) = at_length text l
+
+pub linearizable_where_judged : (shard_of : ℕ → ℕ) (whole : List ℕ) (shards : ℕ → List ℕ) → IsSplit shard_of whole shards
+    → ((s : ℕ) → (shards s ≡ []) ⊎ IsLinearizableText (shards s)) → IsLinearizableAtAnyLength whole
+linearizable_where_judged shard_of whole shards h each = linearizable_by_shards h (λ s. judged (shards s) (each s))
+
+-- a text that denotes a history which is not linearizable denotes no other
+refuted : (text : List ℕ) → IsNotLinearizableText text → IsLinearizableAtAnyLength text → ⊥
+refuted text n l =
+    let same : l.denoted.forms ≡ n.history_text.forms =
+    one_reading_of l.denoted.forms n.history_text.forms text l.denoted.spelled n.history_text.spelled in
+    n.not_linearizable (subst DenoteLinearizable
+    (l.denoted.denoted.events ∙ (ap (events_from 0) same ∙ sym n.history_text.denoted.events)) l.linearizable)
+
+pub refuted_by_shard : (shard_of : ℕ → ℕ) (whole : List ℕ) (shards : ℕ → List ℕ) → IsSplit shard_of whole shards
+    → (s : ℕ) → IsNotLinearizableText (shards s) → IsLinearizableAtAnyLength whole → ⊥
+refuted_by_shard shard_of whole shards h s n l = refuted (shards s) n (shards_of_linearizable h l s)

@@ -1,0 +1,211 @@
+-- The maps on some objects have no fault where all maps have none. A process completes an operation on
+-- the object of its invocation, so the maps that are left out of a process are left out in pairs.
+use Rattle.std.proofs.Common.{◌≡◌, ◌≢◌, ℕ, ◌==◌, ◌⊎◌, inl, inr, Bool, true, false, cond, List, [], ◌∷◌, ◌++◌}
+use Rattle.std.proofs.Common.{find, filter, reverse, Option, Some, None, Contains, refl, ap, sym, ◌∙◌, subst, append_assoc}
+use Rattle.std.proofs.lemmas.Bool.{eqb-true, eqb-false, eq-eqb, cases_eq}
+use Rattle.std.proofs.lemmas.List.{append-nil, reverse-append}
+use Rattle.std.proofs.lemmas.List.Elements.{filter-append}
+use Rattle.std.proofs.lemmas.Option.{same_Some}
+use Rattle.model.proofs.Lists.{In, in_filter, in_filter_passes, in_from_contains, contains_from_in}
+use Rattle.history.specs.Maps.{ClientMap, MapType, invoke, ok, fail, info}
+use Rattle.history.specs.Faults.{last_map, IsOutstanding, IsClosed, IsOfOtherKind, Differs, ClientFault}
+use Rattle.history.specs.declared.fault.HistoryFaultKind.{HistoryFaultKind}
+use Rattle.history.specs.declared.fault.HistoryFaultKind.TheVariants.{NotAnOperation, UnknownF, BadValue, MixedKinds}
+use Rattle.history.specs.declared.fault.HistoryFaultKind.TheVariants.{Busy, Stray, Mismatch, AfterInfo, TooMany, NoMemory}
+use Rattle.history.proofs.FirstFaults.{last_stands}
+use Rattle.history.proofs.Noting.{last_push}
+
+-- the maps on these objects
+abbrev pub on : (ℕ → Bool) → List ClientMap → List ClientMap
+on has ms = filter (λ m. has m.object) ms
+
+-- no fault of a map after these
+abbrev pub IsFine : List ClientMap → ClientMap → Type 0
+IsFine earlier m = (kind : HistoryFaultKind) → ClientFault earlier m kind → ⊥
+
+-- no fault of these maps, one after another, after earlier ones
+abbrev pub AreFine : List ClientMap → List ClientMap → Type 0
+AreFine earlier [] = Unit {0}
+AreFine earlier (m ∷ ms) = IsFine earlier m × AreFine (earlier ++ m ∷ []) ms
+
+-- ---- the last map of a process
+
+-- What is outstanding among the maps on some objects is outstanding among all.
+abbrev IsOutstandingAmongAll : (ℕ → Bool) → List ClientMap → Type 0
+IsOutstandingAmongAll has earlier = (p : ℕ) (o : ClientMap) → IsOutstanding (on has earlier) p o → IsOutstanding earlier p o
+
+on_push : (has : ℕ → Bool) (earlier : List ClientMap) (m : ClientMap)
+    → on has (earlier ++ m ∷ []) ≡ on has earlier ++ cond (has m.object) (m ∷ []) []
+on_push has earlier m = filter-append (λ x. has x.object) earlier (m ∷ [])
+
+-- the object of what is outstanding is one of those
+kept_object : (has : ℕ → Bool) (earlier : List ClientMap) (p : ℕ) (o : ClientMap)
+    → last_map p (on has earlier) ≡ Some o → has o.object ≡ true
+kept_object has earlier p o last =
+    in_filter_passes (λ m. has m.object) o earlier (in_from_contains (on has earlier) o (last_stands p (on has earlier) o last).0)
+
+one_object : (o m : ClientMap) → (Differs o m → ⊥) → o.object ≡ m.object
+one_object o m same = elim (cases_eq o.object m.object) [ inl e ↦ e | inr ne ↦ absurd (same (inr ne)) ]
+
+-- of a process with an outstanding operation, the next map completes it
+next_object : (earlier : List ClientMap) (m o : ClientMap) → IsFine earlier m → IsOutstanding earlier m.process o
+    → o.object ≡ m.object
+next_object earlier m o fine out = go m.type refl
+  where
+    completes : m.type ≢ invoke → o.object ≡ m.object
+    completes ne = one_object o m (λ d. fine Mismatch (ne, o, out, d))
+
+    go : (t : MapType) → m.type ≡ t → o.object ≡ m.object
+    go invoke q = absurd (fine Busy (q, o, out))
+    go ok q = completes (λ e. let x : ok ≡ invoke = sym q ∙ e in cc x)
+    go fail q = completes (λ e. let x : fail ≡ invoke = sym q ∙ e in cc x)
+    go info q = completes (λ e. let x : info ≡ invoke = sym q ∙ e in cc x)
+
+outstanding_push : (has : ℕ → Bool) (earlier : List ClientMap) (m : ClientMap) → IsFine earlier m
+    → IsOutstandingAmongAll has earlier → IsOutstandingAmongAll has (earlier ++ m ∷ [])
+outstanding_push has earlier m fine h p o out = go (has m.object) refl (m.process == p) refl
+  where
+    last : (b : Bool) → has m.object ≡ b → last_map p (on has earlier ++ cond b (m ∷ []) []) ≡ Some o
+    last b q = subst (λ c. last_map p (on has earlier ++ cond c (m ∷ []) []) ≡ Some o) q
+        (subst (λ ms. last_map p ms ≡ Some o) (on_push has earlier m) out.last)
+
+    among : last_map p earlier ≡ Some o → (m.process == p) ≡ false → IsOutstanding (earlier ++ m ∷ []) p o
+    among was q = record {
+      last = last_push p earlier m ∙ (ap (λ b. cond b (Some m) (last_map p earlier)) q ∙ was);
+      invoked = out.invoked;
+    }
+
+    before : last_map p (on has earlier) ≡ Some o → last_map p earlier ≡ Some o
+    before was = (h p o (record { last = was; invoked = out.invoked })).last
+
+    go : (b : Bool) → has m.object ≡ b → (c : Bool) → (m.process == p) ≡ c → IsOutstanding (earlier ++ m ∷ []) p o
+    go true q true r =
+        let was = last true q in
+        record {
+          last = last_push p earlier m ∙ (ap (λ c. cond c (Some m) (last_map p earlier)) r
+              ∙ (sym (last_push p (on has earlier) m ∙ ap (λ c. cond c (Some m) (last_map p (on has earlier))) r) ∙ was));
+          invoked = out.invoked;
+        }
+    go true q false r =
+        among (before (sym (last_push p (on has earlier) m ∙ ap (λ c. cond c (Some m) (last_map p (on has earlier))) r)
+        ∙ last true q)) r
+    go false q true r =
+        let was : last_map p (on has earlier) ≡ Some o = subst (λ ms. last_map p ms ≡ Some o) (append-nil (on has earlier)) (last false q) in
+        let own : m.process ≡ p = eqb-true m.process p r in
+        let whole = h p o (record { last = was; invoked = out.invoked }) in
+        let same : o.object ≡ m.object = next_object earlier m o fine (subst (λ n. IsOutstanding earlier n o) (sym own) whole) in
+        let kept : has o.object ≡ true = kept_object has earlier p o was in
+        absurd (let t : true ≡ false = sym kept ∙ (ap has same ∙ q) in cc t)
+    go false q false r =
+        among (before (subst (λ ms. last_map p ms ≡ Some o) (append-nil (on has earlier)) (last false q))) r
+
+-- the last map of a process, where its object is one of those, is the last one on them
+last_kept : (has : ℕ → Bool) (p : ℕ) (ms : List ClientMap) (o : ClientMap)
+    → find (λ m. m.process == p) ms ≡ Some o → has o.object ≡ true → find (λ m. m.process == p) (on has ms) ≡ Some o
+last_kept has p [] o q k = q
+last_kept has p (m ∷ ms) o q k = go (m.process == p) refl q (λ s. last_kept has p ms o s k)
+  where
+    go : (b : Bool) → (m.process == p) ≡ b → cond b (Some m) (find (λ m. m.process == p) ms) ≡ Some o
+        → (find (λ m. m.process == p) ms ≡ Some o → find (λ m. m.process == p) (on has ms) ≡ Some o)
+        → find (λ m. m.process == p) (cond (has m.object) (m ∷ on has ms) (on has ms)) ≡ Some o
+    go true r s rest =
+        let same : m ≡ o = same_Some m o s in
+        let kept : has m.object ≡ true = ap (λ (x : ClientMap). has x.object) same ∙ k in
+        ap (λ b. find (λ m. m.process == p) (cond b (m ∷ on has ms) (on has ms))) kept
+        ∙ (ap (λ b. cond b (Some m) (find (λ m. m.process == p) (on has ms))) r ∙ s)
+    go false r s rest = elim (has m.object) as (λ b. find (λ m. m.process == p) (cond b (m ∷ on has ms) (on has ms)) ≡ Some o) [
+      | true ↦ ap (λ b. cond b (Some m) (find (λ m. m.process == p) (on has ms))) r ∙ rest s
+      | false ↦ rest s
+    ]
+
+reverse_on : (has : ℕ → Bool) (ms : List ClientMap) → reverse (on has ms) ≡ on has (reverse ms)
+reverse_on has [] = refl
+reverse_on has (m ∷ ms) = go (has m.object) refl (reverse_on has ms)
+  where
+    right : on has (reverse (m ∷ ms)) ≡ on has (reverse ms) ++ cond (has m.object) (m ∷ []) []
+    right = ap (on has) (reverse-append (m ∷ []) ms) ∙ filter-append (λ x. has x.object) (reverse ms) (m ∷ [])
+
+    go : (b : Bool) → has m.object ≡ b → reverse (on has ms) ≡ on has (reverse ms)
+        → reverse (on has (m ∷ ms)) ≡ on has (reverse (m ∷ ms))
+    go true q rest =
+        ap (λ b. reverse (cond b (m ∷ on has ms) (on has ms))) q
+        ∙ (reverse-append (m ∷ []) (on has ms)
+        ∙ (ap (λ xs. xs ++ m ∷ []) rest
+        ∙ sym (right ∙ ap (λ b. on has (reverse ms) ++ cond b (m ∷ []) []) q)))
+    go false q rest =
+        ap (λ b. reverse (cond b (m ∷ on has ms) (on has ms))) q
+        ∙ (rest
+        ∙ sym (right ∙ (ap (λ b. on has (reverse ms) ++ cond b (m ∷ []) []) q ∙ append-nil (on has (reverse ms)))))
+
+outstanding_on : (has : ℕ → Bool) (earlier : List ClientMap) (p : ℕ) (o : ClientMap) → IsOutstanding earlier p o
+    → has o.object ≡ true → IsOutstanding (on has earlier) p o
+outstanding_on has earlier p o out k = record {
+  last = ap (find (λ m. m.process == p)) (reverse_on has earlier) ∙ last_kept has p (reverse earlier) o out.last k;
+  invoked = out.invoked;
+}
+
+-- ---- one map
+
+contains_all : (has : ℕ → Bool) (earlier : List ClientMap) (m : ClientMap) → Contains (on has earlier) m → Contains earlier m
+contains_all has earlier m h =
+    contains_from_in earlier m (in_filter (λ x. has x.object) m earlier (in_from_contains (on has earlier) m h))
+
+closed_all : (has : ℕ → Bool) (earlier : List ClientMap) (p : ℕ) → IsClosed (on has earlier) p → IsClosed earlier p
+closed_all has earlier p c = record {
+  map = c.map;
+  stands = contains_all has earlier c.map c.stands;
+  of_process = c.of_process;
+  unknown = c.unknown;
+}
+
+pub fine_on : (has : ℕ → Bool) (earlier : List ClientMap) (m : ClientMap) → IsOutstandingAmongAll has earlier
+    → IsFine earlier m → has m.object ≡ true → IsFine (on has earlier) m
+fine_on has earlier m among fine kept = go
+  where
+    go : (kind : HistoryFaultKind) → ClientFault (on has earlier) m kind → ⊥
+    go NotAnOperation f = f
+    go UnknownF f = fine UnknownF f
+    go BadValue f = fine BadValue f
+    go MixedKinds f = fine MixedKinds (record {
+      other = f.other;
+      stands = contains_all has earlier f.other f.stands;
+      same_object = f.same_object;
+      known = f.known;
+      other_known = f.other_known;
+      is_known = f.is_known;
+      other_is_known = f.other_is_known;
+      apart = f.apart;
+    })
+    go Busy f = fine Busy (f.0, f.1, among m.process f.1 f.2)
+    go Stray f = fine Stray (
+      f.0,
+      λ c. fine AfterInfo c,
+      λ o out. f.2 o (outstanding_on has earlier m.process o out
+          (ap has (next_object earlier m o fine out) ∙ kept)),
+    )
+    go Mismatch f = fine Mismatch (f.0, f.1, among m.process f.1 f.2, f.3)
+    go AfterInfo f = fine AfterInfo (closed_all has earlier m.process f)
+    go TooMany f = f
+    go NoMemory f = f
+
+-- ---- maps one after another
+
+-- the maps so far, of which no process completes elsewhere, and more maps
+pub are_fine_on : (has : ℕ → Bool) (earlier ms : List ClientMap) → IsOutstandingAmongAll has earlier
+    → AreFine earlier ms → AreFine (on has earlier) (on has ms)
+are_fine_on has earlier [] among fine = tt
+are_fine_on has earlier (m ∷ ms) among fine =
+    go (has m.object) refl
+    (are_fine_on has (earlier ++ m ∷ []) ms (outstanding_push has earlier m fine.0 among) fine.1)
+  where
+    go : (b : Bool) → has m.object ≡ b → AreFine (on has (earlier ++ m ∷ [])) (on has ms)
+        → AreFine (on has earlier) (cond b (m ∷ on has ms) (on has ms))
+    go true q rest = (
+      fine_on has earlier m among fine.0 q,
+      subst (λ xs. AreFine xs (on has ms)) (on_push has earlier m ∙ ap (λ b. on has earlier ++ cond b (m ∷ []) []) q) rest,
+    )
+    go false q rest = subst (λ xs. AreFine xs (on has ms))
+        (on_push has earlier m ∙ (ap (λ b. on has earlier ++ cond b (m ∷ []) []) q ∙ append-nil (on has earlier))) rest
+
+pub nothing_outstanding : (has : ℕ → Bool) → IsOutstandingAmongAll has []
+nothing_outstanding has p o out = let q = out.last in absurd (cc q)
