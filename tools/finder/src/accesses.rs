@@ -1,21 +1,12 @@
-//! What each call of a register or map asks of one cell, and what it leaves there. A register is
-//! one cell, and a map has one for each key. A cell contains a value or nothing, and is empty at
-//! first.
+//! What each call of an object that has cells asks of one cell, and what it leaves there.
 
-use crate::model::{Op, Reply};
+use crate::kinds::Effect;
+pub use crate::kinds::Need;
 use crate::splitmix::NumberTable;
 use crate::timeline::Call;
 
 /// The number of the content of an empty cell.
 pub const NOTHING: usize = 0;
-
-/// What a call asks of what the cell contains before it.
-#[derive(Clone, Copy, PartialEq, Eq)]
-pub enum Need<C> {
-    Any,
-    Is(C),
-    IsNot(C),
-}
 
 /// A call on one cell. Contents are told by their numbers in the cell. What sets the content that
 /// it asks for sets nothing.
@@ -33,30 +24,6 @@ impl Access {
             (Some(content), _) | (None, Need::Is(content)) => Some(content),
             _ => None,
         }
-    }
-}
-
-/// What a call of a register or map asks and leaves, in values.
-struct Effect {
-    need: Need<Option<i64>>,
-    sets: Option<Option<i64>>,
-}
-
-impl Effect {
-    /// `None`: the call only looks at the cell, and has not returned.
-    fn of(call: &Call) -> Option<Effect> {
-        let (need, sets) = match (call.op, call.reply) {
-            (Op::Write(new), _) => (Need::Any, Some(Some(new))),
-            (Op::Read | Op::Get(_), Some(Reply::Value(held))) => (Need::Is(held), None),
-            (Op::Cas(expected, _), Some(Reply::NotSwapped)) => (Need::IsNot(Some(expected)), None),
-            (Op::Cas(expected, new), _) => (Need::Is(Some(expected)), Some(Some(new))),
-            (Op::Put(_, new), Some(Reply::Value(held))) => (Need::Is(held), Some(Some(new))),
-            (Op::Put(_, new), _) => (Need::Any, Some(Some(new))),
-            (Op::Del(_), Some(Reply::Value(held))) => (Need::Is(held), Some(None)),
-            (Op::Del(_), _) => (Need::Any, Some(None)),
-            _ => return None,
-        };
-        Some(Effect { need, sets })
     }
 }
 
@@ -115,7 +82,7 @@ pub fn cells_of(calls: &[Call]) -> Vec<Cell> {
     let mut cells: Vec<Cell> = Vec::new();
     let mut places = NumberTable::default();
     for call in calls {
-        let Some(effect) = Effect::of(call) else {
+        let Some(effect) = call.op.effect(call.reply) else {
             continue;
         };
         let key = call.op.key();

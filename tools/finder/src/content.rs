@@ -1,22 +1,17 @@
 //! What an object contains, with operations that can be undone, for a search that goes forth and
 //! back.
 
-use crate::model::{Kind, Op, Reply};
-use std::collections::{BTreeMap, VecDeque};
+use crate::kinds::{Bag, Cells, Does, Family, Kind, Op, Reply};
+use std::collections::BTreeMap;
 
-/// What an object contains.
+/// What an object contains, by the family of its kind.
 #[derive(Clone, PartialEq, Eq)]
 pub enum Content {
-    /// From the first value to go out on.
-    Queue(VecDeque<i64>),
-    /// From the bottom on.
-    Stack(Vec<i64>),
-    /// How often each value is in.
-    Heap(BTreeMap<i64, usize>),
-    Register(Option<i64>),
-    Map(BTreeMap<i64, i64>),
+    Values(Bag<i64>),
+    Cell(Option<i64>),
+    Cells(BTreeMap<i64, i64>),
     /// Whether it is held.
-    Mutex(bool),
+    Token(bool),
 }
 
 /// What brings back the content before an operation.
@@ -33,175 +28,123 @@ pub enum Undo {
     SetHeld(bool),
 }
 
-fn put_copy(copies: &mut BTreeMap<i64, usize>, value: i64) {
-    *copies.entry(value).or_insert(0) += 1;
-}
-
-fn take_copy(copies: &mut BTreeMap<i64, usize>, value: i64) {
-    if let Some(count) = copies.get_mut(&value) {
-        *count -= 1;
-        if *count == 0 {
-            copies.remove(&value);
+fn apply_to_values(values: &mut Bag<i64>, op: Op) -> Option<(Reply, Undo)> {
+    match op.function.does {
+        Does::Puts => {
+            let value = op.puts()?;
+            values.put(value);
+            Some((Reply::Value(Some(value)), Undo::Take(value)))
         }
+        Does::Takes => {
+            let taken = values.take();
+            Some((Reply::Value(taken), taken.map_or(Undo::Nothing, Undo::PutBack)))
+        }
+        Does::Accesses(_) | Does::Acquires | Does::Releases => None,
     }
 }
 
-/// The values of a heap, rising.
-fn expanded(copies: &BTreeMap<i64, usize>) -> impl Iterator<Item = i64> {
-    copies.iter().flat_map(|(value, count)| std::iter::repeat_n(*value, *count))
-}
-
-fn put(value: i64) -> (Reply, Undo) {
-    (Reply::Value(Some(value)), Undo::Take(value))
-}
-
-fn taken(value: Option<i64>) -> (Reply, Undo) {
-    (Reply::Value(value), value.map_or(Undo::Nothing, Undo::PutBack))
+fn set_key(cells: &mut BTreeMap<i64, i64>, key: i64, content: Option<i64>) {
+    match content {
+        Some(value) => cells.insert(key, value),
+        None => cells.remove(&key),
+    };
 }
 
 impl Content {
     pub fn empty(kind: Kind) -> Content {
-        match kind {
-            Kind::Queue => Content::Queue(VecDeque::new()),
-            Kind::Stack => Content::Stack(Vec::new()),
-            Kind::Heap => Content::Heap(BTreeMap::new()),
-            Kind::Register => Content::Register(None),
-            Kind::Map => Content::Map(BTreeMap::new()),
-            Kind::Mutex => Content::Mutex(false),
+        match &kind.family {
+            Family::Container(container) => Content::Values(Bag::empty(container.gives)),
+            Family::Cells(Cells { has_keys: false, .. }) => Content::Cell(None),
+            Family::Cells(Cells { has_keys: true, .. }) => Content::Cells(BTreeMap::new()),
+            Family::Token(_) => Content::Token(false),
         }
     }
 
     /// Does the operation. `None`: it is not possible, and nothing is done.
     pub fn apply(&mut self, op: Op) -> Option<(Reply, Undo)> {
-        Some(match (self, op) {
-            (Content::Queue(values), Op::Enqueue(v)) => {
-                values.push_back(v);
-                put(v)
+        match self {
+            Content::Values(values) => apply_to_values(values, op),
+            Content::Cell(content) => {
+                let before = *content;
+                let (reply, after) = op.next(before)?;
+                *content = after;
+                Some((reply, Undo::Set(before)))
             }
-            (Content::Queue(values), Op::Dequeue) => taken(values.pop_front()),
-            (Content::Stack(values), Op::Push(v)) => {
-                values.push(v);
-                put(v)
-            }
-            (Content::Stack(values), Op::Pop) => taken(values.pop()),
-            (Content::Heap(copies), Op::Insert(v)) => {
-                put_copy(copies, v);
-                put(v)
-            }
-            (Content::Heap(copies), Op::ExtractMin) => {
-                let least = copies.keys().next().copied();
-                if let Some(v) = least {
-                    take_copy(copies, v);
+            Content::Cells(cells) => {
+                let key = op.key()?;
+                let before = cells.get(&key).copied();
+                let (reply, after) = op.next(before)?;
+                if before == after {
+                    return Some((reply, Undo::Nothing));
                 }
-                taken(least)
+                set_key(cells, key, after);
+                Some((reply, Undo::SetKey(key, before)))
             }
-            (Content::Register(value), op) => apply_to_register(value, op)?,
-            (Content::Map(map), op) => apply_to_map(map, op)?,
-            (Content::Mutex(held), Op::Acquire | Op::Release) if *held == (op == Op::Release) => {
+            Content::Token(held) => {
                 let before = *held;
-                *held = !before;
-                (Reply::Value(None), Undo::SetHeld(before))
+                *held = op.holds().filter(|holds| *holds != before)?;
+                Some((Reply::Value(None), Undo::SetHeld(before)))
             }
-            _ => return None,
-        })
+        }
     }
 
     /// Undoes what the last operation did that is not undone.
     pub fn undo(&mut self, undo: Undo) {
         match (self, undo) {
-            (Content::Queue(values), Undo::Take(_)) => {
-                values.pop_back();
-            }
-            (Content::Queue(values), Undo::PutBack(v)) => values.push_front(v),
-            (Content::Stack(values), Undo::Take(_)) => {
-                values.pop();
-            }
-            (Content::Stack(values), Undo::PutBack(v)) => values.push(v),
-            (Content::Heap(copies), Undo::Take(v)) => take_copy(copies, v),
-            (Content::Heap(copies), Undo::PutBack(v)) => put_copy(copies, v),
-            (Content::Register(value), Undo::Set(before)) => *value = before,
-            (Content::Map(map), Undo::SetKey(key, Some(before))) => {
-                map.insert(key, before);
-            }
-            (Content::Map(map), Undo::SetKey(key, None)) => {
-                map.remove(&key);
-            }
-            (Content::Mutex(held), Undo::SetHeld(before)) => *held = before,
-            _ => {}
+            (Content::Values(values), Undo::Take(value)) => values.undo_put(value),
+            (Content::Values(values), Undo::PutBack(value)) => values.undo_take(value),
+            (Content::Cell(content), Undo::Set(before)) => *content = before,
+            (Content::Cells(cells), Undo::SetKey(key, before)) => set_key(cells, key, before),
+            (Content::Token(held), Undo::SetHeld(before)) => *held = before,
+            // What undoes nothing, or is of another content.
+            (Content::Values(_) | Content::Cell(_) | Content::Cells(_) | Content::Token(_), _) => {}
         }
     }
-}
-
-fn apply_to_register(value: &mut Option<i64>, op: Op) -> Option<(Reply, Undo)> {
-    let before = *value;
-    Some(match op {
-        Op::Write(v) => {
-            *value = Some(v);
-            (Reply::Value(*value), Undo::Set(before))
-        }
-        Op::Read => (Reply::Value(before), Undo::Nothing),
-        Op::Cas(expected, new) if before == Some(expected) => {
-            *value = Some(new);
-            (Reply::Swapped(expected, new), Undo::Set(before))
-        }
-        Op::Cas(..) => (Reply::NotSwapped, Undo::Nothing),
-        _ => return None,
-    })
-}
-
-fn apply_to_map(map: &mut BTreeMap<i64, i64>, op: Op) -> Option<(Reply, Undo)> {
-    let (key, before) = match op {
-        Op::Put(key, value) => (key, map.insert(key, value)),
-        Op::Get(key) => return Some((Reply::Value(map.get(&key).copied()), Undo::Nothing)),
-        Op::Del(key) => (key, map.remove(&key)),
-        _ => return None,
-    };
-    Some((Reply::Value(before), Undo::SetKey(key, before)))
 }
 
 /// A content that is kept to compare with.
 pub enum Kept {
-    /// The values of a queue, stack or heap, in four bytes each where all are small.
+    /// The values of a container, in four bytes each where all are small.
     Small(Box<[i32]>),
     Whole(Content),
 }
 
+/// The values, if all are small.
+fn small_values(bag: &Bag<i64>) -> Option<Box<[i32]>> {
+    let mut small = Vec::with_capacity(bag.len());
+    let are_small = bag.all(|value| i32::try_from(value).map(|it| small.push(it)).is_ok());
+    are_small.then(|| small.into_boxed_slice())
+}
+
 impl Kept {
     pub fn of(content: &Content) -> Kept {
-        let small = |v: i64| i32::try_from(v).ok();
-        let values: Option<Box<[i32]>> = match content {
-            Content::Queue(values) => values.iter().copied().map(small).collect(),
-            Content::Stack(values) => values.iter().copied().map(small).collect(),
-            Content::Heap(copies) => expanded(copies).map(small).collect(),
-            _ => None,
+        let small = match content {
+            Content::Values(values) => small_values(values),
+            Content::Cell(_) | Content::Cells(_) | Content::Token(_) => None,
         };
-        values.map_or_else(|| Kept::Whole(content.clone()), Kept::Small)
+        small.map_or_else(|| Kept::Whole(content.clone()), Kept::Small)
     }
 
     /// Whether this is the content.
     pub fn is(&self, content: &Content) -> bool {
-        let small = match self {
-            Kept::Small(small) => small.iter().copied().map(i64::from),
-            Kept::Whole(kept) => return kept == content,
-        };
-        match content {
-            Content::Queue(values) => small.eq(values.iter().copied()),
-            Content::Stack(values) => small.eq(values.iter().copied()),
-            Content::Heap(copies) => small.eq(expanded(copies)),
-            _ => false,
+        match (self, content) {
+            (Kept::Whole(kept), content) => kept == content,
+            (Kept::Small(small), Content::Values(values)) => {
+                let mut small = small.iter().copied().map(i64::from);
+                values.all(|value| small.next() == Some(value)) && small.next().is_none()
+            }
+            (Kept::Small(_), Content::Cell(_) | Content::Cells(_) | Content::Token(_)) => false,
         }
     }
 
-    /// How many bytes it takes at most, where a map has at most this many keys: a key is in a tree
+    /// How many bytes it takes at most, where there are at most this many keys: a key is in a tree
     /// whose nodes may be half full.
     pub fn bytes(&self, keys: usize) -> usize {
         match self {
             Kept::Small(values) => values.len() * 4,
-            Kept::Whole(Content::Queue(values)) => values.len() * 16,
-            Kept::Whole(Content::Stack(values)) => values.len() * 16,
-            Kept::Whole(Content::Heap(copies)) => copies.values().sum::<usize>() * 16,
-            Kept::Whole(Content::Map(_)) => keys * 64,
-            Kept::Whole(Content::Register(_) | Content::Mutex(_)) => 0,
+            Kept::Whole(Content::Values(values)) => values.len() * 16,
+            Kept::Whole(Content::Cells(_)) => keys * 64,
+            Kept::Whole(Content::Cell(_) | Content::Token(_)) => 0,
         }
     }
 }
@@ -209,26 +152,24 @@ impl Kept {
 #[cfg(test)]
 mod tests {
     use super::*;
+    use crate::small::op;
 
     #[test]
     fn operations_are_undone() {
-        let ops = [
-            (
-                Kind::Queue,
-                vec![Op::Enqueue(1), Op::Enqueue(2), Op::Dequeue, Op::Dequeue, Op::Dequeue],
-            ),
-            (Kind::Stack, vec![Op::Push(1), Op::Push(2), Op::Pop, Op::Pop, Op::Pop]),
-            (Kind::Heap, vec![Op::Insert(2), Op::Insert(1), Op::Insert(2), Op::ExtractMin]),
-            (Kind::Register, vec![Op::Write(1), Op::Cas(1, 2), Op::Cas(1, 3), Op::Read]),
-            (Kind::Map, vec![Op::Put(1, 2), Op::Put(1, 3), Op::Get(1), Op::Del(1), Op::Del(1)]),
-            (Kind::Mutex, vec![Op::Acquire, Op::Release]),
-        ];
-        for (kind, ops) in ops {
+        for ops in [
+            &["enqueue 1", "enqueue 2", "dequeue", "dequeue", "dequeue"][..],
+            &["push 1", "push 2", "pop", "pop", "pop"],
+            &["insert 2", "insert 1", "insert 2", "extract-min"],
+            &["write 1", "cas 1 2", "cas 1 3", "read"],
+            &["put 1 2", "put 1 3", "get 1", "del 1", "del 1"],
+            &["acquire", "release"],
+        ] {
+            let kind = op(ops[0]).kind();
             let mut content = Content::empty(kind);
             let mut before = Vec::new();
-            for op in ops {
+            for text in ops {
                 let kept = Kept::of(&content);
-                let (_, undo) = content.apply(op).expect("a possible operation");
+                let (_, undo) = content.apply(op(text)).expect("a possible operation");
                 before.push((kept, undo));
             }
             for (kept, undo) in before.into_iter().rev() {
@@ -241,8 +182,8 @@ mod tests {
 
     #[test]
     fn a_held_mutex_cannot_be_acquired() {
-        let mut mutex = Content::Mutex(true);
-        assert!(mutex.apply(Op::Acquire).is_none());
-        assert!(mutex == Content::Mutex(true));
+        let mut mutex = Content::Token(true);
+        assert!(mutex.apply(op("acquire")).is_none());
+        assert!(mutex == Content::Token(true));
     }
 }

@@ -147,8 +147,8 @@ mod tests {
     use crate::content::Content;
     use crate::cuts::{Cut, part_by};
     use crate::history::Invocation;
-    use crate::model::Kind;
-    use crate::small::{Random, has_order};
+    use crate::kinds::KINDS;
+    use crate::small::{Random, containers, has_order};
 
     fn has_some_order(history: &ObjectHistory) -> bool {
         let calls = history.ops.iter().filter(|o| !o.has_failed());
@@ -186,9 +186,8 @@ mod tests {
     #[test]
     fn what_is_found_of_small_histories_is_so() {
         let mut random = Random::new(0x2545_f491_4f6c_dd1d);
-        let kinds = [Kind::Queue, Kind::Stack, Kind::Heap, Kind::Register, Kind::Map, Kind::Mutex];
         let mut found = [0; 2];
-        for kind in kinds {
+        for kind in KINDS.iter().copied() {
             for _ in 0..2_000 {
                 let history = random.history(kind);
                 let has_order = has_order_as_found(&history);
@@ -204,7 +203,7 @@ mod tests {
     fn what_is_found_of_small_crashes_is_so() {
         let mut random = Random::new(0x9e37_79b9_7f4a_7c15);
         let mut found = [0; 2];
-        for kind in [Kind::Queue, Kind::Stack, Kind::Heap] {
+        for kind in containers() {
             for _ in 0..1_000 {
                 found[usize::from(has_order_as_found(&random.crash(kind)))] += 1;
             }

@@ -20,9 +20,9 @@ mod decide;
 mod evidence;
 mod first;
 mod history;
+mod kinds;
 mod lexer;
 mod maps;
-mod model;
 mod orders;
 mod reader;
 mod reasons;
@@ -40,8 +40,12 @@ pub use cuts::{Count, Counted, Cut, Values, part_by};
 pub use decide::{Options, decide, decide_each};
 pub use evidence::{Decision, Evidence};
 pub use history::{End, History, Invocation, Nemesis, ObjectHistory, Run};
+pub use kinds::{
+    Access, Bag, Cells, Container, Does, Effect, FUNCTION_COUNT, Family, Function, Gives, KINDS,
+    Kind, Need, OfNothing, Op, Reply, Room, Shape, Value, Words, function, function_names,
+    functions, kind, setting,
+};
 pub use lexer::{Lexer, Token, TokenKind, ends_word};
-pub use model::{Kind, Op, Reply, Value};
 pub use reader::{LONGEST, read_history, read_history_from};
 pub use reasons::{
     Beginning, Facts, FirstEvent, FoundReason, Lost, LostValue, Pattern, Search, Sentence, Shown,

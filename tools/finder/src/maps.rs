@@ -1,8 +1,8 @@
 //! The maps of a text, and what each says. It is lenient on the EDN: it looks at no character past
 //! ASCII, and not for repeated keys. Which fault a text has is for the proved program to say.
 
+use crate::kinds::{self, Function, Value};
 use crate::lexer::{Lexer, Token, TokenKind};
-use crate::model::{Function, Value};
 use crate::usual::usual_event;
 
 /// How many brackets may be open at once.
@@ -137,7 +137,7 @@ impl EventType {
 pub struct Event {
     pub process: i64,
     pub of_type: EventType,
-    pub function: Function,
+    pub function: &'static Function,
     /// None where it is no value of an operation.
     pub value: Option<Value>,
     pub object: u32,
@@ -210,7 +210,7 @@ impl<'a> Fields<'a> {
             Some(Element::Plain(value)) => Some(value),
             Some(_) => None,
         };
-        let (of_type, function) = (EventType::named(of_type)?, Function::named(function)?);
+        let (of_type, function) = (EventType::named(of_type)?, kinds::function(function)?);
         Some(Event { process, of_type, function, value, object: u32::try_from(object).ok()? })
     }
 }

@@ -3,8 +3,8 @@
 //! one thread adds those of the pieces before to the history.
 
 use crate::history::{End, History, Invocation, Nemesis, ObjectHistory, Run};
+use crate::kinds::Kind;
 use crate::maps::{Event, EventType, Map, each_map, is_blank};
-use crate::model::{Kind, Op};
 use crate::splitmix::NumberTable;
 use std::collections::VecDeque;
 use std::io::{self, Read};
@@ -66,7 +66,7 @@ impl Builder {
 
     fn invoke(&mut self, event: &Event) -> Option<()> {
         let number = self.maps;
-        let op = Op::new(event.function, event.value?)?;
+        let op = event.function.with(event.value?)?;
         let object = self.place(event.object, op.kind());
         let history = &mut self.objects[object];
         let process = self.processes.entry(event.process).or_insert(Process::Idle);
@@ -96,12 +96,12 @@ impl Builder {
         };
         let history = &mut self.objects[object];
         let call = &mut history.ops[place];
-        if event.function != call.op.function() || event.object != history.object {
+        if event.function != call.op.function || event.object != history.object {
             return None;
         }
         (*process, call.end) = match event.of_type {
             EventType::Ok => {
-                let reply = call.op.reply(event.value?)?;
+                let reply = call.op.function.reply(event.value?)?;
                 (Process::Idle, End::Returned { at, reply })
             }
             EventType::Fail => (Process::Idle, End::Failed),

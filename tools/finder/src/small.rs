@@ -2,7 +2,26 @@
 
 use crate::content::Content;
 use crate::history::{End, Invocation, ObjectHistory};
-use crate::model::{Kind, Op, Reply};
+use crate::kinds::{KINDS, Kind, Op, Reply, Shape, Value, function};
+
+/// The operation that a text names, as `cas 1 2`.
+pub fn op(text: &str) -> Op {
+    let mut words = text.split(' ');
+    let name = words.next().expect("a name");
+    let numbers: Vec<i64> = words.map(|word| word.parse().expect("an integer")).collect();
+    let argument = match numbers[..] {
+        [] => Value::Nil,
+        [one] => Value::Int(one),
+        [one, other] => Value::Pair(one, other),
+        _ => panic!("{text}"),
+    };
+    function(name.as_bytes()).and_then(|function| function.with(argument)).expect("an operation")
+}
+
+/// The containers.
+pub fn containers() -> impl Iterator<Item = Kind> {
+    KINDS.iter().copied().filter(|kind| kind.is_container())
+}
 
 /// A generator of numbers (xorshift: Marsaglia, Journal of Statistical Software 8, 2003).
 pub struct Random(u64);
@@ -31,25 +50,19 @@ impl Random {
 
     fn op(&mut self, kind: Kind) -> Op {
         let (value, other) = (self.value(), self.value());
-        let ops: &[Op] = match kind {
-            Kind::Queue => &[Op::Enqueue(value), Op::Dequeue],
-            Kind::Stack => &[Op::Push(value), Op::Pop],
-            Kind::Heap => &[Op::Insert(value), Op::ExtractMin],
-            Kind::Register => &[Op::Write(value), Op::Read, Op::Cas(value, other)],
-            Kind::Map => &[Op::Put(value, other), Op::Get(value), Op::Del(value)],
-            Kind::Mutex => &[Op::Acquire, Op::Release],
-        };
-        ops[self.below(ops.len() as u64) as usize]
+        let function = kind.functions[self.below(kind.functions.len() as u64) as usize];
+        let arguments = [Value::Nil, Value::Int(value), Value::Pair(value, other)];
+        arguments.into_iter().find_map(|argument| function.with(argument)).expect("its shape")
     }
 
     fn reply(&mut self, op: Op) -> Reply {
-        match op {
-            Op::Enqueue(value) | Op::Push(value) | Op::Insert(value) | Op::Write(value) => {
-                Reply::Value(Some(value))
+        match (op.function.reply, op.argument) {
+            (Shape::Done, argument) => Reply::Value(argument.last()),
+            (Shape::Swapped, Value::Pair(expected, new)) if self.below(2) == 0 => {
+                Reply::Swapped(expected, new)
             }
-            Op::Cas(expected, new) if self.below(2) == 0 => Reply::Swapped(expected, new),
-            Op::Cas(..) => Reply::NotSwapped,
-            Op::Acquire | Op::Release => Reply::Value(None),
+            (Shape::Swapped, _) => Reply::NotSwapped,
+            (Shape::Token, _) => Reply::Value(None),
             _ if self.below(3) == 0 => Reply::Value(None),
             _ => Reply::Value(Some(self.value())),
         }
@@ -115,12 +128,8 @@ impl Random {
 impl Op {
     /// The put of another value; of another operation this one.
     fn with_value(self, value: i64) -> Op {
-        match self {
-            Op::Enqueue(_) => Op::Enqueue(value),
-            Op::Push(_) => Op::Push(value),
-            Op::Insert(_) => Op::Insert(value),
-            op => op,
-        }
+        let argument = self.puts().map_or(self.argument, |_| Value::Int(value));
+        Op { argument, ..self }
     }
 }
 

@@ -1,7 +1,7 @@
 //! Statistics of a history, which tell how much a yes says of it, and what is suspicious in it.
 
 use crate::history::{End, History, Invocation, ObjectHistory};
-use crate::model::{Op, Reply};
+use crate::kinds::{Function, Reply, Shape, functions};
 use std::collections::HashSet;
 use std::fmt::{self, Display, Formatter};
 
@@ -83,17 +83,15 @@ fn puts_tell_nothing(object: &ObjectHistory) -> bool {
     let mut keys = HashSet::new();
     let mut has_second = false;
     for operation in &object.ops {
-        match (operation.op, operation.end) {
-            (Op::Put(key, _), End::Returned { reply, .. }) => {
-                if reply != Reply::Value(None) {
-                    return false;
-                }
-                has_second |= !keys.insert(key);
-            }
-            (Op::Del(key), End::Returned { .. }) => {
-                keys.remove(&key);
-            }
-            _ => {}
+        let End::Returned { reply, .. } = operation.end else {
+            continue;
+        };
+        let op = operation.op;
+        match (op.key(), op.sets()) {
+            (Some(_), Some(Some(_))) if reply != Reply::Value(None) => return false,
+            (Some(key), Some(Some(_))) => has_second |= !keys.insert(key),
+            (Some(key), Some(None)) => _ = keys.remove(&key),
+            (Some(_), None) | (None, _) => {}
         }
     }
     has_second
@@ -101,10 +99,12 @@ fn puts_tell_nothing(object: &ObjectHistory) -> bool {
 
 /// How many removals failed, and their function, where there are several and none returned.
 fn failed_removals(history: &History) -> Option<(usize, &'static str)> {
-    let of = |op: Op| history.objects.iter().flat_map(|it| &it.ops).filter(move |it| it.op == op);
-    [(Op::Dequeue, "dequeue"), (Op::Pop, "pop"), (Op::ExtractMin, "extract-min")]
-        .into_iter()
-        .map(|(op, f)| (of(op).count(), of(op).all(Invocation::has_failed), f))
+    let of = |f: &'static Function| {
+        let all = history.objects.iter().flat_map(|it| &it.ops);
+        all.filter(move |it| it.op.removes() && it.op.function == f)
+    };
+    functions()
+        .map(|f| (of(f).count(), of(f).all(Invocation::has_failed), f.name))
         .find_map(|(count, all_failed, f)| (count > 1 && all_failed).then_some((count, f)))
 }
 
@@ -113,18 +113,21 @@ fn failed_removals(history: &History) -> Option<(usize, &'static str)> {
 fn first_value(object: &ObjectHistory) -> Option<i64> {
     let mut put = HashSet::new();
     let mut first_set = u32::MAX;
+    if !object.kind.is_lone_cell() {
+        return None;
+    }
     for operation in &object.ops {
-        if let Op::Write(value) | Op::Cas(_, value) = operation.op {
+        if let Some(value) = operation.op.new_value() {
             put.insert(value);
             if operation.reply() != Some(Reply::NotSwapped) {
                 first_set = first_set.min(end_of(operation));
             }
         }
     }
-    let seen = |it: &Invocation| match (it.op, it.reply()?) {
-        (Op::Read, Reply::Value(value)) => value,
-        (Op::Cas(..), Reply::Swapped(value, _)) => Some(value),
-        _ => None,
+    let seen = |it: &Invocation| match it.reply()? {
+        Reply::Value(value) if it.op.only_looks() => value,
+        Reply::Swapped(value, _) => Some(value),
+        Reply::Value(_) | Reply::NotSwapped => None,
     };
     let all = object.ops.iter().filter_map(|it| Some((it.number, seen(it)?)));
     let mut strange = all.filter(|(_, value)| !put.contains(value));
@@ -143,13 +146,9 @@ fn first_values(history: &History) -> Option<(i64, Vec<u32>)> {
 
 /// The events of replies that are to be the argument, or its pair, and are not.
 fn strange_replies(history: &History) -> Vec<u32> {
-    let is_strange = |it: &Invocation| match (it.op, it.reply()) {
-        (
-            Op::Enqueue(value) | Op::Push(value) | Op::Insert(value) | Op::Write(value),
-            Some(reply),
-        ) => reply != Reply::Value(Some(value)),
-        (Op::Cas(old, new), Some(reply)) => {
-            reply != Reply::NotSwapped && reply != Reply::Swapped(old, new)
+    let is_strange = |it: &Invocation| match (it.op.function.reply, it.reply()) {
+        (Shape::Done | Shape::Swapped, Some(reply)) => {
+            reply != Reply::NotSwapped && reply.value() != it.op.argument
         }
         _ => false,
     };

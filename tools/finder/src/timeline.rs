@@ -1,7 +1,7 @@
 //! The calls of an object on a time of their own.
 
 use crate::history::Invocation;
-use crate::model::{Op, Reply};
+use crate::kinds::{Op, Reply};
 use std::cmp::Reverse;
 use std::collections::BinaryHeap;
 use std::collections::binary_heap::PeekMut;

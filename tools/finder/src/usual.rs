@@ -2,8 +2,8 @@
 //! fcbench write them, with the process first, and as Jepsen writes them, with the index first. A
 //! map in another form gives `None` here, and is read by its tokens.
 
+use crate::kinds::{Function, Value, function};
 use crate::maps::{Event, EventType, LAST_OBJECT};
-use crate::model::{Function, Value};
 
 /// How many digits an integer has that definitely fits.
 const SURE_DIGITS: usize = 18;
@@ -56,11 +56,11 @@ impl<'a> Front<'a> {
 
     /// The function whose name of small letters and hyphens is here.
     #[inline(always)]
-    fn function(self) -> Option<(Function, Front<'a>)> {
+    fn function(self) -> Option<(&'static Function, Front<'a>)> {
         let in_name = |byte: &u8| byte.is_ascii_lowercase() || *byte == b'-';
         let end = self.0.iter().position(|byte| !in_name(byte)).unwrap_or(self.0.len());
         let (name, rest) = self.0.split_at(end);
-        Some((Function::named(name)?, Front(rest)))
+        Some((function(name)?, Front(rest)))
     }
 
     #[inline(always)]
@@ -143,12 +143,12 @@ mod tests {
     fn reads_usual_maps() {
         let text = b"\n{:process 12, :type :ok, :f :cas, :value [-3 40], :object 7, :time 5}x";
         let (event, length) = usual_event(text).expect("a usual map");
-        assert_eq!((event.process, event.object, event.function), (12, 7, Function::Cas));
+        assert_eq!((event.process, event.object, event.function.name), (12, 7, "cas"));
         assert_eq!((event.of_type, event.value), (EventType::Ok, Some(Value::Pair(-3, 40))));
         assert_eq!(length, text.len() - 1);
         let text = b"{:index 0, :time 1, :type :invoke, :process 3, :f :get, :value 9}";
         let (event, length) = usual_event(text).expect("a usual map");
-        assert_eq!((event.process, event.object, event.function), (3, 0, Function::Get));
+        assert_eq!((event.process, event.object, event.function.name), (3, 0, "get"));
         assert_eq!((event.of_type, event.value), (EventType::Invoke, Some(Value::Int(9))));
         assert_eq!(length, text.len());
     }

@@ -2,6 +2,10 @@
 
 use finder::{Counted, Facts, FirstEvent, Kind, Lost, LostValue, Pattern, Sentence, Undone};
 
+fn kind(word: &str) -> Kind {
+    finder::kind(word).expect("a kind")
+}
+
 fn sentence(kind: Kind, pattern: Pattern) -> String {
     Sentence::of_pattern(kind, None, pattern).to_string()
 }
@@ -9,87 +13,87 @@ fn sentence(kind: Kind, pattern: Pattern) -> String {
 #[test]
 fn each_pattern_has_its_sentence() {
     let sentences = [
-        (Kind::Queue, Pattern::NeverSet(7), "value 7 was dequeued and never enqueued"),
-        (Kind::Stack, Pattern::TooEarly(-7), "value -7 was popped before it was pushed"),
-        (Kind::Heap, Pattern::TakenTwice(7), "value 7 was inserted once and extracted twice"),
+        (kind("queue"), Pattern::NeverSet(7), "value 7 was dequeued and never enqueued"),
+        (kind("stack"), Pattern::TooEarly(-7), "value -7 was popped before it was pushed"),
+        (kind("heap"), Pattern::TakenTwice(7), "value 7 was inserted once and extracted twice"),
         (
-            Kind::Register,
+            kind("register"),
             Pattern::TakenTooOften { value: 7, taken: 2, set: 1 },
             "value 7 was replaced by :cas 2 times and by then written once",
         ),
         (
-            Kind::Stack,
+            kind("stack"),
             Pattern::SurelyNotEmpty { number: 9 },
             "the stack was definitely not empty when event 9 found nothing",
         ),
         (
-            Kind::Heap,
+            kind("heap"),
             Pattern::UnderSmaller { taken: 7, smaller: 3 },
             "value 7 was extracted while the smaller value 3 was definitely in the heap",
         ),
         (
-            Kind::Heap,
+            kind("heap"),
             Pattern::UnderSmallerOnes(7),
             "value 7 was extracted while some smaller value was definitely in the heap",
         ),
         (
-            Kind::Stack,
+            kind("stack"),
             Pattern::WrongOrder { first: 1, second: 2 },
             "value 1 was popped before value 2, which was pushed on it",
         ),
         (
-            Kind::Queue,
+            kind("queue"),
             Pattern::WrongOrder { first: 1, second: 2 },
             "value 1 was enqueued before value 2 and dequeued after it",
         ),
         (
-            Kind::Queue,
+            kind("queue"),
             Pattern::LeftBehind { first: 1, second: 2 },
             "value 2 was dequeued while value 1, which was enqueued before it, was still in the queue",
         ),
         (
-            Kind::Stack,
+            kind("stack"),
             Pattern::LeftAbove { first: 1, second: 2 },
             "value 1 was popped while value 2, which was pushed on it, was still in the stack",
         ),
         (
-            Kind::Register,
+            kind("register"),
             Pattern::Stale(Some(7)),
             "value 7 was read after another content had replaced it",
         ),
-        (Kind::Map, Pattern::Stale(None), "nil was seen after another content had replaced it"),
+        (kind("map"), Pattern::Stale(None), "nil was seen after another content had replaced it"),
         (
-            Kind::Map,
+            kind("map"),
             Pattern::EachBeforeTheOther(1, 2),
             "each of the values 1 and 2 was seen before the other, and each was put once",
         ),
         (
-            Kind::Register,
+            kind("register"),
             Pattern::RefusedUnderItsValue { value: 7, number: 9 },
             "value 7 was definitely there when the :cas of event 9, which expects it, was refused",
         ),
         (
-            Kind::Register,
+            kind("register"),
             Pattern::CountExceeded(Counted::Value(7)),
             "value 7 was replaced by :cas more often than it can have been there",
         ),
-        (Kind::Map, Pattern::TakenTwice(7), "value 7 was put once and replaced or removed twice"),
+        (kind("map"), Pattern::TakenTwice(7), "value 7 was put once and replaced or removed twice"),
         (
-            Kind::Map,
+            kind("map"),
             Pattern::CountExceeded(Counted::NoEntry(5)),
             "nil was seen more often than the key can have been without a value",
         ),
         (
-            Kind::Mutex,
+            kind("mutex"),
             Pattern::CountExceeded(Counted::Held),
             "the lock was released more often than it can have been held",
         ),
         (
-            Kind::Mutex,
+            kind("mutex"),
             Pattern::CountExceeded(Counted::Free),
             "the lock was acquired more often than it can have been free",
         ),
-        (Kind::Queue, Pattern::General, "the following operations have no valid order"),
+        (kind("queue"), Pattern::General, "the following operations have no valid order"),
     ];
     for (kind, pattern, text) in sentences {
         assert_eq!(sentence(kind, pattern), text);
@@ -108,27 +112,27 @@ fn facts_beside_a_pattern_are_said() {
     let never = || Pattern::NeverSet(7);
     for (kind, facts, wanted) in [
         (
-            Kind::Register,
+            kind("register"),
             undone(1, false),
             "value 7 was read and only written by event 12, which failed",
         ),
         (
-            Kind::Queue,
+            kind("queue"),
             undone(1, false),
             "value 7 was dequeued and only enqueued by event 12, which failed",
         ),
         (
-            Kind::Map,
+            kind("map"),
             undone(3, false),
             "value 7 was seen and only put by 3 operations that failed, the first of them event 12",
         ),
         (
-            Kind::Register,
+            kind("register"),
             undone(1, true),
             "value 7 was read and only written by the :cas of event 12, which was refused",
         ),
         (
-            Kind::Register,
+            kind("register"),
             undone(2, true),
             "value 7 was read and only written by 2 :cas that were refused, the first of them event 12",
         ),
@@ -144,7 +148,7 @@ fn facts_beside_a_pattern_are_said() {
             "value 7 was expected by an accepted :cas after another content had replaced it",
         ),
     ] {
-        assert_eq!(said(Kind::Register, pattern, swap), wanted);
+        assert_eq!(said(kind("register"), pattern, swap), wanted);
     }
 }
 
@@ -179,31 +183,31 @@ fn the_first_event_is_named() {
 fn what_was_lost_is_named() {
     let sentences = [
         (
-            Kind::Queue,
+            kind("queue"),
             lost(None, 0, &[(7, 1, &[])]),
             "the queue was definitely not empty when event 9 found nothing: value 7 was in it \
              (never dequeued)",
         ),
         (
-            Kind::Queue,
+            kind("queue"),
             lost_again(0, &[(7, 1, &[])]),
             "the queue was definitely not empty when event 9 found nothing: value 7 was in it \
              (not dequeued after that)",
         ),
         (
-            Kind::Stack,
+            kind("stack"),
             lost(None, 0, &[(7, 1, &[30])]),
             "the stack was definitely not empty when event 9 found nothing: value 7 was in it \
              (popped later, by event 30)",
         ),
         (
-            Kind::Stack,
+            kind("stack"),
             lost(None, 1, &[(7, 1, &[]), (8, 1, &[])]),
             "2 values were in the stack before event 9 found nothing, and at most 1 of them can have \
              been popped by then: values 7 and 8 (never popped)",
         ),
         (
-            Kind::Heap,
+            kind("heap"),
             lost(Some(20), 2, &[(7, 1, &[]), (8, 3, &[30, 40]), (9, 2, &[50, 60])]),
             "6 values were in the heap and less than value 20 before event 9 extracted it, and at \
              most 2 of them can have been extracted by then: value 7 (never extracted), \
@@ -211,13 +215,13 @@ fn what_was_lost_is_named() {
              value 9, 2 times (extracted later, by events 50 and 60)",
         ),
         (
-            Kind::Queue,
+            kind("queue"),
             lost(Some(20), 0, &[(7, 1, &[])]),
             "1 value was enqueued before value 20, which event 9 dequeued, and it cannot have \
              been dequeued by then: value 7 (never dequeued)",
         ),
         (
-            Kind::Stack,
+            kind("stack"),
             lost(Some(20), 1, &[(7, 1, &[]), (8, 1, &[])]),
             "2 values were pushed on value 20, which event 9 popped, and at most 1 of them can have \
              been popped by then: values 7 and 8 (never popped)",

@@ -7,7 +7,7 @@
 //! and so is a removal of what it put in.
 
 use crate::history::{Invocation, ObjectHistory};
-use crate::model::{Op, Reply};
+use crate::kinds::{Gives, Reply};
 
 /// A removal that returned, and which puts were ahead of what it found.
 #[derive(Clone, Copy, Debug)]
@@ -17,7 +17,7 @@ pub struct Ahead {
     pub at: u32,
     /// What it found.
     pub found: Option<i64>,
-    op: Op,
+    gives: Gives,
     /// A put counts that was invoked at this number or later.
     from: u32,
     /// A put counts that returned before this number.
@@ -35,20 +35,21 @@ impl Ahead {
         };
         let own_puts = || history.ops.iter().filter(|o| found.is_some() && o.puts() == found);
         let is_over = |put: &Invocation| put.returned().is_some_and(|at| at < from);
-        let before = match (removal.op, found) {
-            (Op::Dequeue, Some(_)) => own_puts().next().map_or(0, |put| put.number).min(number),
-            (Op::Pop, Some(_)) if !own_puts().all(is_over) => return None,
-            (op, _) if op.removes() => number,
-            _ => return None,
+        let gives = removal.op.kind().gives()?;
+        let before = match (gives, found) {
+            _ if !removal.op.removes() => return None,
+            (Gives::First, Some(_)) => own_puts().next().map_or(0, |put| put.number).min(number),
+            (Gives::Last, Some(_)) if !own_puts().all(is_over) => return None,
+            (Gives::First, None) | (Gives::Last | Gives::Least, _) => number,
         };
-        Some(Ahead { number, at, found, op: removal.op, from, before })
+        Some(Ahead { number, at, found, gives, from, before })
     }
 
     /// Whether a value can be ahead of what the removal found.
     pub fn has(&self, value: i64) -> bool {
-        match self.found {
-            Some(found) if self.op == Op::ExtractMin => value < found,
-            _ => true,
+        match (self.gives, self.found) {
+            (Gives::Least, Some(found)) => value < found,
+            (Gives::Least, None) | (Gives::First | Gives::Last, _) => true,
         }
     }
 
@@ -83,8 +84,8 @@ mod tests {
     use super::*;
     use crate::content::Content;
     use crate::history::End;
-    use crate::model::Kind;
-    use crate::small::{Random, has_order};
+    use crate::kinds::Op;
+    use crate::small::{Random, containers, has_order, op};
 
     /// An operation that was invoked and returned at these numbers; pending if at none.
     fn operation(number: u32, op: Op, end: Option<(u32, Option<i64>)>) -> Invocation {
@@ -92,19 +93,20 @@ mod tests {
         Invocation { number, op, end: end.map_or(End::Pending, returned) }
     }
 
-    fn history(kind: Kind, ops: Vec<Invocation>) -> ObjectHistory {
-        ObjectHistory { object: 0, kind, ops }
+    fn history(ops: Vec<Invocation>) -> ObjectHistory {
+        ObjectHistory { object: 0, kind: ops[0].op.kind(), ops }
     }
 
     /// Each of these has a valid order, by a form of the law that is not true.
     #[test]
     fn what_has_an_order_is_not_blocked() {
-        let (enqueue, dequeue) = (Op::Enqueue, Op::Dequeue);
-        let (push, pop) = (Op::Push, Op::Pop);
-        let queue = |ops| history(Kind::Queue, ops);
+        let enqueue = |value: i64| op(&format!("enqueue {value}"));
+        let insert = |value: i64| op(&format!("insert {value}"));
+        let push = |value: i64| op(&format!("push {value}"));
+        let (dequeue, extract_min, pop) = (op("dequeue"), op("extract-min"), op("pop"));
         let histories = [
             (
-                queue(vec![
+                history(vec![
                     operation(0, enqueue(1), Some((2, Some(1)))),
                     operation(1, dequeue, None),
                     operation(3, dequeue, Some((4, None))),
@@ -112,7 +114,7 @@ mod tests {
                 3,
             ),
             (
-                queue(vec![
+                history(vec![
                     operation(0, enqueue(1), Some((1, Some(1)))),
                     operation(2, dequeue, Some((5, None))),
                     operation(3, dequeue, Some((4, Some(1)))),
@@ -120,11 +122,14 @@ mod tests {
                 2,
             ),
             (
-                queue(vec![operation(0, enqueue(1), None), operation(1, dequeue, Some((2, None)))]),
+                history(vec![
+                    operation(0, enqueue(1), None),
+                    operation(1, dequeue, Some((2, None))),
+                ]),
                 1,
             ),
             (
-                queue(vec![
+                history(vec![
                     operation(0, enqueue(7), Some((1, Some(7)))),
                     operation(2, enqueue(7), Some((4, Some(7)))),
                     operation(3, dequeue, Some((5, Some(7)))),
@@ -132,7 +137,7 @@ mod tests {
                 3,
             ),
             (
-                queue(vec![
+                history(vec![
                     operation(0, enqueue(1), Some((2, Some(1)))),
                     operation(1, enqueue(2), Some((3, Some(2)))),
                     operation(4, dequeue, Some((5, Some(2)))),
@@ -140,49 +145,37 @@ mod tests {
                 4,
             ),
             (
-                history(
-                    Kind::Heap,
-                    vec![
-                        operation(0, Op::Insert(1), Some((3, Some(1)))),
-                        operation(1, Op::ExtractMin, Some((2, None))),
-                        operation(4, Op::ExtractMin, Some((5, Some(1)))),
-                    ],
-                ),
+                history(vec![
+                    operation(0, insert(1), Some((3, Some(1)))),
+                    operation(1, extract_min, Some((2, None))),
+                    operation(4, extract_min, Some((5, Some(1)))),
+                ]),
                 4,
             ),
             (
-                history(
-                    Kind::Stack,
-                    vec![
-                        operation(0, push(0), Some((2, Some(0)))),
-                        operation(1, pop, None),
-                        operation(3, push(0), Some((4, Some(0)))),
-                        operation(5, push(0), Some((6, Some(0)))),
-                        operation(7, pop, Some((8, Some(0)))),
-                    ],
-                ),
+                history(vec![
+                    operation(0, push(0), Some((2, Some(0)))),
+                    operation(1, pop, None),
+                    operation(3, push(0), Some((4, Some(0)))),
+                    operation(5, push(0), Some((6, Some(0)))),
+                    operation(7, pop, Some((8, Some(0)))),
+                ]),
                 7,
             ),
             (
-                history(
-                    Kind::Stack,
-                    vec![
-                        operation(0, push(1), Some((5, Some(1)))),
-                        operation(1, push(0), Some((2, Some(0)))),
-                        operation(3, pop, Some((4, Some(1)))),
-                    ],
-                ),
+                history(vec![
+                    operation(0, push(1), Some((5, Some(1)))),
+                    operation(1, push(0), Some((2, Some(0)))),
+                    operation(3, pop, Some((4, Some(1)))),
+                ]),
                 3,
             ),
             (
-                history(
-                    Kind::Stack,
-                    vec![
-                        operation(0, push(1), Some((2, Some(1)))),
-                        operation(1, push(2), None),
-                        operation(3, pop, Some((4, Some(2)))),
-                    ],
-                ),
+                history(vec![
+                    operation(0, push(1), Some((2, Some(1)))),
+                    operation(1, push(2), None),
+                    operation(3, pop, Some((4, Some(2)))),
+                ]),
                 3,
             ),
         ];
@@ -196,22 +189,22 @@ mod tests {
 
     #[test]
     fn each_kind_of_find_is_blocked() {
-        let lost = |kind, one, other, take, found, from| {
+        let lost = |one: &str, other: &str, take: &str, found, from| {
             let ops = vec![
-                operation(0, one, Some((1, Some(2)))),
-                operation(2, other, Some((3, Some(3)))),
-                operation(4, take, Some((5, found))),
+                operation(0, op(one), Some((1, Some(2)))),
+                operation(2, op(other), Some((3, Some(3)))),
+                operation(4, op(take), Some((5, found))),
             ];
-            is_blocked(&history(kind, ops), 4, from)
+            is_blocked(&history(ops), 4, from)
         };
-        assert!(lost(Kind::Queue, Op::Enqueue(2), Op::Enqueue(3), Op::Dequeue, None, 0));
-        assert!(lost(Kind::Queue, Op::Enqueue(2), Op::Enqueue(3), Op::Dequeue, Some(3), 0));
-        assert!(!lost(Kind::Queue, Op::Enqueue(2), Op::Enqueue(3), Op::Dequeue, Some(2), 0));
-        assert!(lost(Kind::Heap, Op::Insert(2), Op::Insert(3), Op::ExtractMin, Some(3), 0));
-        assert!(!lost(Kind::Heap, Op::Insert(2), Op::Insert(3), Op::ExtractMin, Some(2), 0));
-        assert!(lost(Kind::Stack, Op::Push(2), Op::Push(3), Op::Pop, Some(2), 2));
-        assert!(!lost(Kind::Stack, Op::Push(2), Op::Push(3), Op::Pop, Some(2), 0));
-        assert!(!lost(Kind::Stack, Op::Push(2), Op::Push(3), Op::Pop, Some(3), 4));
+        assert!(lost("enqueue 2", "enqueue 3", "dequeue", None, 0));
+        assert!(lost("enqueue 2", "enqueue 3", "dequeue", Some(3), 0));
+        assert!(!lost("enqueue 2", "enqueue 3", "dequeue", Some(2), 0));
+        assert!(lost("insert 2", "insert 3", "extract-min", Some(3), 0));
+        assert!(!lost("insert 2", "insert 3", "extract-min", Some(2), 0));
+        assert!(lost("push 2", "push 3", "pop", Some(2), 2));
+        assert!(!lost("push 2", "push 3", "pop", Some(2), 0));
+        assert!(!lost("push 2", "push 3", "pop", Some(3), 4));
     }
 
     /// Of histories that are drawn none that is blocked has an order, and many are blocked.
@@ -219,7 +212,7 @@ mod tests {
     fn no_history_that_is_blocked_has_an_order() {
         let mut random = Random::new(0x2545_f491_4f6c_dd1d);
         let mut blocked = [0; 3];
-        for (place, kind) in [Kind::Queue, Kind::Stack, Kind::Heap].into_iter().enumerate() {
+        for (place, kind) in containers().enumerate() {
             for drawn in 0..6_000 {
                 let history =
                     if drawn % 2 == 0 { random.crash(kind) } else { random.history(kind) };

@@ -3,20 +3,13 @@
 
 use super::Values;
 use crate::history::{End, Invocation, ObjectHistory};
-use crate::model::{Kind, Op, Reply};
+use crate::kinds::{Effect, Need, Op, Reply, lone_cell};
 use std::collections::BTreeSet;
-
-fn write(value: i64) -> (Op, Reply) {
-    (Op::Write(value), Reply::Value(Some(value)))
-}
-
-fn swap(expected: i64, new: i64) -> (Op, Reply) {
-    (Op::Cas(expected, new), Reply::Swapped(expected, new))
-}
 
 struct Cell<'a> {
     values: &'a Values,
     other: i64,
+    key: Option<i64>,
 }
 
 impl Cell<'_> {
@@ -29,77 +22,71 @@ impl Cell<'_> {
     /// choose whether it stays.
     fn replaced(&self, stays: bool, old: Option<i64>, new: Option<i64>) -> Option<(Op, Reply)> {
         match (self.kept(new), self.kept(old)) {
-            (Some(new), Some(old)) => Some(swap(old, new)),
-            (Some(new), None) => Some(write(new)),
+            (Some(new), Some(old)) => Some(lone_cell::replacing(old, new)),
+            (Some(new), None) => Some(lone_cell::setting(new)),
             (None, _) if !stays => None,
-            (None, Some(old)) => Some(swap(old, self.other)),
-            (None, None) => Some(write(self.other)),
+            (None, Some(old)) => Some(lone_cell::replacing(old, self.other)),
+            (None, None) => Some(lone_cell::setting(self.other)),
         }
     }
 
-    /// What an operation of a register with this reply becomes.
-    fn of_register(&self, stays: bool, op: Op, reply: Reply) -> Option<(Op, Reply)> {
-        match (op, reply) {
-            (Op::Write(value), _) if self.values.has(value) => Some((op, reply)),
-            (Op::Write(value), _) => self.replaced(stays, None, Some(value)),
-            (Op::Read, Reply::Value(found)) if stays => match found {
-                Some(value) if !self.values.has(value) => Some(write(self.other)),
-                _ => Some((op, reply)),
-            },
-            (Op::Cas(expected, new), Reply::Swapped(..)) => {
-                if self.values.has(expected) && self.values.has(new) {
-                    return Some((op, reply));
-                }
-                self.replaced(stays, Some(expected), Some(new))
-            }
-            _ => None,
-        }
+    /// What found a content becomes. That an object which is one cell was empty is kept.
+    fn found(&self, stays: bool, content: Option<i64>) -> Option<(Op, Reply)> {
+        let is_kept = self.kept(content).is_some() || content.is_none() && self.key.is_none();
+        stays.then(|| match is_kept {
+            true => lone_cell::finding(content),
+            false => lone_cell::setting(self.other),
+        })
     }
 
-    /// What an operation of a map on the key with this reply becomes.
-    fn of_key(&self, stays: bool, op: Op, reply: Reply) -> Option<(Op, Reply)> {
-        let Reply::Value(found) = reply else {
-            return None;
+    /// Whether the operation is one of an object which is one cell, and each value that it names is
+    /// kept.
+    fn is_whole(&self, need: Need<Option<i64>>, new: Option<i64>) -> bool {
+        let is_needed = match need {
+            Need::Any => true,
+            Need::Is(old) | Need::IsNot(old) => self.kept(old).is_some(),
         };
-        match op {
-            Op::Put(_, value) => self.replaced(stays, found, Some(value)),
-            Op::Del(_) => self.replaced(stays, found, None),
-            Op::Get(_) if stays => Some(match self.kept(found) {
-                Some(_) => (Op::Read, reply),
-                None => write(self.other),
-            }),
-            _ => None,
+        self.key.is_none() && is_needed && self.kept(new).is_some()
+    }
+
+    /// What an operation with this reply becomes.
+    fn returned(&self, stays: bool, op: Op, reply: Reply) -> Option<(Op, Reply)> {
+        let Effect { need, sets } = op.effect(Some(reply))?;
+        match (need, sets) {
+            (_, Some(new)) if self.is_whole(need, new) => Some((op, reply)),
+            (Need::Is(old), Some(new)) => self.replaced(stays, old, new),
+            (Need::Any, Some(new)) => self.replaced(stays, None, new),
+            (Need::Is(content), None) => self.found(stays, content),
+            (Need::IsNot(_), _) | (Need::Any, None) => None,
         }
     }
 
     /// What a pending operation becomes.
     fn pending(&self, op: Op) -> Option<Op> {
-        match op {
-            Op::Write(value) | Op::Put(_, value) => self.kept(Some(value)).map(Op::Write),
-            Op::Cas(expected, new) if self.values.has(new) => {
-                Some(match self.kept(Some(expected)) {
-                    Some(_) => op,
-                    None => Op::Write(new),
-                })
-            }
-            _ => None,
-        }
+        let Effect { need, sets } = op.effect(None)?;
+        let new = self.kept(sets?)?;
+        let old = match need {
+            Need::Is(old) => self.kept(old),
+            Need::Any | Need::IsNot(_) => None,
+        };
+        let (op, _) = match old {
+            Some(old) => lone_cell::replacing(old, new),
+            None => lone_cell::setting(new),
+        };
+        Some(op)
     }
 
     /// What an operation becomes. `None`: it is left out.
-    fn piece(&self, key: Option<i64>, stays: bool, operation: &Invocation) -> Option<Invocation> {
+    fn piece(&self, stays: bool, operation: &Invocation) -> Option<Invocation> {
         let Invocation { number, op, end } = *operation;
-        if op.key() != key {
+        if op.key() != self.key {
             return None;
         }
-        let (op, end) = match (end, key) {
-            (End::Failed, _) => return None,
-            (End::Pending, _) => (self.pending(op)?, end),
-            (End::Returned { at, reply }, key) => {
-                let (op, reply) = match key {
-                    Some(_) => self.of_key(stays, op, reply)?,
-                    None => self.of_register(stays, op, reply)?,
-                };
+        let (op, end) = match end {
+            End::Failed => return None,
+            End::Pending => (self.pending(op)?, end),
+            End::Returned { at, reply } => {
+                let (op, reply) = self.returned(stays, op, reply)?;
                 (op, End::Returned { at, reply })
             }
         };
@@ -118,10 +105,9 @@ pub(super) fn cell(
     other: i64,
     numbers: &BTreeSet<u32>,
 ) -> ObjectHistory {
-    let cell = Cell { values, other };
-    let pieces = (history.ops.iter())
-        .filter_map(|o| cell.piece(key, numbers.contains(&o.number), o))
-        .collect();
-    let kind = if key.is_some() { Kind::Register } else { history.kind };
+    let cell = Cell { values, other, key };
+    let pieces =
+        history.ops.iter().filter_map(|o| cell.piece(numbers.contains(&o.number), o)).collect();
+    let kind = if key.is_some() { lone_cell::KIND } else { history.kind };
     ObjectHistory { kind, ..history.with(pieces) }
 }

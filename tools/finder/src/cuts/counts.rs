@@ -3,7 +3,7 @@
 
 use super::ahead::is_blocked;
 use crate::history::{Invocation, ObjectHistory};
-use crate::model::{Op, Reply};
+use crate::kinds::{Effect, Family, Need, Op, Reply};
 
 /// What is counted: a content, or a part of one.
 #[derive(Clone, Copy, Debug, PartialEq, Eq)]
@@ -31,38 +31,60 @@ pub struct Count {
 }
 
 impl Counted {
+    /// Where it is counted, the key if there are keys, and the value there; none of nothing.
+    fn place(self) -> Option<(Option<i64>, Option<i64>)> {
+        match self {
+            Counted::Value(value) => Some((None, Some(value))),
+            Counted::Entry { key, value } => Some((Some(key), Some(value))),
+            Counted::NoEntry(key) => Some((Some(key), None)),
+            Counted::Held | Counted::Free | Counted::Ahead(_) => None,
+        }
+    }
+
+    /// Whether an operation on a token makes it so.
+    fn is_made_by(self, holds: bool) -> bool {
+        match self {
+            Counted::Held => holds,
+            Counted::Free => !holds,
+            Counted::Value(_) | Counted::Entry { .. } | Counted::NoEntry(_) | Counted::Ahead(_) => {
+                false
+            }
+        }
+    }
+
+    /// Whether it is in a container, and this is it.
+    fn is_value(self, value: Option<i64>) -> bool {
+        self.place() == Some((None, value)) && value.is_some()
+    }
+
     /// Whether an operation with this reply sets the content; with no reply, whether it may.
     fn is_set_by(self, op: Op, reply: Option<Reply>) -> bool {
-        match (self, op, reply) {
-            (Counted::Value(value), Op::Cas(_, new), None | Some(Reply::Swapped(..))) => {
-                new == value
+        match op.kind().family {
+            Family::Container(_) => self.is_value(op.puts()),
+            Family::Cells(_) => {
+                let new = op.effect(reply).and_then(|effect| effect.sets);
+                new.is_some_and(|new| self.place() == Some((op.key(), new)))
             }
-            (Counted::Value(value), Op::Write(new), _) => new == value,
-            (Counted::Value(value), op, _) => op.puts() == Some(value),
-            (Counted::Entry { key, value }, op, _) => op == Op::Put(key, value),
-            (Counted::NoEntry(key), op, None | Some(Reply::Value(Some(_)))) => op == Op::Del(key),
-            (Counted::Held, op, _) => op == Op::Acquire,
-            (Counted::Free, op, _) => op == Op::Release,
-            _ => false,
+            Family::Token(_) => op.holds().is_some_and(|holds| self.is_made_by(holds)),
         }
     }
 
     /// Whether an operation with this reply took the content away.
     fn is_taken_by(self, op: Op, reply: Reply) -> bool {
-        match (self, op, reply) {
-            (Counted::Value(value), Op::Cas(expected, _), Reply::Swapped(..)) => expected == value,
-            (Counted::Value(value), op, Reply::Value(Some(taken))) => {
-                op.removes() && taken == value
+        match op.kind().family {
+            Family::Container(_) => {
+                op.removes() && reply.content().is_some_and(|taken| self.is_value(taken))
             }
-            (
-                Counted::Entry { key, value },
-                Op::Put(..) | Op::Del(_),
-                Reply::Value(Some(taken)),
-            ) => op.key() == Some(key) && taken == value,
-            (Counted::NoEntry(key), Op::Put(own, _), Reply::Value(None)) => own == key,
-            (Counted::Free, op, _) => op == Op::Acquire,
-            (Counted::Held, op, _) => op == Op::Release,
-            _ => false,
+            Family::Cells(_) => match op.effect(Some(reply)) {
+                Some(Effect { need: Need::Is(old), sets: Some(_) }) => {
+                    self.place() == Some((op.key(), old))
+                }
+                _ => false,
+            },
+            Family::Token(_) => {
+                let is_other = matches!(self, Counted::Held | Counted::Free);
+                op.holds().is_some_and(|holds| is_other && !self.is_made_by(holds))
+            }
         }
     }
 }

@@ -2,37 +2,52 @@
 
 use super::Values;
 use crate::history::{Invocation, ObjectHistory};
-use crate::model::{Op, Reply};
+use crate::kinds::{Cells, Effect, Family, Need, Op, Reply, Role};
 use std::collections::BTreeSet;
+
+/// Whether an operation of a container may be kept, or left out.
+fn fits_values(values: &Values, kept: bool, role: Role) -> bool {
+    match role {
+        Role::Puts(value) | Role::Takes(value) => kept == values.has(value),
+        Role::FindsNone | Role::Unknown => true,
+    }
+}
+
+/// The same of one on the cell of a key. What does not set it may be left out.
+fn fits_keys(values: &Values, kept: bool, key: Option<i64>, effect: Option<Effect>) -> bool {
+    let has = key.is_some_and(|key| values.has(key));
+    match effect.and_then(|effect| effect.sets) {
+        Some(_) => kept == has,
+        None => !kept || has,
+    }
+}
+
+/// The same of one on an object that is one cell. Which values are kept is asked of what it leaves
+/// if it is left out, and of what it asks for if it is kept.
+fn fits_cell(values: &Values, kept: bool, effect: Option<Effect>, is_pending: bool) -> bool {
+    let Some(Effect { need, sets }) = effect else {
+        return true;
+    };
+    let leaves = sets.flatten().is_some_and(|value| values.has(value));
+    match need {
+        _ if !kept => !leaves,
+        Need::Any | Need::Is(None) => true,
+        Need::Is(Some(value)) => values.has(value) || is_pending && !leaves,
+        Need::IsNot(_) => *values == Values::All,
+    }
+}
 
 /// Whether an operation with this reply may be kept, or left out. No reply: it is pending.
 fn fits(values: &Values, kept: bool, op: Op, reply: Option<Reply>) -> bool {
-    match op {
-        Op::Enqueue(value) | Op::Push(value) | Op::Insert(value) => kept == values.has(value),
-        Op::Dequeue | Op::Pop | Op::ExtractMin => match reply {
-            Some(Reply::Value(Some(value))) => kept == values.has(value),
-            _ => true,
-        },
-        Op::Write(value) => kept || !values.has(value),
-        Op::Read => match reply {
-            Some(Reply::Value(Some(value))) => !kept || values.has(value),
-            _ => true,
-        },
-        Op::Cas(expected, new) => match reply {
-            None if kept => values.has(expected) || !values.has(new),
-            Some(Reply::Swapped(..)) if kept => values.has(expected),
-            None | Some(Reply::Swapped(..)) => !values.has(new),
-            Some(Reply::NotSwapped) => !kept || *values == Values::All,
-            Some(Reply::Value(_)) => true,
-        },
-        Op::Put(key, _) => kept == values.has(key),
-        Op::Get(key) => !kept || values.has(key),
-        Op::Del(key) => match reply {
-            None | Some(Reply::Value(Some(_))) => kept == values.has(key),
-            Some(Reply::Value(None)) => !kept || values.has(key),
-            Some(_) => true,
-        },
-        Op::Acquire | Op::Release => kept,
+    match op.kind().family {
+        Family::Container(_) => fits_values(values, kept, op.role(reply)),
+        Family::Cells(Cells { has_keys: true, .. }) => {
+            fits_keys(values, kept, op.key(), op.effect(reply))
+        }
+        Family::Cells(Cells { has_keys: false, .. }) => {
+            fits_cell(values, kept, op.effect(reply), reply.is_none())
+        }
+        Family::Token(_) => kept,
     }
 }
 

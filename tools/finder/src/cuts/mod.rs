@@ -112,8 +112,9 @@ fn without(history: &ObjectHistory, value: i64, before: u32) -> Option<ObjectHis
 #[cfg(test)]
 mod tests {
     use super::*;
-    use crate::model::Op;
+    use crate::kinds::Op;
     use crate::read_history;
+    use crate::small::op;
 
     fn history_of(events: &[(u32, &str)]) -> ObjectHistory {
         let events = events.iter().map(|(process, rest)| format!("{{:process {process} {rest}}}"));
@@ -178,7 +179,7 @@ mod tests {
         ]);
         let part = part_by(&register, &[Cut::From(0)]).expect("a part");
         let ops: Vec<Op> = part.ops.iter().map(|o| o.op).collect();
-        assert_eq!(ops, [Op::Write(1), Op::Write(2), Op::Cas(1, 3)]);
+        assert_eq!(ops, [op("write 1"), op("write 2"), op("cas 1 3")]);
         assert!(part_by(&register, &[Cut::From(4)]).is_none());
         assert!(part_by(&queue(), &[Cut::From(0)]).is_none());
     }
@@ -203,8 +204,8 @@ mod tests {
             let part = part_by(&map, &[cell(numbers)]).expect("a part");
             part.ops.iter().map(|o| o.op).collect::<Vec<Op>>()
         };
-        assert_eq!(ops(&[]), [Op::Write(1)]);
-        assert_eq!(ops(&[2, 4]), [Op::Write(1), Op::Cas(1, 0)]);
+        assert_eq!(ops(&[]), [op("write 1")]);
+        assert_eq!(ops(&[2, 4]), [op("write 1"), op("cas 1 0")]);
     }
 
     #[test]

@@ -1,7 +1,7 @@
 //! Suffixes: what can take effect from a call on that tells what the object then contains.
 
 use crate::history::{End, Invocation, ObjectHistory};
-use crate::model::{Op, Reply};
+use crate::kinds::{Family, Op, Reply, lone_cell};
 
 /// An operation on an empty object, and its reply.
 type First = (Op, Reply);
@@ -9,35 +9,30 @@ type First = (Op, Reply);
 /// What an operation with this reply left, if the reply tells: nothing, or what this operation
 /// leaves in an empty object.
 fn left_by(op: Op, reply: Reply) -> Option<Option<First>> {
-    let write = |value| (Op::Write(value), Reply::Value(Some(value)));
-    let put = |key, value| (Op::Put(key, value), Reply::Value(None));
-    Some(match (op, reply) {
-        (Op::Dequeue | Op::Pop | Op::ExtractMin, Reply::Value(None)) => None,
-        (Op::Write(value), _) => Some(write(value)),
-        (Op::Read, Reply::Value(found)) => found.map(write),
-        (Op::Cas(_, new), Reply::Swapped(..)) => Some(write(new)),
-        (Op::Put(key, value), _) => Some(put(key, value)),
-        (Op::Get(key), Reply::Value(found)) => found.map(|value| put(key, value)),
-        (Op::Del(_) | Op::Release, _) => None,
-        (Op::Acquire, _) => Some((Op::Acquire, Reply::Value(None))),
-        _ => return None,
+    if !op.tells(reply) {
+        return None;
+    }
+    Some(match &op.kind().family {
+        Family::Container(_) => None,
+        Family::Cells(cells) => {
+            let content = op.effect(Some(reply))?.shows()?;
+            content.map(|value| (cells.fill)(op.key(), value))
+        }
+        Family::Token(_) => (op.holds() == Some(true)).then_some((op, reply)),
     })
 }
 
-/// An operation that overlaps the first one: a write or a swap becomes a write, and any other is
-/// pending. Where the suffix begins empty, each is pending.
+/// An operation that overlaps the first one: what set an object that is one cell sets it whatever
+/// was there, and any other is pending. Where the suffix begins empty, each is pending.
 fn overlapping(first: Option<First>, operation: &Invocation) -> Invocation {
-    let written = match (operation.op, operation.reply()) {
-        (Op::Write(value), Some(_)) => Some(value),
-        (Op::Cas(_, new), Some(Reply::Swapped(..))) => Some(new),
-        _ => None,
-    };
+    let effect = operation.reply().and_then(|reply| operation.op.effect(Some(reply)));
+    let effect = effect.filter(|_| operation.op.kind().is_lone_cell());
+    let written = effect.and_then(|effect| effect.sets.flatten());
     match (first, written, operation.end) {
-        (Some(_), Some(value), End::Returned { at, .. }) => Invocation {
-            op: Op::Write(value),
-            end: End::Returned { at, reply: Reply::Value(Some(value)) },
-            ..*operation
-        },
+        (Some(_), Some(value), End::Returned { at, .. }) => {
+            let (op, reply) = lone_cell::setting(value);
+            Invocation { op, end: End::Returned { at, reply }, ..*operation }
+        }
         _ => Invocation { end: End::Pending, ..*operation },
     }
 }

@@ -2,7 +2,6 @@
 //! of its kind that are running, the one that returns first. All acquires are alike, and so are all
 //! releases, so nothing better can be chosen.
 
-use crate::model::Op;
 use crate::timeline::Timeline;
 use std::collections::BTreeSet;
 
@@ -15,7 +14,7 @@ pub fn mutex_order(timeline: &Timeline) -> Option<Vec<u32>> {
     let mut order = Vec::new();
     for moment in &timeline.moments {
         let call = &timeline.calls[moment.call];
-        let acquires_it = call.op == Op::Acquire;
+        let acquires_it = call.op.holds() == Some(true);
         let (own, others) = match acquires_it {
             true => (&mut acquires, &mut releases),
             false => (&mut releases, &mut acquires),

@@ -3,7 +3,7 @@
 
 use super::Pattern;
 use crate::history::{Invocation, ObjectHistory};
-use crate::model::{Kind, Op, Reply};
+use crate::kinds::{Op, Reply};
 
 /// Operations that would have put a value in, or set it, and did not: all failed, or all were
 /// refused, being compare-and-sets.
@@ -26,11 +26,7 @@ pub struct Facts {
 
 /// Whether the operation would put this value in, or set it, under this key at a map.
 fn would_put(op: Op, key: Option<i64>, value: i64) -> bool {
-    match op {
-        Op::Write(new) | Op::Cas(_, new) => new == value,
-        Op::Put(own, new) => key.is_none_or(|key| key == own) && new == value,
-        op => op.puts() == Some(value),
-    }
+    op.new_value() == Some(value) && (key.is_none() || key == op.key())
 }
 
 impl Undone {
@@ -61,11 +57,11 @@ impl Facts {
             _ => return Facts::default(),
         };
         let found =
-            |o: &Invocation| o.op == Op::Read && o.reply() == Some(Reply::Value(Some(value)));
+            |o: &Invocation| o.op.only_looks() && o.reply() == Some(Reply::Value(Some(value)));
         let swapped =
             |o: &Invocation| matches!(o.reply(), Some(Reply::Swapped(old, _)) if old == value);
         Facts {
-            is_by_swap: history.kind == Kind::Register
+            is_by_swap: history.kind.is_lone_cell()
                 && part.ops.iter().any(swapped)
                 && !part.ops.iter().any(found),
             undone: match pattern {

@@ -4,7 +4,7 @@
 use super::Reason;
 use crate::cuts::{Ahead, Counted};
 use crate::history::ObjectHistory;
-use crate::model::Kind;
+use crate::kinds::{Gives, Kind};
 use std::collections::BTreeMap;
 use std::fmt::{self, Display, Formatter};
 
@@ -88,18 +88,17 @@ impl Lost {
 
     /// Where the values were, and when.
     fn place(&self, kind: Kind) -> String {
-        let (word, number) = (kind.word(), self.number);
-        match (self.found, kind) {
-            (None, _) => format!("in the {word} before event {number} found nothing"),
-            (Some(found), Kind::Heap) => {
-                format!(
-                    "in the heap and less than value {found} before event {number} extracted it"
-                )
+        let (word, number) = (kind.word, self.number);
+        let (put, seen) = (kind.words.put, kind.words.seen);
+        let Some((found, gives)) = self.found.zip(kind.gives()) else {
+            return format!("in the {word} before event {number} found nothing");
+        };
+        match gives {
+            Gives::First => format!("{put} before value {found}, which event {number} {seen}"),
+            Gives::Last => format!("{put} on value {found}, which event {number} {seen}"),
+            Gives::Least => {
+                format!("in the {word} and less than value {found} before event {number} {seen} it")
             }
-            (Some(found), Kind::Queue) => {
-                format!("enqueued before value {found}, which event {number} dequeued")
-            }
-            (Some(found), _) => format!("pushed on value {found}, which event {number} popped"),
         }
     }
 
@@ -108,7 +107,7 @@ impl Lost {
         if let (None, 0, [lost @ LostValue { times: 1, .. }]) =
             (self.found, self.most, &self.values[..])
         {
-            let (word, number, fate) = (kind.word(), self.number, lost.fate(kind));
+            let (word, number, fate) = (kind.word, self.number, lost.fate(kind));
             let find =
                 format!("the {word} was definitely not empty when event {number} found nothing");
             return format!("{find}: {lost} was in it ({fate})");
@@ -119,7 +118,7 @@ impl Lost {
             (0, _) => "none of them can".to_owned(),
             (most, _) => format!("at most {most} of them can"),
         };
-        let (count, place, seen) = (self.count(), self.place(kind), kind.seen());
+        let (count, place, seen) = (self.count(), self.place(kind), kind.words.seen);
         let values = self.named(kind);
         format!("{count} {were} {place}, and {most} have been {seen} by then: {values}")
     }
@@ -144,7 +143,7 @@ impl Lost {
 impl LostValue {
     /// What became of the value.
     fn fate(&self, kind: Kind) -> String {
-        let seen = kind.seen();
+        let seen = kind.words.seen;
         let numbers = self.later.iter().take(MOST_NAMED).map(u32::to_string);
         let numbers: Vec<String> = numbers.collect();
         let events = match numbers.len() {

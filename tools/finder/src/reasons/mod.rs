@@ -16,16 +16,19 @@ mod shrink;
 mod value_pairs;
 mod wholes;
 
+pub(crate) use cells::{mutex_patterns, rare_mutex_patterns};
+pub(crate) use containers::{Interval, Runs, extracts, queue_pairs, stack_pairs};
 pub use facts::{Facts, Undone};
 pub use lost::{Lost, LostValue};
 pub use pattern::{Beginning, FirstEvent, Pattern, Sentence};
+pub(crate) use plan::Candidate;
 pub use reason::{FoundReason, Reason, Refuted, Search, Shown};
 
 use crate::cuts::{Cut, Values};
 use crate::history::ObjectHistory;
 use crate::search::{First, Searched};
 use narrow::narrowed;
-use plan::{Candidate, Element, Plan};
+use plan::{Element, Plan};
 use propose::Proposal;
 use std::collections::BTreeSet;
 

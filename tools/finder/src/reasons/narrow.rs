@@ -7,7 +7,6 @@
 
 use super::propose::{Proposal, propose_within};
 use super::reason::Refuted;
-use super::shrink::tells;
 use super::{Pattern, Reason, Search};
 use crate::cuts::{Cut, part_by};
 use crate::history::ObjectHistory;
@@ -52,7 +51,7 @@ impl<'a> Narrowing<'a> {
         ends.sort_unstable();
         let starts = part.ops.iter().filter_map(|o| {
             let (at, reply) = (o.returned()?, o.reply()?);
-            tells(o.op, reply).then_some((o.number, at))
+            o.op.tells(reply).then_some((o.number, at))
         });
         let starts = starts.collect();
         let least =

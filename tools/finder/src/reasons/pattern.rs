@@ -3,7 +3,7 @@
 use super::{Facts, Lost, Undone};
 use crate::cuts::{Counted, Cut};
 use crate::history::{Invocation, ObjectHistory};
-use crate::model::{Kind, Op, Reply};
+use crate::kinds::{Does, Gives, Kind, Need, Op, Reply, Words};
 use std::fmt::{self, Display, Formatter};
 
 /// A fact about an object's whole history that no valid order allows. At a map the values are those
@@ -53,41 +53,6 @@ pub enum Pattern {
     General,
 }
 
-impl Kind {
-    /// What is done to a value that an operation puts in, or sets.
-    fn put(self) -> &'static str {
-        match self {
-            Kind::Queue => "enqueued",
-            Kind::Stack => "pushed",
-            Kind::Heap => "inserted",
-            Kind::Register => "written",
-            Kind::Map => "put",
-            Kind::Mutex => "acquired",
-        }
-    }
-
-    /// What is done to one that an operation gives, or shows.
-    pub(super) fn seen(self) -> &'static str {
-        match self {
-            Kind::Queue => "dequeued",
-            Kind::Stack => "popped",
-            Kind::Heap => "extracted",
-            Kind::Register => "read",
-            Kind::Map => "seen",
-            Kind::Mutex => "released",
-        }
-    }
-
-    /// What is done to one that is not there any more after the operation.
-    fn taken(self) -> &'static str {
-        match self {
-            Kind::Register => "replaced by :cas",
-            Kind::Map => "replaced or removed",
-            _ => self.seen(),
-        }
-    }
-}
-
 /// How often: `once`, or `2 times`.
 struct Times(usize);
 
@@ -100,14 +65,30 @@ impl Display for Times {
     }
 }
 
+/// What an operation with this reply did that left its object empty, or free, or found it so.
+fn left_empty(op: Op, reply: Reply) -> Option<(&'static str, &'static str)> {
+    let found_nothing = ("found", "nothing");
+    match op.function.does {
+        Does::Takes => (reply == Reply::Value(None)).then_some(found_nothing),
+        Does::Accesses(_) => {
+            let effect = op.effect(Some(reply))?;
+            let takes_away = (effect.sets == Some(None)).then_some(("took", "the value away"));
+            takes_away.or((effect.need == Need::Is(None)).then_some(found_nothing))
+        }
+        Does::Releases => Some((op.kind().words.taken, "the lock")),
+        Does::Puts | Does::Acquires => None,
+    }
+}
+
 /// The operation at which a part begins, of which the part has nothing since it left the object
 /// empty, or free: what was before it does not count.
 #[derive(Clone, Copy, Debug, PartialEq, Eq)]
 pub struct Beginning {
     /// The number of its invocation.
     pub number: u32,
-    op: Op,
-    reply: Reply,
+    /// What it did, and with what.
+    did: &'static str,
+    what: &'static str,
 }
 
 impl Beginning {
@@ -123,24 +104,14 @@ impl Beginning {
         })?;
         let place = |ops: &[Invocation]| ops.binary_search_by_key(&number, |o| o.number).ok();
         let own = &history.ops[place(&history.ops)?];
-        let (op, reply) = (own.op, own.reply()?);
-        let leaves_nothing = match op {
-            Op::Release | Op::Del(_) => true,
-            op => op.puts().is_none() && reply == Reply::Value(None) && op != Op::Acquire,
-        };
-        let is_left_out = leaves_nothing && place(&part.ops).is_none();
-        is_left_out.then_some(Beginning { number, op, reply })
+        let (did, what) = left_empty(own.op, own.reply()?)?;
+        place(&part.ops).is_none().then_some(Beginning { number, did, what })
     }
 }
 
 impl Display for Beginning {
     fn fmt(&self, f: &mut Formatter<'_>) -> fmt::Result {
-        let did = match (self.op, self.reply) {
-            (Op::Release, _) => "released the lock",
-            (Op::Del(_), Reply::Value(Some(_))) => "took the value away",
-            _ => "found nothing",
-        };
-        write!(f, "before that, event {} {did}", self.number)
+        write!(f, "before that, event {} {} {}", self.number, self.did, self.what)
     }
 }
 
@@ -188,18 +159,18 @@ impl Display for Sentence {
     }
 }
 
-/// Those that alone would have put the value in.
-impl Display for Undone {
-    fn fmt(&self, f: &mut Formatter<'_>) -> fmt::Result {
-        let Undone { first, count, were_refused } = *self;
+impl Undone {
+    /// Those that alone would have put the value in, where this is the name of what was refused.
+    fn text(self, swap: &str) -> String {
+        let Undone { first, count, were_refused } = self;
         match (count, were_refused) {
-            (1, false) => write!(f, "event {first}, which failed"),
-            (1, true) => write!(f, "the :cas of event {first}, which was refused"),
+            (1, false) => format!("event {first}, which failed"),
+            (1, true) => format!("the :{swap} of event {first}, which was refused"),
             (_, false) => {
-                write!(f, "{count} operations that failed, the first of them event {first}")
+                format!("{count} operations that failed, the first of them event {first}")
             }
             (_, true) => {
-                write!(f, "{count} :cas that were refused, the first of them event {first}")
+                format!("{count} :{swap} that were refused, the first of them event {first}")
             }
         }
     }
@@ -213,7 +184,8 @@ impl Sentence {
     }
 
     fn say_pattern(&self, f: &mut Formatter<'_>) -> fmt::Result {
-        let (put, seen, word) = (self.kind.put(), self.kind.seen(), self.kind.word());
+        let Words { put, seen, taken, .. } = self.kind.words;
+        let word = self.kind.word;
         if let Some((value, fate)) = self.pattern.of_value(self.kind, self.facts) {
             return write!(f, "value {value} was {fate}");
         }
@@ -233,10 +205,10 @@ impl Sentence {
                 f.write_str("nil was seen more often than the key can have been without a value")
             }
             Pattern::CountExceeded(Counted::Held) => {
-                f.write_str("the lock was released more often than it can have been held")
+                write!(f, "the lock was {taken} more often than it can have been held")
             }
             Pattern::CountExceeded(Counted::Free) => {
-                f.write_str("the lock was acquired more often than it can have been free")
+                write!(f, "the lock was {put} more often than it can have been free")
             }
             _ => f.write_str("the following operations have no valid order"),
         }
@@ -265,11 +237,15 @@ impl Pattern {
     /// The value that the pattern is about, and what it says of it; none where it is about no
     /// value.
     fn of_value(&self, kind: Kind, facts: Facts) -> Option<(i64, String)> {
-        let (put, taken) = (kind.put(), kind.taken());
-        let seen = if facts.is_by_swap { "expected by an accepted :cas" } else { kind.seen() };
+        let Words { put, taken, out_of_date, .. } = kind.words;
+        let swap = kind.swap_name();
+        let seen = match facts.is_by_swap {
+            true => format!("expected by an accepted :{swap}"),
+            false => kind.words.seen.to_owned(),
+        };
         Some(match *self {
             Pattern::NeverSet(value) => match facts.undone {
-                Some(undone) => (value, format!("{seen} and only {put} by {undone}")),
+                Some(undone) => (value, format!("{seen} and only {put} by {}", undone.text(swap))),
                 None => (value, format!("{seen} and never {put}")),
             },
             Pattern::TooEarly(value) => (value, format!("{seen} before it was {put}")),
@@ -278,14 +254,9 @@ impl Pattern {
                 let (times, set) = (Times(times), Times(set));
                 (value, format!("{taken} {times} and by then {put} {set}"))
             }
-            Pattern::Stale(value) if kind == Kind::Map => {
-                (value?, format!("{seen} after it had been replaced or removed"))
-            }
-            Pattern::Stale(value) => {
-                (value?, format!("{seen} after another content had replaced it"))
-            }
+            Pattern::Stale(value) => (value?, format!("{seen} {out_of_date}")),
             Pattern::RefusedUnderItsValue { value, number } => {
-                let swap = format!("the :cas of event {number}, which expects it");
+                let swap = format!("the :{swap} of event {number}, which expects it");
                 (value, format!("definitely there when {swap}, was refused"))
             }
             Pattern::CountExceeded(Counted::Value(value) | Counted::Entry { value, .. }) => {
@@ -297,7 +268,8 @@ impl Pattern {
 
     /// The same of a value and another one.
     fn of_two_values(&self, kind: Kind) -> Option<(i64, String)> {
-        let (put, seen, word) = (kind.put(), kind.seen(), kind.word());
+        let Words { put, seen, .. } = kind.words;
+        let word = kind.word;
         Some(match *self {
             Pattern::UnderSmaller { taken: value, smaller } => {
                 let smaller = format!("the smaller value {smaller} was definitely in the {word}");
@@ -306,8 +278,8 @@ impl Pattern {
             Pattern::UnderSmallerOnes(value) => {
                 (value, format!("{seen} while some smaller value was definitely in the {word}"))
             }
-            Pattern::WrongOrder { first, second } if kind == Kind::Stack => {
-                (first, format!("popped before value {second}, which was pushed on it"))
+            Pattern::WrongOrder { first, second } if kind.gives() == Some(Gives::Last) => {
+                (first, format!("{seen} before value {second}, which was {put} on it"))
             }
             Pattern::WrongOrder { first, second } => {
                 (first, format!("{put} before value {second} and {seen} after it"))

@@ -4,7 +4,7 @@
 use super::{Pattern, Reason};
 use crate::cuts::{Count, Cut, Values};
 use crate::history::{End, Invocation, ObjectHistory};
-use crate::model::{Kind, Op, Reply};
+use crate::kinds::{Cells, Family, Role as Touch};
 use std::collections::BTreeSet;
 
 /// A pattern that was found, at a map with its key, and the plan of a reason. The weight tells
@@ -72,25 +72,28 @@ impl Values {
         if operation.has_failed() {
             return Role::LeftOut;
         }
-        let reply = operation.reply();
-        match operation.op {
-            Op::Enqueue(value) | Op::Push(value) | Op::Insert(value) => {
-                Role::kept_if(self.has(value))
-            }
-            Op::Dequeue | Op::Pop | Op::ExtractMin => match reply {
-                Some(Reply::Value(Some(value))) => Role::kept_if(self.has(value)),
-                Some(_) => Role::Optional,
-                None => Role::Pending,
+        match operation.op.kind().family {
+            Family::Container(_) => match operation.op.role(operation.reply()) {
+                Touch::Puts(value) | Touch::Takes(value) => Role::kept_if(self.has(value)),
+                Touch::FindsNone => Role::Optional,
+                Touch::Unknown => Role::Pending,
             },
-            Op::Put(key, _) | Op::Get(key) | Op::Del(key) if !self.has(key) => Role::LeftOut,
-            Op::Get(_) | Op::Read if reply.is_none() => Role::LeftOut,
-            Op::Write(_) | Op::Read | Op::Cas(..) if *self != Values::All => match reply {
-                Some(_) => Role::Optional,
-                None => Role::LeftOut,
-            },
-            Op::Get(_) | Op::Read => Role::Optional,
-            Op::Del(_) if reply == Some(Reply::Value(None)) => Role::Optional,
-            Op::Cas(..) if reply == Some(Reply::NotSwapped) => Role::Optional,
+            Family::Cells(_) => self.role_on_cell(operation),
+            Family::Token(_) => Role::Kept,
+        }
+    }
+
+    /// The same where the object has cells. What does not set its cell can be left out; and where
+    /// not all values of an object that is one cell are kept, so can all that returned.
+    fn role_on_cell(&self, operation: &Invocation) -> Role {
+        let Some(effect) = operation.op.effect(operation.reply()) else {
+            return Role::LeftOut;
+        };
+        match operation.op.key() {
+            Some(key) if !self.has(key) => Role::LeftOut,
+            None if *self != Values::All && operation.is_pending() => Role::LeftOut,
+            None if *self != Values::All => Role::Optional,
+            _ if effect.sets.is_none() => Role::Optional,
             _ => Role::Kept,
         }
     }
@@ -140,11 +143,12 @@ impl Plan {
     /// which is this number, or its end. It is pending there, so it can set a value, and has to
     /// stay.
     fn is_cut_swap(&self, operation: &Invocation, begun: u32) -> bool {
-        let (Op::Cas(..), End::Returned { at, .. }) = (operation.op, operation.end) else {
+        let End::Returned { at, reply } = operation.end else {
             return false;
         };
+        let is_refused = operation.op.effect(Some(reply)).is_some_and(|it| it.is_refused());
         let is_cut = operation.number < begun || self.until.is_some_and(|until| at >= until);
-        self.all_values && is_cut && self.touches(operation)
+        self.all_values && is_refused && is_cut && self.touches(operation)
     }
 
     /// The cut that keeps the plan's values and operations.
@@ -152,16 +156,16 @@ impl Plan {
         let values = self.values();
         let mut left_over = 0..values.left_over(&history.ops);
         let optional = self.optional();
-        let is_register = history.kind == Kind::Register;
+        let is_lone_cell = history.kind.is_lone_cell();
         let begun = self.begun(&history.ops);
         let kept = history.ops.iter().filter(|o| match values.role_of(o) {
-            Role::Kept => !is_register || self.touches(o),
+            Role::Kept => !is_lone_cell || self.touches(o),
             Role::Optional => optional.contains(&o.number) || self.is_cut_swap(o, begun),
             Role::Pending => left_over.next().is_some(),
             Role::LeftOut => false,
         });
         let numbers = kept.map(|o| o.number).collect();
-        if is_register && !self.all_values {
+        if is_lone_cell && !self.all_values {
             return Cut::Cell { key: None, other: other_than(&values), values, numbers };
         }
         Cut::Keep { values, numbers }
@@ -184,18 +188,18 @@ impl Plan {
 
     /// Adds the cuts that make the part, of this history.
     pub fn push_cuts(&self, history: &ObjectHistory, cuts: &mut Vec<Cut>) {
-        match (history.kind, self.key) {
-            (Kind::Map, Some(_)) => {
+        match (&history.kind.family, self.key) {
+            (Family::Cells(Cells { has_keys: true, .. }), Some(_)) => {
                 let (key, values, numbers) = (self.key, self.values(), self.optional());
                 cuts.push(Cut::Cell { key, other: other_than(&values), values, numbers });
                 self.push_window(cuts);
             }
-            (Kind::Register, _) if self.all_values => {
+            (Family::Cells(Cells { has_keys: false, .. }), _) if self.all_values => {
                 self.push_window(cuts);
                 self.push_keeping(history, cuts);
             }
-            (Kind::Mutex, _) => self.push_window(cuts),
-            _ => {
+            (Family::Token(_), _) => self.push_window(cuts),
+            (Family::Container(_) | Family::Cells(_), _) => {
                 self.push_keeping(history, cuts);
                 self.push_window(cuts);
             }

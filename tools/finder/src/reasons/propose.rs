@@ -1,14 +1,14 @@
 //! The search for reasons: the patterns, the smallest first, and each made smaller.
 
-use super::cells::{cell_patterns, mutex_patterns, rare_cell_patterns, rare_mutex_patterns};
+use super::cells::{cell_patterns, rare_cell_patterns};
 use super::containers::{container_patterns, lost_patterns};
-use super::shrink::{Judge, tells};
+use super::shrink::Judge;
 use super::value_pairs::value_pairs_of;
 use super::wholes::wholes_of;
 use super::{Candidate, Element, Pattern, Plan, Reason, Search};
 use crate::cuts::{Cut, part_by};
 use crate::history::ObjectHistory;
-use crate::model::Kind;
+use crate::kinds::Family;
 use crate::search::First;
 use crate::timeline::Timeline;
 use std::cell::Cell;
@@ -70,10 +70,10 @@ struct Proposer<'a> {
 impl Proposer<'_> {
     /// The candidates by patterns, the lightest first.
     fn patterns(&self, timeline: &Timeline) -> Vec<Candidate> {
-        let mut candidates = match self.history.kind {
-            kind @ (Kind::Queue | Kind::Stack | Kind::Heap) => container_patterns(kind, timeline),
-            Kind::Register | Kind::Map => cell_patterns(timeline),
-            Kind::Mutex => mutex_patterns(timeline),
+        let mut candidates = match &self.history.kind.family {
+            Family::Container(container) => container_patterns(container, timeline),
+            Family::Cells(_) => cell_patterns(timeline),
+            Family::Token(token) => (token.patterns)(timeline),
         };
         candidates.sort_by_key(|candidate| candidate.weight);
         candidates
@@ -81,10 +81,10 @@ impl Proposer<'_> {
 
     /// The candidates by patterns that take longer to be found, the lightest first.
     fn rare_patterns(&self, timeline: &Timeline) -> Vec<Candidate> {
-        let mut candidates = match self.history.kind {
-            Kind::Register | Kind::Map => rare_cell_patterns(timeline),
-            Kind::Mutex => rare_mutex_patterns(timeline),
-            _ => Vec::new(),
+        let mut candidates = match &self.history.kind.family {
+            Family::Container(_) => Vec::new(),
+            Family::Cells(_) => rare_cell_patterns(timeline),
+            Family::Token(token) => (token.rare_patterns)(timeline),
         };
         candidates.sort_by_key(|candidate| candidate.weight);
         candidates
@@ -94,7 +94,7 @@ impl Proposer<'_> {
     fn starts(&self, until: u32) -> impl Iterator<Item = Element> {
         let starts = self.history.ops.iter().rev().filter(move |o| {
             o.returned().is_some_and(|at| at < until)
-                && o.reply().is_some_and(|reply| tells(o.op, reply))
+                && o.reply().is_some_and(|reply| o.op.tells(reply))
         });
         starts.map(|o| Element::Operation(o.number)).take(MOST_STARTS)
     }
@@ -206,17 +206,17 @@ impl Proposer<'_> {
     }
 
     /// The smallest reason to which the patterns of the object lead, if they lead to one. Where it
-    /// is not small values are looked for that a queue, stack or heap lost, and at a mutex the
+    /// is not small values are looked for that a container lost, and at a token the
     /// patterns that are rare.
     fn best_by_patterns(&self, timeline: &Timeline) -> Option<Confirmed> {
         let best = self.best_of(self.patterns(timeline));
         if best.as_ref().is_some_and(|it| it.size <= FEW) {
             return best;
         }
-        let others = match self.history.kind {
-            kind @ (Kind::Queue | Kind::Stack | Kind::Heap) => lost_patterns(kind, timeline),
-            Kind::Mutex => self.rare_patterns(timeline),
-            Kind::Register | Kind::Map => Vec::new(),
+        let others = match &self.history.kind.family {
+            Family::Container(container) => lost_patterns(container.gives, timeline),
+            Family::Token(_) => self.rare_patterns(timeline),
+            Family::Cells(_) => Vec::new(),
         };
         best.into_iter().chain(self.best_of(others)).min_by_key(|found| found.size)
     }

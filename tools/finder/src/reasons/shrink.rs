@@ -3,7 +3,6 @@
 
 use super::{Element, Plan, Search};
 use crate::history::ObjectHistory;
-use crate::model::{Op, Reply};
 use crate::search::First;
 use std::cell::Cell;
 
@@ -25,16 +24,6 @@ pub struct Judge<'a> {
     budget: &'a Cell<u64>,
     /// The number of operations of the last part that was confirmed to have no valid order.
     pub size: usize,
-}
-
-/// Whether the reply tells what the object contains after the operation.
-pub fn tells(op: Op, reply: Reply) -> bool {
-    match (op, reply) {
-        (Op::Enqueue(_) | Op::Push(_) | Op::Insert(_), _) => false,
-        (Op::Dequeue | Op::Pop | Op::ExtractMin, reply) => reply == Reply::Value(None),
-        (Op::Cas(..), reply) => reply != Reply::NotSwapped,
-        _ => true,
-    }
 }
 
 impl<'a> Judge<'a> {
@@ -85,7 +74,7 @@ impl<'a> Judge<'a> {
         let beginnings = self.base.ops.iter().filter(|o| {
             o.number > least
                 && o.returned().is_some_and(|at| at < most)
-                && o.reply().is_some_and(|reply| tells(o.op, reply))
+                && o.reply().is_some_and(|reply| o.op.tells(reply))
         });
         let beginnings: Vec<u32> = beginnings.map(|o| o.number).collect();
         let (mut low, mut high) = (0, beginnings.len());

@@ -2,7 +2,7 @@
 //! reason all that was done with two values is kept, and is made smaller if it has no valid order.
 
 use super::{Candidate, Element, Pattern, Plan};
-use crate::model::Kind;
+use crate::kinds::Kind;
 use crate::timeline::Timeline;
 use std::collections::BTreeSet;
 

@@ -2,7 +2,7 @@
 //! leads to a reason, such a plan is made smaller.
 
 use super::{Candidate, Element, Pattern, Plan};
-use crate::model::{Kind, Op, Reply};
+use crate::kinds::{Cells, Family, Kind, Need, Reply};
 use crate::timeline::{Call, Timeline};
 use std::collections::BTreeSet;
 
@@ -18,11 +18,10 @@ fn add_values(call: &Call, values: &mut BTreeSet<i64>) {
         values.insert(key);
         return;
     }
-    match call.op {
-        Op::Write(value) => values.extend([value]),
-        Op::Cas(expected, new) => values.extend([expected, new]),
-        op => values.extend(op.puts()),
+    if let Some(Need::Is(asked)) = call.op.effect(None).map(|effect| effect.need) {
+        values.extend(asked);
     }
+    values.extend(call.op.new_value());
     if let Some(Reply::Value(value)) = call.reply {
         values.extend(value);
     }
@@ -47,11 +46,11 @@ fn whole(key: Option<i64>, calls: &[&Call], all_values: bool) -> Option<Candidat
 /// The plans that keep everything, where there are few calls.
 pub fn wholes_of(kind: Kind, timeline: &Timeline) -> Vec<Candidate> {
     let calls: Vec<&Call> = timeline.calls.iter().collect();
-    let all_values: &[bool] = match kind {
-        Kind::Queue | Kind::Stack | Kind::Heap => &[false],
-        Kind::Register => &[false, true],
-        Kind::Mutex => &[true],
-        Kind::Map => {
+    let all_values: &[bool] = match kind.family {
+        Family::Container(_) => &[false],
+        Family::Cells(Cells { has_keys: false, .. }) => &[false, true],
+        Family::Token(_) => &[true],
+        Family::Cells(Cells { has_keys: true, .. }) => {
             let keys: BTreeSet<i64> = calls.iter().filter_map(|call| call.op.key()).collect();
             let on = |key| calls.iter().copied().filter(move |call| call.op.key() == Some(key));
             let keys = keys.into_iter().take(MOST_KEYS);

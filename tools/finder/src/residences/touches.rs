@@ -1,6 +1,6 @@
 //! What each call of a queue, stack or heap does with a value.
 
-use crate::model::Role;
+use crate::kinds::Role;
 use crate::timeline::{Call, Span};
 
 /// A put or a removal of a value.

@@ -1,6 +1,6 @@
 //! A digest of the operations done and the content.
 
-use crate::model::{Op, Reply};
+use crate::kinds::{Effect, Family, Gives, Need, Op, Reply, Role};
 use crate::splitmix::{STEP, mixed};
 
 /// Two ways to do the same operations that leave the same content have one digest, so that a pair
@@ -41,37 +41,61 @@ impl Digest {
         self.content = self.content.wrapping_sub(part);
     }
 
+    fn put(&mut self, value: i64, gives: Gives) {
+        match gives {
+            Gives::First | Gives::Last => {
+                self.add(of_value(value, self.back));
+                self.back += 1;
+            }
+            Gives::Least => self.add(of_value(value, 0)),
+        }
+    }
+
+    fn take(&mut self, value: i64, gives: Gives) {
+        match gives {
+            Gives::First => {
+                self.remove(of_value(value, self.front));
+                self.front += 1;
+            }
+            Gives::Last => {
+                self.back -= 1;
+                self.remove(of_value(value, self.back));
+            }
+            Gives::Least => self.remove(of_value(value, 0)),
+        }
+    }
+
+    /// What the cell of a key contained is replaced.
+    fn replace(&mut self, key: i64, old: Option<i64>, new: Option<i64>) {
+        if let Some(old) = old {
+            self.remove(of_entry(key, old));
+        }
+        if let Some(new) = new {
+            self.add(of_entry(key, new));
+        }
+    }
+
+    /// The operation of an object that has cells sets its cell, if it does.
+    fn set(&mut self, op: Op, reply: Reply) {
+        let Some(Effect { need, sets: Some(new) }) = op.effect(Some(reply)) else {
+            return;
+        };
+        match (op.key(), need) {
+            (Some(key), Need::Is(old)) => self.replace(key, old, new),
+            (Some(key), Need::Any | Need::IsNot(_)) => self.replace(key, None, new),
+            (None, _) => self.content = new.map_or(0, |new| of_value(new, 0)),
+        }
+    }
+
     /// After one more operation, at this place of the trials, with its reply.
     pub fn after(mut self, place: usize, op: Op, reply: Reply) -> Digest {
         self.done = self.done.wrapping_add(pair(place as u64, 7));
-        match (op, reply) {
-            (Op::Enqueue(v) | Op::Push(v), _) => {
-                self.add(of_value(v, self.back));
-                self.back += 1;
-            }
-            (Op::Dequeue, Reply::Value(Some(v))) => {
-                self.remove(of_value(v, self.front));
-                self.front += 1;
-            }
-            (Op::Pop, Reply::Value(Some(v))) => {
-                self.back -= 1;
-                self.remove(of_value(v, self.back));
-            }
-            (Op::Insert(v), _) => self.add(of_value(v, 0)),
-            (Op::ExtractMin, Reply::Value(Some(v))) => self.remove(of_value(v, 0)),
-            (Op::Write(v), _) | (Op::Cas(..), Reply::Swapped(_, v)) => {
-                self.content = of_value(v, 0);
-            }
-            (Op::Put(key, v), reply) => {
-                if let Reply::Value(Some(old)) = reply {
-                    self.remove(of_entry(key, old));
-                }
-                self.add(of_entry(key, v));
-            }
-            (Op::Del(key), Reply::Value(Some(old))) => self.remove(of_entry(key, old)),
-            (Op::Acquire, _) => self.content = 1,
-            (Op::Release, _) => self.content = 0,
-            _ => {}
+        match (&op.kind().family, op.role(Some(reply))) {
+            (Family::Container(container), Role::Puts(value)) => self.put(value, container.gives),
+            (Family::Container(container), Role::Takes(value)) => self.take(value, container.gives),
+            (Family::Container(_), Role::FindsNone | Role::Unknown) => {}
+            (Family::Cells(_), _) => self.set(op, reply),
+            (Family::Token(_), _) => self.content = u64::from(op.holds() == Some(true)),
         }
         self
     }

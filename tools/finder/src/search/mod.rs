@@ -56,7 +56,8 @@ pub fn search(history: &ObjectHistory, first: First, steps: u64) -> Searched {
 mod tests {
     use super::*;
     use crate::history::{End, Invocation};
-    use crate::model::{Kind, Op, Reply};
+    use crate::kinds::{Op, Reply};
+    use crate::small::op;
 
     /// An operation that was invoked and returned at these numbers; pending if at none.
     fn operation(number: u32, op: Op, end: Option<(u32, Option<i64>)>) -> Invocation {
@@ -65,15 +66,15 @@ mod tests {
     }
 
     fn queue(ops: Vec<Invocation>) -> ObjectHistory {
-        ObjectHistory { object: 0, kind: Kind::Queue, ops }
+        ObjectHistory { object: 0, kind: ops[0].op.kind(), ops }
     }
 
     #[test]
     fn finds_an_order_in_either_order_of_trial() {
         let history = queue(vec![
-            operation(0, Op::Enqueue(1), Some((3, Some(1)))),
-            operation(1, Op::Enqueue(2), Some((2, Some(2)))),
-            operation(4, Op::Dequeue, Some((5, Some(2)))),
+            operation(0, op("enqueue 1"), Some((3, Some(1)))),
+            operation(1, op("enqueue 2"), Some((2, Some(2)))),
+            operation(4, op("dequeue"), Some((5, Some(2)))),
         ]);
         for first in [First::Number, First::Return] {
             assert_eq!(search(&history, first, 100).outcome, Outcome::Order(vec![1, 0, 4]));
@@ -83,8 +84,8 @@ mod tests {
     #[test]
     fn uses_pending_operations() {
         let history = queue(vec![
-            operation(0, Op::Enqueue(1), None),
-            operation(1, Op::Dequeue, Some((2, Some(1)))),
+            operation(0, op("enqueue 1"), None),
+            operation(1, op("dequeue"), Some((2, Some(1)))),
         ]);
         assert_eq!(search(&history, First::Return, 100).outcome, Outcome::Order(vec![0, 1]));
     }
@@ -92,8 +93,8 @@ mod tests {
     #[test]
     fn counts_steps() {
         let history = queue(vec![
-            operation(0, Op::Enqueue(1), Some((1, Some(1)))),
-            operation(2, Op::Dequeue, Some((3, None))),
+            operation(0, op("enqueue 1"), Some((1, Some(1)))),
+            operation(2, op("dequeue"), Some((3, None))),
         ]);
         assert_eq!(search(&history, First::Number, 1).outcome, Outcome::OutOfSteps);
         for first in [First::Number, First::Return] {
@@ -106,7 +107,7 @@ mod tests {
 
     #[test]
     fn nothing_that_returned_has_an_empty_order() {
-        let history = queue(vec![operation(0, Op::Dequeue, None)]);
+        let history = queue(vec![operation(0, op("dequeue"), None)]);
         assert_eq!(search(&history, First::Number, 0).outcome, Outcome::Order(Vec::new()));
     }
 }

@@ -6,7 +6,7 @@ use super::undone::Undone;
 use super::{First, Outcome, Searched};
 use crate::content::{Content, Undo};
 use crate::history::{Invocation, ObjectHistory};
-use crate::model::{Op, Reply};
+use crate::kinds::Reply;
 use std::collections::BTreeSet;
 
 /// How many operations a pair that is remembered lists, where it lists all that are to return.
@@ -96,10 +96,8 @@ impl Walk {
     pub fn new(history: &ObjectHistory, first: First) -> Walk {
         let trials = Trials::new(history, first);
         let keys: BTreeSet<i64> = (trials.items.iter())
-            .filter_map(|o| match o.op {
-                Op::Put(key, _) => Some(key),
-                _ => None,
-            })
+            .filter(|o| o.op.new_value().is_some())
+            .filter_map(|o| o.op.key())
             .collect();
         let mut walk = Walk {
             levels: Vec::new(),

@@ -1,10 +1,10 @@
 //! What an object contains, as boxes: what it gives, and what was returned.
 
-use super::content::{Content, Item, put_by, value_reply};
+use super::content::{Content, Item, held_text, value_reply};
 use crate::figures::{CHARACTER, SMALL_CHARACTER, characters, count_text, digits};
 use crate::timeline::{BoxKind, ContentBox, Operation};
 use crate::words::Words;
-use finder::Reply;
+use finder::{Bag, Gives, Reply};
 use std::collections::BTreeMap;
 use std::ops::Range;
 
@@ -15,13 +15,11 @@ const NEAR: usize = 8;
 
 /// Whether a place of a list of this length has a box whatever is there: each where they are few;
 /// else those where values are taken out, and the one at the other end.
-fn is_near(place: usize, length: usize, is_stack: bool) -> bool {
-    let (near, other): (Range<usize>, usize) = if length <= FEW {
-        (0..length, 0)
-    } else if is_stack {
-        (length - NEAR..length, 0)
-    } else {
-        (0..NEAR, length - 1)
+fn is_near(place: usize, length: usize, gives: Gives) -> bool {
+    let (near, other): (Range<usize>, usize) = match gives {
+        _ if length <= FEW => (0..length, 0),
+        Gives::Last => (length - NEAR..length, 0),
+        Gives::First | Gives::Least => (0..NEAR, length - 1),
     };
     near.contains(&place) || place == other
 }
@@ -68,7 +66,7 @@ impl Boxes<'_> {
         &mut self,
         items: &[Item],
         at: Option<usize>,
-        is_stack: bool,
+        gives: Gives,
         returned: Option<i64>,
     ) -> bool {
         let mut is_found = false;
@@ -76,7 +74,7 @@ impl Boxes<'_> {
         for (place, item) in items.iter().enumerate() {
             let is_given = at == Some(place);
             let is_returned = !is_found && !is_given && returned == Some(item.value);
-            if !is_returned && !is_near(place, items.len(), is_stack) {
+            if !is_returned && !is_near(place, items.len(), gives) {
                 skipped += 1;
                 continue;
             }
@@ -93,17 +91,16 @@ impl Boxes<'_> {
         is_found
     }
 
-    /// The values of a queue, a stack or a heap, and what the operation returned.
-    fn values(&mut self, content: &Content, operation: &Operation, reply: Reply) {
-        let items = content.items();
-        let is_stack = matches!(content, Content::Stack(_));
-        let is_removal = put_by(operation.op()).is_none();
-        let at = is_removal.then(|| if is_stack { items.len().saturating_sub(1) } else { 0 });
-        let returned = match reply {
-            Reply::Value(value) => value,
-            _ => None,
-        };
-        let is_found = self.list(&items, at, is_stack, returned);
+    /// The values of a container, and what the operation returned.
+    fn values(&mut self, bag: &Bag<Item>, operation: &Operation, reply: Reply) {
+        let (items, gives) = (bag.values(), bag.gives());
+        let is_removal = operation.op().removes();
+        let at = is_removal.then(|| match gives {
+            Gives::First | Gives::Least => 0,
+            Gives::Last => items.len().saturating_sub(1),
+        });
+        let returned = reply.content().flatten();
+        let is_found = self.list(&items, at, gives, returned);
         if items.is_empty() {
             let (kind, under) =
                 if is_removal { (BoxKind::Gives, "gives nil") } else { (BoxKind::Plain, "") };
@@ -141,20 +138,18 @@ pub fn boxes_of(content: &Content, operation: &Operation, words: Words) -> Vec<C
     let mut boxes = Boxes { words, boxes: Vec::new(), x: 2 };
     let reply = operation.reply().unwrap_or(Reply::Value(None));
     match content {
-        Content::Queue(_) | Content::Heap(_) | Content::Stack(_) => {
-            boxes.values(content, operation, reply);
-        }
-        Content::Register(item) => {
+        Content::Values(bag) => boxes.values(bag, operation, reply),
+        Content::Cell(item) => {
             let text = value_reply(*item).value().to_string();
             boxes.add_values(BoxKind::Gives, text, ["contains", ""], item.map(|item| item.by));
             boxes.absent(reply, ["returned", ""]);
         }
-        Content::Map(items) => {
+        Content::Cells(items) => {
             boxes.entries(items, operation.op().key());
             boxes.absent(reply, ["returned", ""]);
         }
-        Content::Mutex { holder, .. } => {
-            let word = if holder.is_some() { "held" } else { "free" };
+        Content::Token { holder, .. } => {
+            let word = held_text(holder.is_some());
             boxes.add(BoxKind::Gives, word.into(), ["", ""], *holder);
         }
     }

@@ -2,8 +2,8 @@
 
 use crate::figures::count_text;
 use crate::words::Words;
-use finder::{Kind, Op, Reply};
-use std::collections::{BTreeMap, BTreeSet, VecDeque};
+use finder::{Bag, Cells, Does, Effect, Family, Gives, Kind, Op, Reply, Shape};
+use std::collections::BTreeMap;
 use std::fmt::Write;
 
 /// A value, and the number of the operation that put it there.
@@ -13,19 +13,14 @@ pub struct Item {
     pub by: u32,
 }
 
-/// What an object of each kind contains.
+/// What an object contains, by the family of its kind.
 #[derive(Clone)]
 pub enum Content {
-    /// First to last.
-    Queue(VecDeque<Item>),
-    /// Bottom to top.
-    Stack(Vec<Item>),
-    /// By value, and then by the operation.
-    Heap(BTreeSet<Item>),
-    Register(Option<Item>),
-    Map(BTreeMap<i64, Item>),
+    Values(Bag<Item>),
+    Cell(Option<Item>),
+    Cells(BTreeMap<i64, Item>),
     /// Who holds it, and who released it last.
-    Mutex {
+    Token {
         holder: Option<u32>,
         releaser: Option<u32>,
     },
@@ -38,21 +33,16 @@ pub fn value_reply(item: Option<Item>) -> Reply {
 
 /// The value that an operation puts in, and returns.
 pub fn put_by(op: Op) -> Option<i64> {
-    match op {
-        Op::Write(value) => Some(value),
-        op => op.puts(),
-    }
+    op.argument.last().filter(|_| op.function.reply == Shape::Done)
 }
 
 impl Content {
     pub fn empty(kind: Kind) -> Content {
-        match kind {
-            Kind::Queue => Content::Queue(VecDeque::new()),
-            Kind::Stack => Content::Stack(Vec::new()),
-            Kind::Heap => Content::Heap(BTreeSet::new()),
-            Kind::Register => Content::Register(None),
-            Kind::Map => Content::Map(BTreeMap::new()),
-            Kind::Mutex => Content::Mutex { holder: None, releaser: None },
+        match &kind.family {
+            Family::Container(container) => Content::Values(Bag::empty(container.gives)),
+            Family::Cells(Cells { has_keys: false, .. }) => Content::Cell(None),
+            Family::Cells(Cells { has_keys: true, .. }) => Content::Cells(BTreeMap::new()),
+            Family::Token(_) => Content::Token { holder: None, releaser: None },
         }
     }
 
@@ -62,120 +52,104 @@ impl Content {
             return None;
         }
         match self {
-            Content::Queue(items) => items.front().copied(),
-            Content::Stack(items) => items.last().copied(),
-            Content::Heap(items) => items.first().copied(),
-            Content::Register(item) => *item,
-            Content::Map(items) => items.get(&op.key()?).copied(),
-            Content::Mutex { .. } => None,
+            Content::Values(items) => items.next(),
+            Content::Cell(item) => *item,
+            Content::Cells(items) => items.get(&op.key()?).copied(),
+            Content::Token { .. } => None,
+        }
+    }
+
+    /// The item of an object that is one cell.
+    pub fn lone_item(&self) -> Option<Item> {
+        match self {
+            Content::Cell(item) => *item,
+            Content::Values(_) | Content::Cells(_) | Content::Token { .. } => None,
         }
     }
 
     /// The reply that the object gives to the operation; none: it is not possible.
     pub fn gives(&self, op: Op) -> Option<Reply> {
-        if let Some(value) = put_by(op) {
-            return Some(Reply::Value(Some(value)));
-        }
         let found = self.find(op);
-        match op {
-            Op::Cas(expected, new) => Some(match found {
-                Some(item) if item.value == expected => Reply::Swapped(expected, new),
-                _ => Reply::NotSwapped,
-            }),
-            Op::Acquire if self.holder().is_some() => None,
-            Op::Release if self.holder().is_none() => None,
-            _ => Some(value_reply(found)),
+        match op.function.does {
+            Does::Puts => Some(Reply::Value(op.puts())),
+            Does::Takes => Some(value_reply(found)),
+            Does::Accesses(_) => op.next(found.map(|item| item.value)).map(|(reply, _)| reply),
+            Does::Acquires => self.holder().is_none().then_some(Reply::Value(None)),
+            Does::Releases => self.holder().is_some().then_some(Reply::Value(None)),
         }
     }
 
-    /// Who holds the mutex.
+    /// Who holds a token.
     pub fn holder(&self) -> Option<u32> {
         match self {
-            Content::Mutex { holder, .. } => *holder,
-            _ => None,
+            Content::Token { holder, .. } => *holder,
+            Content::Values(_) | Content::Cell(_) | Content::Cells(_) => None,
         }
     }
 
-    /// Who released the mutex last.
+    /// Who released a token last.
     pub fn releaser(&self) -> Option<u32> {
         match self {
-            Content::Mutex { releaser, .. } => *releaser,
-            _ => None,
+            Content::Token { releaser, .. } => *releaser,
+            Content::Values(_) | Content::Cell(_) | Content::Cells(_) => None,
         }
+    }
+
+    /// What the operation that has this number leaves in its cell, if it sets it.
+    fn left(&self, by: u32, op: Op) -> Option<Option<Item>> {
+        let Effect { sets, .. } = op.effect(Some(self.gives(op)?))?;
+        sets.map(|content| content.map(|value| Item { value, by }))
     }
 
     /// Does the operation that has this number. One that is not of the kind changes nothing.
     pub fn apply(&mut self, by: u32, op: Op) {
-        match (self, op) {
-            (Content::Queue(items), Op::Enqueue(value)) => items.push_back(Item { value, by }),
-            (Content::Queue(items), Op::Dequeue) => {
-                items.pop_front();
-            }
-            (Content::Stack(items), Op::Push(value)) => items.push(Item { value, by }),
-            (Content::Stack(items), Op::Pop) => {
-                items.pop();
-            }
-            (Content::Heap(items), Op::Insert(value)) => {
-                items.insert(Item { value, by });
-            }
-            (Content::Heap(items), Op::ExtractMin) => {
-                items.pop_first();
-            }
-            (Content::Register(item), Op::Write(value)) => *item = Some(Item { value, by }),
-            (Content::Register(item), Op::Cas(expected, value)) => {
-                *item =
-                    item.map(|held| if held.value == expected { Item { value, by } } else { held });
-            }
-            (Content::Map(items), Op::Put(key, value)) => {
-                items.insert(key, Item { value, by });
-            }
-            (Content::Map(items), Op::Del(key)) => {
-                items.remove(&key);
-            }
-            (Content::Mutex { holder, .. }, Op::Acquire) => *holder = Some(by),
-            (Content::Mutex { holder, releaser }, Op::Release) => {
-                (*holder, *releaser) = (None, Some(by));
-            }
-            _ => {}
-        }
-    }
-
-    /// The items of a queue, stack or heap in their order.
-    pub fn items(&self) -> Vec<Item> {
+        let left = self.left(by, op);
         match self {
-            Content::Queue(items) => items.iter().copied().collect(),
-            Content::Stack(items) => items.clone(),
-            Content::Heap(items) => items.iter().copied().collect(),
-            _ => Vec::new(),
+            Content::Values(items) => match op.puts() {
+                Some(value) => items.put(Item { value, by }),
+                None if op.removes() => _ = items.take(),
+                None => {}
+            },
+            Content::Cell(item) => *item = left.unwrap_or(*item),
+            Content::Cells(items) => match (op.key(), left) {
+                (Some(key), Some(Some(item))) => _ = items.insert(key, item),
+                (Some(key), Some(None)) => _ = items.remove(&key),
+                (Some(_), None) | (None, _) => {}
+            },
+            Content::Token { holder, releaser } => match op.holds() {
+                Some(true) => *holder = Some(by),
+                Some(false) => (*holder, *releaser) = (None, Some(by)),
+                None => {}
+            },
         }
     }
 
-    /// The values in it, at a map with their keys; of a mutex whether it is held.
+    /// The values in it, with their keys where it has keys; of a token whether it is held.
     pub fn values(&self) -> Vec<i64> {
         match self {
-            Content::Queue(_) | Content::Stack(_) | Content::Heap(_) => {
-                self.items().iter().map(|item| item.value).collect()
-            }
-            Content::Register(item) => item.iter().map(|item| item.value).collect(),
-            Content::Map(items) => {
+            Content::Values(items) => items.values().iter().map(|item| item.value).collect(),
+            Content::Cell(item) => item.iter().map(|item| item.value).collect(),
+            Content::Cells(items) => {
                 items.iter().flat_map(|(key, item)| [*key, item.value]).collect()
             }
-            Content::Mutex { holder, .. } => holder.iter().map(|_| 1).collect(),
+            Content::Token { holder, .. } => holder.iter().map(|_| 1).collect(),
         }
     }
 
     /// The content as text. Of a long one it tells the beginning and the end.
     pub fn text(&self, words: &Words) -> String {
         match self {
-            Content::Queue(items) => list_text(items.len(), items.iter(), 8, words),
-            Content::Stack(items) => list_text(items.len(), items.iter(), 2, words),
-            Content::Heap(items) => list_text(items.len(), items.iter(), 8, words),
-            Content::Register(item) => words.values(value_reply(*item).value().to_string()),
-            Content::Map(items) => map_text(items, words),
-            Content::Mutex { holder: Some(_), .. } => "held".into(),
-            Content::Mutex { holder: None, .. } => "free".into(),
+            Content::Values(items) => list_text(items, words),
+            Content::Cell(item) => words.values(value_reply(*item).value().to_string()),
+            Content::Cells(items) => map_text(items, words),
+            Content::Token { holder, .. } => held_text(holder.is_some()).into(),
         }
     }
+}
+
+/// Whether a token is held, in a word.
+pub fn held_text(is_held: bool) -> &'static str {
+    if is_held { "held" } else { "free" }
 }
 
 /// A list of at most this many values has all of them in its text, and a longer one has `SHOWN`.
@@ -192,17 +166,17 @@ fn spaced<'a>(items: impl Iterator<Item = &'a Item>, words: &Words) -> String {
     words.values(text)
 }
 
-/// The list of these items in brackets. Of a long one `first` are shown from its beginning.
-fn list_text<'a>(
-    length: usize,
-    items: impl Iterator<Item = &'a Item> + Clone,
-    first: usize,
-    words: &Words,
-) -> String {
+/// The list of these items in brackets. Of a long one more is shown where values are taken out.
+fn list_text(items: &Bag<Item>, words: &Words) -> String {
+    let first = match items.gives() {
+        Gives::First | Gives::Least => 8,
+        Gives::Last => 2,
+    };
+    let (items, length) = (items.values(), items.len());
     if length <= FEW {
-        return format!("[{}]", spaced(items, words));
+        return format!("[{}]", spaced(items.iter(), words));
     }
-    let (beginning, end) = (items.clone().take(first), items.skip(length + first - SHOWN));
+    let (beginning, end) = (items[..first].iter(), items[length + first - SHOWN..].iter());
     let more = count_text(length - SHOWN);
     format!("[{} … {more} more … {}]", spaced(beginning, words), spaced(end, words))
 }

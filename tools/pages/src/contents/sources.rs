@@ -1,7 +1,7 @@
 //! Which operations put a value in, and take it out.
 
 use crate::timeline::{Operation, Role, State};
-use finder::{Op, Reply};
+use finder::Reply;
 
 /// The value that a reply tells was there.
 pub fn wanted(reply: Reply) -> Option<i64> {
@@ -17,11 +17,7 @@ pub fn value_put(operation: &Operation) -> Option<i64> {
     if operation.state() == State::Failed {
         return None;
     }
-    match operation.op() {
-        Op::Write(value) | Op::Put(_, value) => Some(value),
-        Op::Cas(_, value) if operation.reply() != Some(Reply::NotSwapped) => Some(value),
-        op => op.puts(),
-    }
+    operation.op().new_value().filter(|_| operation.reply() != Some(Reply::NotSwapped))
 }
 
 /// Whether the operation puts this value in, under this key of a map.

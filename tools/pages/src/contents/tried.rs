@@ -1,9 +1,9 @@
 //! The orders of a part's operations that were tried, each up to the operation that does not fit.
 
-use super::content::{Content, value_reply};
+use super::content::{Content, held_text, value_reply};
 use crate::timeline::{Attempt, Failure, Operation, Tried, operation_at};
 use crate::words::Words;
-use finder::{Invocation, Kind, Op, Reply};
+use finder::{Invocation, Kind, Reply, Shape};
 use std::collections::HashSet;
 
 /// A part with more operations is not tried, and no more steps are taken.
@@ -50,9 +50,9 @@ fn recorded_failure(failure: Failure, content: &Content, next: &Operation) -> Fa
     let Failure::Gives(gives, returned) = failure else {
         return failure;
     };
-    let is_cas = matches!(next.op(), Op::Cas(..));
-    let gives = if gives == Reply::NotSwapped && !is_cas {
-        value_reply(content.find(Op::Read))
+    let may_be_refused = next.op().function.reply == Shape::Swapped;
+    let gives = if gives == Reply::NotSwapped && !may_be_refused {
+        value_reply(content.lone_item())
     } else {
         gives
     };
@@ -72,8 +72,8 @@ impl Trying<'_> {
 
     /// The content as text, or that it is the value that stands for others.
     fn content_text(&self, content: &Content) -> String {
-        match content {
-            Content::Register(Some(item)) if Some(item.value) == self.tried.other => "other".into(),
+        match content.lone_item() {
+            Some(item) if Some(item.value) == self.tried.other => "other".into(),
             _ => content.text(&self.words),
         }
     }
@@ -146,17 +146,18 @@ impl Trying<'_> {
     }
 }
 
-/// The same ways, and, for a part of a mutex, before them the content before the part with which its
+/// The same ways, and, for a part of a token, before them the content before the part with which its
 /// first operation is not possible.
-pub fn with_other_content(mut tried: Tried, kind: Kind, first: Option<Operation>) -> Tried {
-    let Some(next) = first.filter(|_| kind == Kind::Mutex && !tried.attempts.is_empty()) else {
+pub fn with_other_content(mut tried: Tried, first: Option<Operation>) -> Tried {
+    let next = first.filter(|_| !tried.attempts.is_empty());
+    let Some((next, holds)) = next.and_then(|next| Some((next, next.op().holds()?))) else {
         return tried;
     };
     if tried.attempts.len() == ROWS {
         tried.attempts.pop();
         tried.more += 1;
     }
-    let content = if next.op() == Op::Acquire { "held" } else { "free" }.into();
+    let content = held_text(holds).into();
     let failure = Failure::NotPossible;
     tried.attempts.insert(0, Attempt { before: Vec::new(), content, next, failure });
     tried

@@ -517,7 +517,7 @@ pub fn draw_impossible(subject: &Subject, part: &Part) -> ObjectDrawing {
             .collect(),
         content: reason.said().map(|said| capitalized(&subject.words.sentence(said))),
         outside: outside_of(&recorded, &live),
-        tried: Some(with_other_content(tried, subject.object.kind, part.begins_at(&operations))),
+        tried: Some(with_other_content(tried, part.begins_at(&operations))),
         reason: recorded.len(),
         live: live_count(&operations),
         from: part.from,

@@ -4,7 +4,7 @@
 
 use crate::contents::{puts, takes, value_put};
 use crate::timeline::{Operation, Role, Span, Spans, State, Tried, spans};
-use finder::{Counted, Kind, Lost, Op, Pattern, Reply, Sentence};
+use finder::{Counted, Gives, Kind, Lost, Need, Pattern, Reply, Sentence};
 
 /// The operations of an object, and those of a part of which no order is valid. Where the part
 /// begins, if not at the beginning, and the pattern that led to it.
@@ -19,31 +19,6 @@ pub struct Reason<'a> {
 
 /// How many operations are named one by one at most.
 const MOST_NAMED: usize = 12;
-
-/// The name of an operation that puts in.
-fn put_name(kind: Kind) -> &'static str {
-    match kind {
-        Kind::Stack => "push",
-        Kind::Heap => "insert",
-        _ => "enqueue",
-    }
-}
-
-fn put_words(kind: Kind) -> &'static str {
-    match kind {
-        Kind::Stack => " was pushed ",
-        Kind::Heap => " was inserted ",
-        _ => " was enqueued ",
-    }
-}
-
-fn taken_words(kind: Kind) -> &'static str {
-    match kind {
-        Kind::Stack => " and popped ",
-        Kind::Heap => " and extracted ",
-        _ => " and dequeued ",
-    }
-}
 
 /// The operations, with `and` before the last; where there are many, how many there are.
 fn named(operations: &[Operation]) -> Spans {
@@ -115,40 +90,42 @@ fn returned_before(operation: &Operation, other: &Operation) -> Option<u32> {
 /// Whether the operation puts this value where another one was, or deletes what was there if there
 /// is no value.
 fn sets_anew(operation: &Operation, key: Option<i64>, value: Option<i64>) -> bool {
-    match (value, key) {
-        (Some(value), _) => puts(operation, key, value) && operation.op() != Op::Cas(value, value),
-        (None, Some(key)) => operation.op() == Op::Del(key),
+    let is_same = |need| need == Need::Is(value);
+    match (value, operation.op().effect(None)) {
+        (Some(value), effect) => {
+            puts(operation, key, value) && !effect.is_some_and(|effect| is_same(effect.need))
+        }
+        (None, Some(effect)) => {
+            key.is_some() && operation.op().key() == key && effect.sets == Some(None)
+        }
         (None, None) => false,
     }
 }
 
-/// What a register, or a map under the key, contained where the operation took effect, if it says
-/// that.
+/// What the cell contained where the operation took effect, if it says that.
 fn found_by(operation: &Operation) -> Option<Option<i64>> {
-    match (operation.op(), operation.reply()?) {
-        (Op::Read | Op::Get(_) | Op::Put(..) | Op::Del(_), Reply::Value(value)) => Some(value),
-        (Op::Cas(..), Reply::Swapped(expected, _)) => Some(Some(expected)),
-        _ => None,
+    let reply = operation.reply()?;
+    match (operation.op().effect(Some(reply))?.need, reply) {
+        (Need::Is(_), Reply::Value(value)) => Some(value),
+        (Need::Is(_), Reply::Swapped(expected, _)) => Some(Some(expected)),
+        (Need::Is(_), Reply::NotSwapped) | (Need::Any | Need::IsNot(_), _) => None,
     }
 }
 
-/// What a register, or a map under the key, contained after the operation, which returned.
+/// What the cell contained after the operation, which returned.
 fn left_by(operation: &Operation) -> Option<Option<i64>> {
-    match operation.op() {
-        Op::Read | Op::Get(_) => found_by(operation),
-        Op::Del(_) => Some(None),
-        _ => value_put(operation).map(Some),
-    }
+    operation.op().effect(Some(operation.reply()?))?.shows()
 }
 
-/// The words on what an operation left, which is this: of a map also the key.
+/// The words on what an operation left, which is this: where there are keys also the key.
 fn left_words(operation: &Operation, left: Option<i64>) -> Spans {
-    let mut words = match operation.op() {
-        Op::Del(key) => return spans![" deleted key ", key],
-        Op::Read | Op::Get(_) => spans![" found ", Reply::Value(left)],
-        _ => spans![" set ", Reply::Value(left)],
+    let op = operation.op();
+    let mut words = match (op.sets(), op.key()) {
+        (Some(None), Some(key)) => return spans![" deleted key ", key],
+        (None, _) => spans![" found ", Reply::Value(left)],
+        (Some(_), _) => spans![" set ", Reply::Value(left)],
     };
-    if let Some(key) = operation.op().key() {
+    if let Some(key) = op.key() {
         words.extend(spans![" under key ", key]);
     }
     words
@@ -200,7 +177,7 @@ impl Reason<'_> {
                 " at event ",
                 at,
                 ", and no ",
-                put_name(self.kind),
+                self.kind.put_name(),
                 " of ",
                 value,
                 " was invoked before that."
@@ -215,13 +192,13 @@ impl Reason<'_> {
         if !self.kind.is_container() || putters.is_empty() || takers.len() <= putters.len() {
             return None;
         }
-        let mut sentence = spans![value, put_words(self.kind)];
+        let mut sentence = spans![value, " was ", self.kind.words.put, " "];
         sentence.extend(times(&putters));
-        sentence.extend(spans![",", taken_words(self.kind)]);
+        sentence.extend(spans![", and ", self.kind.words.taken, " "]);
         sentence.extend(times(&takers));
         sentence.extend(spans![
             ". No other ",
-            put_name(self.kind),
+            self.kind.put_name(),
             " of ",
             value,
             " was invoked before event ",
@@ -265,15 +242,17 @@ impl Reason<'_> {
     /// Which values were ahead of what a removal found.
     fn were_ahead(&self, lost: &Lost) -> Spans {
         let were = if lost.count() == 1 { "value was" } else { "values were" };
-        match (lost.found, self.kind) {
-            (None, kind) => spans![lost.count(), " ", were, " in the ", kind, " before that"],
-            (Some(value), Kind::Heap) => {
-                spans![lost.count(), " lesser ", were, " in the heap before ", value, " was found"]
+        let (count, kind, put) = (lost.count(), self.kind, self.kind.words.put);
+        let Some((value, gives)) = lost.found.zip(kind.gives()) else {
+            return spans![count, " ", were, " in the ", kind, " before that"];
+        };
+        match gives {
+            Gives::First => spans![count, " ", were, " ", put, " before ", value],
+            Gives::Last => spans![count, " ", were, " ", put, " on ", value],
+            Gives::Least => {
+                let found = " was found";
+                spans![count, " lesser ", were, " in the ", kind, " before ", value, found]
             }
-            (Some(value), Kind::Queue) => {
-                spans![lost.count(), " ", were, " enqueued before ", value]
-            }
-            (Some(value), _) => spans![lost.count(), " ", were, " pushed on ", value],
         }
     }
 
@@ -310,7 +289,11 @@ impl Reason<'_> {
         let taker = taker_of(w)?;
         let end = taker.returned()?;
         let is_alone = self.putters(w, end).len() == 1;
-        if self.kind != Kind::Queue || v == w || !is_alone || self.may_be_taken(v, end) {
+        if self.kind.gives() != Some(Gives::First)
+            || v == w
+            || !is_alone
+            || self.may_be_taken(v, end)
+        {
             return None;
         }
         let mut sentence = spans![
@@ -359,17 +342,15 @@ impl Reason<'_> {
         let (at, end) = (returned_before(earlier, later)?, later.returned()?);
         let (left, found) = (left_by(earlier)?, found_by(later)?);
         let is_same = earlier.op().key() == later.op().key();
-        let is_cell = matches!(self.kind, Kind::Register | Kind::Map);
-        if !is_cell
+        if !self.kind.has_cells()
             || !is_same
             || left == found
             || self.is_set_between(found, [earlier, later], end)
         {
             return None;
         }
-        let is_read = matches!(later.op(), Op::Read | Op::Get(_));
         let value = Reply::Value(found);
-        let returned = if is_read { " returned " } else { " found " };
+        let returned = if later.op().only_looks() { " returned " } else { " found " };
         let mut sentence = spans![*later, returned, value, ". But ", *earlier];
         sentence.extend(left_words(earlier, left));
         sentence.extend(spans![
@@ -388,12 +369,13 @@ impl Reason<'_> {
         Some(sentence)
     }
 
-    /// A mutex is released twice, and not acquired in between.
+    /// A token is released twice, and not acquired in between.
     fn twice_released(&self) -> Option<Spans> {
-        let releases = self.part.iter().filter(|it| it.op() == Op::Release);
+        let releases = self.part.iter().filter(|it| it.op().holds() == Some(false));
         let [first, second] = releases.collect::<Vec<_>>().try_into().ok()?;
         let (from, to) = (first.number(), first.returned()?.max(second.returned()?));
-        let is_acquired = |it: &Operation| it.op() == Op::Acquire && ran_between(it, from, to);
+        let is_acquired =
+            |it: &Operation| it.op().holds() == Some(true) && ran_between(it, from, to);
         if self.operations.iter().any(is_acquired) {
             return None;
         }
@@ -402,11 +384,17 @@ impl Reason<'_> {
             from,
             " and event ",
             to,
-            " the mutex was released twice, by ",
+            " the ",
+            self.kind,
+            " was ",
+            self.kind.words.taken,
+            " twice, by ",
             *first,
             " and ",
             *second,
-            ", and no acquire ran in between."
+            ", and no ",
+            self.kind.put_name(),
+            " ran in between."
         ])
     }
 
@@ -454,7 +442,7 @@ impl Reason<'_> {
             return spans!["one of them does not fit", if has_table { table } else { "." }];
         };
         match last.reply() {
-            Some(reply) if self.kind != Kind::Mutex => {
+            Some(reply) if last.op().holds().is_none() => {
                 spans![last, " could not return ", reply, "."]
             }
             _ => spans![last, " is not possible."],

@@ -5,7 +5,7 @@ use crate::contents::{Content, puts, walk_along, wanted};
 use crate::timeline::{Mark, Operation, Span, Spans, operation_at, spans};
 use crate::verdict::OrderFault;
 use crate::words::Words;
-use finder::{History, Kind, ObjectHistory, Op, Reply};
+use finder::{History, Kind, ObjectHistory, Reply};
 use std::collections::{BTreeMap, BTreeSet};
 
 /// Whether the operations that a sentence names are shown alone too.
@@ -245,7 +245,7 @@ impl Refused<'_> {
     fn not_possible(&self, operation: Operation) -> Explanation {
         let (mut text, content) = self.as_entry(operation);
         let named = |number: Option<u32>| self.operation(number?);
-        text.say(spans![" is not possible: the mutex is "]);
+        text.say(spans![" is not possible: the ", self.kind, " is "]);
         if let Some(holder) = named(content.holder()) {
             text.say(spans!["held there, by "]);
             text.say_operation(holder, Mark::Giver);
@@ -255,10 +255,12 @@ impl Refused<'_> {
         } else {
             text.say(spans!["free there, from the beginning"]);
         }
-        text.say(spans![match operation.op() {
-            Op::Acquire => ". A mutex is acquired only while it is free.",
-            _ => ". A mutex is released only while it is held.",
-        }]);
+        let words = &self.kind.words;
+        let (done, while_it_is) = match operation.op().holds() {
+            Some(true) => (words.put, " only while it is free."),
+            Some(false) | None => (words.taken, " only while it is held."),
+        };
+        text.say(spans![". A ", self.kind, " is ", done, while_it_is]);
         text.because = spans!["not possible"];
         text.content = Some(content);
         text
@@ -337,7 +339,7 @@ impl Refused<'_> {
 
     /// Why a value that this operation put in before is not what is found.
     fn say_turn(&self, text: &mut Explanation, source: &Operation, refused: usize) {
-        if matches!(self.kind, Kind::Register | Kind::Map) {
+        if self.kind.has_cells() {
             return text.say(spans!["."]);
         }
         let Some((place, taker)) = self.taker_of(source, refused) else {

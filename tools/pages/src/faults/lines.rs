@@ -5,6 +5,7 @@ use super::excerpts::visible;
 use super::number_in;
 use crate::elements::{Opened, Place, elements_in, innermost_open, line_of, value_in, word_at};
 use crate::verdict::{Fault, MapFaultKind, TextFaultKind, Which};
+use finder::{Function, function, function_names};
 
 /// The longest piece of a text that is shown.
 const LONGEST: usize = 200;
@@ -18,36 +19,8 @@ fn shown(bytes: &[u8]) -> String {
     }
 }
 
-/// The functions, with what they take and what they reply.
-const FUNCTIONS: [(&str, &str, &str); 14] = {
-    const INTEGER: &str = "an integer";
-    const NOTHING: &str = "nil";
-    const CONTENT: &str = "an integer or nil";
-    [
-        ("enqueue", INTEGER, INTEGER),
-        ("dequeue", NOTHING, CONTENT),
-        ("push", INTEGER, INTEGER),
-        ("pop", NOTHING, CONTENT),
-        ("insert", INTEGER, INTEGER),
-        ("extract-min", NOTHING, CONTENT),
-        ("write", INTEGER, INTEGER),
-        ("read", NOTHING, CONTENT),
-        (
-            "cas",
-            "a pair of integers, [old new]",
-            "its pair where it swapped, and false where it did not",
-        ),
-        ("put", "a pair of integers, [key value]", "the earlier value, an integer or nil"),
-        ("get", "a key, an integer", CONTENT),
-        ("del", "a key, an integer", "the removed value, an integer or nil"),
-        ("acquire", NOTHING, NOTHING),
-        ("release", NOTHING, NOTHING),
-    ]
-};
-
-fn function(keyword: &[u8]) -> Option<&'static (&'static str, &'static str, &'static str)> {
-    let name = keyword.strip_prefix(b":")?;
-    FUNCTIONS.iter().find(|(it, ..)| it.as_bytes() == name)
+fn function_of(keyword: &[u8]) -> Option<&'static Function> {
+    function(keyword.strip_prefix(b":")?)
 }
 
 fn is_natural(value: &[u8]) -> bool {
@@ -152,14 +125,12 @@ fn of_event(text: &[u8], number: usize, map: &[u8], kind: MapFaultKind) -> Strin
             format!("{}: expected is {expected}", key_and_value(key, value))
         }
         MapFaultKind::UnknownFunction => {
-            let names: Vec<String> =
-                FUNCTIONS.iter().map(|(name, ..)| format!(":{name}")).collect();
-            format!(":f {}: it is none of {}", shown(named), names.join(", "))
+            format!(":f {}: it is none of {}", shown(named), function_names())
         }
         MapFaultKind::BadValue => {
             let is_invoked = value_in(map, b":type") == Some(b":invoke");
-            let (takes, replies) =
-                function(named).map_or(("?", "?"), |(_, takes, replies)| (*takes, *replies));
+            let (takes, replies) = function_of(named)
+                .map_or(("?", "?"), |function| (function.takes, function.replies));
             let (does, expected) = if is_invoked { ("takes", takes) } else { ("replies", replies) };
             format!(":value {}: {} {does} {expected}", shown(value), shown(named))
         }

@@ -7,16 +7,18 @@ use crate::elements::{Place, elements_in, value_in};
 use crate::figures::FaultyMap;
 use crate::timeline::{Operation, Span, Spans, spans};
 use crate::verdict::MapFaultKind;
-use finder::{History, Kind, read_history};
+use finder::{FUNCTION_COUNT, History, read_history};
 
 /// What is wrong with a map, in general: before its number, and after it.
-fn general(kind: MapFaultKind) -> &'static str {
-    match kind {
+fn general(kind: MapFaultKind) -> Spans {
+    let words = match kind {
         MapFaultKind::NotAnOperation => {
             " is no operation: its :process, :type, :f or :object is missing or not of the right \
              kind."
         }
-        MapFaultKind::UnknownFunction => " names a function that is none of the fourteen.",
+        MapFaultKind::UnknownFunction => {
+            return spans![" names a function that is none of the ", FUNCTION_COUNT, "."];
+        }
         MapFaultKind::BadValue => " does not fit its :f: it must be what that takes, or returns.",
         MapFaultKind::MixedKinds => {
             " calls a function of another kind than the earlier events on its object."
@@ -28,7 +30,8 @@ fn general(kind: MapFaultKind) -> &'static str {
         MapFaultKind::Mismatch => " completes another :f or :object than its process invoked.",
         MapFaultKind::AfterInfo => " is of a process that an :info had closed.",
         MapFaultKind::TooMany => " is one too many: a history has at most 1,000,000.",
-    }
+    };
+    spans![words]
 }
 
 /// The faulty map as its text has it: its fault, its number, its place, its process and object if
@@ -102,7 +105,8 @@ impl<'a> Map<'a> {
             None => {
                 let is_of_value = self.kind == MapFaultKind::BadValue;
                 let event = if is_of_value { "The :value of event " } else { "Event " };
-                sentence.extend(spans![event, self.number as u64, general(self.kind)]);
+                sentence.extend(spans![event, self.number as u64]);
+                sentence.extend(general(self.kind));
             }
         }
         sentence
@@ -119,18 +123,16 @@ impl<'a> Map<'a> {
             process: self.process,
             words: words.trim(),
         };
-        let object = history.objects.iter().find(|it| it.object == self.object);
         Some(Before {
             drawing: draw_up_to(&Faulty { history: &history, map, earlier: number }),
             number,
-            kind: object.map_or(Kind::Queue, |object| object.kind),
         })
     }
 }
 
 /// What is wrong with a map of this process that clashes with an earlier one.
 fn clash_words(fault: MapFaultKind, process: u64, earlier: &Earlier) -> Spans {
-    let Earlier { number, operation, kind } = *earlier;
+    let Earlier { number, operation } = *earlier;
     match fault {
         MapFaultKind::Busy => spans![
             " invokes an operation of process ",
@@ -160,7 +162,7 @@ fn clash_words(fault: MapFaultKind, process: u64, earlier: &Earlier) -> Spans {
             " calls a function of another kind on an object that ",
             operation,
             " made a ",
-            kind,
+            operation.op().kind(),
             "."
         ],
     }
@@ -176,24 +178,21 @@ fn caption_of(kind: MapFaultKind) -> &'static str {
     }
 }
 
-/// An earlier map with which a faulty one clashes: its number, its operation, and the kind of its
-/// object.
+/// An earlier map with which a faulty one clashes: its number and its operation.
 struct Earlier {
     number: u32,
     operation: Operation,
-    kind: Kind,
 }
 
 /// The history before a faulty map, and the number of the map that it clashes with.
 struct Before {
     drawing: FaultyDrawing,
     number: Option<u32>,
-    kind: Kind,
 }
 
 impl Before {
     fn earlier(&self) -> Option<Earlier> {
-        Some(Earlier { number: self.number?, operation: self.drawing.earlier?, kind: self.kind })
+        Some(Earlier { number: self.number?, operation: self.drawing.earlier? })
     }
 }
 

@@ -3,7 +3,7 @@
 use super::numbers::SHORTEST_CUT;
 use crate::timeline::{Operation, State};
 use crate::words::Words;
-use finder::{Op, Reply, Value};
+use finder::{Shape, Value};
 
 /// The count with its digits in groups of three, and a space between two groups.
 pub fn count_text(count: usize) -> String {
@@ -19,12 +19,13 @@ pub fn count_text(count: usize) -> String {
 /// The reply that a label tells; none where it tells nothing that the operation does not.
 fn told_reply(operation: &Operation) -> Option<Value> {
     let reply = operation.reply()?;
-    let put = match operation.op() {
-        Op::Acquire | Op::Release => return None,
-        Op::Write(value) => Some(value),
-        op => op.puts(),
+    let op = operation.op();
+    let is_told = match op.function.reply {
+        Shape::Token | Shape::Nothing => false,
+        Shape::Done => reply.value() != op.argument,
+        Shape::Content | Shape::NumberOrNothing | Shape::Swapped => true,
+        Shape::Value | Shape::Number | Shape::Pair => true,
     };
-    let is_told = put.is_none_or(|value| reply != Reply::Value(Some(value)));
     is_told.then(|| reply.value())
 }
 
@@ -33,8 +34,8 @@ fn told_reply(operation: &Operation) -> Option<Value> {
 pub fn label(operation: &Operation, words: &Words) -> String {
     let op = operation.op();
     let mut text = String::from(op.name());
-    if op.argument() != Value::Nil {
-        text += &format!(" {}", op.argument());
+    if op.argument != Value::Nil {
+        text += &format!(" {}", op.argument);
     }
     if operation.state() == State::Pending {
         text += " → ?";

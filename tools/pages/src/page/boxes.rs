@@ -5,7 +5,6 @@ use super::html::{Html, html};
 use crate::figures::SMALL;
 use crate::timeline::{BoxKind, ContentBox, ObjectDrawing};
 use crate::words::Words;
-use finder::Kind;
 
 fn box_class(kind: BoxKind) -> &'static str {
     match kind {
@@ -14,16 +13,6 @@ fn box_class(kind: BoxKind) -> &'static str {
         BoxKind::Returned => "returned",
         BoxKind::Absent => "absent",
         BoxKind::Skip => "skip",
-    }
-}
-
-/// Which end of the content is at the left.
-fn left_end(kind: Kind) -> &'static str {
-    match kind {
-        Kind::Queue => ", first at the left",
-        Kind::Stack => ", bottom at the left",
-        Kind::Heap => ", least at the left",
-        Kind::Register | Kind::Map | Kind::Mutex => "",
     }
 }
 
@@ -64,7 +53,7 @@ impl ContentBox {
 pub fn content_figure(drawing: &ObjectDrawing, rank: usize, words: &Words) -> Option<Html> {
     let last = drawing.boxes.last()?;
     let width = last.x + last.width + 4;
-    let (kind, end) = (drawing.kind.word(), left_end(drawing.kind));
+    let (kind, end) = (drawing.kind.word, drawing.kind.words.left_end);
     let caption = html!["The ", kind, " before entry ", rank, end];
     Some(html![
         "<figure id=\"content\"><figcaption>",

@@ -4,7 +4,6 @@ use super::Page;
 use super::figures::path;
 use super::html::{Html, html};
 use crate::timeline::{Bar, Figure, Line, Mark, Role, State};
-use finder::Op;
 use std::collections::BTreeSet;
 
 /// A sign of the figures, in the order of the legend.
@@ -150,13 +149,13 @@ impl Sign {
 
 impl Bar {
     fn signs(&self) -> impl Iterator<Item = Sign> {
-        let role = match (self.operation.op(), self.operation.role()) {
-            (Op::Acquire, _) => Sign::Acquire,
-            (Op::Release, _) => Sign::Release,
-            (_, Role::Put) => Sign::Put,
-            (_, Role::Take) => Sign::Take,
-            (_, Role::Read) => Sign::Read,
-            (_, Role::Swap) => Sign::Swap,
+        let role = match (self.operation.op().holds(), self.operation.role()) {
+            (Some(true), _) => Sign::Acquire,
+            (Some(false), _) => Sign::Release,
+            (None, Role::Put) => Sign::Put,
+            (None, Role::Take) => Sign::Take,
+            (None, Role::Read) => Sign::Read,
+            (None, Role::Swap) => Sign::Swap,
         };
         let state = match self.operation.state() {
             State::Done => None,

@@ -197,7 +197,7 @@ impl ObjectSection<'_> {
     fn whole_figure(&self) -> Html {
         let ObjectDrawing { object, kind, zoom, figure, extent, .. } = self.drawing;
         let named = zoom.as_ref().map(Shown::in_figure).unwrap_or_default();
-        let title = html!["Object ", self.shown.words.name_of(*object), ", a ", kind.word()];
+        let title = html!["Object ", self.shown.words.name_of(*object), ", a ", kind.word];
         html![
             "<figure id=\"fig",
             *object,
@@ -271,7 +271,7 @@ impl ObjectSection<'_> {
             "<section id=\"object-",
             drawing.object,
             "\">",
-            heading(self.name, html!["Object ", drawing.object, which, ": ", drawing.kind.word()]),
+            heading(self.name, html!["Object ", drawing.object, which, ": ", drawing.kind.word]),
             zoom,
             content_figure(drawing, refused_rank(drawing), &self.shown.words),
             drawing.strip.as_ref().map(|strip| strip.html(drawing.object)),

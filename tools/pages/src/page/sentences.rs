@@ -75,7 +75,7 @@ impl<'a> Shown<'a> {
             Span::Entry(entry) => code(&entry.to_string()),
             Span::Count(count) => html![count_text(*count)],
             Span::Value(value) => html![self.words.values(value.to_string())],
-            Span::Kind(kind) => html![kind.word()],
+            Span::Kind(kind) => html![kind.word],
             Span::Operation(operation) => self.operation(operation),
             Span::Content => code(quoted),
             Span::Quoted => html![quoted],

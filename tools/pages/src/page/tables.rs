@@ -6,23 +6,13 @@ use super::{Answer, ObjectRow, Page};
 use crate::figures::{count_text, digits, label};
 use crate::timeline::{Attempt, Entry, Failure, ObjectDrawing, Row, Span, Tried};
 use crate::words::Words;
-use finder::{Kind, Reply};
+use finder::Reply;
 
 /// The characters of the longest row of a table that is beside its figure.
 const BESIDE: usize = 46;
 
 /// The most rows of the table of objects.
 const MOST_OBJECTS: usize = 64;
-
-fn content_title(kind: Kind) -> &'static str {
-    match kind {
-        Kind::Queue => "content after (first … last)",
-        Kind::Stack => "content after (bottom … top)",
-        Kind::Heap => "content after (least … greatest)",
-        Kind::Map => "content after {key value}",
-        Kind::Register | Kind::Mutex => "content after",
-    }
-}
 
 /// A table of this class, with its name, its title and the heads of its columns.
 struct Table<'a> {
@@ -112,7 +102,7 @@ pub fn order_table(drawing: &ObjectDrawing, shown: &Shown) -> Html {
         } else {
             html!["The order of object ", object]
         },
-        heads: &["rank", "operation", content_title(drawing.kind)],
+        heads: &["rank", "operation", drawing.kind.words.content_title],
     };
     let row = |row: &Row| match row {
         Row::Skipped(1) => table.skipped(1, " entry not shown"),
@@ -241,7 +231,7 @@ fn object_row(page: &Page, row: &ObjectRow) -> Html {
         is_bad.then(|| html![" class=\"bad\""]),
         ">",
         cell(name),
-        cell(html![row.kind.word()]),
+        cell(html![row.kind.word]),
         cell(html![count_text(row.operations)]),
         cell(html![count_text(row.pending)]),
         cell(html![count_text(row.failed)]),

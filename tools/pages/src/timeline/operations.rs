@@ -1,7 +1,7 @@
 //! The operations of an object, with what a drawing needs of them.
 
+use finder::{Does, Need, Op, Reply};
 use finder::{End, History, Invocation, ObjectHistory};
-use finder::{Op, Reply};
 
 /// What became of an operation.
 #[derive(Clone, Copy, PartialEq, Eq)]
@@ -74,16 +74,14 @@ impl Operation {
     }
 
     pub fn role(&self) -> Role {
-        match self.invocation.op {
-            Op::Enqueue(_)
-            | Op::Push(_)
-            | Op::Insert(_)
-            | Op::Write(_)
-            | Op::Put(..)
-            | Op::Acquire => Role::Put,
-            Op::Dequeue | Op::Pop | Op::ExtractMin | Op::Del(_) | Op::Release => Role::Take,
-            Op::Read | Op::Get(_) => Role::Read,
-            Op::Cas(..) => Role::Swap,
+        let op = self.op();
+        match (&op.function.does, op.effect(None).map(|effect| (effect.need, effect.sets))) {
+            (Does::Puts | Does::Acquires, _) => Role::Put,
+            (Does::Takes | Does::Releases, _) => Role::Take,
+            (Does::Accesses(_), None | Some((_, None))) => Role::Read,
+            (Does::Accesses(_), Some((_, Some(None)))) => Role::Take,
+            (Does::Accesses(_), Some((Need::Any, Some(Some(_))))) => Role::Put,
+            (Does::Accesses(_), Some((Need::Is(_) | Need::IsNot(_), Some(Some(_))))) => Role::Swap,
         }
     }
 }

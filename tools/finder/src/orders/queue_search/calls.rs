@@ -1,6 +1,6 @@
 //! What the calls of a queue do.
 
-use crate::model::Role;
+use crate::kinds::Role;
 use crate::timeline::Call;
 
 /// A call, and the number of the value that it puts in or takes.

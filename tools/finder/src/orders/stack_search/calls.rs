@@ -1,6 +1,6 @@
 //! The calls of a stack that run.
 
-use crate::model::Role;
+use crate::kinds::Role;
 
 /// A call that runs and will return.
 #[derive(Clone, Copy)]

@@ -3,7 +3,7 @@
 use super::records::Placed;
 use super::states::{State, narrow};
 use super::steps::Search;
-use crate::model::Role;
+use crate::kinds::Role;
 use crate::timeline::{Call, Moment};
 
 /// How many states are kept at most.

@@ -5,7 +5,7 @@ use super::contents::{Below, Contents, EMPTY};
 use super::pending::Pending;
 use super::records::{Origin, Records, Step};
 use super::states::{Draft, State, merge, narrow, settle};
-use crate::model::Role;
+use crate::kinds::Role;
 
 /// How many values are popped at most before a call.
 const MOST_POPS: usize = 100;

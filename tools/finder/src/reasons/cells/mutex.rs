@@ -3,7 +3,6 @@
 
 use super::windows::{shortest_window, starts_in, takers_in};
 use crate::cuts::{Count, Counted};
-use crate::model::Op;
 use crate::reasons::{Candidate, Pattern, Plan};
 use crate::timeline::{Call, Timeline};
 
@@ -28,7 +27,7 @@ fn window(takers: &[Call], setters: &[Call], counted: Counted) -> Vec<Candidate>
 
 /// The acquires and the releases.
 fn split(timeline: &Timeline) -> (Vec<Call>, Vec<Call>) {
-    timeline.calls.iter().partition(|call| call.op == Op::Acquire)
+    timeline.calls.iter().partition(|call| call.op.holds() == Some(true))
 }
 
 /// The candidate that begins before a release, at the last acquire that returned before it, so that

@@ -5,7 +5,6 @@ use super::windows::{shortest_window, starts_in, takers_in};
 use super::{MOST, MOST_NAMED};
 use crate::accesses::{Access, NOTHING, Need};
 use crate::cuts::{Count, Counted};
-use crate::model::Op;
 use crate::reasons::{Candidate, Pattern};
 use crate::timeline::Call;
 
@@ -65,7 +64,7 @@ fn is_set_again(scene: &Scene, content: usize) -> bool {
     scene.cell.accesses.iter().any(|access| {
         access.need == Need::Is(content)
             && access.sets.is_none()
-            && matches!(access.call.op, Op::Put(..) | Op::Cas(..))
+            && access.call.op.new_value().is_some()
     })
 }
 

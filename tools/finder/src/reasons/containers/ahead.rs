@@ -14,7 +14,7 @@
 
 use super::runs::{Run, Runs};
 use crate::cuts::{Count, Counted};
-use crate::model::Kind;
+use crate::kinds::Gives;
 use crate::reasons::{Candidate, Element, Pattern, Plan};
 use crate::timeline::Call;
 use crate::trees::{ABSENT, Least};
@@ -177,16 +177,17 @@ fn pairs_by_push(runs: &Runs) -> Pairs {
     Pairs::of(pairs.collect())
 }
 
-/// What was asked of an object: its kind, its runs, and the numbers of its pending removals.
+/// What was asked of an object: which value it gives, its runs, and the numbers of its pending
+/// removals.
 struct Asking<'a> {
-    kind: Kind,
+    gives: Gives,
     runs: &'a Runs,
     pending: Vec<u32>,
 }
 
 impl<'a> Asking<'a> {
-    fn new(kind: Kind, runs: &'a Runs) -> Asking<'a> {
-        Asking { kind, runs, pending: runs.pending.iter().map(|call| call.number).collect() }
+    fn new(gives: Gives, runs: &'a Runs) -> Asking<'a> {
+        Asking { gives, runs, pending: runs.pending.iter().map(|call| call.number).collect() }
     }
 
     /// How many removals of a run, other than this one, can be before it.
@@ -219,11 +220,11 @@ impl<'a> Asking<'a> {
         let run = &self.runs.runs[place];
         let puts = self.runs.puts(run);
         let mut question = Question { run: Some(place), ..self.of_empty(call, pairs) };
-        match self.kind {
-            Kind::Queue => question.before = call.number.min(puts.first()?.number),
-            Kind::Heap => question.counted = pairs.between(i64::MIN, run.value),
-            _ if puts.len() > MOST_PUSHES => return None,
-            _ => {
+        match self.gives {
+            Gives::First => question.before = call.number.min(puts.first()?.number),
+            Gives::Least => question.counted = pairs.between(i64::MIN, run.value),
+            Gives::Last if puts.len() > MOST_PUSHES => return None,
+            Gives::Last => {
                 let own = puts.iter().filter(|put| question.can_follow(put.number));
                 question.from = own.map(|put| put.returned).max()?.checked_add(1)?;
                 if question.from > call.number {
@@ -232,7 +233,7 @@ impl<'a> Asking<'a> {
                 question.counted = pairs.between(i64::from(question.from), NEVER);
             }
         }
-        if self.kind != Kind::Heap {
+        if self.gives != Gives::Least {
             question.others = self.others(run, call);
         }
         Some(question)
@@ -339,9 +340,9 @@ impl Asking<'_> {
     /// taken first, and of these the last one put in.
     fn shares(&self, question: &Question) -> Vec<Share> {
         let found = question.run.map(|place| self.runs.runs[place].value);
-        let counts = |value: i64| match (self.kind, found) {
-            (Kind::Heap, Some(found)) => value < found,
-            _ => found != Some(value),
+        let counts = |value: i64| match (self.gives, found) {
+            (Gives::Least, Some(found)) => value < found,
+            (Gives::Least, None) | (Gives::First | Gives::Last, _) => found != Some(value),
         };
         let mut shares: Vec<Share> = by_value(self.runs)
             .filter(|own| counts(own[0].value))
@@ -433,17 +434,18 @@ fn candidate_of(question: &Question, kept: Kept) -> Candidate {
 
 /// The removals ahead of whose finds more values definitely were than can have been taken out, the
 /// fewest operations first.
-pub fn ahead(kind: Kind, runs: &Runs) -> Vec<Candidate> {
-    let asking = Asking::new(kind, runs);
+pub fn ahead(gives: Gives, runs: &Runs) -> Vec<Candidate> {
+    let asking = Asking::new(gives, runs);
     let mut values = pairs_by_value(runs);
     let mut questions: Vec<Question> =
         runs.empties.iter().map(|call| asking.of_empty(call, &values)).collect();
     let mut answers = Vec::new();
-    if kind == Kind::Stack {
-        let mut pushes = pairs_by_push(runs);
-        answers = answered(asking.found(&pushes), &mut pushes);
-    } else {
-        questions.extend(asking.found(&values));
+    match gives {
+        Gives::Last => {
+            let mut pushes = pairs_by_push(runs);
+            answers = answered(asking.found(&pushes), &mut pushes);
+        }
+        Gives::First | Gives::Least => questions.extend(asking.found(&values)),
     }
     answers.extend(answered(questions, &mut values));
     answers.sort_by_key(|question| (question.most(), question.call.returned));

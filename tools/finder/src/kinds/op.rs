@@ -1,0 +1,186 @@
+//! Operations and replies, and what they do in the words of the families.
+
+use super::cells::Effect;
+use super::room::{Does, Family, Function, Kind};
+use std::fmt::{self, Display, Formatter};
+
+/// An operation with its argument.
+#[derive(Clone, Copy, Debug, PartialEq, Eq)]
+pub struct Op {
+    pub function: &'static Function,
+    pub argument: Value,
+}
+
+/// What an operation replies.
+#[derive(Clone, Copy, Debug, PartialEq, Eq)]
+pub enum Reply {
+    /// A value, or nil.
+    Value(Option<i64>),
+    /// A compare-and-set that took place, with its two values.
+    Swapped(i64, i64),
+    NotSwapped,
+}
+
+/// An argument or a reply, as a history writes it.
+#[derive(Clone, Copy, Debug, PartialEq, Eq)]
+pub enum Value {
+    Nil,
+    False,
+    Int(i64),
+    Pair(i64, i64),
+}
+
+/// What an operation does with the values of a container.
+#[derive(Clone, Copy, Debug, PartialEq, Eq)]
+pub enum Role {
+    Puts(i64),
+    Takes(i64),
+    FindsNone,
+    /// A removal that is pending: it takes a value that is not known, or nothing.
+    Unknown,
+}
+
+impl Reply {
+    /// The reply as a history writes it.
+    pub fn value(self) -> Value {
+        match self {
+            Reply::Value(None) => Value::Nil,
+            Reply::Value(Some(value)) => Value::Int(value),
+            Reply::Swapped(expected, new) => Value::Pair(expected, new),
+            Reply::NotSwapped => Value::False,
+        }
+    }
+
+    /// The content that it tells: a value, or nothing.
+    pub fn content(self) -> Option<Option<i64>> {
+        match self {
+            Reply::Value(content) => Some(content),
+            Reply::Swapped(..) | Reply::NotSwapped => None,
+        }
+    }
+}
+
+impl Value {
+    /// The first integer, which is the key where there are keys.
+    pub fn first(self) -> Option<i64> {
+        match self {
+            Value::Int(first) | Value::Pair(first, _) => Some(first),
+            Value::Nil | Value::False => None,
+        }
+    }
+
+    /// The last integer.
+    pub fn last(self) -> Option<i64> {
+        match self {
+            Value::Int(last) | Value::Pair(_, last) => Some(last),
+            Value::Nil | Value::False => None,
+        }
+    }
+}
+
+impl Display for Value {
+    fn fmt(&self, f: &mut Formatter<'_>) -> fmt::Result {
+        match self {
+            Value::Nil => f.write_str("nil"),
+            Value::False => f.write_str("false"),
+            Value::Int(value) => write!(f, "{value}"),
+            Value::Pair(a, b) => write!(f, "[{a} {b}]"),
+        }
+    }
+}
+
+impl Op {
+    /// The name of its function, as a history writes it after `:f :`.
+    pub fn name(self) -> &'static str {
+        self.function.name
+    }
+
+    pub fn kind(self) -> Kind {
+        self.function.kind
+    }
+
+    /// The value that the operation puts into a container.
+    pub fn puts(self) -> Option<i64> {
+        match self.function.does {
+            Does::Puts => self.argument.last(),
+            Does::Takes | Does::Accesses(_) | Does::Acquires | Does::Releases => None,
+        }
+    }
+
+    /// Whether the operation takes a value out of a container.
+    pub fn removes(self) -> bool {
+        matches!(self.function.does, Does::Takes)
+    }
+
+    /// What the operation with this reply does with the values of a container. No reply: it is
+    /// pending.
+    pub fn role(self, reply: Option<Reply>) -> Role {
+        match (self.puts(), reply) {
+            (Some(value), _) => Role::Puts(value),
+            (None, Some(Reply::Value(Some(value)))) => Role::Takes(value),
+            (None, Some(_)) => Role::FindsNone,
+            (None, None) => Role::Unknown,
+        }
+    }
+
+    /// The key of its cell, where the object has keys.
+    pub fn key(self) -> Option<i64> {
+        match &self.function.kind.family {
+            Family::Cells(cells) if cells.has_keys => self.argument.first(),
+            Family::Cells(_) | Family::Container(_) | Family::Token(_) => None,
+        }
+    }
+
+    /// What the operation with this reply asks of its cell, and leaves there. No reply: it is
+    /// pending, and has an effect where it may set the cell. `None`: it has no effect that is
+    /// known, or is on no cell.
+    pub fn effect(self, reply: Option<Reply>) -> Option<Effect> {
+        match &self.function.does {
+            Does::Accesses(access) => (access.effect)(self.argument, reply),
+            Does::Puts | Does::Takes | Does::Acquires | Does::Releases => None,
+        }
+    }
+
+    /// What the operation replies where its cell has this content, and what it leaves there.
+    /// `None`: it is on no cell.
+    pub fn next(self, content: Option<i64>) -> Option<(Reply, Option<i64>)> {
+        match &self.function.does {
+            Does::Accesses(access) => Some((access.next)(self.argument, content)),
+            Does::Puts | Does::Takes | Does::Acquires | Does::Releases => None,
+        }
+    }
+
+    /// Whether a token is held after the operation. `None`: it is on no token.
+    pub fn holds(self) -> Option<bool> {
+        match self.function.does {
+            Does::Acquires => Some(true),
+            Does::Releases => Some(false),
+            Does::Puts | Does::Takes | Does::Accesses(_) => None,
+        }
+    }
+
+    /// What the operation leaves in its cell if it sets it, whatever it replies.
+    pub fn sets(self) -> Option<Option<i64>> {
+        self.effect(None)?.sets
+    }
+
+    /// The value that the operation may put in, or set, whatever it replies.
+    pub fn new_value(self) -> Option<i64> {
+        self.puts().or_else(|| self.sets().flatten())
+    }
+
+    /// Whether the operation only looks at its cell.
+    pub fn only_looks(self) -> bool {
+        self.function.only_looks()
+    }
+
+    /// Whether the reply tells what the object contains after the operation.
+    pub fn tells(self, reply: Reply) -> bool {
+        match self.function.does {
+            Does::Puts => false,
+            Does::Takes => reply == Reply::Value(None),
+            Does::Accesses(_) => self.effect(Some(reply)).is_some_and(|it| it.shows().is_some()),
+            Does::Acquires | Does::Releases => true,
+        }
+    }
+}

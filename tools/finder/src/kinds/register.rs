@@ -1,0 +1,70 @@
+//! Registers: one cell, which is written, read, and compared and set.
+
+use super::{Access, Cells, Does, Effect, Family, Function, Need, OfNothing, Op, Reply, Room};
+use super::{Shape, Value, Words};
+
+static WRITE: Function = Function {
+    does: Does::Accesses(Access {
+        effect: |new, _| Some(Effect { need: Need::Any, sets: Some(new.last()) }),
+        next: |new, _| (Reply::Value(new.last()), new.last()),
+    }),
+    ..Function::putting("write", &REGISTER)
+};
+
+static READ: Function = Function::finding("read", &REGISTER, Access::LOOK);
+
+static CAS: Function = Function {
+    argument: Shape::Pair,
+    reply: Shape::Swapped,
+    takes: "a pair of integers, [old new]",
+    replies: "its pair where it swapped, and false where it did not",
+    of_nothing: Some(OfNothing::False),
+    does: Does::Accesses(Access {
+        effect: |pair, reply| {
+            let expected = pair.first();
+            Some(match reply {
+                Some(Reply::NotSwapped) => Effect { need: Need::IsNot(expected), sets: None },
+                _ => Effect { need: Need::Is(expected), sets: Some(pair.last()) },
+            })
+        },
+        next: |pair, content| match pair {
+            Value::Pair(expected, new) if content == Some(expected) => {
+                (Reply::Swapped(expected, new), Some(new))
+            }
+            _ => (Reply::NotSwapped, content),
+        },
+    }),
+    ..Function::putting("cas", &REGISTER)
+};
+
+pub static REGISTER: Room = Room {
+    word: "register",
+    functions: &[&WRITE, &READ, &CAS],
+    family: Family::Cells(Cells { has_keys: false, fill: |_, value| setting(value) }),
+    words: Words {
+        put: "written",
+        seen: "read",
+        taken: "replaced by :cas",
+        out_of_date: "after another content had replaced it",
+        content_title: "content after",
+        left_end: "",
+    },
+};
+
+/// The kind of an object that is one cell.
+pub static KIND: &Room = &REGISTER;
+
+/// The operation that sets the cell, with its reply.
+pub fn setting(value: i64) -> (Op, Reply) {
+    (Op { function: &WRITE, argument: Value::Int(value) }, Reply::Value(Some(value)))
+}
+
+/// The one that finds a content.
+pub fn finding(content: Option<i64>) -> (Op, Reply) {
+    (Op { function: &READ, argument: Value::Nil }, Reply::Value(content))
+}
+
+/// The one that replaces a value by another one.
+pub fn replacing(old: i64, new: i64) -> (Op, Reply) {
+    (Op { function: &CAS, argument: Value::Pair(old, new) }, Reply::Swapped(old, new))
+}

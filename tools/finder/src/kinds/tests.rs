@@ -1,0 +1,31 @@
+//! What holds of all rooms.
+
+use super::*;
+
+#[test]
+fn the_rooms_fit_together() {
+    for kind in KINDS.iter().copied() {
+        assert!(kind.functions.iter().all(|function| function.kind == kind), "{kind:?}");
+        assert_eq!(super::kind(kind.word), Some(kind));
+    }
+    for own in functions() {
+        assert_eq!(function(own.name.as_bytes()), Some(own));
+    }
+    assert_eq!((functions().count(), FUNCTION_COUNT), (14, "fourteen"));
+}
+
+/// An operation on a cell has the effect that its reply tells.
+#[test]
+fn effects_are_what_operations_do() {
+    let arguments = [Value::Nil, Value::Int(1), Value::Pair(1, 2), Value::Pair(2, 1)];
+    let ops = functions().flat_map(|function| arguments.map(|it| function.with(it)));
+    for op in ops.flatten().filter(|op| op.kind().has_cells()) {
+        for content in [None, Some(1), Some(2), Some(3)] {
+            let (reply, after) = op.next(content).expect("an operation on a cell");
+            let Effect { need, sets } = op.effect(Some(reply)).expect("an effect");
+            assert_eq!(sets.unwrap_or(content), after, "{op:?}");
+            assert!(need == Need::Any || need == Need::Is(content) || need != Need::IsNot(content));
+            assert_eq!(op.function.reply(reply.value()), Some(reply), "{op:?}");
+        }
+    }
+}
