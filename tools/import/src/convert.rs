@@ -6,12 +6,11 @@
 use crate::edn::Reader;
 use crate::failures::{Failures, Replies, error_of};
 use crate::form::Form;
-use crate::functions::{
-    Function, OfNothing, Shape, all_names, function, is_done, is_token, is_value,
-};
+use crate::functions::{function, is_done, is_token, is_value, shape_words};
 use crate::names::Names;
 use crate::numbering::Numbers;
 use crate::operations::{Operation, Refused, operations};
+use finder::{Does, Function, OfNothing, Shape, function_names, setting};
 use std::collections::{BTreeMap, HashMap, HashSet};
 use std::fmt::Write;
 
@@ -177,11 +176,11 @@ fn is_readable(name: &str) -> bool {
 /// What is said of an `:f` that is none of the functions.
 fn no_function(f: &Form) -> String {
     match f {
-        Form::Nil => format!("no :f, which is one of the functions {}", all_names()),
+        Form::Nil => format!("no :f, which is one of the functions {}", function_names()),
         Form::Symbol(word) if function(word).is_some() => {
             format!("the symbol {word} cannot be an :f: write the keyword :{word}")
         }
-        other => format!("{other} is none of the functions {}", all_names()),
+        other => format!("{other} is none of the functions {}", function_names()),
     }
 }
 
@@ -263,7 +262,7 @@ impl State<'_> {
         format!(
             "{value} cannot be the {what} of :{}, which is {}{advice}",
             function.name,
-            shape.words()
+            shape_words(shape)
         )
     }
 
@@ -276,18 +275,18 @@ impl State<'_> {
         if !self.options.checks_owners || is_done(owner) {
             return Ok(());
         }
-        match function.name {
-            "acquire" => {
+        match function.does {
+            Does::Acquires => {
                 self.owners.insert(process.clone(), owner.clone());
                 Ok(())
             }
-            "release" => match self.owners.get(process) {
+            Does::Releases => match self.owners.get(process) {
                 Some(acquired) if acquired != owner => {
                     Err(format!("it releases {owner}, and acquired {acquired}"))
                 }
                 _ => Ok(()),
             },
-            _ => Ok(()),
+            Does::Puts | Does::Takes | Does::Accesses(_) => Ok(()),
         }
     }
 
@@ -446,15 +445,11 @@ fn events_of(all: &[Operation], options: &Options) -> Result<(Vec<Entry>, Failur
     Ok((events, state.failures))
 }
 
-fn is_register(function: &Function) -> bool {
-    matches!(function.name, "write" | "read" | "cas")
-}
-
 /// What an object contains at first: what a map says of it, or the one value if it is a register.
 fn initial_of<'a>(initial: &'a Form, event: &Event) -> Option<&'a Form> {
     match initial {
         Form::Map(of) => of.iter().find(|(it, _)| *it == event.object).map(|(_, value)| value),
-        value => is_register(event.function).then_some(value),
+        value => event.function.kind.is_lone_cell().then_some(value),
     }
 }
 
@@ -486,7 +481,7 @@ fn initial_values<'a>(
     let of_first = |event: &'a Event| {
         let object = &event.object;
         let value = initial_of(initial, event)?;
-        Some(if !is_register(event.function) {
+        Some(if !event.function.kind.is_lone_cell() {
             Err(refused(
                 event.at,
                 format!("object {object} is no register, and has an initial value"),
@@ -494,7 +489,7 @@ fn initial_values<'a>(
         } else if is_value(value) {
             Ok((object, value))
         } else {
-            let expected = Shape::Value.words();
+            let expected = shape_words(Shape::Value);
             Err(refused(
                 event.at,
                 format!("{value} cannot be an initial value, which is {expected}"),
@@ -510,12 +505,11 @@ fn initial_events(initial: &Form, events: &[Entry]) -> Result<Vec<Entry>, Refuse
         events.iter().filter_map(Entry::client).map(|it| &it.process).collect();
     let process =
         (0..).map(Form::Int).find(|it| !own.contains(it)).expect("fewer processes than integers");
-    let write = function("write").expect("it is one of them");
     let event = |object: &Form, value: &Form, kind| {
         Entry::OfClient(Event {
             process: process.clone(),
             kind,
-            function: write,
+            function: setting(),
             value: Said::One(value.clone()),
             object: object.clone(),
             at: (1, 0),
@@ -528,9 +522,9 @@ fn initial_events(initial: &Form, events: &[Entry]) -> Result<Vec<Entry>, Refuse
 
 /// The value that an event may put into its object.
 fn put_in(event: &Event) -> Option<&Form> {
-    match (event.function.name, &event.value) {
-        ("enqueue" | "push" | "write", Said::One(value)) => Some(value),
-        ("cas" | "put", Said::Two(_, value)) => Some(value),
+    match (event.function.argument, event.function.reply, &event.value) {
+        (Shape::Value, Shape::Done, Said::One(value)) => Some(value),
+        (Shape::Pair, _, Said::Two(_, value)) => Some(value),
         _ => None,
     }
 }

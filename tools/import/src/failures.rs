@@ -3,7 +3,7 @@
 //! user says, or it is told how many there are.
 
 use crate::form::Form;
-use crate::functions::{Function, OfNothing, Shape};
+use finder::{Function, OfNothing, Shape};
 use std::fmt::Write;
 
 /// The errors of a failed operation that is a reply. By default there are none.
@@ -48,7 +48,7 @@ impl Replies {
 
     /// Whether a failed call of this function without an error is a reply. A read is written so where there was no answer.
     pub fn has_none(&self, function: &Function) -> bool {
-        self.0.contains(&Form::Nil) && !matches!(function.name, "read" | "get")
+        self.0.contains(&Form::Nil) && !function.only_looks()
     }
 }
 

@@ -3,6 +3,7 @@
 use crate::edn::Reader;
 use crate::form::Form;
 use crate::names::Names;
+use finder::setting;
 use std::collections::{BTreeMap, HashMap};
 
 /// The text, in which each integer is what this gives of it. The sign belongs to an integer that follows no letter or digit.
@@ -110,16 +111,17 @@ fn others_of(reason: &str) -> HashMap<i64, &'static str> {
     cuts.iter().filter_map(other).collect()
 }
 
-/// What a part counts an operation as. Of a write of any other value the number says nothing.
+/// What a part counts an operation as. Of one that sets any other value the number says nothing.
 fn counted(names: &Names, others: &HashMap<i64, &str>, text: &str) -> String {
     let call = text.trim_end_matches(", pending");
     let end = &text[call.len()..];
+    let set = setting().name;
     let written = call
-        .strip_prefix(":write ")
+        .strip_prefix(&format!(":{set} "))
         .and_then(|it| it.split(',').next())
         .and_then(|it| it.parse().ok());
     if let Some(words) = written.and_then(|number: i64| others.get(&number)) {
-        return format!("a write of {words}{end}");
+        return format!("a {set} of {words}{end}");
     }
     let said = with_numbers(call, |number| match others.get(&number) {
         Some(_) => Some("other".to_owned()),
