@@ -1,21 +1,21 @@
 -- What a split denotes: each shard denotes the events on its objects, renumbered; so the shards decide
 -- whether the whole is linearizable. A text denotes one list of forms only.
-use Rattle.std.proofs.Common.{◌≡◌, ℕ, ◌==◌, ◌⊎◌, inl, inr, Bool, List, [], map, filter, refl, sym, ◌∙◌, ap, subst}
+use Rattle.std.proofs.Common.{◌≡◌, ℕ, ◌==◌, ◌⊎◌, inl, inr, Bool, List, [], ◌∷◌, ◌++◌, map, refl, sym, ◌∙◌, ap, subst}
 use Rattle.edn_reader.specs.Datum.{Datum}
 use Rattle.edn_reader.specs.Spells.{Spells}
 use Rattle.edn_reader.proofs.Progress.{one_reading_of}
 use Rattle.events.specs.declared.event.Event.{Event}
-use Rattle.events.specs.Events.{IsProper}
 use Rattle.history.specs.Denotes.{events_from}
 use Rattle.shards.specs.Shards.{AreRenumbered, AreShards, DenoteLinearizable, events_on}
 use Rattle.shards.proofs.Deciding.{decided_by_shards}
 use Rattle.judging.specs.Texts.{IsLinearizableText, IsNotLinearizableText}
 use Rattle.history.proofs.MapLimit.{at_any_length}
-use Rattle.history.proofs.TextReading.{nothing_faulty}
-use Rattle.history.proofs.Proper.{proper_events}
 use Rattle.events.specs.Events.{denoted, kind_at}
 use Rattle.events.proofs.WellFormed.{denoted_is_history}
+use Rattle.locality.specs.Locality.{HasValidOrder}
 use Rattle.locality.proofs.OneKind.{named_kinds}
+use Rattle.model.specs.Orders.{ProcessCall}
+use Rattle.model.proofs.Lists.{all_from_in}
 use Rattle.edn_reader.proofs.Joined.{nothing_spelled}
 use Rattle.history.specs.Faults.{IsFaultlessAtAnyLength}
 use Rattle.history.proofs.Proper.{proper_at_any_length}
@@ -33,7 +33,6 @@ abbrev forms_of : {shard_of : ℕ → ℕ} {whole : List ℕ} {shards : ℕ → 
 forms_of h = map (λ (m : SpelledMap). m.form) h.maps
 
 module _ {shard_of : ℕ → ℕ} {whole : List ℕ} {shards : ℕ → List ℕ} (h : IsSplit shard_of whole shards) where
-
   abbrev own_forms : ℕ → List Datum
   own_forms s = forms_on (objects_of shard_of s) (forms_of h)
 
@@ -123,22 +122,31 @@ at_length text l = record {
   linearizable = l.linearizable;
 }
 
+nothing_split : (earlier later : List Datum) (d : Datum) → [] ≡ earlier ++ d ∷ later → ⊥
+nothing_split [] later d e = cc
+nothing_split (x ∷ earlier) later d e = cc
+
+nothing_faulty : IsFaultlessAtAnyLength []
+nothing_faulty earlier later d kind e f = nothing_split earlier later d e
+
 nothing_linearizable : IsLinearizableAtAnyLength []
 nothing_linearizable = record {
   events = [];
   denoted = record {
     forms = [];
     spelled = nothing_spelled;
-    denoted = record { faultless = at_any_length [] nothing_faulty; events = refl };
+    denoted = record { faultless = nothing_faulty; events = refl };
   };
-  linearizable = named_kinds (kind_at []) (denoted []) (denoted_is_history [] (proper_events [] nothing_faulty)) tt;
+  linearizable = named_kinds (kind_at []) (denoted []) (denoted_is_history [] (proper_at_any_length [] nothing_faulty))
+      (all_from_in (λ (c : ProcessCall). HasValidOrder (kind_at []) (denoted []) c.object) [] (λ c i. absurd i));
 }
 
 judged : (text : List ℕ) → (text ≡ []) ⊎ IsLinearizableText text → IsLinearizableAtAnyLength text
 judged text (inl e) = subst IsLinearizableAtAnyLength (sym e) nothing_linearizable
 judged text (inr l) = at_length text l
 
-pub linearizable_where_judged : (shard_of : ℕ → ℕ) (whole : List ℕ) (shards : ℕ → List ℕ) → IsSplit shard_of whole shards
+pub linearizable_where_judged : (shard_of : ℕ → ℕ) (whole : List ℕ) (shards : ℕ → List ℕ)
+    → IsSplit shard_of whole shards
     → ((s : ℕ) → (shards s ≡ []) ⊎ IsLinearizableText (shards s)) → IsLinearizableAtAnyLength whole
 linearizable_where_judged shard_of whole shards h each = linearizable_by_shards h (λ s. judged (shards s) (each s))
 

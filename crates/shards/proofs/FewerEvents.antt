@@ -1,17 +1,16 @@
 -- The events of the forms on some objects are the events on these objects of all forms, under other
 -- numbers: what a form says does not depend on its number, and a form that is left out says nothing of them.
-use Rattle.std.proofs.Common.{◌≡◌, ℕ, ◌+◌, Bool, true, false, cond, List, [], ◌∷◌, ◌++◌, filter, map}
+use Rattle.std.proofs.Common.{◌≡◌, ℕ, ◌+◌, Bool, true, false, cond, List, [], ◌∷◌, ◌++◌, map}
 use Rattle.std.proofs.Common.{Option, Some, None, refl, ap, sym, ◌∙◌}
 use Rattle.std.specs.Option.{option_map_or}
 use Rattle.std.proofs.lemmas.List.{map-append}
 use Rattle.std.proofs.lemmas.List.Elements.{filter-append}
 use Rattle.edn_reader.specs.Datum.{Datum}
 use Rattle.events.specs.declared.event.Action.{Action}
-use Rattle.events.specs.declared.event.Event.{Event}
 use Rattle.history.specs.Maps.{ClientMap, client_of}
 use Rattle.history.specs.Denotes.{action_of, event_with, event_of, events_from}
 use Rattle.shards.specs.Shards.{events_on, said}
-use Rattle.shards.specs.Forms.{is_on, forms_on}
+use Rattle.shards.specs.Forms.{forms_on}
 
 same_said : (k n : ℕ) (m : ClientMap) (a : Option Action) → map said (event_with k m a) ≡ map said (event_with n m a)
 same_said k n m None = refl
@@ -46,7 +45,8 @@ said_on has [] k n = refl
 said_on has (d ∷ ds) k n = go (client_of d) refl (λ i j. said_on has ds i j)
   where
     test : (o : Option ClientMap) → client_of d ≡ o → map said (events_from k (forms_on has (d ∷ ds)))
-        ≡ map said (events_from k (cond (option_map_or (λ m. has m.object) o false) (d ∷ forms_on has ds) (forms_on has ds)))
+        ≡ map said (events_from k (cond (option_map_or (λ m. has m.object) o false) (d ∷ forms_on has ds)
+        (forms_on has ds)))
     test o q = ap
         (λ c. map said (events_from k (cond (option_map_or (λ m. has m.object) c false) (d ∷ forms_on has ds)
         (forms_on has ds)))) q

@@ -1,22 +1,20 @@
 -- The forms that are maps on some objects: they have no fault where all forms have none, and their events
 -- are those on these objects, renumbered. Their maps of clients are a part of all (`Fewer`).
-use Rattle.std.proofs.Common.{◌≡◌, ℕ, ◌+◌, ◌<◌, Bool, true, false, cond, List, [], ◌∷◌, ◌++◌, filter, map}
-use Rattle.std.proofs.Common.{Option, Some, None, AllPairs, refl, ap, sym, ◌∙◌, subst, append_assoc}
+use Rattle.std.proofs.Common.{◌≡◌, ℕ, Bool, true, false, cond, List, [], ◌∷◌, ◌++◌}
+use Rattle.std.proofs.Common.{Option, Some, None, refl, ap, sym, ◌∙◌, subst, append_assoc}
 use Rattle.std.specs.Option.{option_map_or}
 use Rattle.std.specs.List.{cons_option}
-use Rattle.std.proofs.lemmas.List.{append-nil, map-append}
-use Rattle.std.proofs.lemmas.List.Elements.{filter-append, filter_map-append}
+use Rattle.std.proofs.lemmas.List.{append-nil}
+use Rattle.std.proofs.lemmas.List.Elements.{filter_map-append}
 use Rattle.std.proofs.lemmas.Option.{same_Some}
 use Rattle.model.proofs.Lists.{In, in_filter_passes, in_middle}
 use Rattle.edn_reader.specs.Datum.{Datum}
-use Rattle.events.specs.declared.event.Action.{Action}
-use Rattle.events.specs.declared.event.Event.{Event}
 use Rattle.history.specs.Maps.{ClientMap, client_of, clients}
 use Rattle.history.specs.Faults.{ClientFault}
-use Rattle.history.specs.Denotes.{action_of, event_with, event_of, events_from}
 use Rattle.history.specs.declared.fault.HistoryFaultKind.{HistoryFaultKind}
 use Rattle.history.specs.declared.fault.HistoryFaultKind.TheVariants.{NotAnOperation, UnknownF, BadValue, MixedKinds}
-use Rattle.history.specs.declared.fault.HistoryFaultKind.TheVariants.{Busy, Stray, Mismatch, AfterInfo, TooMany, NoMemory}
+use Rattle.history.specs.declared.fault.HistoryFaultKind.TheVariants.{Busy, Stray, Mismatch, AfterInfo}
+use Rattle.history.specs.declared.fault.HistoryFaultKind.TheVariants.{TooMany, NoMemory}
 use Rattle.history.proofs.Noting.{clients_push, clients_skip}
 use Rattle.history.specs.Faults.{IsMapFault, IsFaultlessAtAnyLength}
 use Rattle.shards.specs.Forms.{is_on, forms_on}
@@ -64,7 +62,8 @@ map_fault earlier d m TooMany q f = absurd f
 map_fault earlier d m NoMemory q f = absurd f
 
 same_fault : (earlier : List Datum) (d : Datum) (m : ClientMap) (kind : HistoryFaultKind) → client_of d ≡ Some m
-    → (n : ClientMap) × (client_of d ≡ Some n) × ClientFault (clients earlier) n kind → ClientFault (clients earlier) m kind
+    → (n : ClientMap) × (client_of d ≡ Some n) × ClientFault (clients earlier) n kind
+    → ClientFault (clients earlier) m kind
 same_fault earlier d m kind q f =
     subst (λ x. ClientFault (clients earlier) x kind) (same_Some f.0 m (sym f.1 ∙ q)) f.2
 

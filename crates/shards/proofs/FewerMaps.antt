@@ -1,17 +1,18 @@
 -- The maps on some objects have no fault where all maps have none. A process completes an operation on
 -- the object of its invocation, so the maps that are left out of a process are left out in pairs.
-use Rattle.std.proofs.Common.{◌≡◌, ◌≢◌, ℕ, ◌==◌, ◌⊎◌, inl, inr, Bool, true, false, cond, List, [], ◌∷◌, ◌++◌}
-use Rattle.std.proofs.Common.{find, filter, reverse, Option, Some, None, Contains, refl, ap, sym, ◌∙◌, subst, append_assoc}
-use Rattle.std.proofs.lemmas.Bool.{eqb-true, eqb-false, eq-eqb, cases_eq}
+use Rattle.std.proofs.Common.{◌≡◌, ◌≢◌, ℕ, ◌==◌, inl, inr, Bool, true, false, cond, List, [], ◌∷◌, ◌++◌}
+use Rattle.std.proofs.Common.{find, filter, reverse, Some, Contains, refl, ap, sym, ◌∙◌, subst}
+use Rattle.std.proofs.lemmas.Bool.{eqb-true, cases_eq}
 use Rattle.std.proofs.lemmas.List.{append-nil, reverse-append}
 use Rattle.std.proofs.lemmas.List.Elements.{filter-append}
 use Rattle.std.proofs.lemmas.Option.{same_Some}
-use Rattle.model.proofs.Lists.{In, in_filter, in_filter_passes, in_from_contains, contains_from_in}
+use Rattle.model.proofs.Lists.{in_filter, in_filter_passes, in_from_contains, contains_from_in}
 use Rattle.history.specs.Maps.{ClientMap, MapType, invoke, ok, fail, info}
-use Rattle.history.specs.Faults.{last_map, IsOutstanding, IsClosed, IsOfOtherKind, Differs, ClientFault}
+use Rattle.history.specs.Faults.{last_map, IsOutstanding, IsClosed, Differs, ClientFault}
 use Rattle.history.specs.declared.fault.HistoryFaultKind.{HistoryFaultKind}
 use Rattle.history.specs.declared.fault.HistoryFaultKind.TheVariants.{NotAnOperation, UnknownF, BadValue, MixedKinds}
-use Rattle.history.specs.declared.fault.HistoryFaultKind.TheVariants.{Busy, Stray, Mismatch, AfterInfo, TooMany, NoMemory}
+use Rattle.history.specs.declared.fault.HistoryFaultKind.TheVariants.{Busy, Stray, Mismatch, AfterInfo}
+use Rattle.history.specs.declared.fault.HistoryFaultKind.TheVariants.{TooMany, NoMemory}
 use Rattle.history.proofs.FirstFaults.{last_stands}
 use Rattle.history.proofs.Noting.{last_push}
 
@@ -32,7 +33,8 @@ AreFine earlier (m ∷ ms) = IsFine earlier m × AreFine (earlier ++ m ∷ []) m
 
 -- What is outstanding among the maps on some objects is outstanding among all.
 abbrev IsOutstandingAmongAll : (ℕ → Bool) → List ClientMap → Type 0
-IsOutstandingAmongAll has earlier = (p : ℕ) (o : ClientMap) → IsOutstanding (on has earlier) p o → IsOutstanding earlier p o
+IsOutstandingAmongAll has earlier =
+    (p : ℕ) (o : ClientMap) → IsOutstanding (on has earlier) p o → IsOutstanding earlier p o
 
 on_push : (has : ℕ → Bool) (earlier : List ClientMap) (m : ClientMap)
     → on has (earlier ++ m ∷ []) ≡ on has earlier ++ cond (has m.object) (m ∷ []) []
@@ -42,7 +44,8 @@ on_push has earlier m = filter-append (λ x. has x.object) earlier (m ∷ [])
 kept_object : (has : ℕ → Bool) (earlier : List ClientMap) (p : ℕ) (o : ClientMap)
     → last_map p (on has earlier) ≡ Some o → has o.object ≡ true
 kept_object has earlier p o last =
-    in_filter_passes (λ m. has m.object) o earlier (in_from_contains (on has earlier) o (last_stands p (on has earlier) o last).0)
+    in_filter_passes (λ m. has m.object) o earlier
+    (in_from_contains (on has earlier) o (last_stands p (on has earlier) o last).0)
 
 one_object : (o m : ClientMap) → (Differs o m → ⊥) → o.object ≡ m.object
 one_object o m same = elim (cases_eq o.object m.object) [ inl e ↦ e | inr ne ↦ absurd (same (inr ne)) ]
@@ -83,17 +86,20 @@ outstanding_push has earlier m fine h p o out = go (has m.object) refl (m.proces
         let was = last true q in
         record {
           last = last_push p earlier m ∙ (ap (λ c. cond c (Some m) (last_map p earlier)) r
-              ∙ (sym (last_push p (on has earlier) m ∙ ap (λ c. cond c (Some m) (last_map p (on has earlier))) r) ∙ was));
+              ∙ (sym (last_push p (on has earlier) m
+              ∙ ap (λ c. cond c (Some m) (last_map p (on has earlier))) r) ∙ was));
           invoked = out.invoked;
         }
     go true q false r =
         among (before (sym (last_push p (on has earlier) m ∙ ap (λ c. cond c (Some m) (last_map p (on has earlier))) r)
         ∙ last true q)) r
     go false q true r =
-        let was : last_map p (on has earlier) ≡ Some o = subst (λ ms. last_map p ms ≡ Some o) (append-nil (on has earlier)) (last false q) in
+        let was : last_map p (on has earlier) ≡ Some o =
+        subst (λ ms. last_map p ms ≡ Some o) (append-nil (on has earlier)) (last false q) in
         let own : m.process ≡ p = eqb-true m.process p r in
         let whole = h p o (record { last = was; invoked = out.invoked }) in
-        let same : o.object ≡ m.object = next_object earlier m o fine (subst (λ n. IsOutstanding earlier n o) (sym own) whole) in
+        let same : o.object ≡ m.object =
+        next_object earlier m o fine (subst (λ n. IsOutstanding earlier n o) (sym own) whole) in
         let kept : has o.object ≡ true = kept_object has earlier p o was in
         absurd (let t : true ≡ false = sym kept ∙ (ap has same ∙ q) in cc t)
     go false q false r =
@@ -113,10 +119,11 @@ last_kept has p (m ∷ ms) o q k = go (m.process == p) refl q (λ s. last_kept h
         let kept : has m.object ≡ true = ap (λ (x : ClientMap). has x.object) same ∙ k in
         ap (λ b. find (λ m. m.process == p) (cond b (m ∷ on has ms) (on has ms))) kept
         ∙ (ap (λ b. cond b (Some m) (find (λ m. m.process == p) (on has ms))) r ∙ s)
-    go false r s rest = elim (has m.object) as (λ b. find (λ m. m.process == p) (cond b (m ∷ on has ms) (on has ms)) ≡ Some o) [
-      | true ↦ ap (λ b. cond b (Some m) (find (λ m. m.process == p) (on has ms))) r ∙ rest s
-      | false ↦ rest s
-    ]
+    go false r s rest = elim (has m.object) as
+        (λ b. find (λ m. m.process == p) (cond b (m ∷ on has ms) (on has ms)) ≡ Some o) [
+          | true ↦ ap (λ b. cond b (Some m) (find (λ m. m.process == p) (on has ms))) r ∙ rest s
+          | false ↦ rest s
+        ]
 
 reverse_on : (has : ℕ → Bool) (ms : List ClientMap) → reverse (on has ms) ≡ on has (reverse ms)
 reverse_on has [] = refl
@@ -146,7 +153,8 @@ outstanding_on has earlier p o out k = record {
 
 -- ---- one map
 
-contains_all : (has : ℕ → Bool) (earlier : List ClientMap) (m : ClientMap) → Contains (on has earlier) m → Contains earlier m
+contains_all : (has : ℕ → Bool) (earlier : List ClientMap) (m : ClientMap) → Contains (on has earlier) m
+    → Contains earlier m
 contains_all has earlier m h =
     contains_from_in earlier m (in_filter (λ x. has x.object) m earlier (in_from_contains (on has earlier) m h))
 
@@ -202,7 +210,8 @@ are_fine_on has earlier (m ∷ ms) among fine =
         → AreFine (on has earlier) (cond b (m ∷ on has ms) (on has ms))
     go true q rest = (
       fine_on has earlier m among fine.0 q,
-      subst (λ xs. AreFine xs (on has ms)) (on_push has earlier m ∙ ap (λ b. on has earlier ++ cond b (m ∷ []) []) q) rest,
+      subst (λ xs. AreFine xs (on has ms))
+          (on_push has earlier m ∙ ap (λ b. on has earlier ++ cond b (m ∷ []) []) q) rest,
     )
     go false q rest = subst (λ xs. AreFine xs (on has ms))
         (on_push has earlier m ∙ (ap (λ b. on has earlier ++ cond b (m ∷ []) []) q ∙ append-nil (on has earlier))) rest

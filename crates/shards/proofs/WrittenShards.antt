@@ -1,6 +1,7 @@
 -- The text of a shard spells its maps: each map with a line feed after it, by the law that texts with a
 -- line feed between them spell what both spell.
-use Rattle.std.proofs.Common.{◌≡◌, ℕ, Bool, true, false, cond, ◌⊎◌, inl, inr, List, [], ◌∷◌, ◌++◌, filter, map, All, refl, ap, ◌∙◌, subst}
+use Rattle.std.proofs.Common.{◌≡◌, ℕ, Bool, true, false, cond, inl, inr, List, [], ◌∷◌, filter, map, All}
+use Rattle.std.proofs.Common.{refl, ap, subst}
 use Rattle.model.proofs.Lists.{In, in_filter, all_at}
 use Rattle.edn_reader.specs.Datum.{Datum}
 use Rattle.edn_reader.specs.Spells.{Spells}
@@ -13,7 +14,8 @@ lines_spell : (ms : List SpelledMap) → ((m : SpelledMap) → In m ms → Spell
     → Spells (map (λ m. m.form) ms) (lines_of ms)
 lines_spell [] h = nothing_spelled
 lines_spell (m ∷ ms) h =
-    joined_spell (m.form ∷ []) (map (λ x. x.form) ms) m.text (lines_of ms) (h m (inl refl)) (lines_spell ms (λ x i. h x (inr i)))
+    joined_spell (m.form ∷ []) (map (λ x. x.form) ms) m.text (lines_of ms) (h m (inl refl))
+    (lines_spell ms (λ x i. h x (inr i)))
 
 forms_kept : (p : Datum → Bool) (ms : List SpelledMap)
     → map (λ m. m.form) (filter (λ m. p m.form) ms) ≡ filter p (map (λ m. m.form) ms)
@@ -31,4 +33,5 @@ pub shard_spells : (has : ℕ → Bool) (ms : List SpelledMap) → All (λ m. Sp
 shard_spells has ms each =
     let kept : List SpelledMap = filter (λ m. is_on has m.form) ms in
     subst (λ ds. Spells ds (lines_of kept)) (forms_kept (is_on has) ms)
-    (lines_spell kept (λ m i. all_at (λ x. Spells (x.form ∷ []) x.text) ms each m (in_filter (λ x. is_on has x.form) m ms i)))
+    (lines_spell kept (λ m i.
+    all_at (λ x. Spells (x.form ∷ []) x.text) ms each m (in_filter (λ x. is_on has x.form) m ms i)))

@@ -18,9 +18,9 @@ abbrev pub lines_of : List SpelledMap → List ℕ
 lines_of [] = []
 lines_of (m ∷ ms) = m.text ++ 10 ∷ lines_of ms
 
--- The whole text spells maps without a fault, however many they are. Each shard has, in their order,
--- the maps of clients on its own objects, as they are written in the whole. `shard_of` says in which
--- shard an object is.
+-- The whole text spells maps without a fault, however many they are. Each shard has, in their
+-- order, the maps of clients on its own objects, as they are written in the whole. `shard_of` says
+-- in which shard an object is.
 pub record IsSplit (shard_of : ℕ → ℕ) (whole : List ℕ) (shards : ℕ → List ℕ) : Type 0 where
   pub maps : List SpelledMap
   pub spelled : Spells (map (λ m. m.form) maps) whole

@@ -1,8 +1,8 @@
 //! A history in shards: each object is in one of them, and the whole is linearizable exactly where
-//! each shard is; of events in memory, and of texts (`texts.rt`), also of a text that is longer than
-//! `judge` reads. Functions that do nothing, and whose contracts are theorems. They follow from
-//! locality: Herlihy and Wing, "Linearizability: A Correctness Condition for Concurrent Objects",
-//! TOPLAS 1990, section 3.
+//! each shard is; of events in memory, and of texts (`texts.rt`), also of a text that is longer
+//! than `judge` reads. Functions that do nothing, and whose contracts are theorems. They follow
+//! from locality: Herlihy and Wing, "Linearizability: A Correctness Condition for Concurrent
+//! Objects", TOPLAS 1990, section 3.
 #![tactic(auto)]
 
 mod texts;

@@ -1,6 +1,6 @@
-//! The shards of a history's text, of any length: texts that have the maps on some objects, as a tool
-//! may divide a history that is longer than one text may be. What they denote, and that they decide
-//! the whole.
+//! The shards of a history's text, of any length: texts that have the maps on some objects, as a
+//! tool may divide a history that is longer than one text may be. What they denote, and that they
+//! decide the whole.
 
 ghost use Rattle.std.specs.Prelude.{◌≡◌, ◌==◌, ◌⊎◌, ◌↔◌, ℕ, Bool, List, []};
 ghost use Rattle.edn_reader.specs.Datum.{Datum};
@@ -32,9 +32,9 @@ pub fn texts_of_shards_decide()
         → (IsLinearizableAtAnyLength whole ↔ ((s : ℕ) → IsLinearizableAtAnyLength (shards s))) }
 {}
 
-/// What the commands say of shards decides the whole. It is linearizable where a yes says so of each
-/// shard that is not empty, and not linearizable where a no of `verify` or of `refute` says so of
-/// one.
+/// What the commands say of shards decides the whole. It is linearizable where a yes says so of
+/// each shard that is not empty, and not linearizable where a no of `verify` or of `refute` says so
+/// of one.
 pub fn judged_shards_decide()
     ensures yes { (shard_of : ℕ → ℕ) (whole : List ℕ) (shards : ℕ → List ℕ)
         → IsSplit shard_of whole shards
