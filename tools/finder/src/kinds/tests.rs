@@ -24,7 +24,12 @@ fn effects_are_what_operations_do() {
             let (reply, after) = op.next(content).expect("an operation on a cell");
             let Effect { need, sets } = op.effect(Some(reply)).expect("an effect");
             assert_eq!(sets.unwrap_or(content), after, "{op:?}");
-            assert!(need == Need::Any || need == Need::Is(content) || need != Need::IsNot(content));
+            let is_met = match need {
+                Need::Any => true,
+                Need::Is(asked) => asked == content,
+                Need::IsNot(asked) => asked != content,
+            };
+            assert!(is_met, "{op:?}");
             assert_eq!(op.function.reply(reply.value()), Some(reply), "{op:?}");
         }
     }
