@@ -1,11 +1,11 @@
 //! The decision on each object.
 
 use crate::evidence::{Decision, Evidence};
-use crate::first::earlier;
+use crate::first_event::earlier;
 use crate::history::{History, ObjectHistory};
 use crate::orders::{Quick, open_keys, order_by_contents, quick_order};
 use crate::reasons::{Search, find_by_pairs, find_by_patterns, find_on, reason_of_all};
-use crate::search::{First, Outcome, search};
+use crate::search::{Outcome, TryFirst, search};
 use std::panic::{AssertUnwindSafe, catch_unwind};
 use std::sync::atomic::{AtomicUsize, Ordering};
 use std::sync::{Mutex, PoisonError};
@@ -40,19 +40,19 @@ const STEPS_OF_A_CALL: u64 = 100;
 /// for again, and a reason can be made smaller.
 const MOST_OWN_STEPS: u64 = 1_000_000;
 
-/// Among how many operations at most the last search tries first that of the least number. Where
-/// there are more it goes by their returns, since it then looks at those alone that can come next.
+/// Up to this many operations the last search tries the least number first. With more it goes by
+/// their returns, since it then looks at those alone that can come next.
 const MOST_BY_NUMBER: usize = 4096;
 
 /// The first search of all operations, which is short.
 fn first_search(history: &ObjectHistory) -> Search {
-    Search { first: First::Return, steps: 20_000 + 20 * history.ops.len() as u64 }
+    Search { first: TryFirst::Return, steps: 20_000 + 20 * history.ops.len() as u64 }
 }
 
 /// The last search of all operations. It is handed over.
 fn last_search(history: &ObjectHistory, steps: Option<u64>) -> Search {
     let calls = history.call_count();
-    let first = if calls > MOST_BY_NUMBER { First::Return } else { First::Number };
+    let first = if calls > MOST_BY_NUMBER { TryFirst::Return } else { TryFirst::Number };
     let default = DEFAULT_STEPS.max(STEPS_OF_A_CALL * calls as u64);
     Search { first, steps: steps.unwrap_or(default) }
 }
@@ -191,7 +191,7 @@ mod tests {
             for _ in 0..2_000 {
                 let history = random.history(kind);
                 let has_order = has_order_as_found(&history);
-                let searched = search(&history, First::Number, 1_000_000);
+                let searched = search(&history, TryFirst::Number, 1_000_000);
                 assert_eq!(matches!(searched.outcome, Outcome::Order(_)), has_order, "{history:?}");
                 found[usize::from(has_order)] += 1;
             }

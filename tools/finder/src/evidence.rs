@@ -2,7 +2,7 @@
 
 use crate::cuts::{Count, Counted, Cut, Values};
 use crate::reasons::{FoundReason, Search, Shown};
-use crate::search::First;
+use crate::search::TryFirst;
 use std::collections::BTreeSet;
 use std::fmt::{self, Display, Formatter};
 
@@ -105,8 +105,8 @@ impl Display for Count {
 impl Display for Search {
     fn fmt(&self, f: &mut Formatter<'_>) -> fmt::Result {
         let first = match self.first {
-            First::Number => "number",
-            First::Return => "return",
+            TryFirst::Number => "number",
+            TryFirst::Return => "return",
         };
         write!(f, "{{:first :{first}, :steps {}}}", self.steps)
     }

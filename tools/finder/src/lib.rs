@@ -18,7 +18,7 @@ mod content;
 mod cuts;
 mod decide;
 mod evidence;
-mod first;
+mod first_event;
 mod history;
 mod kinds;
 mod lexer;
@@ -51,5 +51,5 @@ pub use reasons::{
     Beginning, Facts, FirstEvent, FoundReason, Lost, LostValue, Pattern, Search, Sentence, Shown,
     Undone,
 };
-pub use search::First;
+pub use search::TryFirst;
 pub use statistics::{OVERLAP, SILENT_PUTS, Statistics, warnings};

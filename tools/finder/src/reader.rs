@@ -19,7 +19,7 @@ const MOST_MAPS: u32 = 1_000_000;
 pub const LONGEST: u64 = 268_435_456;
 
 /// How many bytes of a file are read at once.
-const PIECE: u64 = 1 << 19;
+const CHUNK: u64 = 1 << 19;
 
 /// What a process does.
 #[derive(Clone, Copy)]
@@ -147,9 +147,9 @@ impl<S: Read> Pieces<S> {
     /// The next piece. `None`: there is none.
     fn next(&mut self) -> io::Result<Option<Vec<u8>>> {
         let mut piece = mem::take(&mut self.rest);
-        let read = self.source.by_ref().take(PIECE).read_to_end(&mut piece)?;
+        let read = self.source.by_ref().take(CHUNK).read_to_end(&mut piece)?;
         self.length += read as u64;
-        let is_last = (read as u64) < PIECE;
+        let is_last = (read as u64) < CHUNK;
         if !is_last && let Some(at) = piece.iter().rposition(|byte| *byte == b'\n') {
             self.rest = piece.split_off(at + 1);
         }

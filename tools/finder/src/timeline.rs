@@ -13,14 +13,14 @@ pub const PENDING: u32 = u32::MAX - 1;
 /// `g` is the time right after moment `g`: the call takes effect in one of the gaps `begin <= g <
 /// end`.
 #[derive(Clone, Copy, Debug)]
-pub struct Span {
+pub struct Interval {
     /// The number of its invocation in the history.
     pub number: u32,
     pub begin: u32,
     pub end: u32,
 }
 
-impl Span {
+impl Interval {
     /// Whether the call has not returned.
     pub fn is_pending(&self) -> bool {
         self.end == PENDING
@@ -42,8 +42,8 @@ pub struct Call {
 
 impl Call {
     /// When it takes effect.
-    pub fn span(&self) -> Span {
-        Span { number: self.number, begin: self.begin, end: self.end }
+    pub fn span(&self) -> Interval {
+        Interval { number: self.number, begin: self.begin, end: self.end }
     }
 
     /// Whether the call has not returned.

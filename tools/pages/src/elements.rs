@@ -4,12 +4,12 @@ use finder::{Lexer, TokenKind, ends_word};
 
 /// From one byte on, up to another.
 #[derive(Clone, Copy)]
-pub struct Place {
+pub struct ByteRange {
     pub from: usize,
     pub to: usize,
 }
 
-impl Place {
+impl ByteRange {
     pub fn of<'a>(&self, text: &'a [u8]) -> &'a [u8] {
         text.get(self.from..self.to).unwrap_or(&[])
     }
@@ -25,9 +25,9 @@ struct Elements<'a> {
 }
 
 impl Iterator for Elements<'_> {
-    type Item = Place;
+    type Item = ByteRange;
 
-    fn next(&mut self) -> Option<Place> {
+    fn next(&mut self) -> Option<ByteRange> {
         loop {
             let token = self.tokens.next()?;
             match token.kind {
@@ -49,14 +49,14 @@ impl Iterator for Elements<'_> {
                 TokenKind::OpenText => return None,
             }
             if self.open == self.depth {
-                return Some(Place { from: self.from, to: token.to });
+                return Some(ByteRange { from: self.from, to: token.to });
             }
         }
     }
 }
 
 /// The elements that have this number of brackets around them.
-pub fn elements_in(text: &[u8], depth: usize) -> impl Iterator<Item = Place> {
+pub fn elements_in(text: &[u8], depth: usize) -> impl Iterator<Item = ByteRange> {
     Elements { tokens: Lexer::new(text), depth, open: 0, from: 0 }
 }
 
@@ -107,14 +107,14 @@ pub fn innermost_open(text: &[u8]) -> Option<(Opened, usize)> {
 }
 
 /// The word, bracket or escape that begins at the byte.
-pub fn word_at(text: &[u8], from: usize) -> Place {
+pub fn word_at(text: &[u8], from: usize) -> ByteRange {
     let rest = text.get(from..).unwrap_or(&[]);
     let length = match rest {
         [] => 0,
         [first, ..] if *first == b'\\' || ends_word(*first) => 1,
         _ => rest.iter().position(|byte| ends_word(*byte)).unwrap_or(rest.len()),
     };
-    Place { from, to: from + length }
+    ByteRange { from, to: from + length }
 }
 
 /// The number of the line, from 1, that has this byte.

@@ -1,11 +1,11 @@
 //! The page of a history that was judged, or checked by certificates.
 
 use crate::drawing::{
-    Part, Subject, draw_impossible, draw_open, draw_refused, draw_uncertified, draw_valid,
+    DrawnPart, Subject, draw_impossible, draw_open, draw_refused, draw_uncertified, draw_valid,
 };
 use crate::elements::{elements_in, value_in};
 use crate::figures::count_text;
-use crate::page::{Answer, ObjectRow, Page, html_of};
+use crate::page::{ObjectRow, Page, PageKind, html_of};
 use crate::timeline::{ObjectDrawing, Span, Spans, spans};
 use crate::verdict::{self, OrderFault, Refusal};
 use crate::words::Words;
@@ -79,7 +79,7 @@ fn order_of(orders: &[Order], object: u32) -> Option<&[i64]> {
 /// What a page is made of: the answer and its word in the title, the rows of the table of objects,
 /// the drawings and the sentences.
 struct Parts {
-    answer: Answer,
+    answer: PageKind,
     word: String,
     rows: Vec<ObjectRow>,
     drawings: Vec<ObjectDrawing>,
@@ -250,7 +250,7 @@ impl verdict::Answer {
 }
 
 /// The part of an object's history that a reason names; without one, all of it.
-fn part_of<'a>(object: &'a ObjectHistory, cuts: &[Cut], sentence: &'a Sentence) -> Part<'a> {
+fn part_of<'a>(object: &'a ObjectHistory, cuts: &[Cut], sentence: &'a Sentence) -> DrawnPart<'a> {
     let part = match part_by(object, cuts) {
         Some(part) => Cow::Owned(part),
         None => Cow::Borrowed(object),
@@ -263,7 +263,7 @@ fn part_of<'a>(object: &'a ObjectHistory, cuts: &[Cut], sentence: &'a Sentence) 
         Cut::Cell { other, .. } => Some(*other),
         _ => None,
     });
-    Part { part, from, other, sentence }
+    DrawnPart { history: part, from, other, sentence }
 }
 
 impl<'a> Drawn<'a> {
@@ -348,7 +348,7 @@ impl<'a> Drawn<'a> {
     fn valid_page(&self, orders: &[Order]) -> String {
         let objects = &self.history.objects;
         self.page(Parts {
-            answer: Answer::Yes,
+            answer: PageKind::Yes,
             word: "yes".into(),
             rows: objects.iter().map(|object| row_of(object, "valid", false)).collect(),
             drawings: self.valid_drawings(orders),
@@ -361,8 +361,8 @@ impl<'a> Drawn<'a> {
         let object = self.object(shown);
         let drawing = object.map(|object| refusal.drawing(&self.subject(object, true), orders));
         let answer = match refusal {
-            Refusal::NoCertificate { .. } => Answer::NoOrder,
-            _ => Answer::No,
+            Refusal::NoCertificate { .. } => PageKind::NoOrder,
+            _ => PageKind::No,
         };
         self.page(Parts {
             answer,
@@ -419,9 +419,9 @@ impl<'a> Drawn<'a> {
             .object(shown)
             .map(|object| self.decided_drawing(object, answer_of(shown), decision));
         let (answer, word, sentences) = match worst {
-            verdict::Answer::Impossible => (Answer::Impossible, "impossible", Vec::new()),
-            _ if shown == faulty => (Answer::Open, "open", Vec::new()),
-            answer => (Answer::Open, "open", vec![open_sentence(faulty, answer.word())]),
+            verdict::Answer::Impossible => (PageKind::Impossible, "impossible", Vec::new()),
+            _ if shown == faulty => (PageKind::Open, "open", Vec::new()),
+            answer => (PageKind::Open, "open", vec![open_sentence(faulty, answer.word())]),
         };
         self.page(Parts {
             answer,

@@ -1,6 +1,6 @@
 //! The calls of a queue that are lined up, and their order.
 
-use crate::timeline::Span;
+use crate::timeline::Interval;
 
 /// What comes first in one gap between two calls that find nothing.
 #[derive(Clone, Copy, PartialEq, Eq, PartialOrd, Ord)]
@@ -28,18 +28,18 @@ pub struct Line {
 }
 
 impl Line {
-    pub fn put(&mut self, call: &Span) {
+    pub fn put(&mut self, call: &Interval) {
         self.put_at = call.begin.max(self.from).max(self.put_at);
         self.puts.push((self.phase, self.put_at, Rank::Put, call.number));
     }
 
-    pub fn take(&mut self, call: &Span) {
+    pub fn take(&mut self, call: &Interval) {
         self.take_at = call.begin.max(self.put_at).max(self.take_at);
         self.takes.push((self.phase, self.take_at, Rank::Take, call.number));
     }
 
     /// A call finds nothing, in the first gap that those before it leave.
-    pub fn find_none(&mut self, call: &Span) {
+    pub fn find_none(&mut self, call: &Interval) {
         let gap = call.begin.max(self.put_at).max(self.take_at).max(self.from);
         self.find_none_in(gap, call.number);
     }

@@ -26,7 +26,7 @@ pub use reason::{FoundReason, Reason, Refuted, Search, Shown};
 
 use crate::cuts::{Cut, Values};
 use crate::history::ObjectHistory;
-use crate::search::{First, Searched};
+use crate::search::{Searched, TryFirst};
 use narrow::narrowed;
 use plan::{Element, Plan};
 use propose::Proposal;
@@ -75,7 +75,7 @@ fn as_found(
 
 /// How a part is searched in the end.
 fn by_return(steps: u64) -> Search {
-    Search { first: First::Return, steps }
+    Search { first: TryFirst::Return, steps }
 }
 
 /// The reason that all operations have no valid order, as this search showed, or a smaller one.

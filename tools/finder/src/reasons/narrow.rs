@@ -1,6 +1,6 @@
 //! Narrow windows of a part that a search refuted: what begins at a call that tells what it left, and
 //! ends soon after the furthest return that the search passed. A store fails at some moment, and what
-//! was before that is told by few calls, so that most of a long history shows nothing. The windows
+//! was before that few calls reveal, so that most of a long history shows nothing. The windows
 //! begin at the last such call, the second, the fourth, and so on, as a search by doubling does
 //! (Bentley and Yao, "An Almost Optimal Algorithm for Unbounded Searching", Information Processing
 //! Letters 5, 1976). One that has no valid order is made smaller by patterns, or step by step.
@@ -10,7 +10,7 @@ use super::reason::Refuted;
 use super::{Pattern, Reason, Search};
 use crate::cuts::{Cut, part_by};
 use crate::history::ObjectHistory;
-use crate::search::{First, Outcome, Searched, search};
+use crate::search::{Outcome, Searched, TryFirst, search};
 
 /// A part of this many operations is small enough.
 const FEW: usize = 12;
@@ -118,7 +118,7 @@ pub fn narrowed(
         Some(searched) => searched,
         None if part.ops.len() > MOST_COUNTED => return None,
         None => {
-            own = search(part, First::Return, STEPS_OF_A_PART);
+            own = search(part, TryFirst::Return, STEPS_OF_A_PART);
             &own
         }
     };

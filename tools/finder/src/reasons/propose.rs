@@ -9,7 +9,7 @@ use super::{Candidate, Element, Pattern, Plan, Reason, Search};
 use crate::cuts::{Cut, part_by};
 use crate::history::ObjectHistory;
 use crate::kinds::Family;
-use crate::search::First;
+use crate::search::TryFirst;
 use crate::timeline::Timeline;
 use std::cell::Cell;
 
@@ -131,7 +131,7 @@ impl Proposer<'_> {
 
     /// The reason, if it is true.
     fn checked(&self, reason: Reason) -> Option<Reason> {
-        let search = Search { first: First::Number, steps: self.steps };
+        let search = Search { first: TryFirst::Number, steps: self.steps };
         reason.shown(self.history, search).is_some().then_some(reason)
     }
 

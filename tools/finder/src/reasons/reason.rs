@@ -3,12 +3,12 @@
 use super::{Facts, FirstEvent, Lost, Pattern, Sentence};
 use crate::cuts::{Count, Cut, is_exceeded, part_by};
 use crate::history::ObjectHistory;
-use crate::search::{First, Outcome, Searched, search};
+use crate::search::{Outcome, Searched, TryFirst, search};
 
 /// An order of trial, and the most steps of a search.
 #[derive(Clone, Copy, Debug, PartialEq, Eq)]
 pub struct Search {
-    pub first: First,
+    pub first: TryFirst,
     pub steps: u64,
 }
 
@@ -60,7 +60,7 @@ impl Shown {
     /// The count, and how a part is searched where there is none.
     fn parts(self) -> (Option<Count>, Search) {
         match self {
-            Shown::ByCount(count) => (Some(count), Search { first: First::Return, steps: 0 }),
+            Shown::ByCount(count) => (Some(count), Search { first: TryFirst::Return, steps: 0 }),
             Shown::BySearch(search) => (None, search),
         }
     }

@@ -3,7 +3,7 @@
 
 use super::{Element, Plan, Search};
 use crate::history::ObjectHistory;
-use crate::search::First;
+use crate::search::TryFirst;
 use std::cell::Cell;
 
 /// The most steps that are tried of one plan.
@@ -28,7 +28,7 @@ pub struct Judge<'a> {
 
 impl<'a> Judge<'a> {
     pub fn new(base: &'a ObjectHistory, steps: u64, budget: &'a Cell<u64>) -> Judge<'a> {
-        let search = Search { first: First::Number, steps };
+        let search = Search { first: TryFirst::Number, steps };
         Judge { base, search, left: MOST_STEPS, budget, size: 0 }
     }
 

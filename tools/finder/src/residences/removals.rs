@@ -1,7 +1,7 @@
 //! Removals that are pending, and by when values must be gone that no call is known to take.
 
 use super::Gaps;
-use crate::timeline::Span;
+use crate::timeline::Interval;
 use crate::trees::{ABSENT, Least};
 
 /// The removals that are pending, and the calls that need values to be gone: a value must be gone
@@ -12,14 +12,14 @@ pub struct Removals {
     returns: Option<Least>,
     moments: usize,
     /// In the order of their begins; the last first if `last_first`.
-    removals: Vec<Span>,
+    removals: Vec<Interval>,
     last_first: bool,
     unused: Gaps,
 }
 
 impl Removals {
     /// Those removals that come in the order of their begins, in a history of this many moments.
-    pub fn new(moments: u32, mut removals: Vec<Span>, last_first: bool) -> Removals {
+    pub fn new(moments: u32, mut removals: Vec<Interval>, last_first: bool) -> Removals {
         if last_first {
             removals.reverse();
         }
@@ -39,14 +39,14 @@ impl Removals {
     }
 
     /// Notes a call that needs values to be gone.
-    pub fn note(&mut self, call: &Span) {
+    pub fn note(&mut self, call: &Interval) {
         if let Some(returns) = &mut self.returns {
             returns.set(call.begin as usize, i64::from(call.end));
         }
     }
 
     /// Takes back what was noted.
-    pub fn forget(&mut self, call: &Span) {
+    pub fn forget(&mut self, call: &Interval) {
         if let Some(returns) = &mut self.returns {
             returns.set(call.begin as usize, ABSENT);
         }
@@ -59,7 +59,7 @@ impl Removals {
     }
 
     /// A removal that begins before this moment and that was not taken yet.
-    pub fn take(&mut self, due: u32) -> Option<Span> {
+    pub fn take(&mut self, due: u32) -> Option<Interval> {
         let from = if self.last_first {
             self.removals.partition_point(|call| call.begin >= due)
         } else {

@@ -2,7 +2,7 @@
 //! and removals are paired, and each pair counts as a value of its own.
 
 use super::Touch;
-use crate::timeline::Span;
+use crate::timeline::Interval;
 
 /// The moment that a value is taken which no call takes: after that of a call that is pending.
 pub const NEVER: u32 = u32::MAX;
@@ -11,8 +11,8 @@ pub const NEVER: u32 = u32::MAX;
 #[derive(Clone, Copy, Debug)]
 pub struct Residence {
     pub value: i64,
-    pub put: Span,
-    pub take: Option<Span>,
+    pub put: Interval,
+    pub take: Option<Interval>,
 }
 
 impl Residence {

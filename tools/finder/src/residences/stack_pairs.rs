@@ -5,7 +5,7 @@
 //! can be popped by a pop that runs, and these then are.
 
 use super::{NEVER, Residence, Sure, Touch, Touches};
-use crate::timeline::Span;
+use crate::timeline::Interval;
 use std::collections::BTreeSet;
 
 /// How many pushes of a value are looked at for one that can be on top.
@@ -260,8 +260,8 @@ impl<'a> Contents<'a> {
 
     /// The values of the pairs, and those that are not popped. The pops that are pending come in
     /// the order of their begins.
-    fn residences(&self, unknown: &[Span]) -> Vec<Residence> {
-        let residence = |put: usize, take: Option<Span>| Residence {
+    fn residences(&self, unknown: &[Interval]) -> Vec<Residence> {
+        let residence = |put: usize, take: Option<Interval>| Residence {
             value: self.touches[put].value,
             put: self.touches[put].call,
             take,

@@ -1,14 +1,14 @@
 //! What each call of a queue, stack or heap does with a value.
 
 use crate::kinds::Role;
-use crate::timeline::{Call, Span};
+use crate::timeline::{Call, Interval};
 
 /// A put or a removal of a value.
 #[derive(Clone, Copy, Debug)]
 pub struct Touch {
     pub value: i64,
     pub takes: bool,
-    pub call: Span,
+    pub call: Interval,
 }
 
 /// The calls of a queue, stack or heap.
@@ -17,9 +17,9 @@ pub struct Touches {
     /// In rising value; of each value the puts and then the removals, in the order of their begins.
     pub known: Vec<Touch>,
     /// The calls that found nothing in the object.
-    pub empties: Vec<Span>,
+    pub empties: Vec<Interval>,
     /// Removals that are pending, in the order of their begins.
-    pub unknown: Vec<Span>,
+    pub unknown: Vec<Interval>,
 }
 
 impl Touches {

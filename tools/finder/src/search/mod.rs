@@ -16,7 +16,7 @@ use walk::Walk;
 
 /// Which of the operations that can come next in an order is tried first.
 #[derive(Clone, Copy, Debug, PartialEq, Eq)]
-pub enum First {
+pub enum TryFirst {
     /// That with the least number.
     Number,
     /// That with the least return. Operations that are pending come last.
@@ -45,7 +45,7 @@ pub struct Searched {
 
 /// Searches for a valid order of the operations, depth first, in at most this many steps. A step is
 /// one operation tried.
-pub fn search(history: &ObjectHistory, first: First, steps: u64) -> Searched {
+pub fn search(history: &ObjectHistory, first: TryFirst, steps: u64) -> Searched {
     if history.ops.iter().all(|o| o.returned().is_none()) {
         return Searched { outcome: Outcome::Order(Vec::new()), steps: 0, passed: u32::MAX };
     }
@@ -76,7 +76,7 @@ mod tests {
             operation(1, op("enqueue 2"), Some((2, Some(2)))),
             operation(4, op("dequeue"), Some((5, Some(2)))),
         ]);
-        for first in [First::Number, First::Return] {
+        for first in [TryFirst::Number, TryFirst::Return] {
             assert_eq!(search(&history, first, 100).outcome, Outcome::Order(vec![1, 0, 4]));
         }
     }
@@ -87,7 +87,7 @@ mod tests {
             operation(0, op("enqueue 1"), None),
             operation(1, op("dequeue"), Some((2, Some(1)))),
         ]);
-        assert_eq!(search(&history, First::Return, 100).outcome, Outcome::Order(vec![0, 1]));
+        assert_eq!(search(&history, TryFirst::Return, 100).outcome, Outcome::Order(vec![0, 1]));
     }
 
     #[test]
@@ -96,8 +96,8 @@ mod tests {
             operation(0, op("enqueue 1"), Some((1, Some(1)))),
             operation(2, op("dequeue"), Some((3, None))),
         ]);
-        assert_eq!(search(&history, First::Number, 1).outcome, Outcome::OutOfSteps);
-        for first in [First::Number, First::Return] {
+        assert_eq!(search(&history, TryFirst::Number, 1).outcome, Outcome::OutOfSteps);
+        for first in [TryFirst::Number, TryFirst::Return] {
             let searched = search(&history, first, 2);
             assert_eq!(searched.outcome, Outcome::Impossible);
             // the enqueue was in the order, the dequeue was not
@@ -108,6 +108,6 @@ mod tests {
     #[test]
     fn nothing_that_returned_has_an_empty_order() {
         let history = queue(vec![operation(0, op("dequeue"), None)]);
-        assert_eq!(search(&history, First::Number, 0).outcome, Outcome::Order(Vec::new()));
+        assert_eq!(search(&history, TryFirst::Number, 0).outcome, Outcome::Order(Vec::new()));
     }
 }

@@ -3,7 +3,7 @@
 use super::dead::{Dead, Pair};
 use super::digest::Digest;
 use super::undone::Undone;
-use super::{First, Outcome, Searched};
+use super::{Outcome, Searched, TryFirst};
 use crate::content::{Content, Undo};
 use crate::history::{Invocation, ObjectHistory};
 use crate::kinds::Reply;
@@ -37,10 +37,10 @@ fn floors_of(items: &[Invocation], counts: impl Fn(&Invocation) -> bool) -> Vec<
 }
 
 impl Trials {
-    fn new(history: &ObjectHistory, first: First) -> Trials {
+    fn new(history: &ObjectHistory, first: TryFirst) -> Trials {
         let tried = history.ops.iter().filter(|o| !o.has_failed());
         let mut items: Vec<Invocation> = tried.copied().collect();
-        if first == First::Return {
+        if first == TryFirst::Return {
             items.sort_by_key(|o| o.returned().unwrap_or(u32::MAX));
         }
         let pending = items.iter().position(Invocation::is_pending);
@@ -93,7 +93,7 @@ pub(super) struct Walk {
 }
 
 impl Walk {
-    pub fn new(history: &ObjectHistory, first: First) -> Walk {
+    pub fn new(history: &ObjectHistory, first: TryFirst) -> Walk {
         let trials = Trials::new(history, first);
         let keys: BTreeSet<i64> = (trials.items.iter())
             .filter(|o| o.op.new_value().is_some())

@@ -17,20 +17,20 @@ pub struct Counts {
     nodes: Vec<Node>,
 }
 
-/// Part of the tree: a node, and which leaves are below it.
+/// A subtree: a node, and which leaves are below it.
 #[derive(Clone, Copy)]
-struct Part {
+struct Subtree {
     node: usize,
     from: usize,
     width: usize,
 }
 
-impl Part {
-    fn halves(self) -> [Part; 2] {
+impl Subtree {
+    fn halves(self) -> [Subtree; 2] {
         let width = self.width / 2;
         [
-            Part { node: 2 * self.node, from: self.from, width },
-            Part { node: 2 * self.node + 1, from: self.from + width, width },
+            Subtree { node: 2 * self.node, from: self.from, width },
+            Subtree { node: 2 * self.node + 1, from: self.from + width, width },
         ]
     }
 
@@ -57,8 +57,8 @@ impl Counts {
         Counts { width, nodes }
     }
 
-    fn root(&self) -> Part {
-        Part { node: 1, from: 0, width: self.width }
+    fn root(&self) -> Subtree {
+        Subtree { node: 1, from: 0, width: self.width }
     }
 
     /// Adds to the counts of `from <= place < to`.
@@ -66,7 +66,7 @@ impl Counts {
         self.add_in(self.root(), from, to, change);
     }
 
-    fn add_in(&mut self, part: Part, from: usize, to: usize, change: i64) {
+    fn add_in(&mut self, part: Subtree, from: usize, to: usize, change: i64) {
         let node = part.node;
         if part.is_apart(from, to) {
             return;
@@ -88,7 +88,7 @@ impl Counts {
         self.free_in(self.root(), from, to, 0)
     }
 
-    fn free_in(&self, part: Part, from: usize, to: usize, above: i64) -> Option<usize> {
+    fn free_in(&self, part: Subtree, from: usize, to: usize, above: i64) -> Option<usize> {
         if part.is_apart(from, to) || self.nodes[part.node].least + above > 0 {
             return None;
         }

@@ -7,5 +7,5 @@ mod refusals;
 
 pub use faulty::{Faulty, FaultyDrawing, draw_up_to};
 pub use objects::{
-    Part, Subject, draw_impossible, draw_open, draw_refused, draw_uncertified, draw_valid,
+    DrawnPart, Subject, draw_impossible, draw_open, draw_refused, draw_uncertified, draw_valid,
 };

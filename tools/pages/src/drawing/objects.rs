@@ -399,8 +399,8 @@ pub fn draw_refused(subject: &Subject, order: &[i64], fault: OrderFault) -> Obje
 }
 
 /// A part of an object's history of which no order is valid.
-pub struct Part<'a> {
-    pub part: Cow<'a, ObjectHistory>,
+pub struct DrawnPart<'a> {
+    pub history: Cow<'a, ObjectHistory>,
     /// The number from which on it is a part, where that is not the beginning.
     pub from: Option<u32>,
     /// The value that stands for all that it does not keep, if one does.
@@ -409,10 +409,10 @@ pub struct Part<'a> {
     pub sentence: &'a Sentence,
 }
 
-impl Part<'_> {
+impl DrawnPart<'_> {
     /// Its operations that did not fail.
     fn live(&self) -> Vec<Invocation> {
-        self.part.ops.iter().filter(|op| !op.has_failed()).copied().collect()
+        self.history.ops.iter().filter(|op| !op.has_failed()).copied().collect()
     }
 
     /// The operation from which on it is a part, if it is not one from the beginning.
@@ -484,13 +484,13 @@ fn first_sentence(first: FirstEvent) -> Spans {
 
 /// The drawing of an object of which no order is valid, for no order of this part is: the operations
 /// of the part alone, the orders of them that were tried, and where they are in the history.
-pub fn draw_impossible(subject: &Subject, part: &Part) -> ObjectDrawing {
+pub fn draw_impossible(subject: &Subject, part: &DrawnPart) -> ObjectDrawing {
     let operations = subject.operations();
     let live = part.live();
     let recorded = part.recorded(&operations, &live);
     let first = part.sentence.beginning;
     let first = first.and_then(|first| operation_at(&operations, i64::from(first.number)));
-    let tried = try_orders(&operations, part.part.kind, &live, first, part.other, subject.words);
+    let tried = try_orders(&operations, part.history.kind, &live, first, part.other, subject.words);
     let reason = Reason {
         kind: subject.object.kind,
         operations: &operations,

@@ -1,6 +1,6 @@
 //! A line of a text with a place in it marked, and the lines around it.
 
-use crate::elements::{Place, line_of};
+use crate::elements::{ByteRange, line_of};
 use crate::page::{Excerpt, MarkedLine, TextLine};
 use crate::timeline::Spans;
 use std::fmt::Write;
@@ -71,7 +71,7 @@ fn beginning(text: &[u8], at: usize) -> usize {
 }
 
 /// As much as is shown of the line at this place.
-fn text_line(text: &[u8], line: Place, number: usize) -> TextLine {
+fn text_line(text: &[u8], line: ByteRange, number: usize) -> TextLine {
     let most = beginning(text, line.from + LINE);
     let mut shown = visible(&text[line.from..line.to.min(most)]);
     if line.to > most {
@@ -89,7 +89,7 @@ fn lines_before(text: &[u8], start: usize, number: usize) -> Vec<TextLine> {
             break;
         };
         next = line_start(text, to);
-        lines.push(text_line(text, Place { from: next, to }, number - back));
+        lines.push(text_line(text, ByteRange { from: next, to }, number - back));
     }
     lines.reverse();
     lines
@@ -104,7 +104,7 @@ fn lines_after(text: &[u8], end: usize, number: usize) -> Vec<TextLine> {
             break;
         }
         let to = line_end(text, from);
-        lines.push(text_line(text, Place { from, to }, number + on));
+        lines.push(text_line(text, ByteRange { from, to }, number + on));
         from = to + 1;
     }
     lines
@@ -112,13 +112,18 @@ fn lines_after(text: &[u8], end: usize, number: usize) -> Vec<TextLine> {
 
 /// The line with the place in it marked. Of a place that goes on in the next line as much is marked
 /// as is in this one.
-fn marked_line(text: &[u8], line: Place, place: Place, missing: &'static str) -> MarkedLine {
+fn marked_line(
+    text: &[u8],
+    line: ByteRange,
+    place: ByteRange,
+    missing: &'static str,
+) -> MarkedLine {
     let most = beginning(text, place.from + MARKED);
     let to = place.to.min(line.to).min(most);
     let from = beginning(text, line.from.max(place.from.saturating_sub(BESIDE_MARK)));
     let is_cut = to < place.to.min(line.to);
     let end = if is_cut { to } else { line.to.min(beginning(text, to + BESIDE_MARK)) };
-    let shown = |from, to| visible(Place { from, to }.of(text));
+    let shown = |from, to| visible(ByteRange { from, to }.of(text));
     MarkedLine {
         number: line_of(text, line.from),
         is_cut_before: from > line.from,
@@ -133,10 +138,10 @@ fn marked_line(text: &[u8], line: Place, place: Place, missing: &'static str) ->
 
 /// The line of the place, with the place marked, and the lines around it. Where the place is empty,
 /// a word says what is missing there.
-pub fn excerpt(text: &[u8], place: Place, caption: Spans, missing: &'static str) -> Excerpt {
+pub fn excerpt(text: &[u8], place: ByteRange, caption: Spans, missing: &'static str) -> Excerpt {
     let from = place.from.min(text.len());
-    let line = Place { from: line_start(text, from), to: line_end(text, from) };
-    let place = Place { from, to: place.to.max(from) };
+    let line = ByteRange { from: line_start(text, from), to: line_end(text, from) };
+    let place = ByteRange { from, to: place.to.max(from) };
     let marked = marked_line(text, line, place, missing);
     Excerpt {
         caption,

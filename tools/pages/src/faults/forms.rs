@@ -2,7 +2,7 @@
 
 use super::Explained;
 use super::excerpts::excerpt;
-use crate::elements::{Place, elements_in, value_in};
+use crate::elements::{ByteRange, elements_in, value_in};
 use crate::timeline::spans;
 use crate::verdict::FormFaultKind;
 
@@ -17,8 +17,8 @@ fn wrong_form(kind: FormFaultKind) -> &'static str {
 }
 
 /// The first of the forms that is for this object: its number and its place.
-fn first_for(text: &[u8], forms: &[Place], object: &[u8]) -> Option<(usize, Place)> {
-    let is_for = |form: &Place| value_in(form.of(text), b":object") == Some(object);
+fn first_for(text: &[u8], forms: &[ByteRange], object: &[u8]) -> Option<(usize, ByteRange)> {
+    let is_for = |form: &ByteRange| value_in(form.of(text), b":object") == Some(object);
     let found = forms.iter().position(is_for)?;
     Some((found, forms[found]))
 }
@@ -26,8 +26,8 @@ fn first_for(text: &[u8], forms: &[Place], object: &[u8]) -> Option<(usize, Plac
 /// The sentences on a text of which this form is no certificate.
 pub fn explain_form(text: &[u8], kind: FormFaultKind, form: usize) -> Explained {
     let mut explained = Explained::default();
-    let forms: Vec<Place> = elements_in(text, 0).take(form.saturating_add(1)).collect();
-    let nowhere = Place { from: text.len(), to: text.len() };
+    let forms: Vec<ByteRange> = elements_in(text, 0).take(form.saturating_add(1)).collect();
+    let nowhere = ByteRange { from: text.len(), to: text.len() };
     let place = forms.get(form).copied().unwrap_or(nowhere);
     let no_certificates = "The text can be read, but these are no certificates. Form ";
     explained.sentences.push(spans![no_certificates, form, wrong_form(kind)]);

@@ -3,7 +3,7 @@
 
 use super::excerpts::visible;
 use super::number_in;
-use crate::elements::{Opened, Place, elements_in, innermost_open, line_of, value_in, word_at};
+use crate::elements::{ByteRange, Opened, elements_in, innermost_open, line_of, value_in, word_at};
 use crate::verdict::{Fault, MapFaultKind, TextFaultKind, Which};
 use finder::{Function, function, function_names};
 
@@ -200,7 +200,7 @@ fn there_at(text: &[u8], byte: usize) -> &[u8] {
 pub fn fault_lines(text: &[u8], fault: Fault) -> Option<String> {
     match fault {
         Fault::Map { kind, map: number } => {
-            let place = elements_in(text, 0).nth(number).unwrap_or(Place { from: 0, to: 0 });
+            let place = elements_in(text, 0).nth(number).unwrap_or(ByteRange { from: 0, to: 0 });
             let map = place.of(text);
             let line = line_of(text, place.from);
             let said = of_event(text, number, map, kind);

@@ -3,7 +3,7 @@
 use super::excerpts::excerpt;
 use super::{Explained, number_in};
 use crate::drawing::{Faulty, FaultyDrawing, draw_up_to};
-use crate::elements::{Place, elements_in, value_in};
+use crate::elements::{ByteRange, elements_in, value_in};
 use crate::figures::FaultyMap;
 use crate::timeline::{Operation, Span, Spans, spans};
 use crate::verdict::MapFaultKind;
@@ -39,7 +39,7 @@ fn general(kind: MapFaultKind) -> Spans {
 struct Map<'a> {
     kind: MapFaultKind,
     number: usize,
-    place: Place,
+    place: ByteRange,
     process: Option<u64>,
     object: u32,
     type_name: &'a str,
@@ -53,7 +53,7 @@ fn name_of(keyword: Option<&[u8]>) -> &str {
 }
 
 impl<'a> Map<'a> {
-    fn read(text: &'a [u8], kind: MapFaultKind, number: usize, place: Place) -> Map<'a> {
+    fn read(text: &'a [u8], kind: MapFaultKind, number: usize, place: ByteRange) -> Map<'a> {
         let map = place.of(text);
         let object = number_in(value_in(map, b":object"));
         Map {
@@ -198,7 +198,7 @@ impl Before {
 
 /// The sentences on a text of which this map makes it no history, and the history before the map.
 pub fn explain_map(text: &[u8], kind: MapFaultKind, number: usize) -> Explained {
-    let nowhere = Place { from: text.len(), to: text.len() };
+    let nowhere = ByteRange { from: text.len(), to: text.len() };
     let place = |number| elements_in(text, 0).nth(number).unwrap_or(nowhere);
     let map = Map::read(text, kind, number, place(number));
     let before = map.before(text);

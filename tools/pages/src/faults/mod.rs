@@ -7,7 +7,7 @@ mod maps;
 mod texts;
 
 use crate::drawing::FaultyDrawing;
-use crate::page::{Answer, Excerpt, Page, Place, html_of};
+use crate::page::{Excerpt, Page, PageKind, Place, html_of};
 use crate::timeline::{Spans, spans};
 use crate::verdict::Fault;
 use crate::words::Words;
@@ -48,7 +48,7 @@ fn explain(text: &[u8], fault: Fault) -> Explained {
 pub fn malformed_page(name: &str, text: &[u8], fault: Fault, lines: &str) -> String {
     let explained = explain(text, fault);
     html_of(&Page {
-        answer: Answer::Malformed,
+        answer: PageKind::Malformed,
         title: &format!("malformed {}: {name}", fault.code()),
         facts: name,
         sentences: &explained.sentences,
@@ -64,7 +64,7 @@ pub fn malformed_page(name: &str, text: &[u8], fault: Fault, lines: &str) -> Str
 /// The page of texts of which nothing is known, since the judge had not enough memory.
 pub fn memory_page(name: &str, lines: &str) -> String {
     html_of(&Page {
-        answer: Answer::NoMemory,
+        answer: PageKind::NoMemory,
         title: &format!("out of memory: {name}"),
         facts: name,
         sentences: &[spans!["Memory was refused. This says nothing of the texts."]],

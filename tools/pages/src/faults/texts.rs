@@ -2,7 +2,7 @@
 
 use super::Explained;
 use super::excerpts::{excerpt, visible};
-use crate::elements::{Opened, Place, innermost_open, line_of, word_at};
+use crate::elements::{ByteRange, Opened, innermost_open, line_of, word_at};
 use crate::timeline::{Span, spans};
 use crate::verdict::TextFaultKind;
 
@@ -73,15 +73,15 @@ fn explain_end(faulty: &FaultyBytes) -> Explained {
         "."
     ]);
     let caption = spans!["Where the ", opened.word(), " was opened"];
-    explained.excerpts.push(excerpt(text, Place { from, to: from + 1 }, caption, ""));
+    explained.excerpts.push(excerpt(text, ByteRange { from, to: from + 1 }, caption, ""));
     let end = text.strip_suffix(b"\n").unwrap_or(text).len();
-    let place = Place { from: end, to: end };
+    let place = ByteRange { from: end, to: end };
     let caption = spans!["Where the text ends"];
     explained.excerpts.push(excerpt(text, place, caption, "end of the text"));
     explained
 }
 
-/// Whether what is around the fault may not have been meant to be open.
+/// Whether the bracket around the fault may have been left open by mistake.
 fn asks_around(kind: TextFaultKind) -> bool {
     matches!(
         kind,
@@ -113,7 +113,7 @@ impl Explained {
             ". Was it meant to be closed?"
         ]);
         let caption = spans!["Where the ", opened.word(), " around it was opened"];
-        self.excerpts.push(excerpt(text, Place { from, to: from + 1 }, caption, ""));
+        self.excerpts.push(excerpt(text, ByteRange { from, to: from + 1 }, caption, ""));
     }
 
     /// Says what is wrong at the byte of the fault.
@@ -142,7 +142,7 @@ pub fn explain_text(faulty: &FaultyBytes) -> Explained {
         return explain_end(faulty);
     }
     let place = if faulty.kind == TextFaultKind::BadUtf8 {
-        Place { from: faulty.byte, to: faulty.byte + 1 }
+        ByteRange { from: faulty.byte, to: faulty.byte + 1 }
     } else {
         word_at(faulty.text, faulty.byte)
     };

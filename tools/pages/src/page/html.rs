@@ -10,12 +10,12 @@ const ROOM: usize = 160;
 pub struct Html(String);
 
 /// What may be a part of markup.
-pub trait Part {
+pub trait ToHtml {
     fn add_to(&self, html: &mut Html);
 }
 
 /// The markup that these parts are, one after the other: literals are markup as they are, and all
-/// else is added as a [`Part`], which escapes text.
+/// else is added as a [`ToHtml`], which escapes text.
 macro_rules! html {
     (@ $html:ident) => {};
     (@ $html:ident, $markup:literal $(, $($rest:tt)*)?) => {
@@ -23,7 +23,7 @@ macro_rules! html {
         html!(@ $html $(, $($rest)*)?);
     };
     (@ $html:ident, $part:expr $(, $($rest:tt)*)?) => {
-        $crate::page::html::Part::add_to(&$part, &mut $html);
+        $crate::page::html::ToHtml::add_to(&$part, &mut $html);
         html!(@ $html $(, $($rest)*)?);
     };
     (@ $html:ident,) => {};
@@ -58,14 +58,14 @@ impl FromIterator<Html> for Html {
     }
 }
 
-impl Part for Html {
+impl ToHtml for Html {
     fn add_to(&self, html: &mut Html) {
         html.0.push_str(&self.0);
     }
 }
 
 /// Text, which is escaped for elements and for the values of attributes.
-impl Part for str {
+impl ToHtml for str {
     fn add_to(&self, html: &mut Html) {
         let mut rest = self;
         while let Some(at) = rest.find(['&', '<', '>', '"']) {
@@ -82,19 +82,19 @@ impl Part for str {
     }
 }
 
-impl Part for String {
+impl ToHtml for String {
     fn add_to(&self, html: &mut Html) {
         self.as_str().add_to(html);
     }
 }
 
-impl<P: Part + ?Sized> Part for &P {
+impl<P: ToHtml + ?Sized> ToHtml for &P {
     fn add_to(&self, html: &mut Html) {
         (**self).add_to(html);
     }
 }
 
-impl<P: Part> Part for Option<P> {
+impl<P: ToHtml> ToHtml for Option<P> {
     fn add_to(&self, html: &mut Html) {
         if let Some(part) = self {
             part.add_to(html);
@@ -104,7 +104,7 @@ impl<P: Part> Part for Option<P> {
 
 macro_rules! numbers_are_parts {
     ($($number:ty),*) => {
-        $(impl Part for $number {
+        $(impl ToHtml for $number {
             fn add_to(&self, html: &mut Html) {
                 let _ = write!(html.0, "{self}");
             }

@@ -28,7 +28,7 @@ use tables::object_table;
 
 /// The answer on a history.
 #[derive(Clone, Copy, PartialEq, Eq)]
-pub enum Answer {
+pub enum PageKind {
     Yes,
     /// An order is refused.
     No,
@@ -59,7 +59,7 @@ pub struct ObjectRow {
 /// of its objects, if there are several; the drawings; and of a malformed text the place of its
 /// fault, and what it has there.
 pub struct Page<'a> {
-    pub answer: Answer,
+    pub answer: PageKind,
     pub title: &'a str,
     pub facts: &'a str,
     pub sentences: &'a [Spans],
@@ -75,36 +75,36 @@ pub struct Page<'a> {
 const MOST_LINES: usize = 60;
 const LONGEST_LINE: usize = 2_000;
 
-impl Answer {
+impl PageKind {
     /// The class of the page.
     fn class(self) -> &'static str {
         match self {
-            Answer::Yes => "yes",
-            Answer::No | Answer::NoOrder => "no",
-            Answer::Impossible => "impossible",
-            Answer::Open => "open",
-            Answer::Malformed => "malformed",
-            Answer::NoMemory => "memory",
+            PageKind::Yes => "yes",
+            PageKind::No | PageKind::NoOrder => "no",
+            PageKind::Impossible => "impossible",
+            PageKind::Open => "open",
+            PageKind::Malformed => "malformed",
+            PageKind::NoMemory => "memory",
         }
     }
 
     fn word(self) -> &'static str {
         match self {
-            Answer::Yes => "Yes",
-            Answer::No => "Order refused",
-            Answer::NoOrder => "Order missing",
-            Answer::Impossible => "Not linearizable",
-            Answer::Open => "Open",
-            Answer::Malformed => "Malformed",
-            Answer::NoMemory => "Out of memory",
+            PageKind::Yes => "Yes",
+            PageKind::No => "Order refused",
+            PageKind::NoOrder => "Order missing",
+            PageKind::Impossible => "Not linearizable",
+            PageKind::Open => "Open",
+            PageKind::Malformed => "Malformed",
+            PageKind::NoMemory => "Out of memory",
         }
     }
 
     fn sign(self) -> &'static str {
         match self {
-            Answer::Yes => "✓",
-            Answer::No | Answer::NoOrder | Answer::Impossible | Answer::Malformed => "✕",
-            Answer::Open | Answer::NoMemory => "?",
+            PageKind::Yes => "✓",
+            PageKind::No | PageKind::NoOrder | PageKind::Impossible | PageKind::Malformed => "✕",
+            PageKind::Open | PageKind::NoMemory => "?",
         }
     }
 }
@@ -187,11 +187,11 @@ impl Page<'_> {
     /// is all of the page.
     fn place_name(&self) -> Option<&'static str> {
         match (self.answer, self.drawings) {
-            (Answer::Yes | Answer::NoMemory, _) => None,
-            (Answer::Malformed, _) | (Answer::No | Answer::NoOrder, []) => Some("fault"),
+            (PageKind::Yes | PageKind::NoMemory, _) => None,
+            (PageKind::Malformed, _) | (PageKind::No | PageKind::NoOrder, []) => Some("fault"),
             (_, []) => None,
             (_, [drawing, ..]) if drawing.tried.is_some() => Some("reason"),
-            (Answer::No | Answer::NoOrder, [drawing, ..]) if !drawing.sentences.is_empty() => {
+            (PageKind::No | PageKind::NoOrder, [drawing, ..]) if !drawing.sentences.is_empty() => {
                 Some("fault")
             }
             _ => Some("object"),
@@ -201,7 +201,7 @@ impl Page<'_> {
     /// A link to it, for users of a keyboard.
     fn skip_link(&self) -> Option<Html> {
         let name = self.place_name()?;
-        let what = if self.answer == Answer::Malformed { "place" } else { name };
+        let what = if self.answer == PageKind::Malformed { "place" } else { name };
         Some(html!["<a class=\"skiplink\" href=\"#", name, "\">Go to the ", what, "</a>"])
     }
 
@@ -231,7 +231,7 @@ impl Page<'_> {
     }
 
     fn sections(&self, shown: &Shown) -> Html {
-        let is_no = matches!(self.answer, Answer::No | Answer::NoOrder);
+        let is_no = matches!(self.answer, PageKind::No | PageKind::NoOrder);
         let is_strange = self.drawings.is_empty() && is_no;
         let has_table = self.objects.len() > 1 || is_strange;
         // The heading of a reason has a name of its own.

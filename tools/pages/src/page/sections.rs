@@ -1,6 +1,6 @@
 //! The sections on the objects of a page.
 
-use super::Answer;
+use super::PageKind;
 use super::boxes::content_figure;
 use super::figures::Drawing;
 use super::html::{Html, html};
@@ -33,7 +33,7 @@ fn refused_rank(drawing: &ObjectDrawing) -> usize {
 }
 
 /// The caption of the figure of an object. That of bars and points is there once.
-fn caption(answer: Answer, drawing: &ObjectDrawing, is_first: bool) -> &'static str {
+fn caption(answer: PageKind, drawing: &ObjectDrawing, is_first: bool) -> &'static str {
     let has_points = some_line(&drawing.figure, |line| !line.points.is_empty());
     if drawing.tried.is_some() {
         "In its surroundings: the operations of the reason are outlined, the others are dimmed."
@@ -41,10 +41,10 @@ fn caption(answer: Answer, drawing: &ObjectDrawing, is_first: bool) -> &'static 
         "In its surroundings."
     } else if !is_first {
         "As above."
-    } else if has_points && answer == Answer::Open {
+    } else if has_points && answer == PageKind::Open {
         "Bars run from invocation to return. The numbered points are the longest order that was \
          found for this page."
-    } else if has_points && answer != Answer::No {
+    } else if has_points && answer != PageKind::No {
         "Bars run from invocation to return. The numbered points are the order: each lies on its \
          bar, and ranks rise from left to right."
     } else if has_points {
@@ -149,7 +149,7 @@ fn outside(operations: &[Operation], shown: &Shown) -> Option<Html> {
 
 /// The section on an object of a page with this answer.
 pub struct ObjectSection<'a> {
-    pub answer: Answer,
+    pub answer: PageKind,
     pub drawing: &'a ObjectDrawing,
     pub shown: &'a Shown<'a>,
     /// Whether it is the first one.

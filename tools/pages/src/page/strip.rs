@@ -10,6 +10,23 @@ use std::ops::RangeInclusive;
 const WIDTH: u32 = 2;
 const HEIGHT: u32 = 30;
 
+/// A rectangle of this class over columns.
+fn rectangle(class: &str, columns: &RangeInclusive<u32>, y: u32, height: u32) -> Html {
+    html![
+        "<rect class=\"",
+        class,
+        "\" x=\"",
+        columns.start() * WIDTH,
+        "\" y=\"",
+        y,
+        "\" width=\"",
+        (columns.end() - columns.start() + 1) * WIDTH,
+        "\" height=\"",
+        height,
+        "\"/>"
+    ]
+}
+
 impl Strip {
     /// The line of how many operations run at once, which goes on where that stays the same.
     fn heights(&self) -> Html {
@@ -28,18 +45,7 @@ impl Strip {
 
     /// What nemeses began.
     fn bands(&self) -> Html {
-        let rect = |columns: &RangeInclusive<u32>| {
-            let width = (columns.end() - columns.start() + 1) * WIDTH;
-            let x = columns.start() * WIDTH;
-            html![
-                "<rect class=\"of-nemesis\" x=\"",
-                x,
-                "\" y=\"0\" width=\"",
-                width,
-                "\" height=\"40\"/>"
-            ]
-        };
-        self.bands.iter().map(rect).collect()
+        self.bands.iter().map(|columns| rectangle("of-nemesis", columns, 0, 40)).collect()
     }
 
     /// The other stretches, each a link to it.
@@ -63,18 +69,7 @@ impl Strip {
     }
 
     fn drawn(&self) -> Html {
-        let rect = |columns: &RangeInclusive<u32>| {
-            let width = (columns.end() - columns.start() + 1) * WIDTH;
-            let x = columns.start() * WIDTH;
-            html![
-                "<rect class=\"shown\" x=\"",
-                x,
-                "\" y=\"1\" width=\"",
-                width,
-                "\" height=\"34\"/>"
-            ]
-        };
-        self.drawn.iter().map(rect).collect()
+        self.drawn.iter().map(|columns| rectangle("shown", columns, 1, 34)).collect()
     }
 
     /// A line at each of these columns.

@@ -2,7 +2,7 @@
 
 use super::html::{Html, html};
 use super::sentences::{Shown, code};
-use super::{Answer, ObjectRow, Page};
+use super::{ObjectRow, Page, PageKind};
 use crate::figures::{count_text, digits, label};
 use crate::timeline::{Attempt, Entry, Failure, ObjectDrawing, Row, Span, Tried};
 use crate::words::Words;
@@ -225,7 +225,7 @@ fn object_row(page: &Page, row: &ObjectRow) -> Html {
     let name = html!["object ", page.words.name_of(row.object)];
     let name =
         if is_drawn { html!["<a href=\"#object-", row.object, "\">", name, "</a>"] } else { name };
-    let is_bad = row.is_faulty && page.answer != Answer::Open;
+    let is_bad = row.is_faulty && page.answer != PageKind::Open;
     html![
         "<tr",
         is_bad.then(|| html![" class=\"bad\""]),

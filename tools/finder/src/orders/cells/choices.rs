@@ -5,7 +5,7 @@ use super::waiting::{Role, Waiting};
 use crate::accesses::{Access, Need};
 use crate::timeline::PENDING;
 
-/// The most contents set one out of the other of which it is asked how long they stay.
+/// The longest chain of contents that is followed to see how long each must stay.
 const MOST_LINKS: usize = 16;
 
 /// The most ways out of a content that are tried of one sort.
@@ -44,8 +44,8 @@ impl Position<'_> {
         matches!(self.accesses[place].need, Need::IsNot(_))
     }
 
-    /// How long a content is asked for that a call sets now, and those that are then set out of it,
-    /// as far as no other call can set them.
+    /// Until when calls need the content that this call sets, or a content made from it, as far as no
+    /// other call can set these.
     fn until(&self, place: usize, content: usize) -> u32 {
         let mut until = self.now;
         let mut begin = self.now;

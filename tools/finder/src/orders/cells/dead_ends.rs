@@ -1,4 +1,4 @@
-//! States of a search from which there is no way on, told by a fingerprint each. One may be
+//! States of a search from which there is no way on, each kept as a fingerprint. One may be
 //! forgotten, and two may have the same fingerprint: then an order may be missed, and no wrong one
 //! is found.
 

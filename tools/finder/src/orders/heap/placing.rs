@@ -2,7 +2,7 @@
 
 use super::shortages::{Cover, Demands, Shortage};
 use crate::residences::{Gaps, Removals, Residence, Touches, residences_of};
-use crate::timeline::{PENDING, Span};
+use crate::timeline::{Interval, PENDING};
 
 /// What comes first in one gap: extracts by rising value, each after its insert where that is in
 /// the same gap, then calls that find nothing, then inserts of what is extracted later.
@@ -38,7 +38,7 @@ pub struct Placing {
 }
 
 /// The last gap in which a call can take effect.
-fn last_gap(call: &Span) -> u32 {
+fn last_gap(call: &Interval) -> u32 {
     if call.is_pending() { PENDING } else { call.end.saturating_sub(1) }
 }
 
@@ -122,7 +122,7 @@ impl Placing {
 
     /// Places the calls that find nothing in the heap, unless one has no gap that is free of
     /// values.
-    fn place_empties(&mut self, empties: &[Span]) {
+    fn place_empties(&mut self, empties: &[Interval]) {
         for call in empties {
             let gap = self.gaps.first_free(call.begin);
             if gap >= call.end {

@@ -1,7 +1,7 @@
 //! The calls that find nothing, and where they cut the line.
 
 use crate::residences::{NEVER, Sure, Touches};
-use crate::timeline::Span;
+use crate::timeline::Interval;
 use std::collections::BTreeSet;
 
 /// A call that finds nothing: its gap, its return and its number.
@@ -23,7 +23,7 @@ impl Empties {
     /// value is taken more often than it is put in, or a call has no gap.
     pub fn new(touches: &Touches, end: u32) -> Option<Empties> {
         let sure = Sure::new(&touches.known, end)?;
-        let empty = |call: &Span| {
+        let empty = |call: &Interval| {
             let gap = sure.fewest(call.begin, call.end)?;
             Some(Empty { gap, end: call.end, number: call.number })
         };

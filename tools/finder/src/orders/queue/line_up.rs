@@ -6,7 +6,7 @@ use super::room::Room;
 use super::sides::{Call, Side};
 use crate::orders::line::Line;
 use crate::residences::{NEVER, Touches};
-use crate::timeline::Span;
+use crate::timeline::Interval;
 
 /// The places of a value's put and removal.
 #[derive(Clone, Copy)]
@@ -51,7 +51,7 @@ pub struct LineUp {
     room: Room,
     empties: Empties,
     /// Removals that are pending, in the order of their begins.
-    unknown: Vec<Span>,
+    unknown: Vec<Interval>,
     used: usize,
     /// Whether pending removals are used earlier, where the values that come then fit better.
     lavish: bool,

@@ -1,18 +1,18 @@
 //! The puts, or the removals, that are left.
 
 use crate::residences::{NEVER, Touch};
-use crate::timeline::Span;
+use crate::timeline::Interval;
 use crate::trees::{ABSENT, Least};
 use std::ops::Range;
 
 /// How many values are looked at to see which puts and removals belong together.
 const MOST_UPCOMING: usize = 13;
 
-/// A put or a removal. Its value is told by its place in rising order.
+/// A put or a removal. Its value is identified by its place in rising order.
 #[derive(Clone, Copy)]
 pub struct Call {
     pub value: usize,
-    pub span: Span,
+    pub span: Interval,
 }
 
 /// The puts, or the removals, and which of them are left.

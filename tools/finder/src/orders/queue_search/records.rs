@@ -1,6 +1,6 @@
 //! The steps that led to each state, from which an order is read.
 
-/// A step from one state to the next. Calls are told by their places.
+/// A step from one state to the next. Calls are identified by their places.
 #[derive(Clone, Copy)]
 pub enum Step {
     Begin,

@@ -1,7 +1,7 @@
 //! Removals that are pending, given to values that must be gone.
 
 use crate::residences::{Removals, Residence};
-use crate::timeline::Span;
+use crate::timeline::Interval;
 
 /// By when the values must be gone that no call is known to take, with their places: a value that
 /// was put before them is taken, or nothing is found, by a call that begins when their put has
@@ -31,7 +31,7 @@ pub fn dues_of(residences: &[Residence], removals: &mut Removals) -> Vec<(u32, u
 
 /// Gives removals that are pending to the values that no call is known to take and that must be
 /// gone.
-pub fn give_removals(residences: &mut [Residence], empties: &[Span], mut removals: Removals) {
+pub fn give_removals(residences: &mut [Residence], empties: &[Interval], mut removals: Removals) {
     if removals.is_empty() {
         return;
     }

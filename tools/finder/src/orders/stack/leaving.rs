@@ -1,9 +1,9 @@
 //! Values of a stack that pending pops take.
 //!
 //! All other values are ordered first. In that order each value that pending pops may take is put
-//! where the fewest values are in the stack, of the places that its put may have. There it is in
-//! no call's way until the stack gets lower than that, or nothing is found: just before that it must
-//! be gone. The values are gone by the pending pops in the order of these moments, the pop that
+//! where the fewest values are in the stack, of the places that its put may have. There it
+//! cannot affect any call until the stack gets lower than that, or nothing is found: just before that
+//! it must be gone. The values are gone by the pending pops in the order of these moments, the pop that
 //! begins first at the first. No other choice of pops could do more for these places.
 
 use super::giving::dues_of;
@@ -11,14 +11,14 @@ use super::ordering::Ordering;
 use super::rounds::rounds_of;
 use super::turns::{Step, Turn, by_length, merge_turns};
 use crate::residences::{Removals, Residence};
-use crate::timeline::Span;
+use crate::timeline::Interval;
 use crate::trees::Least;
 
 /// Where a value may be put in an order.
 #[derive(Clone, Copy)]
 enum Places {
     /// Where each call of the order is in the last gap that it may be in: then what is added
-    /// is in no way of what else is added.
+    /// does not conflict with the other additions.
     OfLastGaps,
     /// Wherever the calls of the order allow it.
     All,
@@ -58,7 +58,7 @@ struct Heights {
 
 /// How a value is in the stack that no known pop takes.
 struct Stay {
-    put: Span,
+    put: Interval,
     /// The turn before which it is put.
     place: usize,
     gap: u32,
@@ -94,7 +94,7 @@ impl Heights {
 
     /// The last place of a put at which the fewest values are below its own, and before which turn
     /// the value must be gone, if it must.
-    fn stay(&self, put: Span) -> Option<Stay> {
+    fn stay(&self, put: Interval) -> Option<Stay> {
         let turns = self.last.len();
         let first = self.last.partition_point(|gap| *gap < put.begin);
         let last = self.counts.partition_point(|gap| *gap < put.end);
@@ -120,7 +120,7 @@ struct Added {
 }
 
 /// The pops of the values that must be gone. `None`: there are too few, or they begin too late.
-fn pops_of(heights: &Heights, stays: &[Stay], pops: &[Span]) -> Option<Vec<Added>> {
+fn pops_of(heights: &Heights, stays: &[Stay], pops: &[Interval]) -> Option<Vec<Added>> {
     let dues = stays.iter().enumerate().filter_map(|(place, stay)| Some((stay.until?, place)));
     let mut dues: Vec<(usize, usize)> = dues.collect();
     dues.sort_unstable();
@@ -150,7 +150,7 @@ fn with_added(turns: &[Turn], mut added: Vec<Added>) -> Vec<Turn> {
 
 /// The turns of a stack's calls, with those of the values that pending pops may take. `None`: there
 /// are too few such pops, which come in the order of their begins.
-fn with_leaving(turns: Vec<Turn>, leaving: &[Residence], pops: &[Span]) -> Option<Vec<Turn>> {
+fn with_leaving(turns: Vec<Turn>, leaving: &[Residence], pops: &[Interval]) -> Option<Vec<Turn>> {
     if leaving.is_empty() {
         return Some(turns);
     }
@@ -174,7 +174,7 @@ fn with_leaving(turns: Vec<Turn>, leaving: &[Residence], pops: &[Span]) -> Optio
 struct Placing {
     residences: Vec<Residence>,
     leaving: Vec<Residence>,
-    pops: Vec<Span>,
+    pops: Vec<Interval>,
 }
 
 impl Placing {
@@ -193,7 +193,7 @@ impl Placing {
 
     /// The numbers of the values that must be gone, or are put before a call returns that finds
     /// nothing.
-    fn due(&self, empties: &[Span], end: u32) -> Vec<u32> {
+    fn due(&self, empties: &[Interval], end: u32) -> Vec<u32> {
         let mut removals = Removals::new(end, self.pops.clone(), false);
         empties.iter().for_each(|call| removals.note(call));
         let last = empties.iter().map(|call| call.end).max().unwrap_or(0);
@@ -208,8 +208,8 @@ impl Placing {
 /// pending pops come in the order of their begins.
 pub fn order_around_leaving(
     residences: Vec<Residence>,
-    empties: &[Span],
-    pops: Vec<Span>,
+    empties: &[Interval],
+    pops: Vec<Interval>,
     end: u32,
 ) -> Option<Vec<u32>> {
     let rounds = rounds_of(&residences);

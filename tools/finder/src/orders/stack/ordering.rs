@@ -2,7 +2,7 @@
 
 use super::turns::{Step, Turn};
 use crate::residences::{Gaps, Residence, counts_of};
-use crate::timeline::Span;
+use crate::timeline::Interval;
 use crate::trees::{ABSENT, Counts, Least};
 
 /// What is left to be done, the last first.
@@ -12,7 +12,7 @@ enum Task {
     Order(usize, usize),
     Take(usize),
     /// A call that finds nothing, and its gap.
-    FindsNone(Span, u32),
+    FindsNone(Interval, u32),
 }
 
 /// The values, by the gap from which on they definitely are in the stack, and what is left of them.
@@ -123,7 +123,7 @@ pub struct Ordering {
 impl Ordering {
     /// The values between the calls that find nothing, ordered as far as that can be done. `None`:
     /// one of these calls has no gap.
-    pub fn of(long: Vec<Residence>, empties: &[Span], end: u32) -> Option<Ordering> {
+    pub fn of(long: Vec<Residence>, empties: &[Interval], end: u32) -> Option<Ordering> {
         let values = Values::new(long, end);
         let mut ordering =
             Ordering { values, tasks: Vec::new(), turns: Vec::new(), stuck: Vec::new() };
@@ -146,8 +146,8 @@ impl Ordering {
 
     /// Plans the values between the calls that find nothing, and these calls. `None`: one has no
     /// gap.
-    fn plan(&mut self, empties: &[Span]) -> Option<()> {
-        let gap = |call: &Span| {
+    fn plan(&mut self, empties: &[Interval]) -> Option<()> {
+        let gap = |call: &Interval| {
             let gap = self.values.cover.first_free(call.begin as usize, call.end as usize)?;
             Some((gap as u32, *call))
         };

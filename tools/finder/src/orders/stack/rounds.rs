@@ -5,7 +5,7 @@ use super::ordering::Ordering;
 use super::trials::try_changes;
 use super::turns::{by_length, merge_turns};
 use crate::residences::Residence;
-use crate::timeline::Span;
+use crate::timeline::Interval;
 
 /// How often the values are ordered anew, with other pairs.
 const MOST_ROUNDS: usize = 40;
@@ -38,7 +38,7 @@ fn change(
 /// long as comparisons, this many, are left.
 pub fn order_in_rounds(
     mut residences: Vec<Residence>,
-    empties: &[Span],
+    empties: &[Interval],
     end: u32,
     mut work: u64,
 ) -> Option<Vec<u32>> {

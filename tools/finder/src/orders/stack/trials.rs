@@ -5,7 +5,7 @@ use super::crossings::{Change, partners, place_of};
 use super::ordering::Ordering;
 use super::turns::by_length;
 use crate::residences::Residence;
-use crate::timeline::{PENDING, Span};
+use crate::timeline::{Interval, PENDING};
 
 /// How many values are tried at most.
 const MOST_VALUES: usize = 400;
@@ -26,12 +26,12 @@ fn moments_of(residences: &[Residence]) -> Vec<u32> {
 }
 
 /// The call on a time that has these moments alone.
-fn with_ranks(moments: &[u32], call: Span) -> Span {
+fn with_ranks(moments: &[u32], call: Interval) -> Interval {
     let rank = |moment: u32| match moment {
         moment if moment < PENDING => moments.partition_point(|other| *other < moment) as u32,
         pending => pending,
     };
-    Span { begin: rank(call.begin), end: rank(call.end), ..call }
+    Interval { begin: rank(call.begin), end: rank(call.end), ..call }
 }
 
 /// How many of these values can't be ordered.

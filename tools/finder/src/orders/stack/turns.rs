@@ -1,7 +1,7 @@
 //! The calls of a stack in their order.
 
 use crate::residences::Residence;
-use crate::timeline::Span;
+use crate::timeline::Interval;
 
 /// What a turn does.
 #[derive(Clone, Copy, PartialEq, Eq)]
@@ -14,14 +14,14 @@ pub enum Step {
 /// The call that is next in the order, and the first gap that it may be in.
 #[derive(Clone, Copy)]
 pub struct Turn {
-    pub call: Span,
+    pub call: Interval,
     pub step: Step,
     pub from: u32,
 }
 
 impl Turn {
     /// A turn that may be in any gap of its call.
-    pub fn new(call: Span, step: Step) -> Turn {
+    pub fn new(call: Interval, step: Step) -> Turn {
         Turn { call, step, from: 0 }
     }
 

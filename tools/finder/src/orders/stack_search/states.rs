@@ -37,7 +37,7 @@ pub struct Draft {
     pub step: Step,
 }
 
-/// Leaves one of the states that are alike, one that used the fewest pending calls.
+/// Of states with equal keys, keeps one that used the fewest pending calls.
 pub fn merge(states: &mut Vec<State>) {
     states.sort_unstable_by_key(|it| (it.key(), it.cost));
     states.dedup_by_key(|it| it.key());

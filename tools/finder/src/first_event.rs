@@ -1,6 +1,6 @@
 //! The first event by which an object has no valid order, as far as a few beginnings of its history
-//! show it. The smallest reason may be of a late moment, and who reads the log of a store asks for
-//! the first one.
+//! show it. The smallest reason may be of a late moment, but someone who reads the log of a store
+//! needs the first one.
 //!
 //! Beginnings are tried that end at a return: of 8 returns, of 16, and so on until one has no valid
 //! order, and then by halves in the last step, which takes some two looks for each bit of the answer
@@ -14,7 +14,7 @@ use crate::evidence::Evidence;
 use crate::history::ObjectHistory;
 use crate::orders::{Quick, is_slow, quick_order};
 use crate::reasons::{FirstEvent, FoundReason, Search, find_within};
-use crate::search::First;
+use crate::search::TryFirst;
 
 /// The returns of the first beginning.
 const FEWEST: usize = 8;
@@ -78,7 +78,7 @@ impl<'a> Beginnings<'a> {
         if let Some(reason) = find_within(part, key, STEPS_OF_A_PART, STEPS_OF_A_BEGINNING) {
             return Beginning::Refuted(Box::new(reason));
         }
-        match by_search(part, Search { first: First::Return, steps: STEPS_OF_A_BEGINNING }) {
+        match by_search(part, Search { first: TryFirst::Return, steps: STEPS_OF_A_BEGINNING }) {
             Some(Evidence::Order(_)) => Beginning::Ordered,
             Some(Evidence::Reason(reason)) => Beginning::Refuted(Box::new(reason)),
             _ => Beginning::Open,
