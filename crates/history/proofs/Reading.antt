@@ -41,7 +41,8 @@ split_push (y ∷ ds) d (x ∷ earlier) later e q =
       | inr h ↦ inr (h.0, ap (λ z. z ∷ ds) head ∙ ap (λ t. x ∷ t) h.1)
     ]
 
-pub faultless_push : (IsFault : List Datum → Datum → HistoryFaultKind → Type 0) (ds : List Datum) (d : Datum) → AreFaultless IsFault ds
+pub faultless_push : (IsFault : List Datum → Datum → HistoryFaultKind → Type 0) (ds : List Datum) (d : Datum)
+    → AreFaultless IsFault ds
     → HasNoFault IsFault ds d → AreFaultless IsFault (ds ++ d ∷ [])
 faultless_push IsFault ds d h none earlier later e k q f = elim (split_push ds d earlier later e q) [
   | inl s ↦ none k (subst (λ x. IsFault ds x k) s.1 (subst (λ x. IsFault x e k) s.0 f))
@@ -61,36 +62,49 @@ pub nothing_read : (seen : Seen) (es : List Event) → IsSeen seen [] → es ≡
 nothing_read seen es h e = record { kept = h; faultless = nothing_faulty IsFault; events = e; count = refl }
 
 -- one map more
-pub one_more : (old new : Seen) (number : ℕ) (ds : List Datum) (d : Datum) (es more : List Event) → AreRead old number ds es → number < max_maps
+pub one_more : (old new : Seen) (number : ℕ) (ds : List Datum) (d : Datum) (es more : List Event)
+    → AreRead old number ds es → number < max_maps
     → IsRead new ds d more → AreRead new (number + 1) (ds ++ d ∷ []) (es ++ more)
 one_more old new number ds d es more h few r =
     record {
       kept = r.seen;
-      faultless = faultless_push IsFault ds d h.faultless (none_within ds d r.no_fault (subst (λ (n : ℕ). n < max_maps) (sym h.count) few));
+      faultless = faultless_push IsFault ds d h.faultless (none_within ds d r.no_fault
+          (subst (λ (n : ℕ). n < max_maps) (sym h.count) few));
       events = ap (λ (x : List Event). x ++ more) h.events
-          ∙ (ap (λ (x : List Event). events_from 0 ds ++ x) r.events ∙ sym (events_push 0 ds d ∙ ap (λ (k : ℕ). events_from 0 ds ++ event_of k (client_of d)) (zero-add (length ds))));
+          ∙ (ap (λ (x : List Event). events_from 0 ds ++ x) r.events ∙ sym
+          (events_push 0 ds d ∙ ap (λ (k : ℕ). events_from 0 ds ++ event_of k (client_of d))
+          (zero-add (length ds))));
       count = omega (arith, length-append ds (d ∷ []), h.count);
     }
 
 -- ---- the forms so far
 
 -- and one more
-one_form : (fs : List Form) (i : ℕ) (f : Form) → i < length fs → f ≡ get_or fs i f → views (take (i + 1) fs) ≡ views (take i fs) ++ view f ∷ []
-one_form fs i f l is = ap views (take_more fs i f l) ∙ (map-append view (take i fs) (get_or fs i f ∷ []) ∙ ap (λ x. views (take i fs) ++ view x ∷ []) (sym is))
+one_form : (fs : List Form) (i : ℕ) (f : Form) → i < length fs → f ≡ get_or fs i f → views (take (i + 1) fs) ≡ views
+    (take i fs) ++ view f ∷ []
+one_form fs i f l is = ap views (take_more fs i f l) ∙ (map-append view (take i fs) (get_or fs i f ∷ []) ∙ ap
+    (λ x. views (take i fs) ++ view x ∷ []) (sym is))
 
-pub faultless_more : (seen : Seen) (fs : List Form) (i : ℕ) (f : Form) (es : List Event) → i < length fs → f ≡ get_or fs i f
-    → AreRead seen i (views (take i fs)) es → HasNoFault IsFault (views (take i fs)) (view f) → IsFaultless (views (take (i + 1) fs))
+pub faultless_more : (seen : Seen) (fs : List Form) (i : ℕ) (f : Form) (es : List Event) → i < length fs
+    → f ≡ get_or fs i f
+    → AreRead seen i (views (take i fs)) es → HasNoFault IsFault (views (take i fs)) (view f) → IsFaultless
+    (views (take (i + 1) fs))
 faultless_more seen fs i f es l is h none =
-    let ds = views (take i fs) in subst IsFaultless (sym (one_form fs i f l is)) (faultless_push IsFault ds (view f) h.faultless none)
+    let ds = views (take i fs) in subst IsFaultless (sym (one_form fs i f l is))
+    (faultless_push IsFault ds (view f) h.faultless none)
 
 -- one form more
-pub one_read : (old new : Seen) (fs : List Form) (i : ℕ) (f : Form) (es more : List Event) → i < length fs → f ≡ get_or fs i f → i < max_maps
-    → AreRead old i (views (take i fs)) es → IsRead new (views (take i fs)) (view f) more → AreRead new (i + 1) (views (take (i + 1) fs)) (es ++ more)
+pub one_read : (old new : Seen) (fs : List Form) (i : ℕ) (f : Form) (es more : List Event) → i < length fs
+    → f ≡ get_or fs i f → i < max_maps
+    → AreRead old i (views (take i fs)) es → IsRead new (views (take i fs)) (view f) more → AreRead new (i + 1)
+    (views (take (i + 1) fs)) (es ++ more)
 one_read old new fs i f es more l is few h r =
-    subst (λ xs. AreRead new (i + 1) xs (es ++ more)) (sym (one_form fs i f l is)) (one_more old new i (views (take i fs)) (view f) es more h few r)
+    subst (λ xs. AreRead new (i + 1) xs (es ++ more)) (sym (one_form fs i f l is))
+    (one_more old new i (views (take i fs)) (view f) es more h few r)
 
 pub first_fault : (seen : Seen) (fs : List Form) (i : ℕ) (f : Form) (es : List Event) (k : HistoryFaultKind) → i < length fs → f ≡ get_or fs i f
-    → AreRead seen i (views (take i fs)) es → HasFirst IsFault (views (take i fs)) (view f) k → IsFirstFault (views fs) (record { kind = k; map = i })
+    → AreRead seen i (views (take i fs)) es → HasFirst IsFault (views (take i fs)) (view f) k → IsFirstFault
+    (views fs) (record { kind = k; map = i })
 first_fault seen fs i f es k l is h first = record {
   earlier = views (take i fs);
   form = view f;
@@ -111,5 +125,6 @@ first_fault seen fs i f es k l is h first = record {
 pub fault_refutes : (ds : List Datum) (fault : HistoryFault) (es : List Event) → IsFirstFault ds fault → Denotes ds es → ⊥
 fault_refutes ds fault es h d = d.faultless h.earlier h.later h.form fault.kind h.split h.stands
 
-pub all_read : (seen : Seen) (fs : List Form) (i : ℕ) (es : List Event) → length fs ≤ i → AreRead seen i (views (take i fs)) es → Denotes (views fs) es
+pub all_read : (seen : Seen) (fs : List Form) (i : ℕ) (es : List Event) → length fs ≤ i → AreRead seen i
+    (views (take i fs)) es → Denotes (views fs) es
 all_read seen fs i es l h = subst (λ x. Denotes (views x) es) (take_all i fs l) (record { faultless = h.faultless; events = h.events })

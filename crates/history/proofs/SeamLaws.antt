@@ -96,7 +96,8 @@ joined_more old new part ds es h p allowed one few processes kinds events maps =
     let counted : length ds ≡ old.maps = h.count in
     let own : part.maps ≡ length es = p.count in
     let whole = p.continues ds (value_of old.seen.processes) (value_of old.seen.kinds) h.kept
-    (at_any_length ds h.faultless) (fits part es (value_of old.seen.processes) (value_of old.seen.kinds) p allowed one) in
+    (at_any_length ds h.faultless) (fits part es (value_of old.seen.processes)
+    (value_of old.seen.kinds) p allowed one) in
     record {
       kept = seen_same (kept_after (value_of old.seen.processes) (value_of part.seen.processes))
           (value_of new.seen.processes)

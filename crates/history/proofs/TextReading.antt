@@ -1,9 +1,8 @@
 -- The maps of a text, one by one: what was found stays found, whatever follows.
-use Rattle.std.proofs.Common.{◌≡◌, ◌≢◌, ℕ, ◌+◌, ◌<◌, ◌≤◌, true, false, Option, Some, None, List, [], ◌∷◌, ◌++◌, length, take, refl, sym, subst, ◌∙◌, arith}
+use Rattle.std.proofs.Common.{◌≡◌, ◌≢◌, ℕ, ◌+◌, ◌<◌, ◌≤◌, true, Option, Some, None, List, [], ◌∷◌, ◌++◌, length, take, refl, sym, subst, ◌∙◌, arith}
 use Rattle.std.specs.Option.{is_some}
 use Rattle.std.proofs.lemmas.List.{length-append, take_all, take-append-le}
 use Rattle.edn_reader.specs.Datum.{Datum}
-use Rattle.edn_reader.specs.Elements.{SpellsFront}
 use Rattle.edn_reader.proofs.Following.{Along, front_more}
 use Rattle.edn_fields.proofs.FirstFaults.{first_more}
 use Rattle.events.specs.declared.event.Event.{Event}
@@ -13,9 +12,11 @@ use Rattle.history.specs.declared.fault.HistoryFault.{HistoryFault}
 use Rattle.history.specs.declared.fault.HistoryFaultKind.{HistoryFaultKind}
 use Rattle.history.specs.declared.fault.HistoryFaultKind.TheVariants.{NoMemory}
 use Rattle.history.specs.declared.text_reader.Reading.{Reading}
+use Rattle.history.specs.declared.client_map.OperationMap.{OperationMap}
 use Rattle.history.specs.Faults.{IsFault, IsFaultless}
 use Rattle.history.specs.Seen.{HasFirst, HasNoFault}
 use Rattle.history.specs.Texts.{IsFoundIn, AreRead, IsReadOrFaulty, IsReading}
+use Rattle.history.specs.UsualForms.{ReadsForm}
 use Rattle.history.proofs.Reading.{faultless_push}
 use Rattle.history.proofs.Proper.{proper_events}
 
@@ -50,25 +51,31 @@ are_read r ds e h = subst (λ (o : Option HistoryFault). IsReadOrFaulty o r.seen
 
 -- what is wrong with the map after those that were read
 pub found : (seen : Seen) (number : ℕ) (ds : List Datum) (d : Datum) (es : List Event) (k : HistoryFaultKind) → AreRead seen number ds es
-    → (k ≢ NoMemory → HasFirst IsFault ds d k) → (k ≡ NoMemory → HasNoFault IsFault ds d) → IsFoundIn (ds ++ d ∷ []) (record { kind = k; map = number })
+    → (k ≢ NoMemory → HasFirst IsFault ds d k) → (k ≡ NoMemory → HasNoFault IsFault ds d) → IsFoundIn (ds ++ d ∷ [])
+    (record { kind = k; map = number })
 found seen number ds d es k h first none = (
   λ n. (let f = first n in record { earlier = ds; form = d; later = []; split = refl; place = h.count; stands = f.stands; least = h.faultless; first = f.first }),
   λ m. (
       let long = length-append ds (d ∷ []) in
-      let count : length ds ≡ number = h.count in
-      (omega (arith, long, count), subst IsFaultless (sym (take_all (number + 1) (ds ++ d ∷ []) (omega (arith, long, count)))) (faultless_push IsFault ds d h.faultless (none m)))
+      let count : length ds ≡ number = h.count in (
+        omega (arith, long, count),
+        subst IsFaultless (sym (take_all (number + 1) (ds ++ d ∷ [])
+            (omega (arith, long, count)))) (faultless_push IsFault ds d h.faultless (none m)),
+      )
       ),
 )
 
 pub proper_reading : (r : Reading) (ds : List Datum) → r.fault ≡ None → IsReading r ds → IsProper r.events.items
 proper_reading r ds e h = let a = are_read r ds e h in subst IsProper (sym a.events) (proper_events ds a.faultless)
 
--- one form more, of which this is known
-pub along_passed : (P Q : List Datum → Type 0) (text mid rest : List ℕ) (before start : ℕ) (d : Datum) → SpellsFront mid (d ∷ []) rest
-    → start + length rest ≡ before + length mid → ((ds : List Datum) → P ds → Q (ds ++ d ∷ [])) → Along P text mid before → Along Q text rest start
-along_passed P Q text mid rest before start d f moves put a =
-    record { forms = a.forms ++ d ∷ []; front = front_more text mid rest a.forms (d ∷ []) a.front f; holds = put a.forms a.holds; place = moves ∙ a.place }
-
-pub no_fault : (o : Option HistoryFault) → is_some o ≡ false → o ≡ None
-no_fault None e = refl
-no_fault (Some f) e = absurd cc
+-- one form more, which says this
+pub along_next : (P Q : List Datum → Type 0) (text mid rest : List ℕ) (before start : ℕ) (said : OperationMap)
+    (r : ReadsForm mid said rest)
+    → start + length rest ≡ before + length mid → ((ds : List Datum) → P ds → Q (ds ++ r.form ∷ []))
+    → Along P text mid before → Along Q text rest start
+along_next P Q text mid rest before start said r moves put a = record {
+  forms = a.forms ++ r.form ∷ [];
+  front = front_more text mid rest a.forms (r.form ∷ []) a.front r.front;
+  holds = put a.forms a.holds;
+  place = moves ∙ a.place;
+}

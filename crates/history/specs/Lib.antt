@@ -3,6 +3,7 @@ pub mod Maps
 pub mod Views
 pub mod Texts
 pub mod UsualForms
+pub mod MapReading
 pub mod Faults
 pub mod Seen
 pub mod Denotes

@@ -12,14 +12,19 @@ use Rattle.history.specs.Views.{Says}
 use Rattle.history.specs.declared.client_map.MapType.{MapType}
 use Rattle.history.specs.declared.client_map.MapType.TheVariants.{Invoke, Ok, Fail, Info}
 use Rattle.history.specs.declared.client_map.ClientMap.{ClientMap}
+use Rattle.history.specs.declared.client_map.OperationMap.{OperationMap}
 use Rattle.history.specs.declared.client_map.OperationMap.TheVariants.{OfClient}
 
 -- The text begins with one form, this is what the form says, and this rest follows it.
-pub record ReadsUsual (text : List ℕ) (map : ClientMap) (rest : List ℕ) : Type 0 where
+pub record ReadsForm (text : List ℕ) (said : OperationMap) (rest : List ℕ) : Type 0 where
   pub form : Datum
   pub front : SpellsFront text (form ∷ []) rest
   pub utf8 : IsUtf8 rest
-  pub says : Says (OfClient map) form
+  pub says : Says said form
+
+-- The same of the map of a client.
+abbrev pub ReadsUsual : List ℕ → ClientMap → List ℕ → Type 0
+ReadsUsual text map rest = ReadsForm text (OfClient map) rest
 
 -- ---- the parts of a map. No public clause speaks of them.
 

@@ -37,8 +37,12 @@ impl Attempts {
         self.failures = 0;
     }
 
+    /// A map was not found, though perhaps it was not tried.
     #[inline(always)]
-    pub fn fail(&mut self) {
+    pub fn miss(&mut self, is_tried: bool) {
+        if !is_tried {
+            return;
+        }
         if self.failures < FAILURES - 1 {
             self.failures += 1;
         } else {

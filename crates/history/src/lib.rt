@@ -6,6 +6,7 @@ mod client_map;
 mod fault;
 mod limit;
 mod map_faults;
+mod map_reader;
 mod part;
 mod pieces;
 mod reader;

@@ -8,12 +8,10 @@ ghost use Rattle.history.specs.Noting.{NotesProcess, NotesObject};
 ghost use Rattle.history.specs.Parts.{IsPartOf};
 ghost use Rattle.history.specs.Views.{Says};
 
-use crate::attempts::Attempts;
-use crate::client_map::{ClientMap, MapType, OperationMap, action_of, said_on};
+use crate::client_map::{ClientMap, MapType, OperationMap, action_of};
 use crate::map_faults::{is_of_other_kind, process_fault};
+use crate::map_reader::MapReader;
 use crate::seen::{MAX_MAPS, Process, Seen, process_after};
-use crate::usual_map::usual_map;
-use edn::Elements;
 use events::Event;
 use number_map::NumberMap;
 use seq_objects::{Function, Kind};
@@ -164,23 +162,13 @@ impl Part {
         ensures { OnSome result ((ds : List Datum) → IsPartOf self.old ds
             → (es : List Datum) × Spells es lines.now × IsPartOf self.new (ds ++ es)) }
     {
-        let Ok(mut elements) = Elements::truncated(alloc, lines) else {
+        let Ok(mut maps) = MapReader::new(alloc, lines) else {
             return None;
         };
-        let mut attempts = Attempts::new();
-        'elements: loop {
-            if attempts.is_due() {
-                if let Some((map, rest)) = usual_map(elements.rest().as_bytes()) {
-                    elements.pass(rest);
-                    self.take(OperationMap::OfClient(map))?;
-                    attempts.succeed();
-                    continue;
-                }
-                attempts.fail();
-            }
-            match elements.advance() {
-                Ok(true) => self.take(said_on(elements.pieces()))?,
-                Ok(false) => return Some(()),
+        'forms: loop {
+            match maps.advance() {
+                Ok(Some(said)) => self.take(said)?,
+                Ok(None) => return Some(()),
                 Err(_) => return None,
             }
         }

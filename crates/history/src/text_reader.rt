@@ -2,23 +2,18 @@
 
 ghost use Rattle.std.specs.Prelude.{◌≡◌, ◌≢◌, ◌<◌, ◌+◌, ◌++◌, ◌∷◌, [], List, length, IfOk, IfErr};
 ghost use Rattle.std.specs.Prelude.{OnOk, MatchResult};
-ghost use Rattle.edn_reader.specs.Truncation.{truncated};
 ghost use Rattle.edn_reader.specs.Datum.{Datum};
-ghost use Rattle.edn_reader.specs.Pieces.{token_buffer_tokens};
 ghost use Rattle.edn_reader.specs.Sound.{IsShort};
 ghost use Rattle.edn_reader.specs.Spells.{Spells};
-ghost use Rattle.edn_reader.specs.Token.{tokens_of};
 ghost use Rattle.events.specs.declared.event.Event.{Event};
 ghost use Rattle.history.specs.Denotes.{Denotes};
 ghost use Rattle.history.specs.Texts.{IsFoundIn, IsTextFault};
 ghost use Rattle.history.specs.Views.{Says};
 
-use crate::attempts::Attempts;
-use crate::client_map::{OperationMap, said_on};
+use crate::client_map::OperationMap;
 use crate::fault::{HistoryFault, TextFault};
+use crate::map_reader::MapReader;
 use crate::seen::{Seen, read_next};
-use crate::usual_map::usual_map;
-use edn::{Elements, Piece};
 use events::{Event, History};
 use std::alloc::Global;
 
@@ -59,15 +54,13 @@ impl Reading {
         }
     }
 
-    /// Reads one more map, unless an earlier one is faulty. Of each value only the beginning is
-    /// given.
-    fn take(&mut self, pieces: &[Piece])
-        ensures { (ds : List Datum) (d : Datum)
-            → token_buffer_tokens pieces.now ≡ tokens_of (truncated d)
+    /// Reads one more map from what it says, unless an earlier one is faulty.
+    fn take(&mut self, said: OperationMap)
+        ensures { (ds : List Datum) (d : Datum) → Says said d
             → IsReading self.old ds → IsReading self.new (ds ++ d ∷ []) }
     {
         if self.fault.is_none() {
-            self.take_said(said_on(pieces));
+            self.take_said(said);
         }
     }
 
@@ -99,25 +92,15 @@ pub fn read_history_text(alloc: Global, text: &[u8]) -> Result<History, TextFaul
     ensures short { OnOk result (IsShort text.now) }
     ensures fault { IfErr result (IsTextFault text.now) }
 {
-    let mut elements = match Elements::truncated(alloc, text) {
-        Ok(elements) => elements,
+    let mut maps = match MapReader::new(alloc, text) {
+        Ok(maps) => maps,
         Err(fault) => return Err(TextFault::Text(fault)),
     };
     let mut reading = Reading::new(alloc);
-    let mut attempts = Attempts::new();
-    'elements: loop {
-        if reading.fault.is_none() && attempts.is_due() {
-            if let Some((map, rest)) = usual_map(elements.rest().as_bytes()) {
-                elements.pass(rest);
-                reading.take_said(OperationMap::OfClient(map));
-                attempts.succeed();
-                continue;
-            }
-            attempts.fail();
-        }
-        match elements.advance() {
-            Ok(true) => reading.take(elements.pieces()),
-            Ok(false) => match reading.finish() {
+    'forms: loop {
+        match maps.advance() {
+            Ok(Some(said)) => reading.take(said),
+            Ok(None) => match reading.finish() {
                 Ok(history) => return Ok(history),
                 Err(fault) => return Err(TextFault::Maps(fault)),
             },

@@ -348,10 +348,12 @@ module _ (objects : ℕ) (journals : ℕ → List AnyEvent) (logs : ℕ → List
       let client : client_of d ≡ Some (map_of l) = ap client_of r.5 ∙ client_is l (object_low l here) in
       let maps : clients earlier ≡ map map_of before = ap clients r.4 ∙ clients_are before (λ k i. object_low k (subst (In k) (sym r.3) (in_left k before (l ∷ r.1) i))) in
       no_fault before l (fine_at before r.1 l r.3) kind
-      (subst (λ (ms : List ClientMap). ClientFault ms (map_of l) kind) maps (fault_of earlier d (map_of l) kind client fault))
+      (subst (λ (ms : List ClientMap). ClientFault ms (map_of l) kind) maps
+      (fault_of earlier d (map_of l) kind client fault))
 
   faultless : IsFaultless (map form_of ls)
-  faultless = let few = few_lines in let long = length-map ls form_of in faultless_within (map form_of ls) at_any_length (omega arith)
+  faultless = let few = few_lines in let long = length-map ls form_of in faultless_within
+      (map form_of ls) at_any_length (omega arith)
 
   says_action : (l : Line) → In l ls → action_of (map_of l).type (map_of l) ≡ Some l.event.action
   says_action l i = let r = in_split l ls i in action_is l (last_line l.event.process r.0) (follows_at r.0 r.1 l r.2)

@@ -1,4 +1,5 @@
-use Rattle.std.proofs.Common.{◌∙◌, ◌<◌, ◌≤◌, ◌∷◌, [], sym, subst}
+use Rattle.std.proofs.Common.{◌≡◌, ◌∙◌, ◌<◌, ◌≤◌, ◌∷◌, [], false, sym, subst}
+use Rattle.std.specs.Prelude.{is_err}
 use Rattle.std.proofs.lemmas.List.{append-nil}
 use Rattle.history.specs.Faults.{max_maps}
 use Rattle.history.specs.Seen.{IsFitting}
@@ -8,10 +9,12 @@ use Rattle.history.proofs.OneMore.{fitting_faultless, ignored_read}
 use Rattle.history.proofs.seen.read_next.Goals as goal
 
 pub returns-in-Err-clause-fault : goal.returns-in-Err-clause-fault
-returns-in-Err-clause-fault c = λ other ds d says seen long. first_within ds d c.in-Err.kind (c.in-Err.ensures.fault ds d says seen)
+returns-in-Err-clause-fault c = λ other ds d says seen long. first_within ds d c.in-Err.kind
+    (c.in-Err.ensures.fault ds d says seen)
 
 pub returns-in-Err-clause-memory : goal.returns-in-Err-clause-memory
-returns-in-Err-clause-memory c = λ memory ds d says seen long. absurd (not_memory ds d c.in-Err.kind (c.in-Err.ensures.fault ds d says seen).stands memory)
+returns-in-Err-clause-memory c = λ memory ds d says seen long. absurd
+    (not_memory ds d c.in-Err.kind (c.in-Err.ensures.fault ds d says seen).stands memory)
 
 pub returns-then-map-ge-MAX_MAPS-clause-fault : goal.returns-then-map-ge-MAX_MAPS-clause-fault
 returns-then-map-ge-MAX_MAPS-clause-fault c = λ other ds d says seen long.
@@ -36,4 +39,8 @@ returns-then-is_err-clause-memory c = λ memory ds d says seen long.
 pub returns-clause-read : goal.returns-clause-read
 returns-clause-read c = λ ds d says seen long.
     let fits = subst (IsFitting c.args.seen.now ds d) c.in-Some.is (c.in-Ok.ensures.fits ds d says seen) in
-    (c.in-Ok-note.event ∷ [], c.in-Ok-note.ensures ds d seen fits long, pushed_unless c.push.result c.push.new.self.items _ c.args.events.now.items (sym c.is_err.ensures.value ∙ c.if-is_err.false) c.push.ensures.items)
+    let none : is_err c.push.result ≡ false = sym c.is_err.ensures.value ∙ c.if-is_err.false in (
+      c.in-Ok-note.event ∷ [],
+      c.in-Ok-note.ensures ds d seen fits long,
+      pushed_unless c.push.result c.push.new.self.items _ c.args.events.now.items none c.push.ensures.items,
+    )

@@ -1,73 +1,60 @@
-use Rattle.std.proofs.Common.{◌≡◌, ℕ, List, [], ◌∷◌, ap, sym, subst, ◌∙◌}
-use Rattle.edn_reader.specs.Truncation.{Keeping, kept_of}
-use Rattle.edn_reader.specs.Token.{tokens_of}
-use Rattle.edn_reader.specs.Elements.{SpellsFront}
-use Rattle.edn_reader.specs.Left.{left_of, start_of, keeping_in, tokens_in, integer_vector_in}
-use Rattle.edn_reader.proofs.Following.{along_more, along_spells, reads_some, reads_none, sound_after, unreadable_after}
+use Rattle.std.proofs.Common.{Option, subst}
+use Rattle.edn_reader.specs.Elements.{SpellsNothing}
+use Rattle.edn_reader.proofs.Following.{along_spells, sound_behind, unreadable_behind}
+use Rattle.history.specs.declared.client_map.OperationMap.{OperationMap}
+use Rattle.history.specs.MapReading.{left_in, start_in, ReadsNext}
 use Rattle.history.specs.Texts.{IsReading}
-use Rattle.history.proofs.TextReading.{along_passed, no_fault}
+use Rattle.history.specs.UsualForms.{ReadsForm}
+use Rattle.history.proofs.TextReading.{along_next}
 use Rattle.history.proofs.text_reader.read_history_text.Goals as goal
 
-pub elements-preserved : goal.elements-preserved
-elements-preserved c =
-    let e = reads_some (keeping_in c.elements.elements) c.in-Ok-true.field-0 (left_of c.elements.elements) (tokens_in c.advance.new.self)
-    (integer_vector_in c.advance.new.self) (left_of c.advance.new.self) c.in-Ok-true.field-0-test c.in-Ok-true.ensures.reads in
+pub forms-preserved : goal.forms-preserved
+forms-preserved c =
+    let read : ReadsForm (left_in c.forms.maps) c.in-Ok-Some.said (left_in c.advance.new.self) =
+    subst (λ (o : Option OperationMap). ReadsNext (left_in c.forms.maps) o
+    (left_in c.advance.new.self)) c.in-Ok-Some.field-0-is c.in-Ok-Some.ensures.reads in
     record {
-      along = along_more (keeping_in c.elements.elements) (IsReading c.elements.reading) (IsReading c.take.new.self) c.args.text.now
-          (left_of c.elements.elements) (left_of c.advance.new.self) (start_of c.elements.elements) (start_of c.advance.new.self)
-          (tokens_in c.advance.new.self) (integer_vector_in c.advance.new.self) e c.in-Ok-true.ensures.moves
-          (λ ds d q _ h. c.take.ensures ds d (c.pieces.ensures ∙ q ∙ ap (λ (k : Keeping). tokens_of (kept_of k.cuts d)) c.elements.invariant.keeps) h) c.elements.invariant.along;
-      short = c.elements.invariant.short;
-      utf8 = c.elements.invariant.utf8;
-      keeps = c.in-Ok-true.ensures.keeps ∙ c.elements.invariant.keeps;
+      along = along_next (IsReading c.forms.reading) (IsReading c.take.new.self) c.args.text.now
+          (left_in c.forms.maps) (left_in c.advance.new.self)
+          (start_in c.forms.maps) (start_in c.advance.new.self) c.in-Ok-Some.said read c.in-Ok-Some.ensures.moves
+          (λ ds h. c.take.ensures ds read.form read.says h) c.forms.invariant.along;
+      short = c.forms.invariant.short;
+      utf8 = c.forms.invariant.utf8;
     }
 
 pub returns-in-Ok-finish-clause-denotes : goal.returns-in-Ok-finish-clause-denotes
 returns-in-Ok-finish-clause-denotes c =
-    let a = c.elements.invariant.along in
-    let n = reads_none (keeping_in c.elements.elements) c.in-Ok-false.field-0 (left_of c.elements.elements) (tokens_in c.advance.new.self)
-    (integer_vector_in c.advance.new.self) (left_of c.advance.new.self) c.in-Ok-false.field-0-test c.in-Ok-false.ensures.reads in
-    (a.forms, along_spells (IsReading c.elements.reading) c.args.text.now (left_of c.elements.elements) (start_of c.elements.elements) a n, c.in-Ok-finish.ensures a.forms a.holds)
+    let a = c.forms.invariant.along in
+    let n : SpellsNothing (left_in c.forms.maps) =
+    subst (λ (o : Option OperationMap). ReadsNext (left_in c.forms.maps) o
+    (left_in c.advance.new.self)) c.in-Ok-None.field-0-is c.in-Ok-None.ensures.reads in (
+      a.forms,
+      along_spells (IsReading c.forms.reading) c.args.text.now (left_in c.forms.maps)
+          (start_in c.forms.maps) a n,
+      c.in-Ok-finish.ensures a.forms a.holds,
+    )
 
 pub returns-in-Err-finish-clause-fault : goal.returns-in-Err-finish-clause-fault
 returns-in-Err-finish-clause-fault c =
-    let a = c.elements.invariant.along in
-    let n = reads_none (keeping_in c.elements.elements) c.in-Ok-false.field-0 (left_of c.elements.elements) (tokens_in c.advance.new.self)
-    (integer_vector_in c.advance.new.self) (left_of c.advance.new.self) c.in-Ok-false.field-0-test c.in-Ok-false.ensures.reads in (
-      c.elements.invariant.short,
+    let a = c.forms.invariant.along in
+    let n : SpellsNothing (left_in c.forms.maps) =
+    subst (λ (o : Option OperationMap). ReadsNext (left_in c.forms.maps) o
+    (left_in c.advance.new.self)) c.in-Ok-None.field-0-is c.in-Ok-None.ensures.reads in (
+      c.forms.invariant.short,
       a.forms,
-      along_spells (IsReading c.elements.reading) c.args.text.now (left_of c.elements.elements)
-          (start_of c.elements.elements) a n,
+      along_spells (IsReading c.forms.reading) c.args.text.now (left_in c.forms.maps) (start_in c.forms.maps) a n,
       c.in-Err-finish.ensures a.forms a.holds,
     )
 
 pub returns-in-Err-advance-clause-fault : goal.returns-in-Err-advance-clause-fault
 returns-in-Err-advance-clause-fault c =
-    let a = c.elements.invariant.along in
+    let a = c.forms.invariant.along in
     let e = c.in-Err-advance.ensures in (
-      unreadable_after (IsReading c.elements.reading) c.args.text.now (left_of c.elements.elements) (start_of c.elements.elements) c.in-Err-advance.fault c.elements.invariant.short a e.short e.none,
+      unreadable_behind (IsReading c.forms.reading) c.args.text.now (left_in c.forms.maps)
+          (start_in c.forms.maps) c.in-Err-advance.fault c.forms.invariant.short a e.short e.none,
       λ m. (
-        c.elements.invariant.short,
-        sound_after c.args.text.now (left_of c.elements.elements) a.forms (start_of c.elements.elements)
-            c.in-Err-advance.fault.place c.elements.invariant.utf8 a.front a.place (e.memory m),
+        c.forms.invariant.short,
+        sound_behind c.args.text.now (left_in c.forms.maps) a.forms (start_in c.forms.maps)
+            c.in-Err-advance.fault.place c.forms.invariant.utf8 a.front a.place (e.memory m),
       ),
     )
-
-pub take_said-requires : goal.take_said-requires
-take_said-requires c = no_fault c.elements.reading.fault c.if-is_none.ensures
-
-pub elements-preserved-in-Some : goal.elements-preserved-in-Some
-elements-preserved-in-Some c =
-    let read = c.in-Some.ensures in
-    let at : c.as_bytes.result.now ≡ left_of c.elements.elements = c.as_bytes.ensures.value ∙ c.rest.ensures in
-    let front : SpellsFront (left_of c.elements.elements) (read.form ∷ []) (left_of c.pass.new.self) =
-    subst (λ (r : List ℕ). SpellsFront (left_of c.elements.elements) (read.form ∷ []) r) (sym c.pass.ensures.left)
-    (subst (λ (t : List ℕ). SpellsFront t (read.form ∷ []) c.in-Some.rest.now) at read.front) in
-    record {
-      along = along_passed (IsReading c.elements.reading) (IsReading c.take_said.new.self) c.args.text.now
-          (left_of c.elements.elements) (left_of c.pass.new.self) (start_of c.elements.elements) (start_of c.pass.new.self)
-          read.form front c.pass.ensures.moves (λ ds h. c.take_said.ensures ds read.form read.says h) c.elements.invariant.along;
-      short = c.elements.invariant.short;
-      utf8 = c.elements.invariant.utf8;
-      keeps = c.pass.ensures.keeps ∙ c.elements.invariant.keeps;
-    }

@@ -1,17 +1,13 @@
-use Rattle.std.proofs.Common.{◌≡◌, ◌++◌, List, length}
+use Rattle.std.proofs.Common.{◌++◌, List, length}
 use Rattle.edn_reader.specs.Datum.{Datum}
-use Rattle.edn_reader.specs.Truncation.{truncated_kept}
-use Rattle.edn_reader.specs.Left.{left_of, start_of, keeping_in}
 use Rattle.edn_reader.proofs.Following.{Along}
+use Rattle.history.specs.MapReading.{left_in, start_in}
 use Rattle.history.specs.Parts.{IsPartOf}
 use Rattle.history.proofs.part.Part.read_lines.Given as goal
 
-abbrev pub invariant-elements : goal.invariant-elements
-invariant-elements l = record {
-  along : (ds : List Datum) → IsPartOf l.fn.self ds → Along (λ es. IsPartOf l.self (ds ++ es)) l.lines
-      (left_of l.elements) (start_of l.elements);
-  keeps : keeping_in l.elements ≡ truncated_kept;
-}
+abbrev pub invariant-forms : goal.invariant-forms
+invariant-forms l = (ds : List Datum) → IsPartOf l.fn.self ds
+    → Along (λ es. IsPartOf l.self (ds ++ es)) l.lines (left_in l.maps) (start_in l.maps)
 
-abbrev pub decreases-elements : goal.decreases-elements
-decreases-elements l = length (left_of l.elements)
+abbrev pub decreases-forms : goal.decreases-forms
+decreases-forms l = length (left_in l.maps)

@@ -1,0 +1,41 @@
+use Rattle.std.proofs.Common.{◌≡◌, ℕ, List, ap, sym, subst, ◌∙◌}
+use Rattle.edn_reader.specs.Left.{left_of, keeping_in, tokens_in, integer_vector_in}
+use Rattle.edn_reader.specs.Token.{tokens_of}
+use Rattle.edn_reader.specs.Truncation.{Keeping, kept_of, truncated}
+use Rattle.edn_reader.proofs.Following.{reads_some, reads_none}
+use Rattle.history.specs.declared.client_map.OperationMap.TheVariants.{OfClient}
+use Rattle.history.specs.MapReading.{left_in}
+use Rattle.history.specs.UsualForms.{ReadsForm}
+use Rattle.history.proofs.Truncated.{says_as_much}
+use Rattle.history.proofs.map_reader.MapReader.advance.Goals as goal
+
+pub returns-in-Some-clause-reads : goal.returns-in-Some-clause-reads
+returns-in-Some-clause-reads c =
+    let text = left_in c.args.self.now in
+    let said = OfClient c.in-Some.map in
+    let at : c.as_bytes.result.now ≡ text = c.as_bytes.ensures.value ∙ c.rest.ensures in
+    subst (ReadsForm text said) (sym c.pass.ensures.left)
+    (subst (λ (t : List ℕ). ReadsForm t said c.in-Some.rest.now) at c.in-Some.ensures)
+
+pub returns-in-Ok-true-clause-reads : goal.returns-in-Ok-true-clause-reads
+returns-in-Ok-true-clause-reads c =
+    let old = c.args.self.now.elements in
+    let new = c.advance.new.self in
+    let e = reads_some (keeping_in old) c.in-Ok-true.field-0 (left_in c.args.self.now) (tokens_in new)
+    (integer_vector_in new)
+    (left_of new) c.in-Ok-true.field-0-test c.in-Ok-true.ensures.reads in
+    record {
+      form = e.element;
+      front = e.front;
+      utf8 = e.utf8;
+      says = says_as_much c.said_on.result e.element (c.said_on.ensures (truncated e.element)
+          (c.pieces.ensures ∙ e.own ∙ ap (λ (k : Keeping). tokens_of
+          (kept_of k.cuts e.element)) c.args.self.now.truncates));
+    }
+
+pub returns-in-Ok-false-clause-reads : goal.returns-in-Ok-false-clause-reads
+returns-in-Ok-false-clause-reads c =
+    let old = c.args.self.now.elements in
+    let new = c.advance.new.self in
+    reads_none (keeping_in old) c.in-Ok-false.field-0 (left_in c.args.self.now) (tokens_in new) (integer_vector_in new)
+    (left_of new) c.in-Ok-false.field-0-test c.in-Ok-false.ensures.reads

@@ -1,0 +1,20 @@
+-- What a reader of maps has left of its text, and what it finds at the front of that.
+use Rattle.std.specs.Prelude.{ℕ, List, Option, Some, None}
+use Rattle.edn_reader.specs.Elements.{SpellsNothing}
+use Rattle.edn_reader.specs.Left.{left_of, start_of}
+use Rattle.history.specs.declared.client_map.OperationMap.{OperationMap}
+use Rattle.history.specs.declared.map_reader.MapReader.{MapReader}
+use Rattle.history.specs.UsualForms.{ReadsForm}
+
+-- what is left of the text
+abbrev pub left_in : MapReader → List ℕ
+left_in r = left_of r.elements
+
+-- the byte of the text at which that begins
+abbrev pub start_in : MapReader → ℕ
+start_in r = start_of r.elements
+
+-- The text begins with a form that says this, and this rest follows it; or it has no form more.
+abbrev pub ReadsNext : List ℕ → Option OperationMap → List ℕ → Type 0
+ReadsNext text None rest = SpellsNothing text
+ReadsNext text (Some said) rest = ReadsForm text said rest

@@ -1,0 +1,86 @@
+//! The maps of a text, one by one.
+
+ghost use Rattle.std.specs.Prelude.{◌≡◌, ◌≢◌, ◌+◌, ◌<◌, List, length, IfOk, IfErr, IsSome};
+ghost use Rattle.std.specs.Str.{IsUtf8};
+ghost use Rattle.edn_reader.specs.Datum.{Datum};
+ghost use Rattle.edn_reader.specs.Left.{keeping_in};
+ghost use Rattle.edn_reader.specs.Sound.{IsShort, IsUnreadable, IsSoundFrom};
+ghost use Rattle.edn_reader.specs.Spells.{Spells};
+ghost use Rattle.edn_reader.specs.Truncation.{truncated_kept};
+
+use crate::attempts::Attempts;
+use crate::client_map::{OperationMap, said_on};
+use crate::usual_map::usual_map;
+use edn::{EdnFault, Elements, FaultKind};
+use std::alloc::Global;
+
+/// What is left of a text in which each form is to be one operation map. The usual reader is tried
+/// first, and where it finds no map, the form is read token by token. Of each value only what can
+/// be an argument or a reply is kept.
+#[derive(Drop)]
+pub(crate) struct MapReader<'a> {
+    elements: Elements<'a>,
+    attempts: Attempts,
+    ghost truncates: { keeping_in elements ≡ truncated_kept },
+}
+
+impl<'a> MapReader<'a> {
+    ghost use Rattle.history.specs.MapReading.{left_in, start_in, ReadsNext};
+
+    /// A text that is too long is not looked at; then comes whether it is UTF-8 as a whole. No
+    /// memory is taken.
+    pub fn new(alloc: Global, text: &'a [u8]) -> Result<MapReader<'a>, EdnFault>
+        ensures text { IfOk result (λ r. (left_in r ≡ text.entry.now) × (start_in r ≡ 0)) }
+        ensures short { IfOk result (λ r. IsShort text.entry.now × IsUtf8 text.entry.now) }
+        ensures unreadable { IfErr result (IsUnreadable text.entry.now) }
+    {
+        match Elements::truncated(alloc, text) {
+            Ok(elements) => Ok(MapReader {
+                elements,
+                attempts: Attempts::new(),
+            }),
+            Err(fault) => Err(fault),
+        }
+    }
+
+    /// What is left of the text.
+    #[inline(always)]
+    pub fn rest(&self) -> &'a str
+        ensures { result.now ≡ left_in self.now }
+    {
+        self.elements.rest()
+    }
+
+    /// What the next form says, or that there is none. After an error what is left stays as it was,
+    /// and the next call answers the same, except for an allocation failure.
+    #[inline(always)]
+    pub fn advance(&mut self) -> Result<Option<OperationMap>, EdnFault>
+        ensures reads { IfOk result (λ r. ReadsNext (left_in self.old) r (left_in self.new)) }
+        ensures moves { start_in self.new + length (left_in self.new)
+            ≡ start_in self.old + length (left_in self.old) }
+        ensures shorter { IfOk result (λ r. IsSome r →
+            length (left_in self.new) < length (left_in self.old)) }
+        ensures same { IfErr result (λ _. left_in self.new ≡ left_in self.old) }
+        ensures none { IfErr result (λ e. e.kind ≢ FaultKind.NoMemory
+            → (ds : List Datum) → Spells ds (left_in self.old) → ⊥) }
+        // Memory ran out where nothing was wrong yet.
+        ensures memory { IfErr result (λ e. e.kind ≡ FaultKind.NoMemory
+            → IsSoundFrom (start_in self.old) e.place (left_in self.old)) }
+        ensures short { IfErr result (λ e. e.kind ≢ FaultKind.TooLong) }
+    {
+        let is_tried = self.attempts.is_due();
+        if is_tried {
+            if let Some((map, rest)) = usual_map(self.elements.rest().as_bytes()) {
+                self.elements.pass(rest);
+                self.attempts.succeed();
+                return Ok(Some(OperationMap::OfClient(map)));
+            }
+        }
+        self.attempts.miss(is_tried);
+        match self.elements.advance() {
+            Ok(true) => Ok(Some(said_on(self.elements.pieces()))),
+            Ok(false) => Ok(None),
+            Err(fault) => Err(fault),
+        }
+    }
+}
