@@ -16,3 +16,5 @@ pub mod PartMore
 pub mod SeamLaws
 pub mod PiecesJoined
 pub mod UsualForms
+pub mod OwnTexts
+pub mod LongReading

@@ -4,6 +4,8 @@ pub mod Views
 pub mod Texts
 pub mod UsualForms
 pub mod MapReading
+pub mod MapTexts
+pub mod LongReading
 pub mod Faults
 pub mod Seen
 pub mod Denotes

@@ -1,0 +1,78 @@
+use Rattle.std.proofs.Common.{Option, List, [], ◌∷◌, ◌++◌, length, sym, ap, subst, ◌∙◌, inr, inl, arith}
+use Rattle.std.specs.Str.{IsUtf8}
+use Rattle.edn_reader.specs.Elements.{SpellsNothing}
+use Rattle.edn_reader.proofs.Following.{along_spells, front_more, sound_behind, unreadable_behind}
+use Rattle.history.specs.declared.client_map.OperationMap.{OperationMap}
+use Rattle.history.specs.declared.map_texts.MapText.{MapText}
+use Rattle.history.specs.MapReading.{left_in, start_in, ReadsNext}
+use Rattle.history.specs.MapTexts.{AreMapTexts}
+use Rattle.history.specs.UsualForms.{ReadsForm}
+use Rattle.history.proofs.OwnTexts.{form_alone, texts_push}
+use Rattle.history.proofs.Pushing.{pushed_unless}
+use Rattle.history.proofs.TextReading.{along_next}
+use Rattle.history.proofs.map_texts.maps_of.Goals as goal
+
+pub forms-preserved : goal.forms-preserved
+forms-preserved c =
+    let text = left_in c.forms.maps in
+    let rest = left_in c.advance.new.self in
+    let read : ReadsForm text c.in-Ok-Some.said rest =
+    subst (λ (o : Option OperationMap). ReadsNext text o rest) c.in-Ok-Some.field-0-is c.in-Ok-Some.ensures.reads in
+    let whole : IsUtf8 text = subst IsUtf8 c.rest.ensures c.rest.utf8 in
+    let spelled = form_alone read.form text rest c.as_bytes-before.result.now c.rest-left.result.now
+    (c.as_bytes-before.ensures.value ∙ c.rest.ensures) c.rest-left.ensures whole read.utf8 read.front in
+    let pushed = pushed_unless c.push.result c.push.new.self.items _ c.forms.texts.items
+    (sym c.is_err.ensures.value ∙ c.if-is_err.false) c.push.ensures.items in
+    record {
+      along = along_next (AreMapTexts c.forms.texts.items)
+          (AreMapTexts c.push.new.self.items) c.args.piece.now text rest
+          (start_in c.forms.maps) (start_in c.advance.new.self) c.in-Ok-Some.said read c.in-Ok-Some.ensures.moves
+          (λ ds h. subst (λ (ms : List MapText). AreMapTexts ms (ds ++ read.form ∷ [])) (sym pushed)
+          (texts_push c.forms.texts.items ds _ read.form h (record { says = read.says; spelled = spelled })))
+          c.forms.invariant.along;
+      short = c.forms.invariant.short;
+      utf8 = c.forms.invariant.utf8;
+    }
+
+pub returns-in-Ok-None-clause-maps : goal.returns-in-Ok-None-clause-maps
+returns-in-Ok-None-clause-maps c =
+    let a = c.forms.invariant.along in
+    let n : SpellsNothing (left_in c.forms.maps) =
+    subst (λ (o : Option OperationMap). ReadsNext (left_in c.forms.maps) o
+    (left_in c.advance.new.self)) c.in-Ok-None.field-0-is c.in-Ok-None.ensures.reads in (
+      a.forms,
+      along_spells (AreMapTexts c.forms.texts.items) c.args.piece.now (left_in c.forms.maps)
+          (start_in c.forms.maps) a n,
+      a.holds,
+    )
+
+pub returns-then-is_err-clause-memory : goal.returns-then-is_err-clause-memory
+returns-then-is_err-clause-memory c = λ _.
+    let a = c.forms.invariant.along in
+    let text = left_in c.forms.maps in
+    let rest = left_in c.advance.new.self in
+    let read : ReadsForm text c.in-Ok-Some.said rest =
+    subst (λ (o : Option OperationMap). ReadsNext text o rest) c.in-Ok-Some.field-0-is c.in-Ok-Some.ensures.reads in (
+      c.forms.invariant.short,
+      inr (record {
+        forms = a.forms ++ read.form ∷ [];
+        rest = rest;
+        front = front_more c.args.piece.now text rest a.forms (read.form ∷ []) a.front read.front;
+        ends_at = omega (arith, a.place, c.in-Ok-Some.ensures.moves, ap length c.rest-left.ensures);
+      }),
+    )
+
+pub returns-in-Err-advance-clause-unreadable : goal.returns-in-Err-advance-clause-unreadable
+returns-in-Err-advance-clause-unreadable c =
+    let a = c.forms.invariant.along in
+    let e = c.in-Err-advance.ensures in
+    unreadable_behind (AreMapTexts c.forms.texts.items) c.args.piece.now (left_in c.forms.maps)
+    (start_in c.forms.maps) c.in-Err-advance.fault c.forms.invariant.short a e.short e.none
+
+pub returns-in-Err-advance-clause-memory : goal.returns-in-Err-advance-clause-memory
+returns-in-Err-advance-clause-memory c = λ m.
+    let a = c.forms.invariant.along in (
+      c.forms.invariant.short,
+      inl (sound_behind c.args.piece.now (left_in c.forms.maps) a.forms (start_in c.forms.maps)
+          c.in-Err-advance.fault.place c.forms.invariant.utf8 a.front a.place (c.in-Err-advance.ensures.memory m)),
+    )
