@@ -1,7 +1,7 @@
 use Rattle.std.proofs.Common.{Option, List, [], ◌∷◌, ◌++◌, length, sym, ap, subst, ◌∙◌, inr, inl, arith}
 use Rattle.std.specs.Str.{IsUtf8}
 use Rattle.edn_reader.specs.Elements.{SpellsNothing}
-use Rattle.edn_reader.proofs.Following.{along_spells, front_more, sound_behind, unreadable_behind}
+use Rattle.edn_reader.proofs.Following.{along_spells, front_more, sound_after, unreadable_after}
 use Rattle.history.specs.declared.client_map.OperationMap.{OperationMap}
 use Rattle.history.specs.declared.map_texts.MapText.{MapText}
 use Rattle.history.specs.MapReading.{left_in, start_in, ReadsNext}
@@ -66,13 +66,13 @@ pub returns-in-Err-advance-clause-unreadable : goal.returns-in-Err-advance-claus
 returns-in-Err-advance-clause-unreadable c =
     let a = c.forms.invariant.along in
     let e = c.in-Err-advance.ensures in
-    unreadable_behind (AreMapTexts c.forms.texts.items) c.args.piece.now (left_in c.forms.maps)
+    unreadable_after (AreMapTexts c.forms.texts.items) c.args.piece.now (left_in c.forms.maps)
     (start_in c.forms.maps) c.in-Err-advance.fault c.forms.invariant.short a e.short e.none
 
 pub returns-in-Err-advance-clause-memory : goal.returns-in-Err-advance-clause-memory
 returns-in-Err-advance-clause-memory c = λ m.
     let a = c.forms.invariant.along in (
       c.forms.invariant.short,
-      inl (sound_behind c.args.piece.now (left_in c.forms.maps) a.forms (start_in c.forms.maps)
+      inl (sound_after c.args.piece.now (left_in c.forms.maps) a.forms (start_in c.forms.maps)
           c.in-Err-advance.fault.place c.forms.invariant.utf8 a.front a.place (c.in-Err-advance.ensures.memory m)),
     )

@@ -1,6 +1,6 @@
 use Rattle.std.proofs.Common.{Option, subst}
 use Rattle.edn_reader.specs.Elements.{SpellsNothing}
-use Rattle.edn_reader.proofs.Following.{along_spells, sound_behind, unreadable_behind}
+use Rattle.edn_reader.proofs.Following.{along_spells, sound_after, unreadable_after}
 use Rattle.history.specs.declared.client_map.OperationMap.{OperationMap}
 use Rattle.history.specs.MapReading.{left_in, start_in, ReadsNext}
 use Rattle.history.specs.Texts.{IsReading}
@@ -50,11 +50,11 @@ pub returns-in-Err-advance-clause-fault : goal.returns-in-Err-advance-clause-fau
 returns-in-Err-advance-clause-fault c =
     let a = c.forms.invariant.along in
     let e = c.in-Err-advance.ensures in (
-      unreadable_behind (IsReading c.forms.reading) c.args.text.now (left_in c.forms.maps)
+      unreadable_after (IsReading c.forms.reading) c.args.text.now (left_in c.forms.maps)
           (start_in c.forms.maps) c.in-Err-advance.fault c.forms.invariant.short a e.short e.none,
       λ m. (
         c.forms.invariant.short,
-        sound_behind c.args.text.now (left_in c.forms.maps) a.forms (start_in c.forms.maps)
+        sound_after c.args.text.now (left_in c.forms.maps) a.forms (start_in c.forms.maps)
             c.in-Err-advance.fault.place c.forms.invariant.utf8 a.front a.place (e.memory m),
       ),
     )
