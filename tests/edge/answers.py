@@ -68,7 +68,7 @@ def through_pipes(program, files, words, size=7, pause=0.0, **how):
     return ran
 
 
-def worked_rows(program, report):
+def answers_of_worked_rows(program, report):
     """Each row on plain files, with reads of one byte, on named pipes, and where it is a check with four workers. The tools read a history
     twice, so theirs is no pipe."""
     for row in worked_rows.ROWS + worked_evidence.ROWS:
@@ -265,5 +265,5 @@ def is_accepted(program, output):
     return (ran.status, ran.out.decode()) == (0, lines(*comments))
 
 
-PARTS = (worked_rows, rows_of_tables, every_number_of_workers, found_orders_are_valid, examples, runs)
+PARTS = (answers_of_worked_rows, rows_of_tables, every_number_of_workers, found_orders_are_valid, examples, runs)
 LONG_PARTS = (long_history, maps_of_no_client, beginnings, long_run)
