@@ -15,6 +15,8 @@ mod judgements;
 #[cfg(test)]
 mod lines_of_verdicts;
 #[cfg(test)]
+mod long_histories;
+#[cfg(test)]
 mod orders;
 #[cfg(test)]
 mod reading;
