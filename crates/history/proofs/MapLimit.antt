@@ -67,7 +67,7 @@ faultless_within ds h few earlier later d k q f = elim (fault_or_limit earlier d
       (omega arith)
 ]
 
--- where no form has so many before it, there are no more
+-- where no form has that many before it, there are no more forms than that
 few : (n : ℕ) (ds : List Datum) → ((earlier later : List Datum) (d : Datum) → ds ≡ earlier ++ d ∷ later
     → n ≤ length earlier → ⊥)
     → length ds ≤ n

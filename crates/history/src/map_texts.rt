@@ -9,7 +9,7 @@ use crate::map_reader::MapReader;
 use edn::{EdnFault, FaultKind};
 use std::alloc::Global;
 
-/// A map of a text: what it says, and its own bytes, from where the map before it ends.
+/// A map of a text: what it says, and bytes that spell it and nothing else.
 #[derive(Clone, Copy)]
 pub struct MapText<'a> {
     pub said: OperationMap,

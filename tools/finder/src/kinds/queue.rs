@@ -3,6 +3,7 @@
 use super::{Container, ContainerOrders, Family, Function, Gives, Room, Words};
 use crate::orders::{queue_order, searched_queue_order};
 use crate::reasons::queue_pairs;
+
 static ENQUEUE: Function = Function::putting("enqueue", &QUEUE);
 static DEQUEUE: Function = Function::taking("dequeue", &QUEUE);
 

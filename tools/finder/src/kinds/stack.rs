@@ -3,6 +3,7 @@
 use super::{Container, ContainerOrders, Family, Function, Gives, Room, Words};
 use crate::orders::{Pairing, searched_stack_order, stack_order};
 use crate::reasons::stack_pairs;
+
 static PUSH: Function = Function::putting("push", &STACK);
 static POP: Function = Function::taking("pop", &STACK);
 
