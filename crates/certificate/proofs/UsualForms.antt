@@ -1,5 +1,5 @@
 -- A certificate in the usual form: its tokens at the front of a text, and the form that they make.
-use Rattle.std.proofs.Common.{◌≡◌, ℕ, ◌<◌, ◌≤◌, ◌⊎◌, Bool, true, false, cond, Some, None, List, [], ◌∷◌, ◌++◌, length, codes, refl, sym, ap, subst, arith}
+use Rattle.std.proofs.Common.{◌≡◌, ℕ, ◌≤◌, ◌⊎◌, Bool, true, false, cond, Some, None, List, [], ◌∷◌, ◌++◌, codes, refl, sym, ap, subst, arith}
 use Rattle.std.specs.Prelude.{ℤ, pos}
 use Rattle.std.specs.Str.{IsUtf8}
 use Rattle.std.proofs.lemmas.List.{append-nil}
@@ -7,7 +7,7 @@ use Rattle.edn_reader.specs.Bytes.{is_name}
 use Rattle.edn_reader.specs.Datum.{integer, keyword, atom}
 use Rattle.edn_reader.specs.Token.{Token, open_vector, close_vector, open_map, close_map, leaf, tokens_of}
 use Rattle.edn_reader.specs.Sound.{BeginWith}
-use Rattle.edn_reader.proofs.Fronts.{begin_shorter, both_begin, front_of}
+use Rattle.edn_reader.proofs.Fronts.{both_begin, front_of}
 use Rattle.edn_reader.proofs.UsualFronts.{here, after_one, field, first_field}
 use Rattle.edn_fields.specs.Fields.{object_in}
 use Rattle.certificate.specs.declared.Certificate.{Certificate}

@@ -1,5 +1,5 @@
 -- An order has one first fault at most, and a list of certificates one first refusal.
-use Rattle.std.proofs.Common.{◌≡◌, ◌≢◌, ℕ, ℤ, pos, ◌≤ℤ◌, ◌<◌, ◌≤◌, inl, inr, List, take, Option, Some, None, IsSome, IfErr, Contains, AllPairs, slice_get, refl, ap, sym, ◌∙◌, subst, arith}
+use Rattle.std.proofs.Common.{◌≡◌, ◌≢◌, ℕ, ℤ, pos, ◌≤ℤ◌, ◌<◌, ◌≤◌, inl, inr, List, take, Some, IsSome, IfErr, Contains, AllPairs, slice_get, refl, ap, sym, ◌∙◌, subst, arith}
 use Rattle.std.specs.declared.result.Result.{Result}
 use Rattle.std.specs.declared.result.Result.TheVariants.{Ok, Err}
 use Rattle.std.proofs.lemmas.Bool.{cases_lt}
@@ -8,7 +8,7 @@ use Rattle.std.proofs.lemmas.Option.{same_Some}
 use Rattle.model.specs.declared.Kind.{Kind}
 use Rattle.model.specs.declared.AnyReply.{AnyReply}
 use Rattle.model.specs.Objects.{Content, next}
-use Rattle.model.specs.Orders.{Call, Return, calls_on}
+use Rattle.model.specs.Orders.{Call, calls_on}
 use Rattle.model.proofs.Lists.{all_at, in_from_contains}
 use Rattle.events.specs.declared.event.Event.{Event}
 use Rattle.events.specs.Events.{IsNamed, kind_at, denoted}
@@ -18,7 +18,7 @@ use Rattle.checker.specs.declared.refusal.OrderFault.TheVariants.{UnknownOperati
 use Rattle.checker.specs.declared.refusal.Refusal.{Refusal}
 use Rattle.checker.specs.declared.refusal.Refusal.TheVariants.{NoCertificate, StrangeObject, BadOrder, NoMemory}
 use Rattle.checker.specs.Faults.{call_with_number, content_at, IsGreatest, HasNumberAt, IsFaultAt, rank, IsFirstAtPlace, IsLeastOmitted, IsFirstFault}
-use Rattle.checker.specs.Refusals.{HasCertificate, IsRefusalAt, IsLeastRefusal, IsLeastStrange, IsFirstRefusal, IsCheckAnswer}
+use Rattle.checker.specs.Refusals.{IsRefusalAt, IsLeastRefusal, IsLeastStrange, IsFirstRefusal, IsCheckAnswer}
 use Rattle.checker.proofs.Certificates.{same_orders}
 
 -- ---- at one place

@@ -17,7 +17,7 @@ use Rattle.publication.specs.Handles.{Holding, Handling}
 use Rattle.publication.specs.Calls.{NotPolled, Got, NotGot, CanDo, kind_held, Answered, IsPutBack}
 use Rattle.combiner.specs.declared.passes.Tried.{Tried}
 use Rattle.combiner.specs.declared.passes.Tried.TheVariants as tried
-use Rattle.combiner.specs.Passes.{KeepsCalls, Goes, IsTried, IsSettled, IsSettledBy, IsSettledNow, IsSameBut, HasLearnt}
+use Rattle.combiner.specs.Passes.{KeepsCalls, Goes, IsTried, IsSettled, IsSettledBy, IsSettledNow, IsSameBut}
 
 -- what stays where the own calls of w are written from those of v
 pub keeps_same : (v w u : DeskView) → w ≡ u → KeepsCalls v u → KeepsCalls v w

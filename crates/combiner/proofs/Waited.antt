@@ -1,23 +1,16 @@
 -- What a call that waited did.
-use Rattle.std.proofs.Common.{◌≡◌, ℕ, ◌+◌, ◌<◌, true, false, List, [], ◌∷◌, ◌++◌, Some, All, length, Result, Ok, Err, IfErr, refl, sym, ap, subst, ◌∙◌, arith, length-append, append_assoc}
-use Rattle.model.specs.declared.Kind.{Kind}
+use Rattle.std.proofs.Common.{◌≡◌, ℕ, ◌+◌, ◌<◌, [], ◌∷◌, ◌++◌, All, length, sym, ap, subst, ◌∙◌, length-append, append_assoc}
 use Rattle.model.specs.declared.AnyOp.{AnyOp}
-use Rattle.model.specs.Objects.{kind_of}
-use Rattle.desk_model.specs.World.{AnyEntry, AnyRequest, AnyAnswer, kind_at, logged, entries_of, served, calls_made, journal_of, IsLegal, StartsWith}
-use Rattle.desk_model.proofs.Entries.{starts_longer, starts_same}
+use Rattle.desk_model.specs.World.{AnyEntry, AnyRequest, AnyAnswer, kind_at, logged, entries_of, served, journal_of, IsLegal, StartsWith}
+use Rattle.desk_model.proofs.Entries.{starts_longer}
 use Rattle.desk_model.specs.declared.JournalEvent.TheVariants.{Invoked, Returned}
 use Rattle.desk_invariant.specs.declared.board.DeskView.{DeskView}
 use Rattle.desk_invariant.specs.declared.board.Own.TheVariants as own
-use Rattle.desk_invariant.specs.Views.{journal, own_request, seen_of, is_waiting, with_own, after_win, after_release}
-use Rattle.publication.specs.declared.desk.Post.{Post}
-use Rattle.publication.specs.declared.desk.Post.TheVariants as post
-use Rattle.publication.specs.Handles.{DeskSeen, Known, Holding}
-use Rattle.publication.specs.Calls.{Posted, Polled, NotPolled, MayPost, PostRefused}
-use Rattle.combiner.specs.declared.waiting.CallFault.{CallFault}
-use Rattle.combiner.specs.declared.waiting.CallFault.TheVariants as fault
-use Rattle.combiner.specs.Passes.{KeepsCalls, Goes}
-use Rattle.combiner.specs.Waits.{Called, Returns, IsLogged, IsOutstanding, Faulted}
-use Rattle.combiner.proofs.Served.{seen_on, keeps_on, keeps_same, keeps_held, keeps_unpolled}
+use Rattle.desk_invariant.specs.Views.{journal, own_request, seen_of}
+use Rattle.publication.specs.Calls.{Posted, Polled, NotPolled}
+use Rattle.combiner.specs.Passes.{KeepsCalls}
+use Rattle.combiner.specs.Waits.{Called, Returns, IsLogged}
+use Rattle.combiner.proofs.Served.{seen_on, keeps_on, keeps_unpolled}
 
 pub returned : (v u w : DeskView) (a : AnyAnswer) → KeepsCalls v u → Polled u a w → Returns v a w
 returned v u w a k p =

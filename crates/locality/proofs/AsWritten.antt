@@ -1,6 +1,6 @@
 -- What is linearizable is so as the text of Herlihy and Wing reads: an operation with both events in a history is one of
 -- its completion, since a completion drops no invocation that a response answers. By counting the events of a process.
-use Rattle.std.proofs.Common.{◌≡◌, ℕ, ◌<◌, ◌≤◌, ◌==◌, ◌&&◌, Bool, true, false, cond, not, List, [], ◌∷◌, ◌++◌, length}
+use Rattle.std.proofs.Common.{◌≡◌, ℕ, ◌<◌, ◌≤◌, ◌==◌, Bool, true, false, cond, List, [], ◌∷◌, ◌++◌, length}
 use Rattle.std.proofs.Common.{filter, refl, ap, sym, ◌∙◌, subst, arith}
 use Rattle.std.proofs.Common.{pos, zero, suc, ◌⊎◌, inl, inr, Some}
 use Rattle.std.proofs.lemmas.Bool.{eqb-true, and_parts}
@@ -14,7 +14,7 @@ use Rattle.model.specs.Specification.{Specification}
 use Rattle.model.specs.declared.AnyOp.{AnyOp}
 use Rattle.model.specs.declared.AnyReply.{AnyReply}
 use Rattle.model.specs.Histories.{Event, Inv, Res, process_of, object_of, is_invocation, by_process, complete, invokes}
-use Rattle.model.specs.Histories.{responds, IsSequential, IsCompletion, IsEquivalent, Operation, IsOperation, Precedes}
+use Rattle.model.specs.Histories.{responds, IsSequential, IsCompletion, IsEquivalent, Operation, IsOperation}
 use Rattle.model.specs.Linearizable.{RepliesFrom, IsLegal, IsLinearizableFor}
 use Rattle.locality.specs.WorkedHistories.{pending_overtakes_returned}
 use Rattle.locality.specs.AsWritten.{IsCompleteIn, IsLinearizableAsWritten}

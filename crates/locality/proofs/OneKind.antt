@@ -14,7 +14,7 @@ use Rattle.model.specs.Objects.{next, empty, specification, any, stepped}
 use Rattle.model.specs.Linearizable.{IsLinearizable}
 use Rattle.model.specs.Orders.{Numbered, events, Call, ProcessCall, calls_in, calls_on, IsHistory, RepliesBy}
 use Rattle.model.specs.Orders.{IsValidOrderOf}
-use Rattle.model.proofs.Lists.{In, all_at, all_from_in}
+use Rattle.model.proofs.Lists.{all_at, all_from_in}
 use Rattle.locality.specs.Locality.{HasValidOrder, HasValidOrderOf}
 use Rattle.locality.proofs.Linearization.{locality_lem}
 use Rattle.locality.proofs.NamedObjects.{named_objects_lem}

@@ -4,7 +4,7 @@ use Rattle.std.proofs.lemmas.Option.{same_Some}
 use Rattle.model.specs.declared.AnyReply.{AnyReply}
 use Rattle.model.specs.Objects.{Content, empty, next}
 use Rattle.desk_model.specs.World.{AnyRequest, picked, kind_at, Replays}
-use Rattle.desk_model.specs.Transitions.{answer, put_back}
+use Rattle.desk_model.specs.Transitions.{put_back}
 use Rattle.desk_model.proofs.SameKind.{replays_once}
 use Rattle.machine.specs.Machines.{State, world_of}
 use Rattle.machine.specs.Runs.{IsImpossible}

@@ -9,7 +9,7 @@ use Rattle.model.specs.declared.AnyOp.{AnyOp}
 use Rattle.model.specs.Objects.{Content, empty, next, kind_with}
 use Rattle.recorder.specs.Records.{items_of}
 use Rattle.desk_model.specs.World as world
-use Rattle.desk_model.specs.World.{AnyRequest, AnyDone, World, picked, journal_of, kind_at, calls_made, request_of, Replays}
+use Rattle.desk_model.specs.World.{AnyDone, journal_of, kind_at, calls_made, request_of, Replays}
 use Rattle.desk_model.proofs.SameKind.{replays_once}
 use Rattle.machine.specs.Machines.{State, IsMachine, clients_of, world_of, stage_of}
 use Rattle.machine.specs.Steps.{CanDo, HasContent, HasPicked}

@@ -10,7 +10,7 @@ use Rattle.model.specs.declared.Kind.TheVariants.{Queue}
 use Rattle.model.specs.Objects.{Content, kind_of, kind_with, next}
 use Rattle.recorder.specs.Records.{items_of}
 use Rattle.desk_model.specs.World as world
-use Rattle.desk_model.specs.World.{AnyRequest, AnyAnswer, World, kind_at, calls_made, logged, Serves, request_of}
+use Rattle.desk_model.specs.World.{AnyRequest, AnyAnswer, kind_at, calls_made, logged, Serves, request_of}
 use Rattle.desk_model.specs.Transitions.{Step, Takes, MayEnd, HoldsNothing, staged, draw_call, draw_return, post, take, win, release, end, pick, put_back, answer}
 use Rattle.desk_model.specs.Images.{request_in, answer_in, entry_in, event_in}
 use Rattle.desk_model.specs.declared.LogEntry.{LogEntry}

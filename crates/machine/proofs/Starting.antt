@@ -16,7 +16,7 @@ use Rattle.model.specs.declared.AnyOp.{AnyOp}
 use Rattle.model.specs.declared.AnyReply.{AnyReply}
 use Rattle.model.specs.Objects.{Content, empty, kind_with}
 use Rattle.desk_model.specs.World as world
-use Rattle.desk_model.specs.World.{AnyEntry, AnyEvent, World, request_of, journal_of, journal_in, Replays}
+use Rattle.desk_model.specs.World.{AnyEntry, World, request_of, journal_of, journal_in, Replays}
 use Rattle.machine.specs.declared.step.Stage.TheVariants.{Idle}
 use Rattle.machine.specs.Machines.{State, IsMachine, world_of, state_of, stage_in, stage_of, done_in}
 use Rattle.machine.specs.Runs.{start_of, IsWorldOfRun}

@@ -2,7 +2,7 @@
 use Rattle.std.proofs.Common.{◌≡◌, ℕ, ◌+◌, ◌<◌, List, [], ◌++◌, length, Option, None, true, false, set, get_or, map, ap, ◌∙◌}
 use Rattle.std.proofs.lemmas.List.{map-set, length-map}
 use Rattle.desk_model.specs.World as world
-use Rattle.desk_model.specs.World.{AnyEntry, AnyRequest, AnyAnswer, AnyEvent, World, logged}
+use Rattle.desk_model.specs.World.{AnyRequest, AnyAnswer, AnyEvent, logged}
 use Rattle.desk_model.specs.Transitions.{changed, staged, ticked, held_by, handed, served_by, ended_by}
 use Rattle.machine.specs.declared.step.Stage.TheVariants.{Answered}
 use Rattle.machine.specs.Machines.{State, AnyStage, world_of, stage_of, done_in}

@@ -1,5 +1,5 @@
 -- A content is taken away no more often than it was there before and was set.
-use Rattle.std.proofs.Common.{MatchBool, ◌≡◌, ◌≢◌, ◌⊎◌, inl, inr, ℕ, ℤ, pos, ◌<◌, ◌≤◌, ◌+◌, ◌-◌, ◌==◌, nat_lt, Bool, true, false, not, ◌&&◌, cond}
+use Rattle.std.proofs.Common.{MatchBool, ◌≡◌, ◌≢◌, inl, inr, ℕ, ℤ, pos, ◌<◌, ◌≤◌, ◌+◌, ◌-◌, ◌==◌, nat_lt, Bool, true, false, not, ◌&&◌, cond}
 use Rattle.std.proofs.Common.{List, [], ◌∷◌, length, Option, Some, None, All, AllPairs, Contains, IfSome, IsSome, is_some, filter, count_by, refl, ap}
 use Rattle.std.proofs.Common.{sym, ◌∙◌, subst, arith}
 use Rattle.std.specs.Prelude.{is_none}

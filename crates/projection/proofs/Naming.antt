@@ -1,6 +1,6 @@
 -- The part that cuts name, one after another.
-use Rattle.std.proofs.Common.{◌≡◌, suc, ℕ, ℤ, ◌<◌, ◌+◌, List, ◌∷◌, length, get_or, drop, refl, ap, sym, ◌∙◌, subst, arith}
-use Rattle.std.proofs.Math.Seq.{drop-cons, drop-length}
+use Rattle.std.proofs.Common.{◌≡◌, suc, ℕ, ℤ, ◌<◌, ◌+◌, List, ◌∷◌, length, get_or, drop, ap, sym, ◌∙◌, subst, arith}
+use Rattle.std.proofs.Math.Seq.{drop-cons}
 use Rattle.std.specs.declared.alloc.AllocError.{AllocError}
 use Rattle.std.specs.Prelude.{Result, Ok, Err, Option, Some, None, IfOk, IfSome}
 use Rattle.model.specs.declared.Kind.{Kind}

@@ -1,8 +1,6 @@
 -- Places in publication lists, dealt out to the clients.
 use Rattle.std.proofs.Common.{◌≡◌, ℕ, zero, suc, ◌+◌, ◌<◌, List, [], ◌∷◌, ◌++◌, length, length-append, map, replicate, get_or, set, remove, refl, sym, ap, subst, ◌∙◌, arith}
-use mathlib.Core.Logic.{dite}
 use mathlib.Core.Option.{some, some-injective, some-ne-none}
-use native.Mathlib.Decide.{ℕ_discrete}
 use lib.ListN.{get_elem?, length-map}
 use Rattle.std.specs.declared.vec.Vec.{Vec}
 use Rattle.std.proofs.lemmas.List.{map-append}

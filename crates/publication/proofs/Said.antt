@@ -19,7 +19,7 @@ use Rattle.desk_invariant.specs.declared.board.DeskView.{DeskView}
 use Rattle.desk_invariant.specs.Views.{row_place, seen_of, after_win, after_row_miss, after_pick, after_put_back, after_answer, after_release}
 use Rattle.desk_invariant.specs.Rule.{Fits}
 use Rattle.publication.specs.Handles.{DeskId, Known, PassState, Holding, Handling, log_of}
-use Rattle.publication.specs.Calls.{Opened, Got, NotGot, CanDo, kind_held, kind_in, Answered, IsPutBack}
+use Rattle.publication.specs.Calls.{Opened, Got, NotGot, CanDo, kind_held, Answered, IsPutBack}
 
 -- w after a miss at the row r
 pub not_got : (p : Holding) (d : DeskId) (n : PassState) (r : ℕ) (w : DeskView) (v : Holding) → p ≡ v

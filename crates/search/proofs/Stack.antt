@@ -8,7 +8,7 @@ use Rattle.search.specs.declared.level.Level.{Level}
 use Rattle.search.specs.declared.level.Window.{Window}
 use Rattle.search.specs.Arranged.{owes, count_below}
 use Rattle.search.specs.Continuations.{IsLeft, IsCandidate, Places, Continues, IsDead, IsDeadAt, IsTried}
-use Rattle.search.specs.Links.{Linked, IsStop, AreWithin, next_without, before_without, next_with, before_with}
+use Rattle.search.specs.Links.{Linked, AreWithin, next_without, before_without, next_with, before_with}
 use Rattle.search.specs.Searching.{places, IsLeast, IsWindow, Frame, IsBound, Stack, IsWalk}
 use Rattle.search.proofs.Positions.{position, turn}
 use Rattle.search.proofs.Deadness.{dead_placed, dead_late, dead_child, dead_all, tried_more}

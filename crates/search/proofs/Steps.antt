@@ -1,6 +1,6 @@
 -- Steps of a search, as its lists are written.
 use Rattle.std.proofs.Common.{◌≡◌, ℕ, zero, suc, add-one, ◌<◌, ◌≤◌, ◌+◌, Bool, true, false, cond, ◌⊎◌, inl, inr, List, [], ◌∷◌, ◌++◌, append_assoc}
-use Rattle.std.proofs.Common.{Option, Some, IsSome, is_some, length, reverse, get_or, slice_get, take, refl, ap, sym, ◌∙◌, subst, arith}
+use Rattle.std.proofs.Common.{Option, Some, IsSome, is_some, length, reverse, get_or, take, refl, ap, sym, ◌∙◌, subst, arith}
 use Rattle.std.proofs.lemmas.Bool.{cases_order}
 use Rattle.std.proofs.lemmas.List.{reverse-append, get_or_default, append-nil, take_all}
 use Rattle.model.specs.declared.Kind.{Kind}
@@ -19,7 +19,6 @@ use Rattle.search.specs.Searching.{places, IsBound, IsLeast, Stack, IsWalk}
 use Rattle.search.specs.Arranged.{as_call, call_at, owes, count_below, IsArranged}
 use Rattle.search.proofs.Positions.{position, turn}
 use Rattle.search.proofs.Links.{around, listed, linked_without, within_before, within_after, next_again, before_again}
-use Rattle.std.proofs.lemmas.Option.{same_Some}
 use Rattle.search.proofs.Stack.{IsLeastBelow, least_more, least_of_all, dead_now, dead_after, dead_at_end, dead_behind, passed, came_back, walk_linked, walk_bound, walk_left}
 use Rattle.search.proofs.Owed.{owes_placed, owes_pending}
 

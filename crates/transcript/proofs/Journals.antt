@@ -1,10 +1,9 @@
 -- The lines of a journal, one event after the other.
-use Rattle.std.proofs.Common.{◌≡◌, ℕ, ◌+◌, ◌<◌, List, ◌∷◌, ◌++◌, length, drop, map, get_or, Option, ap, sym, ◌∙◌, append_assoc}
+use Rattle.std.proofs.Common.{◌≡◌, ℕ, ◌+◌, ◌<◌, List, ◌∷◌, ◌++◌, length, drop, map, get_or, ap, sym, ◌∙◌, append_assoc}
 use Rattle.std.proofs.lemmas.List.{drop_more}
 use Rattle.desk_model.specs.World.{AnyEvent}
-use Rattle.transcript.specs.declared.line.Call.{Call}
 use Rattle.transcript.specs.declared.line.Line.{Line}
-use Rattle.transcript.specs.Lines.{call_after, line_with, lines_from, lines_of, lines_in}
+use Rattle.transcript.specs.Lines.{lines_of, lines_in}
 
 -- the next journal
 pub journal_more : {J : Type 0} (f : J → List AnyEvent) (js : List J) (i : ℕ) (j : J) (old new all : List Line) → i < length js → j ≡ get_or js i j

@@ -1,4 +1,4 @@
-use Rattle.std.proofs.Common.{ℕ, length}
+use Rattle.std.proofs.Common.{length}
 use Rattle.publication.specs.Handles.{AllBegun}
 use Rattle.combiner_tests.specs.Seats.{AreSeated}
 use Rattle.combiner_tests.proofs.bench.seated.Given as goal

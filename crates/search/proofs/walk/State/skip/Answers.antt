@@ -1,4 +1,4 @@
-use Rattle.std.proofs.Common.{length, reverse}
+use Rattle.std.proofs.Common.{reverse}
 use Rattle.model.specs.Objects.{empty}
 use Rattle.search.specs.Undoing.{content_of}
 use Rattle.search.specs.Searching.{befores}
