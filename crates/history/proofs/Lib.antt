@@ -12,7 +12,7 @@ pub mod Saying
 pub mod Truncated
 pub mod TextReading
 pub mod PartEvents
-pub mod PartMore
+pub mod PieceMore
 pub mod SeamLaws
 pub mod PiecesJoined
 pub mod UsualForms

@@ -1,4 +1,4 @@
--- A text in pieces, and the parts that are read from them.
+-- A text in pieces, and the pieces that are read from them.
 use Rattle.std.proofs.Common.{◌≡◌, ℕ, zero, suc, ◌<◌, List, [], ◌∷◌, ◌++◌, length, get_or, Option}
 use Rattle.std.proofs.Common.{Some, IfSome, refl, ap, sym, ◌∙◌, subst, append_assoc, arith}
 use Rattle.std.proofs.lemmas.List.{append-nil}
@@ -6,9 +6,9 @@ use Rattle.edn_reader.specs.Datum.{Datum}
 use Rattle.edn_reader.specs.Spells.{Spells}
 use Rattle.edn_reader.proofs.Joined.{joined_spell, nothing_spelled}
 use Rattle.edn_reader.proofs.Progress.{one_reading_of}
-use Rattle.history.specs.declared.part.Part.{Part}
+use Rattle.history.specs.declared.piece.ReadPiece.{ReadPiece}
 use Rattle.history.specs.declared.seams.Seams.{Seams}
-use Rattle.history.specs.Parts.{IsPartOf, AreJoined}
+use Rattle.history.specs.ReadPieces.{IsOfForms, AreJoined}
 use Rattle.history.specs.Pieces.{joined_by_feeds, IsReadFrom, AreReadFrom}
 
 -- ---- pieces
@@ -32,11 +32,11 @@ pub piece_more : (ps : List (List ℕ)) (rest a b : List ℕ) (text : List ℕ) 
 piece_more ps rest a b text q h = ap joined_by_feeds (append_assoc ps (a ∷ []) (b ∷ []))
     ∙ (joined_cut ps a b ∙ (ap (λ r. joined_by_feeds (ps ++ r ∷ [])) (sym q) ∙ h))
 
--- ---- parts
+-- ---- pieces
 
 -- each piece was read, by its place
-pub read_each : (ps : List (List ℕ)) (rs : List (Option Part)) → length rs ≡ length ps
-    → ((i : ℕ) (d : Option Part) → i < length rs → IfSome (get_or rs i d) (IsReadFrom (get_or ps i [])))
+pub read_each : (ps : List (List ℕ)) (rs : List (Option ReadPiece)) → length rs ≡ length ps
+    → ((i : ℕ) (d : Option ReadPiece) → i < length rs → IfSome (get_or rs i d) (IsReadFrom (get_or ps i [])))
     → AreReadFrom ps rs
 read_each [] [] l h = tt
 read_each [] (r ∷ rs) l h = absurd (omega (arith, l))
@@ -47,16 +47,16 @@ read_each (p ∷ ps) (r ∷ rs) l h = (
 )
 
 -- The forms so far, which are joined; and what the pieces left spell, the text spells after them.
-pub record IsJoinedTo (text : List ℕ) (seams : Seams) (rest : List (Option Part)) : Type 0 where
+pub record IsJoinedTo (text : List ℕ) (seams : Seams) (rest : List (Option ReadPiece)) : Type 0 where
   pub pieces : List (List ℕ)
   pub forms : List Datum
   pub are : AreReadFrom pieces rest
   pub joined : AreJoined seams forms
   pub spelled : (es : List Datum) → Spells es (joined_by_feeds pieces) → Spells (forms ++ es) text
 
-pub nothing_joined : (pieces : List (List ℕ)) (seams : Seams) (parts : List (Option Part))
-    → AreReadFrom pieces parts → AreJoined seams [] → IsJoinedTo (joined_by_feeds pieces) seams parts
-nothing_joined pieces seams parts are joined = record
+pub nothing_joined : (pieces : List (List ℕ)) (seams : Seams) (reads : List (Option ReadPiece))
+    → AreReadFrom pieces reads → AreJoined seams [] → IsJoinedTo (joined_by_feeds pieces) seams reads
+nothing_joined pieces seams reads are joined = record
     { pieces = pieces; forms = []; are = are; joined = joined; spelled = λ es k. k }
 
 piece_first : (ds es : List Datum) (p : List ℕ) (ps : List (List ℕ)) → Spells ds p → Spells es (joined_by_feeds ps)
@@ -65,13 +65,13 @@ piece_first ds es p [] h k = subst (λ xs. Spells (ds ++ xs) p) (one_reading_of 
     (subst (λ xs. Spells xs p) (sym (append-nil ds)) h)
 piece_first ds es p (q ∷ qs) h k = joined_spell ds es p (joined_by_feeds (q ∷ qs)) h k
 
-pub join_more : (text : List ℕ) (old new : Seams) (part : Part) (rest later : List (Option Part))
-    → IsJoinedTo text old rest → rest ≡ Some part ∷ later
-    → ((ds es : List Datum) → AreJoined old ds → IsPartOf part es → AreJoined new (ds ++ es))
+pub join_more : (text : List ℕ) (old new : Seams) (read : ReadPiece) (rest later : List (Option ReadPiece))
+    → IsJoinedTo text old rest → rest ≡ Some read ∷ later
+    → ((ds es : List Datum) → AreJoined old ds → IsOfForms read es → AreJoined new (ds ++ es))
     → IsJoinedTo text new later
-join_more text old new part rest later h is add = go h.pieces (subst (AreReadFrom h.pieces) is h.are) h.spelled
+join_more text old new read rest later h is add = go h.pieces (subst (AreReadFrom h.pieces) is h.are) h.spelled
   where
-    go : (ps : List (List ℕ)) → AreReadFrom ps (Some part ∷ later)
+    go : (ps : List (List ℕ)) → AreReadFrom ps (Some read ∷ later)
         → ((es : List Datum) → Spells es (joined_by_feeds ps) → Spells (h.forms ++ es) text)
         → IsJoinedTo text new later
     go [] a k = absurd a
@@ -86,7 +86,7 @@ join_more text old new part rest later h is add = go h.pieces (subst (AreReadFro
               (k (read.0 ++ es) (piece_first read.0 es p ps read.1 l));
         }
 
-pub all_joined : (text : List ℕ) (seams : Seams) (rest : List (Option Part)) → rest ≡ []
+pub all_joined : (text : List ℕ) (seams : Seams) (rest : List (Option ReadPiece)) → rest ≡ []
     → IsJoinedTo text seams rest → (ds : List Datum) × AreJoined seams ds × Spells ds text
 all_joined text seams rest is h = go h.pieces (subst (AreReadFrom h.pieces) is h.are) h.spelled
   where

@@ -109,17 +109,17 @@ first_fault seen fs i f es k l is h first = record {
   earlier = views (take i fs);
   form = view f;
   later = views (drop (suc i) fs);
-  split = parts fs i l ∙ ap (λ x. views (take i fs) ++ view x ∷ views (drop (suc i) fs)) (sym is);
+  split = reads fs i l ∙ ap (λ x. views (take i fs) ++ view x ∷ views (drop (suc i) fs)) (sym is);
   place = h.count;
   stands = first.stands;
   least = h.faultless;
   first = first.first;
 }
   where
-    parts : (gs : List Form) (j : ℕ) → j < length gs → views gs ≡ views (take j gs) ++ view (get_or gs j f) ∷ views (drop (suc j) gs)
-    parts [] j m = absurd (omega arith)
-    parts (g ∷ gs) zero m = refl
-    parts (g ∷ gs) (suc j) m = ap (λ t. view g ∷ t) (parts gs j (omega arith))
+    reads : (gs : List Form) (j : ℕ) → j < length gs → views gs ≡ views (take j gs) ++ view (get_or gs j f) ∷ views (drop (suc j) gs)
+    reads [] j m = absurd (omega arith)
+    reads (g ∷ gs) zero m = refl
+    reads (g ∷ gs) (suc j) m = ap (λ t. view g ∷ t) (reads gs j (omega arith))
 
 -- a fault refutes that the forms denote anything
 pub fault_refutes : (ds : List Datum) (fault : HistoryFault) (es : List Event) → IsFirstFault ds fault → Denotes ds es → ⊥

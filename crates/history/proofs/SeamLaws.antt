@@ -1,4 +1,4 @@
--- One more part after those that are joined.
+-- One more piece after those that are joined.
 use Rattle.std.proofs.Common.{◌≡◌, ℕ, ◌+◌, ◌<◌, ◌≤◌, ◌⊎◌, inl, inr, false}
 use Rattle.std.proofs.Common.{List, [], ◌∷◌, ◌++◌, map, length, take, drop, get_or, suc}
 use Rattle.std.proofs.Common.{drop-cons, Option, Some, None, All, refl, ap, sym, ◌∙◌, subst}
@@ -13,8 +13,8 @@ use Rattle.model.proofs.Lists.{In, in_from_contains, all_at, all_from_in}
 use Rattle.edn_reader.specs.Datum.{Datum}
 use Rattle.events.specs.Operations.{IsListed}
 use Rattle.history.specs.declared.seen.Process.{Process}
-use Rattle.history.specs.declared.part.FirstMap.{FirstMap}
-use Rattle.history.specs.declared.part.Part.{Part}
+use Rattle.history.specs.declared.piece.FirstMap.{FirstMap}
+use Rattle.history.specs.declared.piece.ReadPiece.{ReadPiece}
 use Rattle.history.specs.declared.seams.Seams.{Seams}
 use Rattle.history.specs.declared.fault.HistoryFaultKind.{HistoryFaultKind}
 use Rattle.history.specs.Faults.{max_maps}
@@ -22,12 +22,12 @@ use Rattle.history.specs.Denotes.{events_from}
 use Rattle.history.specs.Seen.{IsProcessFault}
 use Rattle.history.specs.Views.{map_type}
 use Rattle.history.specs.Noting.{TakesOver, IsOneKind, shift_event}
-use Rattle.history.specs.Parts.{kept_after, IsAllowed, FitsAfter, IsPartOf, AreJoined}
+use Rattle.history.specs.ReadPieces.{kept_after, IsAllowed, FitsAfter, IsOfForms, AreJoined}
 use Rattle.history.proofs.MapLimit.{at_any_length, faultless_within}
-use Rattle.history.proofs.PartMore.{seen_same}
+use Rattle.history.proofs.PieceMore.{seen_same}
 use Rattle.history.proofs.PartEvents.{events_after}
 
--- ---- what is taken over from a part
+-- ---- what is taken over from a piece
 
 -- the value of a key is taken over, or the key is still to come
 abbrev pub IsTakenOver : {V : Type 0} → (ℕ → Option V) → (ℕ → Option V) → (ℕ → Option V) → List ℕ → ℕ → Type 0
@@ -65,46 +65,46 @@ taken_more {V} old own now new key later k t h = elim (cases_eq k key) [
     kept : (now k ≡ kept_after old own k) ⊎ (now k ≡ old k)
     kept = elim h [ inl q ↦ inl q | inr s ↦ inr s.0 ]
 
--- ---- a part that fits
+-- ---- a piece that fits
 
-pub fits : (part : Part) (es : List Datum) (processes : ℕ → Option Process) (kinds : ℕ → Option Kind) → IsPartOf part es
-    → All (IsAllowed processes) part.firsts.items → All
-    (λ x. IsOneKind (kinds x) (value_of part.seen.kinds x)) part.objects.items → FitsAfter part processes kinds
-fits part es processes kinds h allowed one = record {
+pub fits : (read : ReadPiece) (es : List Datum) (processes : ℕ → Option Process) (kinds : ℕ → Option Kind) → IsOfForms read es
+    → All (IsAllowed processes) read.firsts.items → All
+    (λ x. IsOneKind (kinds x) (value_of read.seen.kinds x)) read.objects.items → FitsAfter read processes kinds
+fits read es processes kinds h allowed one = record {
   allowed = allowed;
   of_kind = λ x kind q. elim (h.objects x) [
     | inl none ↦ absurd (cc (q, none))
-    | inr c ↦ all_at (λ (y : ℕ). IsOneKind (kinds y) (value_of part.seen.kinds y)) part.objects.items one x
-        (in_from_contains part.objects.items x c) kind q
+    | inr c ↦ all_at (λ (y : ℕ). IsOneKind (kinds y) (value_of read.seen.kinds y)) read.objects.items one x
+        (in_from_contains read.objects.items x c) kind q
   ];
 }
 
 -- ---- joined
 
-pub joined_more : (old new : Seams) (part : Part) (ds es : List Datum) → AreJoined old ds → IsPartOf part es
-    → All (IsAllowed (value_of old.seen.processes)) part.firsts.items
-    → All (λ x. IsOneKind (value_of old.seen.kinds x) (value_of part.seen.kinds x)) part.objects.items
-    → part.maps + old.maps ≤ max_maps
-    → ((p : ℕ) → IsListed (value_of part.seen.processes p) (map (λ m. m.process) part.firsts.items) p
-    → value_of new.seen.processes p ≡ kept_after (value_of old.seen.processes) (value_of part.seen.processes) p)
-    → ((x : ℕ) → IsListed (value_of part.seen.kinds x) part.objects.items x
-    → value_of new.seen.kinds x ≡ kept_after (value_of old.seen.kinds) (value_of part.seen.kinds) x)
-    → new.events.items ≡ old.events.items ++ map (shift_event old.maps) part.events.items → new.maps
-    ≡ old.maps + part.maps
+pub joined_more : (old new : Seams) (read : ReadPiece) (ds es : List Datum) → AreJoined old ds → IsOfForms read es
+    → All (IsAllowed (value_of old.seen.processes)) read.firsts.items
+    → All (λ x. IsOneKind (value_of old.seen.kinds x) (value_of read.seen.kinds x)) read.objects.items
+    → read.maps + old.maps ≤ max_maps
+    → ((p : ℕ) → IsListed (value_of read.seen.processes p) (map (λ m. m.process) read.firsts.items) p
+    → value_of new.seen.processes p ≡ kept_after (value_of old.seen.processes) (value_of read.seen.processes) p)
+    → ((x : ℕ) → IsListed (value_of read.seen.kinds x) read.objects.items x
+    → value_of new.seen.kinds x ≡ kept_after (value_of old.seen.kinds) (value_of read.seen.kinds) x)
+    → new.events.items ≡ old.events.items ++ map (shift_event old.maps) read.events.items → new.maps
+    ≡ old.maps + read.maps
     → AreJoined new (ds ++ es)
-joined_more old new part ds es h p allowed one few processes kinds events maps =
+joined_more old new read ds es h p allowed one few processes kinds events maps =
     let counted : length ds ≡ old.maps = h.count in
-    let own : part.maps ≡ length es = p.count in
+    let own : read.maps ≡ length es = p.count in
     let whole = p.continues ds (value_of old.seen.processes) (value_of old.seen.kinds) h.kept
-    (at_any_length ds h.faultless) (fits part es (value_of old.seen.processes)
+    (at_any_length ds h.faultless) (fits read es (value_of old.seen.processes)
     (value_of old.seen.kinds) p allowed one) in
     record {
-      kept = seen_same (kept_after (value_of old.seen.processes) (value_of part.seen.processes))
+      kept = seen_same (kept_after (value_of old.seen.processes) (value_of read.seen.processes))
           (value_of new.seen.processes)
-          (kept_after (value_of old.seen.kinds) (value_of part.seen.kinds)) (value_of new.seen.kinds) (ds ++ es) whole.1
+          (kept_after (value_of old.seen.kinds) (value_of read.seen.kinds)) (value_of new.seen.kinds) (ds ++ es) whole.1
           (λ k. processes k (p.processes k)) (λ x. kinds x (p.objects x));
       faultless = faultless_within (ds ++ es) whole.0 (omega (arith, length-append ds es, few, counted, own));
-      events = events ∙ (ap (λ xs. xs ++ map (shift_event old.maps) part.events.items) h.events
+      events = events ∙ (ap (λ xs. xs ++ map (shift_event old.maps) read.events.items) h.events
           ∙ (ap (λ xs. events_from 0 ds ++ map (shift_event old.maps) xs) p.events
           ∙ (ap (λ n. events_from 0 ds ++ map (shift_event n) (events_from 0 es)) (sym counted)
           ∙ sym (events_after ds es))));

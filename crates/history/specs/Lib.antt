@@ -10,7 +10,7 @@ pub mod Faults
 pub mod Seen
 pub mod Denotes
 pub mod Noting
-pub mod Parts
+pub mod ReadPieces
 pub mod Pieces
 pub use Rattle.edn_reader.specs.Datum
 pub use Rattle.edn_reader.specs.View

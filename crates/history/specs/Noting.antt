@@ -1,5 +1,5 @@
--- What is noted of one more map of a part, of its process and of its object; and what is taken over
--- from one more part. No public clause names these.
+-- What is noted of one more map of a piece, of its process and of its object; and what is taken
+-- over from one more piece. No public clause names these.
 use Rattle.std.specs.Prelude.{◌≡◌, ◌≢◌, ℕ, ◌+◌, List, [], ◌∷◌, ◌++◌, Option, Some, None}
 use Rattle.std.specs.Option.{option_or}
 use Rattle.model.specs.declared.Kind.{Kind}
@@ -8,7 +8,7 @@ use Rattle.seq_objects.specs.Functions.{kind_of_function}
 use Rattle.events.specs.declared.event.Event.{Event}
 use Rattle.events.specs.Operations.{IsListed}
 use Rattle.history.specs.declared.seen.Process.{Process}
-use Rattle.history.specs.declared.part.FirstMap.{FirstMap}
+use Rattle.history.specs.declared.piece.FirstMap.{FirstMap}
 use Rattle.history.specs.Seen.{IsProcessFault, IsNoOther, doing_after}
 use Rattle.history.specs.Views.{map_type}
 
@@ -34,7 +34,7 @@ pub record NotesObject (old new : ℕ → Option Kind) (old_objects new_objects 
   pub others : (x : ℕ) → x ≢ object → new x ≡ old x
   pub listed : (x : ℕ) → IsListed (old x) old_objects x → IsListed (new x) new_objects x
 
--- ---- one more part
+-- ---- one more piece
 
 -- the event with its number counted from n maps earlier
 abbrev pub shift_event : ℕ → Event → Event

@@ -6,7 +6,7 @@ ghost use Rattle.edn_reader.specs.Spells.{Spells};
 ghost use Rattle.history.specs.Denotes.{Denotes};
 ghost use Rattle.history.specs.Pieces.{joined_by_feeds, IsReadFrom, AreReadFrom};
 
-use crate::part::Part;
+use crate::piece::ReadPiece;
 use crate::seams::Seams;
 use events::History;
 use std::alloc::Global;
@@ -37,19 +37,19 @@ fn cut_at_feed(text: &[u8], from: usize) -> Option<(&[u8], &[u8])>
 }
 
 /// Reads a piece of a history's text by itself.
-pub fn part_of(alloc: Global, piece: &[u8]) -> Option<Part>
+pub fn read_piece(alloc: Global, piece: &[u8]) -> Option<ReadPiece>
     ensures { IfSome result (IsReadFrom piece.now) }
 {
-    let mut part = Part::new(alloc);
-    part.read_lines(alloc, piece)?;
-    Some(part)
+    let mut read = ReadPiece::new(alloc);
+    read.read_lines(alloc, piece)?;
+    Some(read)
 }
 
 /// Whether the text's first lines can be read by themselves. Maps that are printed on several lines
 /// cannot. No answer depends on it, only time does.
 fn begins_in_lines(alloc: Global, text: &[u8]) -> bool {
     match cut_at_feed(text, TRIAL_LENGTH) {
-        Some((lines, _)) => part_of(alloc, lines).is_some(),
+        Some((lines, _)) => read_piece(alloc, lines).is_some(),
         None => false,
     }
 }
@@ -74,17 +74,17 @@ pub fn pieces_of(alloc: Global, text: &[u8], count: usize) -> Option<Vec<&[u8]>>
     Some(pieces)
 }
 
-/// The history that the text denotes whose pieces were read into these parts. None says nothing of
-/// the text: a piece was not read, a map has a fault after those of the pieces before, the maps are
-/// too many, or an allocation failed.
-pub fn join_parts(alloc: Global, parts: Vec<Option<Part>>) -> Option<History>
-    requires { (pieces : List (List ℕ)) × AreReadFrom pieces parts.items }
-    ensures { IfSome result (λ h. (pieces : List (List ℕ)) → AreReadFrom pieces parts.items →
+/// The history of a text of which these pieces were read. None says nothing of the text: a piece
+/// was not read, a map has a fault after those of the pieces before, the maps are too many, or an
+/// allocation failed.
+pub fn join_pieces(alloc: Global, reads: Vec<Option<ReadPiece>>) -> Option<History>
+    requires { (pieces : List (List ℕ)) × AreReadFrom pieces reads.items }
+    ensures { IfSome result (λ h. (pieces : List (List ℕ)) → AreReadFrom pieces reads.items →
         (ds : List Datum) × Spells ds (joined_by_feeds pieces) × Denotes ds h) }
 {
     let mut seams = Seams::new(alloc);
-    for part in parts {
-        seams = seams.add(part?)?;
+    for read in reads {
+        seams = seams.add(read?)?;
     }
     Some(seams.into_history())
 }

@@ -1,4 +1,4 @@
-//! Parts of a history's text that are joined, one after another.
+//! Pieces of a history's text that are joined, one after another.
 
 ghost use Rattle.std.specs.Prelude.{◌≡◌, ◌≢◌, ◌++◌, [], ℕ, IfSome, OnSome, List, All, map, true};
 ghost use Rattle.number_map.specs.Lookup.{value_of};
@@ -7,17 +7,17 @@ ghost use Rattle.model.specs.declared.Kind.{Kind};
 ghost use Rattle.events.specs.Operations.{IsListed};
 ghost use Rattle.history.specs.Denotes.{Denotes};
 ghost use Rattle.history.specs.Noting.{TakesOver, IsOneKind, shift_event};
-ghost use Rattle.history.specs.Parts.{IsAllowed, IsPartOf, AreJoined, kept_after};
+ghost use Rattle.history.specs.ReadPieces.{IsAllowed, IsOfForms, AreJoined, kept_after};
 
 use crate::map_faults::{is_one_kind, process_fault};
-use crate::part::{FirstMap, Part};
+use crate::piece::{FirstMap, ReadPiece};
 use crate::seen::{MAX_MAPS, Process, Seen};
 use events::{Event, History};
 use number_map::NumberMap;
 use seq_objects::Kind;
 use std::alloc::Global;
 
-/// The parts so far: what their maps leave of each process and of each object, their events, and
+/// The pieces so far: what their maps leave of each process and of each object, their events, and
 /// the number of their maps.
 #[derive(Drop)]
 pub(crate) struct Seams {
@@ -66,7 +66,7 @@ fn take_over<V: Copy + Drop>(values: &mut NumberMap<V>, own: &NumberMap<V>, key:
     Some(())
 }
 
-/// Keeps what a part leaves of each of its processes.
+/// Keeps what a piece leaves of each of its processes.
 fn keep_processes(
     processes: &mut NumberMap<Process>,
     own: &NumberMap<Process>,
@@ -82,7 +82,7 @@ fn keep_processes(
     Some(())
 }
 
-/// Keeps the kind of each object of a part.
+/// Keeps the kind of each object of a piece.
 fn keep_kinds(kinds: &mut NumberMap<Kind>, own: &NumberMap<Kind>, objects: &[u32]) -> Option<()>
     ensures { OnSome result ((x : ℕ) → IsListed (value_of own.now x) objects.now x
         → value_of kinds.new x ≡ kept_after (value_of kinds.old) (value_of own.now) x) }
@@ -113,8 +113,8 @@ fn append(events: Vec<Event>, more: &[Event], earlier: u32) -> Option<Vec<Event>
     Some(joined)
 }
 
-/// The events of the parts so far, which have this many maps, and those of one part more. Where
-/// there are none so far, the part's list is taken as it is.
+/// The events of the pieces so far, which have this many maps, and those of one more piece. Where
+/// there are none so far, the piece's list is taken as it is.
 fn join_events(events: Vec<Event>, more: Vec<Event>, earlier: u32) -> Option<Vec<Event>>
     ensures { IfSome result (λ v. v.items ≡ events.items ++ map (shift_event earlier) more.items) }
 {
@@ -125,7 +125,7 @@ fn join_events(events: Vec<Event>, more: Vec<Event>, earlier: u32) -> Option<Vec
 }
 
 impl Seams {
-    /// No parts yet.
+    /// No pieces yet.
     pub fn new(alloc: Global) -> Seams
         ensures { AreJoined result [] }
     {
@@ -136,10 +136,10 @@ impl Seams {
         }
     }
 
-    /// Joins one part more to those before it. None says nothing of the parts: a map of this one
+    /// Joins one more piece to those before it. None says nothing of the pieces: a map of this one
     /// has a fault after theirs, their maps are too many, or an allocation failed.
-    pub fn add(self, part: Part) -> Option<Seams>
-        ensures { IfSome result (λ s. (ds es : List Datum) → AreJoined self ds → IsPartOf part es
+    pub fn add(self, read: ReadPiece) -> Option<Seams>
+        ensures { IfSome result (λ s. (ds es : List Datum) → AreJoined self ds → IsOfForms read es
             → AreJoined s (ds ++ es)) }
     {
         let Seams {
@@ -147,13 +147,13 @@ impl Seams {
             events,
             maps: before,
         } = self;
-        let Part {
+        let ReadPiece {
             seen: own,
             firsts,
             objects,
             maps,
             events: more,
-        } = part;
+        } = read;
         if maps > MAX_MAPS || before > MAX_MAPS - maps {
             return None;
         }
@@ -170,7 +170,7 @@ impl Seams {
         Some(Seams { seen, events, maps })
     }
 
-    /// The history, where the parts so far are all.
+    /// The history, where the pieces so far are all.
     pub fn into_history(self) -> History
         requires { (ds : List Datum) × AreJoined self ds }
         ensures { (ds : List Datum) → AreJoined self ds → Denotes ds result }

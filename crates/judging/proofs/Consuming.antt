@@ -39,11 +39,11 @@ pub one_more_piece : (limit : ℕ) (old now new : Option (List ℕ)) (bytes whol
 one_more_piece limit old now new bytes whole buf behind stored n room given len was broken h is below cut long within
     gave at joined usable =
     let same = stands_there buf behind stored len long at in
-    let parts : whole ≡ bytes ++ take given buf = joined ∙ ap (λ xs. bytes ++ take given xs) same in
-    let size : length whole ≡ length bytes + given = ap length parts
+    let reads : whole ≡ bytes ++ take given buf = joined ∙ ap (λ xs. bytes ++ take given xs) same in
+    let size : length whole ≡ length bytes + given = ap length reads
     ∙ (length-append bytes (take given buf) ∙ ap (λ k. length bytes + k) (length-take-le given buf within)) in
     record {
-      consumed = subst (Consumes old new) (sym parts)
+      consumed = subst (Consumes old new) (sym reads)
           (one_more_consumed old now new bytes (take given buf) h.consumed gave.consumed);
       within = (let r = h.some in omega arith);
       some = (let r = h.some in omega arith);

@@ -7,7 +7,7 @@ ghost use Rattle.judging.specs.Texts.{DenotesHistory, IsHistoryRead};
 
 use crate::texts::{TextFailure, history_of_text};
 use edn::MAX_LENGTH;
-use history::{History, Part, join_parts, part_of, pieces_of};
+use history::{History, ReadPiece, join_pieces, pieces_of, read_piece};
 use std::alloc::Global;
 use std::thread::{Threads, map_indices};
 
@@ -34,19 +34,19 @@ fn history_in_pieces<R: Threads + Sync>(
     }
     let pieces = pieces_of(alloc, text, workers.min(MAX_WORKERS) as usize)?;
     let pieces = pieces.as_slice();
-    let parts = map_indices(
+    let reads = map_indices(
         rt,
         alloc,
         pieces.len(),
-        &|k: usize| -> Option<Part>
+        &|k: usize| -> Option<ReadPiece>
             requires { k < length pieces.now }
             ensures { IfSome result (IsReadFrom (get_or (map (λ p. p.now) pieces.entry.now) k [])) }
-        { part_of(alloc, pieces[k]) },
+        { read_piece(alloc, pieces[k]) },
     );
-    let Ok(parts) = parts else {
+    let Ok(reads) = reads else {
         return None;
     };
-    join_parts(alloc, parts)
+    join_pieces(alloc, reads)
 }
 
 /// The history that a text denotes, or the first fault of the text, as `history_of_text` gives it.

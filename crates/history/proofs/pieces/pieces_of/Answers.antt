@@ -1,7 +1,7 @@
 use Rattle.std.proofs.Common.{◌≡◌, [], ◌∷◌, ◌++◌, map, ap, ◌∙◌}
 use Rattle.std.proofs.lemmas.List.{map-append}
 use Rattle.history.specs.Pieces.{joined_by_feeds}
-use Rattle.history.proofs.PartMore.{pushed}
+use Rattle.history.proofs.PieceMore.{pushed}
 use Rattle.history.proofs.PiecesJoined.{piece_more}
 use Rattle.history.proofs.pieces.pieces_of.Goals as goal
 

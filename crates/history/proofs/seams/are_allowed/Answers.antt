@@ -2,8 +2,8 @@ use Rattle.std.proofs.Common.{get_or}
 use Rattle.number_map.specs.Lookup.{value_of}
 use Rattle.seq_objects.specs.declared.function.Function.TheVariants.{Enqueue}
 use Rattle.history.specs.declared.client_map.MapType.TheVariants.{Invoke}
-use Rattle.history.specs.declared.part.FirstMap.{FirstMap}
-use Rattle.history.specs.Parts.{IsAllowed}
+use Rattle.history.specs.declared.piece.FirstMap.{FirstMap}
+use Rattle.history.specs.ReadPieces.{IsAllowed}
 use Rattle.history.proofs.SeamLaws.{all_more, all_done, allowed_at}
 use Rattle.history.proofs.seams.are_allowed.Goals as goal
 

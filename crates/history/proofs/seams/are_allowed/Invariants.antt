@@ -1,6 +1,6 @@
 use Rattle.std.proofs.Common.{All, take}
 use Rattle.number_map.specs.Lookup.{value_of}
-use Rattle.history.specs.Parts.{IsAllowed}
+use Rattle.history.specs.ReadPieces.{IsAllowed}
 use Rattle.history.proofs.seams.are_allowed.Given as goal
 
 abbrev pub invariant-loop-first : goal.invariant-loop-first

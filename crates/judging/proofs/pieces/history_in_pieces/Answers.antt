@@ -8,15 +8,15 @@ use Rattle.judging.specs.Texts.{DenotesHistory}
 use Rattle.judging.proofs.Stopping.{where_some}
 use Rattle.judging.proofs.pieces.history_in_pieces.Goals as goal
 
-pub join_parts-requires : goal.join_parts-requires
-join_parts-requires g c =
+pub join_pieces-requires : goal.join_pieces-requires
+join_pieces-requires g c =
     let pieces = c.as_slice-pieces.result.now in
-    let ok = c.in-Ok.parts.ok in
+    let ok = c.in-Ok.reads.ok in
     let len = c.in-Ok.ensures.len in
-    let long : length c.in-Ok.parts.items ≡ length pieces = omega (arith, ok, len) in
+    let long : length c.in-Ok.reads.items ≡ length pieces = omega (arith, ok, len) in
     let lines = map (λ p. p.now) pieces in (
       lines,
-      read_each lines c.in-Ok.parts.items (long ∙ sym (length-map pieces (λ p. p.now)))
+      read_each lines c.in-Ok.reads.items (long ∙ sym (length-map pieces (λ p. p.now)))
           (λ i d l. (c.in-Ok.ensures.each i d (subst (λ n. i < n) long l)).1.met),
     )
 
@@ -24,22 +24,22 @@ pub returns-clause-denotes : goal.returns-clause-denotes
 returns-clause-denotes g c =
     let text = c.args.text.now in
     let pieces = c.as_slice-pieces.result.now in
-    let ok = c.in-Ok.parts.ok in
+    let ok = c.in-Ok.reads.ok in
     let len = c.in-Ok.ensures.len in
-    let long : length c.in-Ok.parts.items ≡ length pieces = omega (arith, ok, len) in
+    let long : length c.in-Ok.reads.items ≡ length pieces = omega (arith, ok, len) in
     let lines = map (λ p. p.now) pieces in
-    let are = read_each lines c.in-Ok.parts.items (long ∙ sym (length-map pieces (λ p. p.now)))
+    let are = read_each lines c.in-Ok.reads.items (long ∙ sym (length-map pieces (λ p. p.now)))
     (λ i d l. (c.in-Ok.ensures.each i d (subst (λ n. i < n) long l)).1.met) in
     let is : joined_by_feeds lines ≡ text = ap (λ ps. joined_by_feeds
     (map (λ p. p.now) ps)) c.as_slice-pieces.ensures.value ∙ c.in_ok-pieces.ensures in
-    where_some c.join_parts.result _ (DenotesHistory text)
+    where_some c.join_pieces.result _ (DenotesHistory text)
     (λ h d. let k = d lines are in record {
       forms = k.0;
       spelled = subst
           (Spells k.0) is k.1;
       denoted = k.2;
-    }) c.join_parts.ensures
+    }) c.join_pieces.ensures
 
 pub returns-clause-short : goal.returns-clause-short
-returns-clause-short g c = where_some c.join_parts.result _ (λ _. IsShort c.args.text.now)
-    (λ h d. c.if-text-gt-MAX_LENGTH.false) c.join_parts.ensures
+returns-clause-short g c = where_some c.join_pieces.result _ (λ _. IsShort c.args.text.now)
+    (λ h d. c.if-text-gt-MAX_LENGTH.false) c.join_pieces.ensures

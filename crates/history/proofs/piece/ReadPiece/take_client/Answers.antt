@@ -1,7 +1,7 @@
 use Rattle.std.proofs.Common.{◌+◌, refl, sym}
-use Rattle.history.specs.declared.part.Part.{Part}
-use Rattle.history.proofs.PartMore.{part_more, pushed}
-use Rattle.history.proofs.part.Part.take_client.Goals as goal
+use Rattle.history.specs.declared.piece.ReadPiece.{ReadPiece}
+use Rattle.history.proofs.PieceMore.{part_more, pushed}
+use Rattle.history.proofs.piece.ReadPiece.take_client.Goals as goal
 
 pub returns : goal.returns
 returns c = λ ds d says h.
@@ -9,7 +9,7 @@ returns c = λ ds d says h.
     let m = c.args.m.now in
     let f = c.in_ok-function.function in
     let a = c.in_ok-action.action in
-    let new : Part = record {
+    let new : ReadPiece = record {
       seen = record { processes = c.note_process.new.processes; kinds = c.note_object.new.kinds };
       firsts = c.note_process.new.firsts;
       objects = c.note_object.new.objects;

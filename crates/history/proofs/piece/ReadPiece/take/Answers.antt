@@ -1,7 +1,7 @@
 use Rattle.std.proofs.Common.{◌+◌, refl, subst}
 use Rattle.history.specs.Views.{Says}
-use Rattle.history.proofs.PartMore.{part_skip}
-use Rattle.history.proofs.part.Part.take.Goals as goal
+use Rattle.history.proofs.PieceMore.{part_skip}
+use Rattle.history.proofs.piece.ReadPiece.take.Goals as goal
 
 pub returns-in-Ignored : goal.returns-in-Ignored
 returns-in-Ignored c = λ ds d says h.

@@ -1,4 +1,4 @@
--- One more map of a part.
+-- One more map of a piece.
 use Rattle.std.proofs.Common.{◌≡◌, ◌≢◌, ℕ, ◌+◌, inl, inr, true, List, [], ◌∷◌, ◌++◌}
 use Rattle.std.proofs.Common.{map, length, Option, Some, None, All, refl, ap, sym, ◌∙◌, subst}
 use Rattle.std.proofs.Common.{append_assoc, zero-add, arith}
@@ -19,15 +19,15 @@ use Rattle.events.specs.declared.event.Event.{Event}
 use Rattle.events.specs.Operations.{IsListed}
 use Rattle.history.specs.declared.client_map.ClientMap as code
 use Rattle.history.specs.declared.seen.Process.{Process}
-use Rattle.history.specs.declared.part.FirstMap.{FirstMap}
-use Rattle.history.specs.declared.part.Part.{Part}
+use Rattle.history.specs.declared.piece.FirstMap.{FirstMap}
+use Rattle.history.specs.declared.piece.ReadPiece.{ReadPiece}
 use Rattle.history.specs.declared.fault.HistoryFaultKind.TheVariants.{AfterInfo}
 use Rattle.history.specs.Maps.{ClientMap, client_of, is_ignored, clients}
 use Rattle.history.specs.Faults.{last_map, IsMapFault, IsFaultlessAtAnyLength}
 use Rattle.history.specs.Denotes.{action_of, event_with, event_of, events_from}
 use Rattle.history.specs.Seen.{doing_after, IsKept, IsKindOf, IsNoOther, IsProcessFault, IsSeen, IsSeenBy}
 use Rattle.history.specs.Noting.{IsFirstOrAllowed, NotesProcess, NotesObject}
-use Rattle.history.specs.Parts.{kept_after, IsAllowed, FitsAfter, ContinuesWhereItFits, IsPartOf}
+use Rattle.history.specs.ReadPieces.{kept_after, IsAllowed, FitsAfter, ContinuesWhereItFits, IsOfForms}
 use Rattle.history.specs.Views.{map_type, client_map}
 use Rattle.history.proofs.Noting.{does_so, kept_more_of, kept_skip}
 use Rattle.history.proofs.FirstFaults.{PassesShape, PassesAll, passes_kind, process_allows, none_of_all}
@@ -59,8 +59,8 @@ goes_on_more ds d m f a old new was now seen faultless is known action allowed k
           (does_so m.type f m refl known) own others own_kind other_kinds,
     )
 
--- a map that is allowed after those of its process in the part, or where it is the first one
--- after those before the part
+-- a map that is allowed after those of its process in the piece, or where it is the first one
+-- after those before the piece
 allowed_after : (kept before : Option Process) (old new : List FirstMap) (m : FirstMap)
     → IsFirstOrAllowed kept old new m
     → (new ≡ old ++ m ∷ [] → IsProcessFault before (map_type m.map_type) m.function m.object None)
@@ -80,7 +80,7 @@ no_other_after : (own before : Option Kind) (kind : Kind) → IsNoOther own kind
 no_other_after None before kind h k = k
 no_other_after (Some l) before kind h k = h
 
--- what a part keeps of one more map of a client without a fault of its own
+-- what a piece keeps of one more map of a client without a fault of its own
 abbrev pub noted_map : code.ClientMap → Function → FirstMap
 noted_map c f = record { map_type = c.map_type; function = f; process = c.process; object = c.object }
 
@@ -88,8 +88,8 @@ noted_map c f = record { map_type = c.map_type; function = f; process = c.proces
 abbrev pub noted_event : code.ClientMap → ℕ → Action → Event
 noted_event c n a = record { number = n; process = c.process; object = c.object; action = a }
 
--- the new part's needs contain those of the old one, and what the map needs
-pub continues_more : (old new : Part) (ds : List Datum) (d : Datum) (c : code.ClientMap) (w : Datum) (f : Function)
+-- the new piece's needs contain those of the old one, and what the map needs
+pub continues_more : (old new : ReadPiece) (ds : List Datum) (d : Datum) (c : code.ClientMap) (w : Datum) (f : Function)
     (a : Action)
     → ContinuesWhereItFits old ds → client_of d ≡ Some (client_map c w) → c.function ≡ Some f
     → action_of (map_type c.map_type) (client_map c w) ≡ Some a
@@ -181,15 +181,15 @@ firsts_more old new was now m h listed p = elim (cases_eq p m.process) [
     other (Some v) c l = subst (λ ms. IsListed (old p) (map (λ x. x.process) ms) p) (sym c.0) l
 
 -- one map more of a client
-pub part_more : (old new : Part) (ds : List Datum) (d : Datum) (c : code.ClientMap) (w : Datum) (f : Function)
-    (a : Action) → IsPartOf old ds
+pub part_more : (old new : ReadPiece) (ds : List Datum) (d : Datum) (c : code.ClientMap) (w : Datum) (f : Function)
+    (a : Action) → IsOfForms old ds
     → client_of d ≡ Some (client_map c w) → c.function ≡ Some f → action_of (map_type c.map_type) (client_map c w)
     ≡ Some a
     → NotesProcess (value_of old.seen.processes) (value_of new.seen.processes) old.firsts.items new.firsts.items
     (noted_map c f)
     → NotesObject (value_of old.seen.kinds) (value_of new.seen.kinds) old.objects.items new.objects.items c.object f
     → new.maps ≡ old.maps + 1 → new.events.items ≡ old.events.items ++ noted_event c old.maps a ∷ []
-    → IsPartOf new (ds ++ d ∷ [])
+    → IsOfForms new (ds ++ d ∷ [])
 part_more old new ds d c w f a h is known action process object count events = record {
   count = count ∙ (ap (λ k. k + 1) h.count ∙ sym (length-append ds (d ∷ [])));
   events = events ∙ (ap (λ es. es ++ noted_event c old.maps a ∷ []) h.events
@@ -202,23 +202,23 @@ part_more old new ds d c w f a h is known action process object count events = r
 
 -- ---- a map that is no client's
 
-continues_skip : (part : Part) (ds : List Datum) (d : Datum) → client_of d ≡ None → is_ignored d ≡ true
-    → ContinuesWhereItFits part ds
+continues_skip : (read : ReadPiece) (ds : List Datum) (d : Datum) → client_of d ≡ None → is_ignored d ≡ true
+    → ContinuesWhereItFits read ds
     → (before : List Datum) (s : ℕ → Option Process) (k : ℕ → Option Kind) → IsSeenBy s k before
-    → IsFaultlessAtAnyLength before → FitsAfter part s k
-    → IsFaultlessAtAnyLength (before ++ (ds ++ d ∷ [])) × IsSeenBy (kept_after s (value_of part.seen.processes))
-    (kept_after k (value_of part.seen.kinds)) (before ++ (ds ++ d ∷ []))
-continues_skip part ds d none ignored h before s k seen faultless fits =
+    → IsFaultlessAtAnyLength before → FitsAfter read s k
+    → IsFaultlessAtAnyLength (before ++ (ds ++ d ∷ [])) × IsSeenBy (kept_after s (value_of read.seen.processes))
+    (kept_after k (value_of read.seen.kinds)) (before ++ (ds ++ d ∷ []))
+continues_skip read ds d none ignored h before s k seen faultless fits =
     let so_far = h before s k seen faultless fits in
     let same = append_assoc before ds (d ∷ []) in (
       subst IsFaultlessAtAnyLength same (faultless_push IsMapFault (before ++ ds) d so_far.0
           (ignored_faultless (before ++ ds) d none ignored)),
-      subst (IsSeenBy (kept_after s (value_of part.seen.processes)) (kept_after k (value_of part.seen.kinds))) same
-          (kept_skip (kept_after s (value_of part.seen.processes)) (kept_after k (value_of part.seen.kinds))
+      subst (IsSeenBy (kept_after s (value_of read.seen.processes)) (kept_after k (value_of read.seen.kinds))) same
+          (kept_skip (kept_after s (value_of read.seen.processes)) (kept_after k (value_of read.seen.kinds))
           (before ++ ds) d so_far.1 none),
     )
 
-pub part_skip : (old new : Part) (ds : List Datum) (d : Datum) → IsPartOf old ds → client_of d ≡ None
+pub part_skip : (old new : ReadPiece) (ds : List Datum) (d : Datum) → IsOfForms old ds → client_of d ≡ None
     → is_ignored d ≡ true
     → new ≡ record {
       seen = old.seen;
@@ -226,11 +226,11 @@ pub part_skip : (old new : Part) (ds : List Datum) (d : Datum) → IsPartOf old 
       objects = old.objects;
       maps = old.maps + 1;
       events = old.events;
-    } → IsPartOf new (ds ++ d ∷ [])
+    } → IsOfForms new (ds ++ d ∷ [])
 part_skip old new ds d h none ignored same =
     let events : events_from 0 (ds ++ d ∷ []) ≡ events_from 0 ds = events_push 0 ds d
     ∙ (ap (λ c. events_from 0 ds ++ event_of (0 + length ds) c) none ∙ append-nil (events_from 0 ds)) in
-    subst (λ p. IsPartOf p (ds ++ d ∷ [])) (sym same) (record {
+    subst (λ p. IsOfForms p (ds ++ d ∷ [])) (sym same) (record {
       count = ap (λ k. k + 1) h.count ∙ sym (length-append ds (d ∷ []));
       events = h.events ∙ sym events;
       processes = h.processes;
@@ -258,11 +258,11 @@ no_kind_kept : (o : Option Kind) (x : ℕ) → IsKindOf o [] x → o ≡ None
 no_kind_kept None x h = refl
 no_kind_kept (Some k) x h = let l = h.0.1.stands.1 in absurd (omega (arith, l))
 
-pub no_maps : (part : Part) → IsSeen part.seen [] → part.maps ≡ 0 → part.events.items ≡ [] → IsPartOf part []
-no_maps part seen count events =
-    let processes : (p : ℕ) → value_of part.seen.processes p
-    ≡ None = λ p. no_process_kept (value_of part.seen.processes p) (seen.processes p) in
-    let kinds : (x : ℕ) → value_of part.seen.kinds x ≡ None = λ x. no_kind_kept (value_of part.seen.kinds x) x
+pub no_maps : (read : ReadPiece) → IsSeen read.seen [] → read.maps ≡ 0 → read.events.items ≡ [] → IsOfForms read []
+no_maps read seen count events =
+    let processes : (p : ℕ) → value_of read.seen.processes p
+    ≡ None = λ p. no_process_kept (value_of read.seen.processes p) (seen.processes p) in
+    let kinds : (x : ℕ) → value_of read.seen.kinds x ≡ None = λ x. no_kind_kept (value_of read.seen.kinds x) x
     (seen.kinds x) in
     record {
       count = count;
@@ -271,10 +271,10 @@ no_maps part seen count events =
       objects = λ x. inl (kinds x);
       continues = λ before s k kept faultless fits. (
         subst IsFaultlessAtAnyLength (sym (append-nil before)) faultless,
-        subst (IsSeenBy (kept_after s (value_of part.seen.processes)) (kept_after k (value_of part.seen.kinds)))
+        subst (IsSeenBy (kept_after s (value_of read.seen.processes)) (kept_after k (value_of read.seen.kinds)))
             (sym (append-nil before))
-            (seen_same s (kept_after s (value_of part.seen.processes)) k
-            (kept_after k (value_of part.seen.kinds)) before kept
+            (seen_same s (kept_after s (value_of read.seen.processes)) k
+            (kept_after k (value_of read.seen.kinds)) before kept
             (λ p. ap (λ (o : Option Process). option_or o (s p)) (processes p))
             (λ x. ap (λ (o : Option Kind). option_or o (k x)) (kinds x))),
       );

@@ -1,6 +1,6 @@
 use Rattle.std.proofs.Common.{refl}
-use Rattle.history.proofs.PartMore.{no_maps}
-use Rattle.history.proofs.part.Part.new.Goals as goal
+use Rattle.history.proofs.PieceMore.{no_maps}
+use Rattle.history.proofs.piece.ReadPiece.new.Goals as goal
 
 pub returns : goal.returns
 returns c = no_maps (record

@@ -4,29 +4,29 @@ use Rattle.edn_reader.specs.Elements.{SpellsNothing}
 use Rattle.edn_reader.proofs.Following.{along_moved, along_spells}
 use Rattle.history.specs.declared.client_map.OperationMap.{OperationMap}
 use Rattle.history.specs.MapReading.{left_in, start_in, ReadsNext}
-use Rattle.history.specs.Parts.{IsPartOf}
+use Rattle.history.specs.ReadPieces.{IsOfForms}
 use Rattle.history.specs.UsualForms.{ReadsForm}
-use Rattle.history.proofs.PartMore.{along_start}
+use Rattle.history.proofs.PieceMore.{along_start}
 use Rattle.history.proofs.TextReading.{along_next}
-use Rattle.history.proofs.part.Part.read_lines.Goals as goal
+use Rattle.history.proofs.piece.ReadPiece.read_lines.Goals as goal
 
 pub forms-init : goal.forms-init
 forms-init c = λ ds h.
     let text = c.in-Ok.ensures.text in
-    along_moved (λ es. IsPartOf c.args.self.now (ds ++ es)) c.args.lines.now c.args.lines.now
+    along_moved (λ es. IsOfForms c.args.self.now (ds ++ es)) c.args.lines.now c.args.lines.now
     (left_in c.in-Ok.maps) 0 (start_in c.in-Ok.maps) text.0 text.1
-    (along_start (λ es. IsPartOf c.args.self.now (ds ++ es)) c.args.lines.now
-    (subst (IsPartOf c.args.self.now) (sym (append-nil ds)) h))
+    (along_start (λ es. IsOfForms c.args.self.now (ds ++ es)) c.args.lines.now
+    (subst (IsOfForms c.args.self.now) (sym (append-nil ds)) h))
 
 pub forms-preserved : goal.forms-preserved
 forms-preserved c = λ ds h.
     let read : ReadsForm (left_in c.forms.maps) c.in-Ok-Some.said (left_in c.advance.new.self) =
     subst (λ (o : Option OperationMap). ReadsNext (left_in c.forms.maps) o (left_in c.advance.new.self))
     c.in-Ok-Some.field-0-is c.in-Ok-Some.ensures.reads in
-    along_next (λ es. IsPartOf c.forms.self (ds ++ es)) (λ es. IsPartOf c.take.new.self (ds ++ es)) c.args.lines.now
+    along_next (λ es. IsOfForms c.forms.self (ds ++ es)) (λ es. IsOfForms c.take.new.self (ds ++ es)) c.args.lines.now
     (left_in c.forms.maps) (left_in c.advance.new.self) (start_in c.forms.maps) (start_in c.advance.new.self)
     c.in-Ok-Some.said read c.in-Ok-Some.ensures.moves
-    (λ es p. subst (IsPartOf c.take.new.self) (append_assoc ds es (read.form ∷ []))
+    (λ es p. subst (IsOfForms c.take.new.self) (append_assoc ds es (read.form ∷ []))
     (c.in_ok-take-in-Ok-Some.ensures (ds ++ es) read.form read.says p)) (c.forms.invariant ds h)
 
 pub returns-in-Ok-None : goal.returns-in-Ok-None
@@ -36,7 +36,7 @@ returns-in-Ok-None c = λ ds h.
     subst (λ (o : Option OperationMap). ReadsNext (left_in c.forms.maps) o (left_in c.advance.new.self))
     c.in-Ok-None.field-0-is c.in-Ok-None.ensures.reads in (
       a.forms,
-      along_spells (λ es. IsPartOf c.forms.self (ds ++ es)) c.args.lines.now (left_in c.forms.maps)
+      along_spells (λ es. IsOfForms c.forms.self (ds ++ es)) c.args.lines.now (left_in c.forms.maps)
           (start_in c.forms.maps) a n,
       a.holds,
     )

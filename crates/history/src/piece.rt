@@ -1,11 +1,11 @@
-//! A part of a history's text, read by itself.
+//! A piece of a history's text, read by itself.
 
 ghost use Rattle.std.specs.Prelude.{◌≡◌, ◌<◌, ◌++◌, ◌∷◌, [], IfSome, OnSome, List, Some};
 ghost use Rattle.number_map.specs.Lookup.{value_of};
 ghost use Rattle.edn_reader.specs.Datum.{Datum};
 ghost use Rattle.edn_reader.specs.Spells.{Spells};
 ghost use Rattle.history.specs.Noting.{NotesProcess, NotesObject};
-ghost use Rattle.history.specs.Parts.{IsPartOf};
+ghost use Rattle.history.specs.ReadPieces.{IsOfForms};
 ghost use Rattle.history.specs.Views.{Says};
 
 use crate::client_map::{ClientMap, MapType, OperationMap, action_of};
@@ -17,7 +17,7 @@ use number_map::NumberMap;
 use seq_objects::{Function, Kind};
 use std::alloc::Global;
 
-/// What a map of a client without a fault of its own asks of its process. Of each process a part
+/// What a map of a client without a fault of its own asks of its process. Of each process a piece
 /// keeps its first one.
 #[derive(Clone, Copy)]
 pub struct FirstMap {
@@ -27,12 +27,12 @@ pub struct FirstMap {
     pub(crate) object: u32,
 }
 
-/// What a part of a history says by itself: what its maps leave of each process and of each object
+/// What a piece of a history says by itself: what its maps leave of each process and of each object
 /// that they name, the first map of each process, a list of the objects, the number of the maps,
-/// and the events, whose numbers are counted from the part's first map. Whether the part may follow
-/// other maps depends on its first maps and its objects alone.
+/// and the events, whose numbers are counted from the piece's first map. Whether the piece may
+/// follow other maps depends on its first maps and its objects alone.
 #[derive(Drop)]
-pub struct Part {
+pub struct ReadPiece {
     pub(crate) seen: Seen,
     pub(crate) firsts: Vec<FirstMap>,
     pub(crate) objects: Vec<u32>,
@@ -92,14 +92,14 @@ fn note_object(
     kinds.insert(object as u64, function.kind()).ok()
 }
 
-impl Part {
+impl ReadPiece {
     ghost use Rattle.history.specs.declared.client_map.OperationMap.TheVariants.{OfClient};
 
-    /// A part without maps.
-    pub fn new(alloc: Global) -> Part
-        ensures { IsPartOf result [] }
+    /// A piece without maps.
+    pub fn new(alloc: Global) -> ReadPiece
+        ensures { IsOfForms result [] }
     {
-        Part {
+        ReadPiece {
             seen: Seen::new(alloc),
             firsts: Vec::new(alloc),
             objects: Vec::new(alloc),
@@ -113,7 +113,7 @@ impl Part {
     fn take_client(&mut self, m: &ClientMap) -> Option<()>
         requires { self.old.maps < 1000000 }
         ensures { OnSome result ((ds : List Datum) (d : Datum) → Says (OfClient m.now) d
-            → IsPartOf self.old ds → IsPartOf self.new (ds ++ d ∷ [])) }
+            → IsOfForms self.old ds → IsOfForms self.new (ds ++ d ∷ [])) }
     {
         let function = m.function?;
         let action = action_of(m, function)?;
@@ -140,7 +140,7 @@ impl Part {
     #[inline(always)]
     fn take(&mut self, said: OperationMap) -> Option<()>
         ensures { OnSome result ((ds : List Datum) (d : Datum) → Says said d
-            → IsPartOf self.old ds → IsPartOf self.new (ds ++ d ∷ [])) }
+            → IsOfForms self.old ds → IsOfForms self.new (ds ++ d ∷ [])) }
     {
         if self.maps >= MAX_MAPS {
             return None;
@@ -156,11 +156,12 @@ impl Part {
     }
 
     /// Takes in the maps of these lines, in which each form is one operation map. None says nothing
-    /// of the lines, and then nothing is known of the part: the lines spell no forms, a map of them
-    /// has a fault after those of the part before it, they are too many, or an allocation failed.
+    /// of the lines, and then nothing is known of the piece: the lines spell no forms, a map of
+    /// them has a fault after those of the piece before it, they are too many, or an allocation
+    /// failed.
     pub fn read_lines(&mut self, alloc: Global, lines: &[u8]) -> Option<()>
-        ensures { OnSome result ((ds : List Datum) → IsPartOf self.old ds
-            → (es : List Datum) × Spells es lines.now × IsPartOf self.new (ds ++ es)) }
+        ensures { OnSome result ((ds : List Datum) → IsOfForms self.old ds
+            → (es : List Datum) × Spells es lines.now × IsOfForms self.new (ds ++ es)) }
     {
         let Ok(mut maps) = MapReader::new(alloc, lines) else {
             return None;

@@ -1,5 +1,0 @@
-use Rattle.std.proofs.Common.{[]}
-use Rattle.history.proofs.pieces.part_of.Goals as goal
-
-pub returns : goal.returns
-returns c = c.in_ok-read_lines.ensures [] c.new-part.ensures
