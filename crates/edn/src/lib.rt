@@ -9,9 +9,9 @@ mod writer;
 
 pub use decimal::{push_integer, push_natural, write_integer, write_natural};
 pub use edn_reader::{
-    EdnFault, Elements, FaultKind, Form, MAX_LENGTH, Name, Piece, after, after_line_feed,
-    ends_word, fits, integer_at, joined_spell, lines_spell, natural_at, one_reading, read_forms,
-    text_spells,
+    EdnFault, Elements, FaultKind, Form, MAX_LENGTH, Name, Piece, after, after_gap,
+    after_line_feed, ends_word, fits, integer_at, joined_spell, lines_spell, natural_at,
+    one_reading, read_forms, text_spells,
 };
 pub use sink::{Device, Failed, Out, Sink};
 pub use source::{In, Source, Supply};

@@ -1,12 +1,12 @@
 -- What stands before a token, and how much is left remains it.
 use Rattle.std.proofs.Common.{◌≡◌, ℕ, suc, ◌<◌, ◌≤◌, Bool, true, false, cond, Option, Some, None, List, [], ◌∷◌, ◌++◌, length, refl, ap, subst, arith}
-use Rattle.std.specs.Prelude.{◌==◌, option_map}
+use Rattle.std.specs.Prelude.{◌==◌}
 use Rattle.std.proofs.lemmas.List.{length-append}
 use Rattle.edn_reader.specs.Bytes.{is_separator}
 use Rattle.edn_reader.specs.Reading.{skip, skip_comment, word, after_word, Next, end, bad, got, got_word, first, atom_of, got_string, string_at, State}
 use Rattle.edn_reader.specs.Datum.{Atom}
 use Rattle.edn_reader.specs.Token.{Token}
-use Rattle.edn_reader.proofs.Strings.{some_is, string_less}
+use Rattle.edn_reader.proofs.Strings.{string_less}
 use Rattle.edn_reader.proofs.Words.{word_parts}
 
 if_within : (c : Bool) (x y : List ℕ) (n : ℕ) → length x ≤ n → length y ≤ n → length (cond c x y) ≤ n

@@ -19,9 +19,9 @@ fn after_comment(text: &[u8]) -> &[u8]
     rest
 }
 
-/// After separators and comments.
+/// What follows the separators and comments at the front of a text.
 #[inline]
-pub(crate) fn skip(text: &[u8]) -> &[u8]
+pub fn skip(text: &[u8]) -> &[u8]
     ensures { result.now ≡ spec.skip text.now }
 {
     let mut rest = text;

@@ -30,6 +30,7 @@ pub use fault::{EdnFault, FaultKind};
 pub use form::{Form, Name};
 pub use front::{after, after_line_feed, ends_word, integer_at, natural_at};
 pub use laws::{joined_spell, lines_spell, one_reading, text_spells};
+pub use lexer::skip as after_gap;
 pub use limits::fits;
 pub use piece::Piece;
 pub use reader::{MAX_LENGTH, read_forms};

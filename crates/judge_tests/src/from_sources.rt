@@ -20,7 +20,7 @@ const YES: &[u8] = b"yes: 2 operations, 1 objects\nqueue: 1 objects, 2 operation
 
 /// Gives a text in pieces of this size, and then fails or ends.
 #[derive(Drop)]
-struct Pieces {
+pub(crate) struct Pieces {
     text: &'static [u8],
     size: usize,
     fails: bool,
@@ -28,7 +28,7 @@ struct Pieces {
     asked: usize,
 }
 
-fn in_pieces(text: &'static [u8], size: usize, fails: bool) -> Pieces
+pub(crate) fn in_pieces(text: &'static [u8], size: usize, fails: bool) -> Pieces
     ensures { result.failed ≡ false }
 {
     Pieces {

@@ -1,11 +1,13 @@
-//! Tests of the public calls of `history`, `certificate`, `checker`, `parallel`, `report` and
-//! `judging` that no command line reaches: `tests/run` tests the others on the built program. They
+//! Tests of the public calls of `history`, `certificate`, `checker`, `parallel`, `report`, `judging`
+//! and `shards` that no command line reaches: `tests/run` tests the others on the built program. They
 //! are in a crate of their own, so that each of these libraries is proved once, and not again for
 //! its tests.
 #![tactic(auto)]
 
 #[cfg(test)]
 mod checking;
+#[cfg(test)]
+mod dividing;
 #[cfg(test)]
 mod from_sources;
 #[cfg(test)]

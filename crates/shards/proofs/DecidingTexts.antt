@@ -69,10 +69,10 @@ module _ {shard_of : ℕ → ℕ} {whole : List ℕ} {shards : ℕ → List ℕ}
   }
 
   -- a text denotes what its one list of forms denotes
-  whole_is : (es : List Event) → TextDenotes whole es → es ≡ whole_events
+  pub whole_is : (es : List Event) → TextDenotes whole es → es ≡ whole_events
   whole_is es d = d.denoted.events ∙ ap (events_from 0) (one_reading_of d.forms (forms_of h) whole d.spelled h.spelled)
 
-  own_is : (s : ℕ) (es : List Event) → TextDenotes (shards s) es → es ≡ own_events s
+  pub own_is : (s : ℕ) (es : List Event) → TextDenotes (shards s) es → es ≡ own_events s
   own_is s es d =
       d.denoted.events ∙ ap (events_from 0) (one_reading_of d.forms (own_forms s) (shards s) d.spelled (own_spelled s))
 

@@ -8,3 +8,17 @@ pub mod FewerForms
 pub mod FewerEvents
 pub mod WrittenShards
 pub mod DecidingTexts
+pub mod NumberedShards
+pub mod BareMaps
+pub mod OnOk
+pub mod LinesMore
+pub mod EventsOfMaps
+pub mod WaitingLines
+pub mod TakingMaps
+pub mod Flushing
+pub mod ReadingOn
+pub mod PiecesDivided
+pub mod Numbers
+pub mod ReadTables
+pub mod Tables
+pub mod KeptNumbers

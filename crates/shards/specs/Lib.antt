@@ -2,3 +2,9 @@ pub mod Shards
 pub mod WorkedShards
 pub mod Forms
 pub mod ShardTexts
+pub mod Dividing
+pub mod Tables
+pub mod Folders
+pub mod SplitFaults
+pub mod Taking
+pub mod UnderWay

@@ -18,16 +18,18 @@ abbrev pub lines_of : List SpelledMap → List ℕ
 lines_of [] = []
 lines_of (m ∷ ms) = m.text ++ 10 ∷ lines_of ms
 
+-- the maps of clients on the objects of one shard. `shard_of` says in which shard an object is
+abbrev pub maps_of_shard : (ℕ → ℕ) → ℕ → List SpelledMap → List SpelledMap
+maps_of_shard shard_of s maps = filter (λ m. is_on (λ x. shard_of x == s) m.form) maps
+
 -- The whole text spells maps without a fault, however many they are. Each shard has, in their
--- order, the maps of clients on its own objects, as they are written in the whole. `shard_of` says
--- in which shard an object is.
+-- order, the maps of clients on its own objects, each by a text that spells it.
 pub record IsSplit (shard_of : ℕ → ℕ) (whole : List ℕ) (shards : ℕ → List ℕ) : Type 0 where
   pub maps : List SpelledMap
   pub spelled : Spells (map (λ m. m.form) maps) whole
   pub each : All (λ m. Spells (m.form ∷ []) m.text) maps
   pub faultless : IsFaultlessAtAnyLength (map (λ m. m.form) maps)
-  pub texts : (s : ℕ) → shards s
-      ≡ lines_of (filter (λ m. is_on (λ x. shard_of x == s) m.form) maps)
+  pub texts : (s : ℕ) → shards s ≡ lines_of (maps_of_shard shard_of s maps)
 
 -- the events that a text denotes, however many maps it has
 pub record TextDenotes (text : List ℕ) (es : List Event) : Type 0 where

@@ -1,11 +1,18 @@
 //! A history in shards: each object is in one of them, and the whole is linearizable exactly where
 //! each shard is; of events in memory, and of texts (`texts.rt`), also of a text that is longer
-//! than `judge` reads. Functions that do nothing, and whose contracts are theorems. They follow
+//! than `judge` reads. These theorems are the contracts of functions that do nothing. They follow
 //! from locality: Herlihy and Wing, "Linearizability: A Correctness Condition for Concurrent
-//! Objects", TOPLAS 1990, section 3.
+//! Objects", TOPLAS 1990, section 3. `split_over` divides a history of any length into such shards.
 #![tactic(auto)]
 
+mod divider;
+mod fault;
+mod folder;
+mod numbering;
+mod pieces;
+mod split;
 mod texts;
+mod waiting;
 
 ghost use Rattle.std.specs.Prelude.{◌≡◌, ◌↔◌, ℕ, List};
 ghost use Rattle.events.specs.declared.event.Event.{Event};
@@ -14,8 +21,13 @@ ghost use Rattle.shards.specs.Shards.{AreShards, DenoteLinearizable};
 ghost use Rattle.shards.specs.WorkedShards.{one_each, own_shard, shards_of_one_each};
 ghost use Rattle.shards.specs.WorkedShards.{shards_of_two_at_once, two_at_once};
 
+pub use fault::SplitFault;
+pub use folder::Folder;
+pub use numbering::{TableFault, with_table};
+pub use split::{split_by_pieces, split_over};
 pub use texts::{
-    judged_shards_decide, shards_denote, shards_have_no_fault, texts_of_shards_decide,
+    judged_shards_decide, shards_denote, shards_have_no_fault, shards_keep_their_numbers,
+    texts_of_shards_decide,
 };
 
 /// The shards of a proper list of events are proper.

@@ -2,14 +2,17 @@
 //! tool may divide a history that is longer than one text may be. What they denote, and that they
 //! decide the whole.
 
-ghost use Rattle.std.specs.Prelude.{◌≡◌, ◌==◌, ◌⊎◌, ◌↔◌, ℕ, Bool, List, []};
+ghost use Rattle.std.specs.Prelude.{◌≡◌, ◌≤◌, ◌^◌, ◌==◌, ◌⊎◌, ◌↔◌, ℕ, Bool, List, [], length};
 ghost use Rattle.edn_reader.specs.Datum.{Datum};
 ghost use Rattle.events.specs.declared.event.Event.{Event};
 ghost use Rattle.history.specs.Faults.{IsFaultlessAtAnyLength};
 ghost use Rattle.judging.specs.Texts.{IsLinearizableText, IsNotLinearizableText};
+ghost use Rattle.shards.specs.Dividing.{Files, IsDivided, table_text, with_numbers};
 ghost use Rattle.shards.specs.Forms.{forms_on};
+ghost use Rattle.shards.specs.Shards.{events_on};
 ghost use Rattle.shards.specs.ShardTexts.{IsSplit, IsShardOf, IsLinearizableAtAnyLength};
 ghost use Rattle.shards.specs.ShardTexts.{TextDenotes};
+ghost use Rattle.shards.specs.Tables.{AreShort};
 
 /// The maps of clients on some objects have no fault where all maps of a history have none.
 pub fn shards_have_no_fault()
@@ -23,6 +26,16 @@ pub fn shards_denote()
         → IsSplit shard_of whole shards
         → TextDenotes whole es
         → (s : ℕ) → IsShardOf (λ x. shard_of x == s) es (shards s) }
+{}
+
+/// Each shard has the numbers of the whole in its table, where these have 32 bits: with them its
+/// events are those of the whole on its objects.
+pub fn shards_keep_their_numbers()
+    ensures { (shard_of : ℕ → ℕ) (whole : List ℕ) (files : Files) (es own : List Event)
+        → (d : IsDivided shard_of whole files) → length d.split.maps ≤ 2 ^ 32
+        → TextDenotes whole es → (s : ℕ) → TextDenotes (files.texts s) own
+        → (ns : List ℕ) → AreShort ns → table_text ns ≡ files.tables s
+        → with_numbers ns own ≡ events_on (λ x. shard_of x == s) es }
 {}
 
 /// The history of the whole is linearizable exactly where that of each shard is.

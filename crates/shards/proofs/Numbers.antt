@@ -1,0 +1,103 @@
+-- Events that get the numbers of a list are renumbered: they say what they said, and their numbers rise, or the list
+-- does not fit. A table is written line by line. By steps of loops, an event or a number at a time.
+use Rattle.std.proofs.Common.{◌≡◌, ℕ, ◌+◌, ◌<◌, ◌≤◌, List, [], ◌∷◌, ◌++◌, length, get_or, map, take, drop, decimal}
+use Rattle.std.proofs.Common.{All, AllPairs, refl, ap, sym, ◌∙◌, subst, arith, append_assoc}
+use Rattle.std.proofs.lemmas.List.{at_drop_more, get_or-map, length-map, map_more}
+use Rattle.std.proofs.lemmas.List.Elements.{All-push, All-weaker}
+use Rattle.std.proofs.lemmas.List.Quantifiers.{all_pairs_push}
+use Rattle.events.specs.declared.event.Event.{Event}
+use Rattle.shards.specs.Shards.{said}
+use Rattle.shards.specs.Dividing.{numbered_by, table_text, with_numbers}
+use Rattle.shards.specs.Tables.{AreShort, FitsTable}
+
+-- ---- a table
+
+-- one line more, of those that are left
+pub line_more : (ns : List ℕ) (i : ℕ) (t t1 t2 : List ℕ) → i < length ns → t1 ≡ t ++ decimal (get_or ns i 0)
+    → t2 ≡ t1 ++ 10 ∷ [] → t ++ table_text (drop i ns) ≡ table_text ns
+    → t2 ++ table_text (drop (i + 1) ns) ≡ table_text ns
+line_more ns i t t1 t2 less first second h =
+    let n = get_or ns i 0 in
+    let rest = table_text (drop (i + 1) ns) in
+    let left : table_text (drop i ns) ≡ decimal n ++ 10 ∷ rest = at_drop_more table_text ns i 0 less in
+    ap (λ u. u ++ rest) (second ∙ ap (λ u. u ++ 10 ∷ []) first)
+    ∙ (append_assoc (t ++ decimal n) (10 ∷ []) rest
+    ∙ (append_assoc t (decimal n) (10 ∷ rest)
+    ∙ (ap (λ u. t ++ u) (sym left) ∙ h)))
+
+-- ---- events
+
+pub said_same : (ns : List ℕ) (es : List Event) → map said (with_numbers ns es) ≡ map said es
+said_same ns [] = refl
+said_same ns (e ∷ es) = ap (λ xs. said e ∷ xs) (said_same ns es)
+
+-- one event more
+pub event_more : (ns : List ℕ) (es : List Event) (i : ℕ) (d : Event) (vs ws : List Event) → i < length es
+    → vs ≡ with_numbers ns (take i es) → ws ≡ vs ++ numbered_by ns (get_or es i d) ∷ []
+    → ws ≡ with_numbers ns (take (i + 1) es)
+event_more ns es i d vs ws less so_far more =
+    more ∙ (ap (λ u. u ++ numbered_by ns (get_or es i d) ∷ []) so_far ∙ sym (map_more (numbered_by ns) es i d less))
+
+-- events whose numbers rise, and are all below the next
+pub record RiseBelow (next : ℕ) (es : List Event) : Type 0 where
+  pub below : All (λ e. e.number < next) es
+  pub rising : AllPairs (λ a b. a.number < b.number) es
+
+pub rise_further : (es : List Event) (e : Event) (next : ℕ) → RiseBelow next es → next ≤ e.number
+    → RiseBelow (e.number + 1) (es ++ e ∷ [])
+rise_further es e next h far = record {
+  below = All-push (λ d. d.number < e.number + 1) es e
+      (All-weaker (λ d. d.number < next) (λ d. d.number < e.number + 1) (λ d less. omega arith) es h.below)
+      (omega arith);
+  rising = all_pairs_push (λ a b. a.number < b.number) es e h.rising
+      (λ k d less. let low = h.below k d less in omega arith);
+}
+
+-- ---- a table that does not fit
+
+-- the number that an event in this place gets
+abbrev pub number_of : List ℕ → List Event → ℕ → Event → ℕ
+number_of ns es k d = get_or ns (get_or es k d).number 0
+
+-- the next number is no greater than one that is above those of the first events
+abbrev pub IsDue : List ℕ → List Event → ℕ → ℕ → Type 0
+IsDue ns es i next = (n : ℕ) → ((k : ℕ) (d : Event) → k < i → number_of ns es k d < n) → next ≤ n
+
+pub due_more : (ns : List ℕ) (es : List Event) (i next : ℕ) (d : Event) → next ≡ number_of ns es i d + 1
+    → IsDue ns es (i + 1) next
+due_more ns es i next d is n h = let own = h i d (omega arith) in omega arith
+
+numbers_rise : (ns : List ℕ) (es : List Event) (i j : ℕ) (d e : Event) → i < j → j < length es
+    → AllPairs (λ a b. a.number < b.number) (with_numbers ns es) → number_of ns es i d < number_of ns es j e
+numbers_rise ns es i j d e less within rising =
+    let f = numbered_by ns in
+    let long = length-map es f in
+    let two = rising i j d less (omega arith) in
+    let first : (get_or (with_numbers ns es) i d).number ≡ number_of ns es i d =
+    ap (λ (x : Event). x.number) (get_or-map f es i d d (omega arith)) in
+    let second : (get_or (with_numbers ns es) j d).number ≡ number_of ns es j e =
+    ap (λ (x : Event). x.number) (get_or-map f es j e d within) in
+    omega (arith, two, first, second)
+
+-- where the numbers of all events rise, none is below the next
+pub no_misfit : (ns : List ℕ) (es : List Event) (i next : ℕ) (d : Event) → i < length es → IsDue ns es i next
+    → ((get_or es i d).number < length ns → number_of ns es i d < next)
+    → All (λ e. e.number < length ns) es → AllPairs (λ a b. a.number < b.number) (with_numbers ns es) → ⊥
+no_misfit ns es i next d within due low placed rising =
+    let below = low (placed i d within) in
+    let above = due (number_of ns es i d) (λ k e less. numbers_rise ns es k i e d less within rising) in
+    omega arith
+
+pub fits : (ns table : List ℕ) (es others : List Event) → table_text ns ≡ table → AreShort ns → length ns ≡ length es
+    → others ≡ with_numbers ns es → All (λ e. e.number < length ns) es
+    → AllPairs (λ a b. a.number < b.number) others → FitsTable ns table es
+fits ns table es others written short one_each are placed rising = record {
+  written = written;
+  short = short;
+  one_each = one_each;
+  placed = placed;
+  renumbered = record {
+    same = said_same ns es;
+    rising = subst (AllPairs (λ (a b : Event). a.number < b.number)) are rising;
+  };
+}

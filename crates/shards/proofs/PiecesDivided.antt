@@ -1,0 +1,257 @@
+-- A text that is divided piece by piece: whole lines at its front are divided, since texts with a line feed between
+-- them spell what both spell. A fault of a piece is one of the text, and at the end the text is divided.
+use Rattle.std.proofs.Common.{◌≡◌, ◌≢◌, ℕ, ◌+◌, ◌<◌, List, [], ◌∷◌, ◌++◌, drop, length, map, get_or, Option}
+use Rattle.std.proofs.Common.{refl, ap, sym, ◌∙◌, subst, append_assoc, arith}
+use Rattle.std.proofs.lemmas.List.{append-nil, drop_more, length-append, length-map, map-append}
+use Rattle.std.specs.Io.KnownBytes.{Consumes}
+use Rattle.edn_reader.specs.Datum.{Datum, max_length}
+use Rattle.edn_reader.specs.Laws.{SpellsBefore}
+use Rattle.edn_reader.specs.Sound.{IsUnreadable}
+use Rattle.edn_reader.specs.Spells.{Spells}
+use Rattle.edn_reader.specs.declared.fault.EdnFault.{EdnFault}
+use Rattle.edn_reader.specs.declared.fault.FaultKind.TheVariants.{TooLong, Unfinished}
+use Rattle.edn_reader.proofs.Joined.{joined_spell}
+use Rattle.history.specs.declared.fault.TextFault.{TextFault}
+use Rattle.history.specs.declared.fault.TextFault.TheVariants.{Text, Maps}
+use Rattle.shards.specs.declared.divider.Divider.{Divider}
+use Rattle.shards.specs.declared.fault.SplitFault.{SplitFault}
+use Rattle.shards.specs.declared.fault.SplitFault.TheVariants as split_fault
+use Rattle.shards.specs.declared.pieces.Pieces.{Pieces}
+use Rattle.shards.specs.Dividing.{Files}
+use Rattle.shards.specs.Folders.{AddsFiles, AddsShards}
+use Rattle.shards.specs.ShardTexts.{SpelledMap}
+use Rattle.shards.specs.SplitFaults.{EndsPiece, HasTextFault, IsSplitFault}
+use Rattle.shards.specs.Taking.{AreTaken, AreTakenOf, AreTakenAfter, IsPieceFault, NoneWait, forms_of, no_lines}
+use Rattle.shards.specs.Taking.{with_more}
+use Rattle.shards.specs.UnderWay.{AreUnderWay, EndsInsideForm, IsFaultFrom, IsFaultIn, PassesPiece, ReadsOn, StaysAs}
+use Rattle.shards.specs.UnderWay.{too_long_at}
+use Rattle.judging.proofs.Consuming.{nothing_consumed, one_more_consumed}
+use Rattle.shards.proofs.Flushing.{adds_both, adds_nothing}
+
+forms_both : (a b : List SpelledMap) → forms_of (a ++ b) ≡ forms_of a ++ forms_of b
+forms_both a b = map-append (λ (m : SpelledMap). m.form) a b
+
+-- ---- a piece more
+
+-- whole lines, with one piece more and the line feed after it
+lines_more : (front piece : List ℕ) (ds es : List Datum) → SpellsBefore front ds → Spells es piece
+    → SpellsBefore (front ++ (piece ++ 10 ∷ [])) (ds ++ es)
+lines_more front piece ds es before spells fs after h =
+    let later : Spells (es ++ fs) (piece ++ 10 ∷ after) = joined_spell es fs piece after spells h in
+    let text : front ++ (piece ++ 10 ∷ after) ≡ (front ++ (piece ++ 10 ∷ [])) ++ after =
+    ap (λ xs. front ++ xs) (sym (append_assoc piece (10 ∷ []) after))
+    ∙ sym (append_assoc front (piece ++ 10 ∷ []) after) in
+    subst (λ xs. Spells xs ((front ++ (piece ++ 10 ∷ [])) ++ after)) (sym (append_assoc ds es fs))
+    (subst (Spells (ds ++ (es ++ fs))) text (before (es ++ fs) (piece ++ 10 ∷ after) later))
+
+pub nothing_before : SpellsBefore [] []
+nothing_before es after h = h
+
+pub passes_piece : (count : ℕ) (d e : Divider) (p q : Pieces) (text piece : List ℕ) (written : Files)
+    (h : AreUnderWay count d p text written) → AreTakenOf piece count e h.maps written → PassesPiece p q piece
+    → AreUnderWay count e q text written
+passes_piece count d e p q text piece written h t pass =
+    let line : List ℕ = piece ++ 10 ∷ [] in
+    let long : length (h.front ++ line) ≡ length h.front + (length piece + 1) =
+    length-append h.front line ∙ ap (λ n. length h.front + n) (length-append piece (10 ∷ [])) in
+    record {
+      front = h.front ++ line;
+      maps = h.maps ++ t.more;
+      parts = h.parts ∙ (ap (λ xs. h.front ++ xs) (pass.text ∙ sym (append_assoc piece (10 ∷ []) q.text.items))
+          ∙ sym (append_assoc h.front line q.text.items));
+      start = pass.start ∙ (ap (λ n. n + (length piece + 1)) h.start ∙ sym long);
+      lines = subst (SpellsBefore (h.front ++ line)) (sym (forms_both h.maps t.more))
+          (lines_more h.front piece (forms_of h.maps) (forms_of t.more) h.lines t.spells);
+      taken = t.taken;
+    }
+
+-- nothing was taken
+pub stays : (count : ℕ) (d e : Divider) (p q : Pieces) (text : List ℕ) (written : Files) → e ≡ d → StaysAs p q
+    → AreUnderWay count d p text written → AreUnderWay count e q text written
+stays count d e p q text written same stay h = record {
+  front = h.front;
+  maps = h.maps;
+  parts = h.parts ∙ ap (λ xs. h.front ++ xs) (sym stay.text);
+  start = stay.start ∙ h.start;
+  lines = h.lines;
+  taken = subst (λ x. AreTaken count x h.maps written) (sym same) h.taken;
+}
+
+-- more of the text was read
+pub reads_on : (count : ℕ) (d : Divider) (p q : Pieces) (text : List ℕ) (written : Files)
+    (left left_after : Option (List ℕ)) (r : ReadsOn p q left left_after) → AreUnderWay count d p text written
+    → AreUnderWay count d q (text ++ r.more) written
+reads_on count d p q text written left left_after r h = record {
+  front = h.front;
+  maps = h.maps;
+  parts = ap (λ xs. xs ++ r.more) h.parts ∙ (append_assoc h.front p.text.items r.more
+      ∙ ap (λ xs. h.front ++ xs) (sym r.text));
+  start = r.start ∙ h.start;
+  lines = h.lines;
+  taken = h.taken;
+}
+
+-- What was read of a source is under way, and what was written was added to the files.
+pub record IsDividedSoFar (count : ℕ) (d : Divider) (p : Pieces) (left left_after : Option (List ℕ))
+    (files files_after : Option Files) : Type 0 where
+  pub text : List ℕ
+  pub consumed : Consumes left left_after text
+  pub written : Files
+  pub under_way : AreUnderWay count d p text written
+  pub adds : AddsFiles files files_after written
+
+pub nothing_so_far : (count : ℕ) (d : Divider) (p : Pieces) (left : Option (List ℕ)) (files : Option Files)
+    → p.text.items ≡ [] → p.start ≡ 0 → AreTaken count d [] no_lines → IsDividedSoFar count d p left left files files
+nothing_so_far count d p left files empty start taken = record {
+  text = [];
+  consumed = nothing_consumed left;
+  written = no_lines;
+  under_way = record {
+    front = [];
+    maps = [];
+    parts = sym empty;
+    start = start;
+    lines = nothing_before;
+    taken = taken;
+  };
+  adds = adds_nothing files;
+}
+
+pub more_so_far : (count : ℕ) (d : Divider) (p q : Pieces) (left now left_after : Option (List ℕ))
+    (files files_after : Option Files) → ReadsOn p q now left_after
+    → IsDividedSoFar count d p left now files files_after
+    → IsDividedSoFar count d q left left_after files files_after
+more_so_far count d p q left now left_after files files_after r h = record {
+  text = h.text ++ r.more;
+  consumed = one_more_consumed left now left_after h.text r.more h.consumed r.consumed;
+  written = h.written;
+  under_way = reads_on count d p q h.text h.written now left_after r h.under_way;
+  adds = h.adds;
+}
+
+-- what waited was written
+pub flushed_so_far : (count : ℕ) (d e : Divider) (p q : Pieces) (left left_after : Option (List ℕ))
+    (files now files_after : Option Files)
+    → ((text : List ℕ) (written : Files) → AreUnderWay count d p text written → AreUnderWay count e q text written)
+    → (f : Divider) → ((maps : List SpelledMap) (written : Files) → AreTaken count e maps written
+    → AreTakenAfter count f maps written now files_after)
+    → IsDividedSoFar count d p left left_after files now → IsDividedSoFar count f q left left_after files files_after
+flushed_so_far count d e p q left left_after files now files_after divided f flushed h =
+    let u = divided h.text h.written h.under_way in
+    let t = flushed u.maps h.written u.taken in
+    record {
+      text = h.text;
+      consumed = h.consumed;
+      written = with_more h.written t.more;
+      under_way = record
+          { front = u.front; maps = u.maps; parts = u.parts; start = u.start; lines = u.lines; taken = t.taken };
+      adds = adds_both files now files_after h.written t.more h.adds t.adds;
+    }
+
+-- ---- faults
+
+text_fault : (count : ℕ) (d : Divider) (p : Pieces) (text piece rest : List ℕ) (written : Files)
+    (left : Option (List ℕ)) (e : EdnFault) (place : ℕ) → (h : AreUnderWay count d p text written)
+    → p.text.items ≡ piece ++ rest → e.place ≡ p.start + place → IsUnreadable piece (record e { place = place })
+    → (e.kind ≢ TooLong → EndsPiece rest left) → (e.kind ≡ Unfinished → rest ≡ []) → HasTextFault text left e
+text_fault count d p text piece rest written left e place h parts place_is unreadable ends last = record {
+  front = h.front;
+  piece = piece;
+  rest = rest;
+  parts = h.parts ∙ ap (λ xs. h.front ++ xs) parts;
+  forms = forms_of h.maps;
+  lines = h.lines;
+  faultless = h.taken.read.faultless;
+  place = place;
+  place_is = place_is ∙ ap (λ n. n + place) h.start;
+  unreadable = unreadable;
+  ends = ends;
+  last = last;
+}
+
+-- a fault of a piece, after which this rest of the text was read
+pub fault_in : (count : ℕ) (d : Divider) (p : Pieces) (text piece rest : List ℕ) (written : Files)
+    (left : Option (List ℕ)) (fault : TextFault) (f : SplitFault) → (h : AreUnderWay count d p text written)
+    → p.text.items ≡ piece ++ rest → EndsPiece rest left → IsPieceFault (forms_of h.maps) piece fault
+    → (EndsInsideForm fault → rest ≡ []) → IsFaultFrom p.start fault f → IsFaultIn text left f
+fault_in count d p text piece rest written left fault (split_fault.Malformed (Text e)) h parts ends is last from =
+    let place : ℕ = from.0 in
+    let own : EdnFault = record e { place = place } in
+    let piece_is : IsPieceFault (forms_of h.maps) piece (Text own) =
+    subst (IsPieceFault (forms_of h.maps) piece) from.2 is in
+    text_fault count d p text piece rest written left e place h parts from.1 (piece_is from.3) (λ ne. ends)
+    (subst (λ x. EndsInsideForm x → rest ≡ []) from.2 last)
+fault_in count d p text piece rest written left fault (split_fault.Malformed (Maps f)) h parts ends is last from =
+    let found = (subst (IsPieceFault (forms_of h.maps) piece) from.0 is) from.1 in
+    record {
+      piece = h.front ++ piece;
+      rest = rest;
+      parts = h.parts ∙ (ap (λ xs. h.front ++ xs) parts ∙ sym (append_assoc h.front piece rest));
+      ends = ends;
+      forms = forms_of h.maps ++ found.0;
+      spelled = h.lines found.0 piece found.1;
+      found = found.2;
+    }
+fault_in count d p text piece rest written left fault split_fault.Read h parts ends is last from = tt
+fault_in count d p text piece rest written left fault split_fault.Write h parts ends is last from = tt
+fault_in count d p text piece rest written left fault split_fault.NoMemory h parts ends is last from = tt
+
+-- the rest that begins with a line feed
+pub ends_at_feed : (text : List ℕ) (n : ℕ) (left : Option (List ℕ)) → n < length text → get_or text n 0 ≡ 10
+    → EndsPiece (drop n text) left
+ends_at_feed text n left l feed =
+    subst (λ xs. EndsPiece xs left) (sym (drop_more text n 0 l)) feed
+
+-- what was read is longer than a text may be, and no piece of it can be read
+pub too_long_in : (count : ℕ) (d : Divider) (p : Pieces) (text : List ℕ) (written : Files) (left : Option (List ℕ))
+    → AreUnderWay count d p text written → max_length < length p.text.items
+    → IsFaultIn text left (split_fault.Malformed (too_long_at p.start))
+too_long_in count d p text written left h long =
+    let e : EdnFault = record { kind = TooLong; place = p.start } in
+    let at_start : p.start ≡ p.start + 0 = omega arith in
+    let unreadable : IsUnreadable p.text.items (record e { place = 0 }) =
+    record { not_memory = λ q. cc q; too_long = (λ q. long, λ l. refl); nothing = λ ne. absurd (ne refl) } in
+    text_fault count d p text p.text.items [] written left e 0 h (sym (append-nil p.text.items)) at_start unreadable
+    (λ ne. absurd (ne refl)) (λ q. refl)
+
+-- a fault of the text that was read
+pub split_fault_of : (f : SplitFault) (left left_after : Option (List ℕ)) (text : List ℕ)
+    → Consumes left left_after text → IsFaultIn text left_after f → IsSplitFault f left left_after
+split_fault_of (split_fault.Malformed fault) left left_after text consumed h = (text, consumed, h)
+split_fault_of split_fault.Read left left_after text consumed h = tt
+split_fault_of split_fault.Write left left_after text consumed h = tt
+split_fault_of split_fault.NoMemory left left_after text consumed h = tt
+
+-- ---- the end
+
+pub adds_shards : (count : ℕ) (d e : Divider) (p : Pieces) (text : List ℕ) (written : Files)
+    (first files files_after : Option Files) (counts : List ℕ) (h : AreUnderWay count d p text written)
+    (t : AreTakenOf p.text.items count e h.maps written) (last : Divider)
+    (f : AreTakenAfter count last (h.maps ++ t.more) written files files_after)
+    → AddsFiles first files written → NoneWait last.waiting.items
+    → counts ≡ map (λ w. w.count) last.waiting.items → length last.waiting.items ≡ last.shards
+    → AddsShards count counts text first files_after
+adds_shards count d e p text written first files files_after counts h t last f adds none counted long =
+    let maps : List SpelledMap = h.maps ++ t.more in
+    let spelled : Spells (forms_of maps) text =
+    subst (λ ds. Spells ds text) (sym (forms_both h.maps t.more))
+    (subst (Spells (forms_of h.maps ++ forms_of t.more)) (sym h.parts)
+    (h.lines (forms_of t.more) p.text.items t.spells)) in
+    record {
+      added = with_more written f.more;
+      divided = record {
+        split = record {
+          maps = maps;
+          spelled = spelled;
+          each = f.taken.each;
+          faultless = f.taken.read.faultless;
+          texts = λ s. sym (append-nil (written.texts s ++ f.more.texts s))
+              ∙ (ap (λ xs. (written.texts s ++ f.more.texts s) ++ xs) (sym (none.maps s)) ∙ f.taken.texts s);
+        };
+        tables = λ s. sym (append-nil (written.tables s ++ f.more.tables s))
+            ∙ (ap (λ xs. (written.tables s ++ f.more.tables s) ++ xs) (sym (none.places s)) ∙ f.taken.tables s);
+      };
+      adds = adds_both first files files_after written f.more adds f.adds;
+      each_counted = ap length counted ∙ (length-map last.waiting.items (λ w. w.count) ∙ (long ∙ f.taken.shards));
+      counted = λ s l. ap (λ xs. get_or xs s 0) counted ∙ f.taken.counts s l;
+    }

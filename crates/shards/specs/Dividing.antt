@@ -1,0 +1,43 @@
+-- A history of any length that is divided into a number of shards: the text of each, and a table of
+-- the numbers that its maps have in the whole.
+use Rattle.std.specs.Prelude.{◌≡◌, ℕ, ◌+◌, ◌%◌, ◌==◌, Bool, List, [], ◌∷◌, ◌++◌, decimal, map}
+use Rattle.std.specs.Prelude.{if◌then◌else◌, get_or}
+use Rattle.edn_reader.specs.Datum.{Datum}
+use Rattle.events.specs.declared.event.Event.{Event}
+use Rattle.shards.specs.Forms.{is_on}
+use Rattle.shards.specs.ShardTexts.{IsSplit}
+
+-- of this many shards, the one with object x
+abbrev pub shard_among : ℕ → ℕ → ℕ
+shard_among count x = x % count
+
+-- the places of the maps of clients on some objects, where the first form is in this place
+abbrev pub places_from : ℕ → (ℕ → Bool) → List Datum → List ℕ
+places_from n has [] = []
+places_from n has (d ∷ ds) =
+    (if is_on has d then n ∷ [] else []) ++ places_from (n + 1) has ds
+
+-- the text of a table: a number on each line
+abbrev pub table_text : List ℕ → List ℕ
+table_text [] = []
+table_text (n ∷ ns) = decimal n ++ 10 ∷ table_text ns
+
+-- what is in the files of the shards: of each shard the text, and the table
+pub record Files : Type 0 where
+  pub texts : ℕ → List ℕ
+  pub tables : ℕ → List ℕ
+
+-- The texts are a split of the whole, and the table of each shard has the places that its maps have
+-- in the whole.
+pub record IsDivided (shard_of : ℕ → ℕ) (whole : List ℕ) (files : Files) : Type 0 where
+  pub split : IsSplit shard_of whole files.texts
+  pub tables : (s : ℕ) → files.tables s
+      ≡ table_text (places_from 0 (λ x. shard_of x == s) (map (λ m. m.form) split.maps))
+
+-- the event with the number that is in its place of the list: the map in place k of a shard's text
+-- gets the number that it has in the whole
+abbrev pub numbered_by : List ℕ → Event → Event
+numbered_by ns e = record e { number = get_or ns e.number 0 }
+
+abbrev pub with_numbers : List ℕ → List Event → List Event
+with_numbers ns es = map (numbered_by ns) es

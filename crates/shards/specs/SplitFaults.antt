@@ -1,0 +1,83 @@
+-- What is wrong with a whole that was not divided.
+use Rattle.std.specs.Prelude.{⊤, ◌≡◌, ◌≢◌, ℕ, ◌+◌, ◌<◌, List, [], ◌∷◌, ◌++◌, length, take}
+use Rattle.std.specs.Prelude.{Bool, true, Option}
+use Rattle.std.specs.Io.KnownBytes.{Consumes, IsAtEnd}
+use Rattle.edn_reader.specs.Datum.{Datum}
+use Rattle.edn_reader.specs.Laws.{SpellsBefore}
+use Rattle.edn_reader.specs.Sound.{IsUnreadable}
+use Rattle.edn_reader.specs.Spells.{Spells}
+use Rattle.edn_reader.specs.declared.fault.EdnFault.{EdnFault}
+use Rattle.edn_reader.specs.declared.fault.FaultKind.TheVariants.{TooLong, Unfinished}
+use Rattle.edn_fields.specs.FirstFaults.{IsFirstFaultBy}
+use Rattle.history.specs.Faults.{IsFaultlessAtAnyLength, IsMapFault, number_of}
+use Rattle.history.specs.declared.fault.HistoryFault.{HistoryFault}
+use Rattle.history.specs.declared.fault.HistoryFaultKind.TheVariants.{TooMany}
+use Rattle.history.specs.declared.fault.TextFault.{TextFault}
+use Rattle.history.specs.declared.fault.TextFault.TheVariants.{Text, Maps}
+use Rattle.shards.specs.declared.fault.SplitFault.{SplitFault}
+use Rattle.shards.specs.declared.fault.SplitFault.TheVariants.{Read, Write, Malformed, NoMemory}
+
+-- the most maps of a history that can be divided
+abbrev pub most_maps : ℕ
+most_maps = 4294967295
+
+-- This is the first fault of these forms; or they are more than can be divided, this is the first
+-- form that is too many, and those before it have no fault.
+abbrev pub IsFoundAmong : List Datum → HistoryFault → Type 0
+IsFoundAmong ds f =
+    (f.kind ≢ TooMany → IsFirstFaultBy IsMapFault number_of ds f.map f.kind)
+    × (f.kind ≡ TooMany → (f.map ≡ most_maps) × (most_maps < length ds)
+    × IsFaultlessAtAnyLength (take most_maps ds))
+
+-- What is read after a piece of a text: a line feed, or nothing where the source is at its end.
+abbrev pub EndsPiece : List ℕ → Option (List ℕ) → Type 0
+EndsPiece [] left = IsAtEnd left
+EndsPiece (b ∷ bs) left = b ≡ 10
+
+-- The text begins with a piece that spells forms, in which this was found.
+pub record HasMapFault (text : List ℕ) (left : Option (List ℕ)) (f : HistoryFault) : Type 0 where
+  pub piece : List ℕ
+  pub rest : List ℕ
+  pub parts : text ≡ piece ++ rest
+  pub ends : EndsPiece rest left
+  pub forms : List Datum
+  pub spelled : Spells forms piece
+  pub found : IsFoundAmong forms f
+
+-- The text begins with lines of maps without a fault, and a piece after them is unreadable. The
+-- place is that in the text. A piece that ends inside a form is the last, and one that is too long
+-- goes as far as the text was read.
+pub record HasTextFault (text : List ℕ) (left : Option (List ℕ)) (e : EdnFault) : Type 0 where
+  pub front : List ℕ
+  pub piece : List ℕ
+  pub rest : List ℕ
+  pub parts : text ≡ front ++ (piece ++ rest)
+  pub forms : List Datum
+  pub lines : SpellsBefore front forms
+  pub faultless : IsFaultlessAtAnyLength forms
+  pub place : ℕ
+  pub place_is : e.place ≡ length front + place
+  pub unreadable : IsUnreadable piece (record e { place = place })
+  pub ends : e.kind ≢ TooLong → EndsPiece rest left
+  pub last : e.kind ≡ Unfinished → rest ≡ []
+
+-- what a fault of a text says of it, given what its source has left
+abbrev pub IsFaultOf : List ℕ → Option (List ℕ) → TextFault → Type 0
+IsFaultOf text left (Maps f) = HasMapFault text left f
+IsFaultOf text left (Text e) = HasTextFault text left e
+
+-- what a fault says of the text that was read of a source, given what the source had left before
+-- and after
+abbrev pub IsSplitFault : SplitFault → Option (List ℕ) → Option (List ℕ) → Type 0
+IsSplitFault (Malformed fault) left left_after =
+    (text : List ℕ) × Consumes left left_after text × IsFaultOf text left_after fault
+IsSplitFault Read left left_after = ⊤
+IsSplitFault Write left left_after = ⊤
+IsSplitFault NoMemory left left_after = ⊤
+
+-- where a fault says that its source failed, or its folder, this is so
+abbrev pub IsFailureOf : SplitFault → Bool → Bool → Type 0
+IsFailureOf Read source folder = source ≡ true
+IsFailureOf Write source folder = folder ≡ true
+IsFailureOf (Malformed fault) source folder = ⊤
+IsFailureOf NoMemory source folder = ⊤

@@ -1,0 +1,113 @@
+-- What a history's text is while it is divided. No public clause names these.
+use Rattle.std.specs.Prelude.{⊤, ◌≡◌, ◌≢◌, ℕ, ◌+◌, ◌<◌, ◌==◌, List, [], ◌∷◌, ◌++◌, All, length}
+use Rattle.std.specs.Prelude.{decimal, get_or, map, Option}
+use Rattle.edn_reader.specs.Datum.{Datum}
+use Rattle.edn_reader.specs.Sound.{IsUnreadable}
+use Rattle.edn_reader.specs.Spells.{Spells}
+use Rattle.edn_reader.specs.declared.fault.FaultKind.TheVariants as edn_kind
+use Rattle.history.specs.LongReading.{AreReadAtAnyLength}
+use Rattle.history.specs.declared.fault.HistoryFaultKind.TheVariants as history_kind
+use Rattle.history.specs.declared.fault.TextFault.{TextFault}
+use Rattle.history.specs.declared.fault.TextFault.TheVariants.{Text, Maps}
+use Rattle.shards.specs.declared.divider.Divider.{Divider}
+use Rattle.shards.specs.declared.waiting.Waiting.{Waiting}
+use Rattle.shards.specs.Dividing.{Files, places_from, shard_among, table_text}
+use Rattle.shards.specs.Folders.{AddsFiles, lines_for}
+use Rattle.shards.specs.ShardTexts.{SpelledMap, lines_of, maps_of_shard}
+use Rattle.shards.specs.SplitFaults.{IsFoundAmong}
+
+-- ---- what waits to be written of one shard
+
+-- The lines at the front of what waited were added to the files of this shard.
+pub record Flushes (shard : ℕ) (old new : Waiting) (files files_after : Option Files) : Type 0 where
+  pub maps : List ℕ
+  pub places : List ℕ
+  pub of_maps : old.maps.items ≡ maps ++ new.maps.items
+  pub of_places : old.places.items ≡ places ++ new.places.items
+  pub count : new.count ≡ old.count
+  pub adds : AddsFiles files files_after (lines_for shard maps places)
+
+-- ---- what waits of each shard
+
+abbrev pub waiting_maps : List Waiting → ℕ → List ℕ
+waiting_maps ws s = get_or (map (λ w. w.maps.items) ws) s []
+
+abbrev pub waiting_places : List Waiting → ℕ → List ℕ
+waiting_places ws s = get_or (map (λ w. w.places.items) ws) s []
+
+-- how many maps a shard has, with those that were written
+abbrev pub count_in : List Waiting → ℕ → ℕ
+count_in ws s = get_or (map (λ w. w.count) ws) s 0
+
+-- no lines wait, of any shard
+pub record NoneWait (ws : List Waiting) : Type 0 where
+  pub maps : (s : ℕ) → waiting_maps ws s ≡ []
+  pub places : (s : ℕ) → waiting_places ws s ≡ []
+
+-- a map with its place was added to what waits of one shard
+pub record AddsLine (shard : ℕ) (text : List ℕ) (place : ℕ) (old new : List Waiting) : Type 0 where
+  pub long : length new ≡ length old
+  pub maps : waiting_maps new shard ≡ waiting_maps old shard ++ (text ++ 10 ∷ [])
+  pub places : waiting_places new shard ≡ waiting_places old shard ++ (decimal place ++ 10 ∷ [])
+  pub count : count_in new shard ≡ count_in old shard + 1
+  pub other_maps : (s : ℕ) → s ≢ shard → waiting_maps new s ≡ waiting_maps old s
+  pub other_places : (s : ℕ) → s ≢ shard → waiting_places new s ≡ waiting_places old s
+  pub other_counts : (s : ℕ) → s ≢ shard → count_in new s ≡ count_in old s
+
+-- ---- the maps that were taken
+
+abbrev pub forms_of : List SpelledMap → List Datum
+forms_of maps = map (λ m. m.form) maps
+
+abbrev pub spelled : Datum → List ℕ → SpelledMap
+spelled d text = record { form = d; text = text }
+
+-- no files have anything
+abbrev pub no_lines : Files
+no_lines = record { texts = λ s. []; tables = λ s. [] }
+
+-- the files with these added
+abbrev pub with_more : Files → Files → Files
+with_more files more = record {
+  texts = λ s. files.texts s ++ more.texts s;
+  tables = λ s. files.tables s ++ more.tables s;
+}
+
+-- These maps were taken, and divided into this many shards. Of the files of each shard some lines
+-- were written, and the others wait.
+pub record AreTaken (count : ℕ) (d : Divider) (maps : List SpelledMap) (written : Files) : Type 0
+  where
+    pub shards : d.shards ≡ count
+    pub read : AreReadAtAnyLength d.reader (forms_of maps)
+    pub each : All (λ m. Spells (m.form ∷ []) m.text) maps
+    pub texts : (s : ℕ) → written.texts s ++ waiting_maps d.waiting.items s
+        ≡ lines_of (maps_of_shard (shard_among count) s maps)
+    pub tables : (s : ℕ) → written.tables s ++ waiting_places d.waiting.items s
+        ≡ table_text (places_from 0 (λ x. shard_among count x == s) (forms_of maps))
+    pub counts : (s : ℕ) → s < count → count_in d.waiting.items s
+        ≡ length (maps_of_shard (shard_among count) s maps)
+
+-- A piece spells more maps, and these were taken too.
+pub record AreTakenOf (piece : List ℕ) (count : ℕ) (d : Divider) (maps : List SpelledMap)
+    (written : Files) : Type 0 where
+  pub more : List SpelledMap
+  pub spells : Spells (forms_of more) piece
+  pub taken : AreTaken count d (maps ++ more) written
+
+-- Lines that waited were added to the files.
+pub record AreTakenAfter (count : ℕ) (d : Divider) (maps : List SpelledMap) (written : Files)
+    (files files_after : Option Files) : Type 0 where
+  pub more : Files
+  pub adds : AddsFiles files files_after more
+  pub taken : AreTaken count d maps (with_more written more)
+
+-- a fault of a piece after these forms: it is unreadable, or it spells more forms, in which this
+-- was found
+abbrev pub IsPieceFault : List Datum → List ℕ → TextFault → Type 0
+IsPieceFault ds piece (Text e) = e.kind ≢ edn_kind.NoMemory → IsUnreadable piece e
+IsPieceFault ds piece (Maps f) = f.kind ≢ history_kind.NoMemory
+    → (es : List Datum) × Spells es piece × IsFoundAmong (ds ++ es) f
+
+abbrev pub IsOfText : TextFault → Type 0
+IsOfText (Text e) = ⊤
+IsOfText (Maps f) = ⊥

@@ -1,0 +1,79 @@
+-- How far a history's text is read and divided. No public clause names these.
+use Rattle.std.specs.Prelude.{⊤, ◌≡◌, ◌≢◌, ℕ, ◌+◌, List, ◌∷◌, ◌++◌, length, Option, true}
+use Rattle.std.specs.Io.KnownBytes.{Consumes, IsAtEnd}
+use Rattle.edn_reader.specs.Laws.{SpellsBefore}
+use Rattle.edn_reader.specs.declared.fault.FaultKind.TheVariants as edn_kind
+use Rattle.history.specs.declared.fault.HistoryFaultKind.TheVariants as history_kind
+use Rattle.history.specs.declared.fault.TextFault.{TextFault}
+use Rattle.history.specs.declared.fault.TextFault.TheVariants.{Text, Maps}
+use Rattle.shards.specs.declared.divider.Divider.{Divider}
+use Rattle.shards.specs.declared.fault.SplitFault.{SplitFault}
+use Rattle.shards.specs.declared.fault.SplitFault.TheVariants.{Read, Write, Malformed, NoMemory}
+use Rattle.shards.specs.declared.pieces.Pieces.{Pieces}
+use Rattle.shards.specs.Dividing.{Files}
+use Rattle.shards.specs.ShardTexts.{SpelledMap}
+use Rattle.shards.specs.SplitFaults.{IsFaultOf}
+use Rattle.shards.specs.Taking.{AreTaken, forms_of}
+
+-- More was read of a source: what it had left before, and has left after.
+pub record ReadsOn (old new : Pieces) (left left_after : Option (List ℕ)) : Type 0 where
+  pub more : List ℕ
+  pub consumed : Consumes left left_after more
+  pub text : new.text.items ≡ old.text.items ++ more
+  pub start : new.start ≡ old.start
+  pub ended : new.is_ended ≡ true → IsAtEnd left_after
+
+-- The piece at the front is gone, and the line feed after it.
+pub record PassesPiece (old new : Pieces) (piece : List ℕ) : Type 0 where
+  pub text : old.text.items ≡ piece ++ 10 ∷ new.text.items
+  pub start : new.start ≡ old.start + (length piece + 1)
+  pub ended : new.is_ended ≡ old.is_ended
+
+-- The same was read, and nothing is gone.
+pub record StaysAs (old new : Pieces) : Type 0 where
+  pub text : new.text.items ≡ old.text.items
+  pub start : new.start ≡ old.start
+  pub ended : new.is_ended ≡ old.is_ended
+
+-- This text was read. Its whole lines at the front are divided, and the pieces have the rest.
+pub record AreUnderWay (count : ℕ) (d : Divider) (p : Pieces) (text : List ℕ) (written : Files)
+    : Type 0 where
+  pub front : List ℕ
+  pub maps : List SpelledMap
+  pub parts : text ≡ front ++ p.text.items
+  pub start : p.start ≡ length front
+  pub lines : SpellsBefore front (forms_of maps)
+  pub taken : AreTaken count d maps written
+
+-- the text ends inside a form
+abbrev pub EndsInsideForm : TextFault → Type 0
+EndsInsideForm (Text e) = e.kind ≡ edn_kind.Unfinished
+EndsInsideForm (Maps f) = ⊥
+
+-- what was read from this place on is too long
+abbrev pub too_long_at : ℕ → TextFault
+too_long_at start = Text (record { kind = edn_kind.TooLong; place = start })
+
+-- the fault of a piece that begins at this place, where the place of the fault is that in the text
+abbrev pub IsFaultFrom : ℕ → TextFault → SplitFault → Type 0
+IsFaultFrom start fault (Malformed (Text e)) = (place : ℕ) × (e.place ≡ start + place)
+    × (fault ≡ Text (record e { place = place })) × (e.kind ≢ edn_kind.NoMemory)
+IsFaultFrom start fault (Malformed (Maps f)) =
+    (fault ≡ Maps f) × (f.kind ≢ history_kind.NoMemory)
+IsFaultFrom start fault Read = ⊥
+IsFaultFrom start fault Write = ⊥
+IsFaultFrom start fault NoMemory = ⊤
+
+-- what a fault says of the text that was read, given what its source has left
+abbrev pub IsFaultIn : List ℕ → Option (List ℕ) → SplitFault → Type 0
+IsFaultIn text left (Malformed fault) = IsFaultOf text left fault
+IsFaultIn text left Read = ⊤
+IsFaultIn text left Write = ⊤
+IsFaultIn text left NoMemory = ⊤
+
+-- nothing is wrong with the text
+abbrev pub IsOfHost : SplitFault → Type 0
+IsOfHost (Malformed fault) = ⊥
+IsOfHost Read = ⊤
+IsOfHost Write = ⊤
+IsOfHost NoMemory = ⊤
