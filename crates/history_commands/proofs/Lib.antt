@@ -7,3 +7,7 @@ pub mod Meanings
 pub mod Verified
 pub mod Checked
 pub mod Numbers
+pub mod Findings
+pub mod Merged
+pub mod MergeOutputs
+pub mod KindSums

@@ -4,3 +4,5 @@ pub mod Comments
 pub mod Searches
 pub mod Refuted
 pub mod Verified
+pub mod ShardCounts
+pub mod Merged

@@ -37,7 +37,7 @@ pub(crate) trait Answer {
 }
 
 /// Whether some object is impossible.
-fn is_any_impossible<A: Answer>(answers: &[(u32, A)]) -> bool
+pub(crate) fn is_any_impossible<A: Answer>(answers: &[(u32, A)]) -> bool
     ensures { result ≡ list_any (λ a. A.impossible a.1) answers.now }
 {
     answers.iter().any(|answer| answer.1.is_impossible())

@@ -1,20 +1,27 @@
-//! The commands on a history that start no thread: they search for certificates, verify the history by
-//! claims, or check reasons why it is not linearizable. A command makes an `Output`, of its status and
-//! its lines. And the text of certificates, as comments.
+//! The commands on a history that start no thread: they search for certificates, verify the history
+//! by claims, check reasons why it is not linearizable, or merge what is found of its shards. A
+//! command makes an `Output`, of its status and its lines. And the text of certificates, as
+//! comments.
 #![tactic(auto)]
 
 mod answers;
 mod comments;
+mod finding;
 mod lines;
+mod merging;
+mod object_lines;
 mod output;
 mod refuting;
 mod searching;
+mod shard_answer;
+mod shard_counts;
 mod status;
 mod texts;
 mod verification;
 
 pub use comments::comments_text;
 pub use lines::{line_with_place, text_with_number};
+pub use merging::Merging;
 pub use output::{Output, verdict_output, with_verdict};
 pub use refuting::refute;
 pub use searching::search;

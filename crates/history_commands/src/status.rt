@@ -9,13 +9,14 @@ use report::Verdict;
 /// How a command ends.
 #[derive(Clone, Copy, Debug, PartialEq, Eq)]
 pub enum Status {
-    /// The history is linearizable, or each object has a certificate.
+    /// The history is linearizable, each object has a certificate, or the history was divided.
     Yes,
     /// The certificates are refused, or the history is not linearizable.
     No,
     /// A text other than evidence is malformed, or a client of a schedule has not ended.
     Malformed,
-    /// Some object stays open, nothing is shown, or the evidence is malformed.
+    /// Some object stays open, nothing is shown, the evidence is malformed, or a shard is too
+    /// large.
     Undecided,
     OutOfMemory,
     /// A thread could not be started.

@@ -83,7 +83,7 @@ fn lacks_memory(fault: ClaimTextFault) -> bool
 }
 
 /// The output for evidence that denotes no claims.
-fn refuse_evidence(alloc: Global, fault: ClaimTextFault) -> Result<Output, AllocError>
+pub(crate) fn refuse_evidence(alloc: Global, fault: ClaimTextFault) -> Result<Output, AllocError>
     ensures { IfOk result (λ o. IsOfText fault
         × IsExactly Status.Undecided (spec.evidence_fault_line fault) o.status o.text.items) }
 {

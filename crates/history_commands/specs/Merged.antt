@@ -1,0 +1,215 @@
+-- The merge of what is found of the shards of a history: what is answered of each, and the output.
+use Rattle.std.specs.Prelude.{◌≡◌, ◌⊎◌, ℕ, false, List, [], ◌∷◌, ◌++◌, codes, decimal, map, fold}
+use Rattle.std.specs.Prelude.{nat_lt, if◌then◌else◌, All, Any}
+use Rattle.std.specs.List.{AllZip, flat_map, list_all, list_any}
+use Rattle.std.specs.List.Sorted.{IsNonDecreasingBy, IsPermutation}
+use Rattle.edn_reader.specs.declared.fault.FaultKind.TheVariants.{TooLong}
+use Rattle.events.specs.declared.event.Event.{Event}
+use Rattle.events.specs.Events.{kind_at, denoted}
+use Rattle.history.specs.declared.fault.HistoryFaultKind.TheVariants.{TooMany}
+use Rattle.judging.specs.declared.texts.TextFailure.TheVariants.{Faulty}
+use Rattle.judging.specs.Texts.{DenotesHistory, IsHistoryFault, IsLinearizableText}
+use Rattle.judging.specs.Texts.{IsNotLinearizableText}
+use Rattle.model.specs.Linearizable.{IsLinearizable}
+use Rattle.model.specs.Orders.{events}
+use Rattle.report.specs.declared.verdict.Fault.{Fault}
+use Rattle.report.specs.declared.verdict.Fault.TheVariants.{HistoryText, HistoryMaps}
+use Rattle.report.specs.declared.verdict.Fault.TheVariants.{CertificateText, CertificateForms}
+use Rattle.report.specs.declared.verdict.Summary.{Summary}
+use Rattle.report.specs.declared.verdict.Verdict.TheVariants as verdict
+use Rattle.report.specs.Lines.{fault_line, verdict_text}
+use Rattle.shards.specs.Dividing.{with_numbers}
+use Rattle.shards.specs.Tables.{FitsTable}
+use Rattle.verifying.specs.declared.claim.Claim.{Claim}
+use Rattle.verifying.specs.declared.decision.Decision.{Decision}
+use Rattle.verifying.specs.declared.fault.ClaimTextFault.{ClaimTextFault}
+use Rattle.verifying.specs.Decisions.{AreDecisionsOn, is_impossible, is_order}
+use Rattle.verifying.specs.Texts.{IsTextFault}
+use Rattle.history_commands.specs.ShardCounts.{AreAdded, AreSums, Counted, counted}
+use Rattle.history_commands.specs.ShardCounts.{nothing_counted, seen_counts}
+use Rattle.history_commands.specs.Verified.{DenotesClaims, IsExplained, IsOfText}
+use Rattle.history_commands.specs.Verified.{decision_lines, evidence_fault_line}
+use Rattle.history_commands.specs.declared.finding.Finding.{Finding}
+use Rattle.history_commands.specs.declared.finding.Finding.TheVariants.{Certified, Undecided}
+use Rattle.history_commands.specs.declared.finding.Finding.TheVariants.{Refuted, Malformed}
+use Rattle.history_commands.specs.declared.merging.Merging.{Merging}
+use Rattle.history_commands.specs.declared.object_lines.ObjectLines.{ObjectLines}
+use Rattle.history_commands.specs.declared.shard_answer.ShardAnswer.{ShardAnswer}
+use Rattle.history_commands.specs.declared.status.Status.{Status}
+use Rattle.history_commands.specs.declared.status.Status.TheVariants as ends
+
+-- what a merge takes of a shard: its number, its text and its table, the evidence on it, and how
+-- many steps a search takes at most for which a claim names no number
+pub record Shard : Type 0 where
+  pub number : ℕ
+  pub text : List ℕ
+  pub table : List ℕ
+  pub evidence : List ℕ
+  pub limit : ℕ
+
+-- what is answered of a shard: what is found, a line on the shard or nothing, the lines on each of
+-- its objects that has no order, and what its history has
+pub record Answer : Type 0 where
+  pub finding : Finding
+  pub note : List ℕ
+  pub lines : List (ℕ × List ℕ)
+  pub counts : Counted
+
+-- ---- the order of findings
+
+abbrev pub rank_of : Finding → ℕ
+rank_of Certified = 0
+rank_of Undecided = 1
+rank_of Refuted = 2
+rank_of Malformed = 3
+
+abbrev pub worse : Finding → Finding → Finding
+worse f g = if nat_lt (rank_of f) (rank_of g) then g else f
+
+-- the worst of these: malformed before refuted, before undecided, before certified
+abbrev pub worst : List Finding → Finding
+worst fs = fold worse Certified fs
+
+abbrev pub status_with : Finding → Status
+status_with Certified = ends.Yes
+status_with Undecided = ends.Undecided
+status_with Refuted = ends.No
+status_with Malformed = ends.Malformed
+
+-- ---- a shard of which nothing is decided
+
+-- a line on a shard, as shard 5: too large
+abbrev pub shard_line : ℕ → List ℕ → List ℕ
+shard_line number said = (codes "shard " ++ (decimal number ++ codes ": ")) ++ said
+
+-- this is found, and said of the shard, and nothing of its objects
+abbrev pub IsNoted : ℕ → Finding → List ℕ → Answer → Type 0
+IsNoted number finding said a =
+    (a.finding ≡ finding) × (a.note ≡ shard_line number said) × (a.lines ≡ [])
+    × (a.counts ≡ nothing_counted)
+
+-- the text has too many bytes, or too many maps
+abbrev pub IsTooLarge : Fault → Type 0
+IsTooLarge (HistoryText e) = e.kind ≡ TooLong
+IsTooLarge (HistoryMaps f) = f.kind ≡ TooMany
+IsTooLarge (CertificateText e) = ⊥
+IsTooLarge (CertificateForms f) = ⊥
+
+-- what is answered of a shard whose text has this fault: that the text is malformed, unless it is
+-- too large, which says nothing of the whole
+abbrev pub AnswersFault : ℕ → Fault → Answer → Type 0
+AnswersFault number f a =
+    (IsTooLarge f × IsNoted number Undecided (codes "too large\n") a)
+    ⊎ ((IsTooLarge f → ⊥) × IsNoted number Malformed (fault_line f) a)
+
+-- ---- a shard that is decided
+
+-- what the decisions on all objects show: an object is impossible, or each has an order
+abbrev pub finding_on : List (ℕ × Decision) → Finding
+finding_on decisions =
+    if list_any (λ d. is_impossible d.1) decisions then Refuted
+    else if list_all (λ d. is_order d.1) decisions then Certified else Undecided
+
+-- the object and its lines, unless it has an order
+abbrev pub lines_by : List Event → ℕ → Decision → List (ℕ × List ℕ)
+lines_by es x d = if is_order d then [] else (x, decision_lines es x d) ∷ []
+
+-- what is answered by claims on the history that events denote, and what that shows
+pub record AnswersClaims (es : List Event) (claims : List Claim) (limit : ℕ) (a : Answer)
+    : Type 0 where
+  pub decisions : List (ℕ × Decision)
+  pub decided : AreDecisionsOn es claims limit decisions
+  pub finding_is : a.finding ≡ finding_on decisions
+  pub note_is : a.note ≡ []
+  pub lines_are : a.lines ≡ flat_map (λ d. lines_by es d.0 d.1) decisions
+  pub counts_are : a.counts ≡ counted es
+  pub certified : a.finding ≡ Certified → IsLinearizable (kind_at es) (events (denoted es))
+  pub refuted : a.finding ≡ Refuted → IsLinearizable (kind_at es) (events (denoted es)) → ⊥
+
+-- the same by evidence, which denotes claims, or is malformed
+abbrev pub AnswersEvidence : ℕ → List Event → List ℕ → ℕ → Answer → Type 0
+AnswersEvidence number es evidence limit a =
+    ((claims : List Claim) × DenotesClaims evidence claims × AnswersClaims es claims limit a)
+    ⊎ ((f : ClaimTextFault) × IsTextFault evidence f × IsOfText f
+    × IsNoted number Undecided (evidence_fault_line f) a)
+
+-- What is answered of the events of a shard, whose table gives them the numbers of the whole, or
+-- does not fit. The evidence is in these numbers.
+abbrev pub AnswersTable : ℕ → List Event → List ℕ → List ℕ → ℕ → Answer → Type 0
+AnswersTable number es table evidence limit a =
+    ((ns : List ℕ) × FitsTable ns table es
+    × AnswersEvidence number (with_numbers ns es) evidence limit a)
+    ⊎ (((ns : List ℕ) → FitsTable ns table es → ⊥)
+    × IsNoted number Malformed (codes "its table does not fit\n") a)
+
+-- What is answered of a shard, whose text denotes a history, or has a fault.
+abbrev pub AnswersShard : Shard → Answer → Type 0
+AnswersShard s a =
+    ((es : List Event) × DenotesHistory s.text es
+    × AnswersTable s.number es s.table s.evidence s.limit a)
+    ⊎ ((f : Fault) × IsHistoryFault s.text (Faulty f) × AnswersFault s.number f a)
+
+-- ---- what is kept
+
+-- the objects of lines, each with its text
+abbrev pub seen_lines : List ObjectLines → List (ℕ × List ℕ)
+seen_lines lines = map (λ l. (l.object, l.text.items)) lines
+
+abbrev pub seen : ShardAnswer → Answer
+seen a =
+    record {
+      finding = a.finding;
+      note = a.note.items;
+      lines = seen_lines a.lines.items;
+      counts = seen_counts a.counts;
+    }
+
+-- These shards were taken, and no others, and what is kept is what is answered of them.
+pub record AreMerged (m : Merging) (shards : List Shard) : Type 0 where
+  pub answers : List Answer
+  pub each : AllZip AnswersShard shards answers
+  pub finding_is : m.finding ≡ worst (map (λ a. a.finding) answers)
+  pub notes_are : m.notes.items ≡ flat_map (λ a. a.note) answers
+  pub lines_are : seen_lines m.lines.items ≡ flat_map (λ a. a.lines) answers
+  pub counts_are : AreAdded (seen_counts m.counts) (map (λ a. a.counts) answers)
+
+-- ---- the output
+
+-- these are the lines in rising number of the objects
+pub record AreInOrder (lines sorted : List (ℕ × List ℕ)) : Type 0 where
+  pub same : IsPermutation lines sorted
+  pub rising : IsNonDecreasingBy (λ l. l.0) sorted
+
+-- The lines where this is the worst that is found: those of a yes with the counts of all shards, or
+-- what is said of shards; and then, unless one of these is malformed, what is said of objects.
+abbrev pub AreLinesWith : Finding → List Answer → List ℕ → Type 0
+AreLinesWith Certified answers out =
+    (s : Summary) × AreSums s (map (λ a. a.counts) answers)
+    × (out ≡ verdict_text false (verdict.Yes s))
+AreLinesWith Malformed answers out = out ≡ flat_map (λ a. a.note) answers
+AreLinesWith f answers out =
+    (sorted : List (ℕ × List ℕ)) × AreInOrder (flat_map (λ a. a.lines) answers) sorted
+    × (out ≡ flat_map (λ a. a.note) answers ++ flat_map (λ l. l.1) sorted)
+
+-- the answers on these shards, and the worst of them with its lines
+pub record IsMergeOutput (shards : List Shard) (status : Status) (out : List ℕ) : Type 0 where
+  pub answers : List Answer
+  pub each : AllZip AnswersShard shards answers
+  pub status_is : status ≡ status_with (worst (map (λ a. a.finding) answers))
+  pub lines : AreLinesWith (worst (map (λ a. a.finding) answers)) answers out
+
+-- The lines show that an object of the shard, in the numbers of the whole, has no valid order.
+pub record IsExplainedShard (s : Shard) (out : List ℕ) : Type 0 where
+  pub events : List Event
+  pub denoted : DenotesHistory s.text events
+  pub numbers : List ℕ
+  pub fits : FitsTable numbers s.table events
+  pub explained : IsExplained (with_numbers numbers events) out
+
+-- The result of a merge: if it is a yes the history of each shard is linearizable. If it is a no
+-- that of one is not, and the lines show it.
+pub record IsMerge (shards : List Shard) (status : Status) (out : List ℕ) : Type 0 where
+  pub output : IsMergeOutput shards status out
+  pub linearizable : status ≡ ends.Yes → All (λ s. IsLinearizableText s.text) shards
+  pub refuted : status ≡ ends.No → Any (λ s. IsNotLinearizableText s.text) shards
+  pub explained : status ≡ ends.No → Any (λ s. IsExplainedShard s out) shards

@@ -1,0 +1,57 @@
+//! What is found of a shard of a history, or of several together.
+
+ghost use Rattle.std.specs.Prelude.{◌≡◌, ◌≢◌};
+ghost use Rattle.history_commands.specs.Merged as spec;
+
+use crate::status::Status;
+
+/// What is found of a shard, or of several together: the worst of what is found of each.
+#[derive(Clone, Copy, Debug, PartialEq, Eq)]
+pub(crate) enum Finding {
+    /// Each object has an order.
+    Certified,
+    /// None of the other three is found.
+    Undecided,
+    /// An object is impossible.
+    Refuted,
+    /// The text of a shard is malformed, or its table does not fit.
+    Malformed,
+}
+
+impl Finding {
+    /// From 0, the greater the worse.
+    fn rank(self) -> u8
+        ensures { result ≡ spec.rank_of self }
+    {
+        match self {
+            Finding::Certified => 0,
+            Finding::Undecided => 1,
+            Finding::Refuted => 2,
+            Finding::Malformed => 3,
+        }
+    }
+
+    /// The worse of two.
+    pub(crate) fn worse(self, other: Finding) -> Finding
+        ensures { result ≡ spec.worse self other }
+    {
+        if self.rank() < other.rank() {
+            other
+        } else {
+            self
+        }
+    }
+
+    /// How a merge ends that finds this.
+    pub(crate) fn status(self) -> Status
+        ensures is { result ≡ spec.status_with self }
+        ensures not_failed { result ≢ Status.Failed }
+    {
+        match self {
+            Finding::Certified => Status::Yes,
+            Finding::Undecided => Status::Undecided,
+            Finding::Refuted => Status::No,
+            Finding::Malformed => Status::Malformed,
+        }
+    }
+}

@@ -1,0 +1,187 @@
+//! What is answered of a shard of a history: its text, its table, and the evidence on it are
+//! checked, whatever they hold.
+
+ghost use Rattle.std.specs.Prelude.{◌≡◌, IfOk, MatchBool};
+ghost use Rattle.history_commands.specs.Merged as spec;
+ghost use Rattle.history_commands.specs.Merged.{AnswersClaims, AnswersEvidence, AnswersFault};
+ghost use Rattle.history_commands.specs.Merged.{AnswersShard, AnswersTable, IsNoted, IsTooLarge};
+ghost use Rattle.history_commands.specs.Merged.{finding_on, seen};
+
+use crate::answers::{are_all_found, is_any_impossible};
+use crate::finding::Finding;
+use crate::lines::text_with_number;
+use crate::object_lines::{ObjectLines, lines_of};
+use crate::output::verdict_output;
+use crate::shard_counts::Counts;
+use crate::verification::refuse_evidence;
+use edn::FaultKind;
+use history::{History, HistoryFaultKind};
+use judging::{TextFailure, history_of_text};
+use locality::named_objects;
+use report::{Fault, Verdict};
+use shards::{TableFault, with_table};
+use std::alloc::{AllocError, Global};
+use verifying::{Claim, Decision, decide_by_claims, read_claims_text};
+
+/// What is answered of a shard.
+#[derive(Drop)]
+pub(crate) struct ShardAnswer {
+    pub(crate) finding: Finding,
+    /// A line on the shard, or nothing.
+    pub(crate) note: Vec<u8>,
+    /// The lines on its objects that have no order.
+    pub(crate) lines: Vec<ObjectLines>,
+    /// What its history has, where it is decided.
+    pub(crate) counts: Counts,
+}
+
+/// A line on a shard.
+fn shard_line(alloc: Global, shard: u32, said: &[u8]) -> Result<Vec<u8>, AllocError>
+    ensures { IfOk result (λ v. v.items ≡ spec.shard_line shard said.now) }
+{
+    let mut line = text_with_number(alloc, b"shard ", u64::from(shard), b": ")?;
+    line.extend_from_slice(said)?;
+    Ok(line)
+}
+
+/// What is answered where nothing is decided, but this is said of the shard.
+fn noted(
+    alloc: Global,
+    shard: u32,
+    finding: Finding,
+    said: &[u8],
+) -> Result<ShardAnswer, AllocError>
+    ensures { IfOk result (λ a. IsNoted shard finding said.now (seen a)) }
+{
+    Ok(ShardAnswer {
+        finding,
+        note: shard_line(alloc, shard, said)?,
+        lines: Vec::new(alloc),
+        counts: Counts::new(alloc),
+    })
+}
+
+/// Whether the text has too many bytes or maps for a history.
+fn is_too_large(fault: &Fault) -> bool
+    ensures { MatchBool result (IsTooLarge fault.now) (¬ (IsTooLarge fault.now)) }
+{
+    match fault {
+        Fault::HistoryText(e) => matches!(e.kind, FaultKind::TooLong),
+        Fault::HistoryMaps(f) => matches!(f.kind, HistoryFaultKind::TooMany),
+        Fault::CertificateText(_) | Fault::CertificateForms(_) => false,
+    }
+}
+
+/// What is answered of a shard whose text has this fault.
+fn answer_fault(alloc: Global, shard: u32, fault: Fault) -> Result<ShardAnswer, AllocError>
+    ensures { IfOk result (λ a. AnswersFault shard fault (seen a)) }
+{
+    if is_too_large(&fault) {
+        return noted(alloc, shard, Finding::Undecided, b"too large\n");
+    }
+    let output = verdict_output(alloc, &Verdict::Malformed(fault))?;
+    noted(alloc, shard, Finding::Malformed, &output.text)
+}
+
+/// What the decisions on all objects of a shard show.
+fn finding_of(decisions: &[(u32, Decision)]) -> Finding
+    ensures { result ≡ finding_on decisions.now }
+{
+    if is_any_impossible(decisions) {
+        Finding::Refuted
+    } else if are_all_found(decisions) {
+        Finding::Certified
+    } else {
+        Finding::Undecided
+    }
+}
+
+/// What is answered by claims on the history of a shard.
+fn answer_claims(
+    alloc: Global,
+    history: &History,
+    claims: Vec<Claim>,
+    steps: u32,
+) -> Result<ShardAnswer, AllocError>
+    ensures { IfOk result (λ a. AnswersClaims history.now claims.items steps (seen a)) }
+{
+    // These two do nothing: they say that valid certificates suffice.
+    history.events();
+    named_objects();
+    let decisions = decide_by_claims(alloc, history, claims, u64::from(steps))?;
+    Ok(ShardAnswer {
+        finding: finding_of(&decisions),
+        note: Vec::new(alloc),
+        lines: lines_of(alloc, history, &decisions)?,
+        counts: Counts::of(alloc, history)?,
+    })
+}
+
+/// What is answered by evidence on the history of a shard.
+fn answer_evidence(
+    alloc: Global,
+    shard: u32,
+    history: &History,
+    evidence: &[u8],
+    steps: u32,
+) -> Result<ShardAnswer, AllocError>
+    ensures { IfOk result (λ a. AnswersEvidence shard history.now evidence.now steps (seen a)) }
+{
+    match read_claims_text(alloc, evidence) {
+        Ok(claims) => answer_claims(alloc, history, claims, steps),
+        Err(fault) => {
+            let output = refuse_evidence(alloc, fault)?;
+            noted(alloc, shard, Finding::Undecided, &output.text)
+        }
+    }
+}
+
+/// What is answered by evidence in the numbers of the whole, which the table has.
+fn answer_history(
+    alloc: Global,
+    shard: u32,
+    history: History,
+    table: &[u8],
+    evidence: &[u8],
+    steps: u32,
+) -> Result<ShardAnswer, AllocError>
+    ensures { IfOk result (λ a.
+        AnswersTable shard history table.now evidence.now steps (seen a)) }
+{
+    match with_table(alloc, history, table) {
+        Ok(history) => answer_evidence(alloc, shard, &history, evidence, steps),
+        Err(TableFault::Misfit) => {
+            noted(
+                alloc,
+                shard,
+                Finding::Malformed,
+                b"its table does not fit\n",
+            )
+        }
+        Err(TableFault::NoMemory) => Err(AllocError),
+    }
+}
+
+/// What is answered of a shard by its text, its table, and the evidence on it.
+pub(crate) fn answer_shard(
+    alloc: Global,
+    shard: u32,
+    text: &[u8],
+    table: &[u8],
+    evidence: &[u8],
+    steps: u32,
+) -> Result<ShardAnswer, AllocError>
+    ensures { IfOk result (λ a. AnswersShard (record {
+      number = shard;
+      text = text.now;
+      table = table.now;
+      evidence = evidence.now;
+      limit = steps;
+    }) (seen a)) }
+{
+    match history_of_text(alloc, text) {
+        Ok(history) => answer_history(alloc, shard, history, table, evidence, steps),
+        Err(TextFailure::Faulty(fault)) => answer_fault(alloc, shard, fault),
+        Err(TextFailure::NoMemory) => Err(AllocError),
+    }
+}
