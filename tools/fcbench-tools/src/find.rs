@@ -5,8 +5,8 @@ use crate::limit::{BETWEEN_LIMIT_CHECKS, Limit, Progress};
 use crate::program::{note, output_failed, say};
 use crate::status::Status;
 use finder::{
-    Decision, Evidence, History, LONGEST, Options, Statistics, decide_each, read_history_from,
-    warnings,
+    Decision, Evidence, History, LONGEST, Options, Places, Statistics, decide_each,
+    read_history_from, warnings,
 };
 use std::fs::File;
 use std::io::{self, BufWriter, Read, Write};
@@ -62,18 +62,36 @@ fn decisions_by(limit: Limit, history: History, command: &Find) -> Vec<Decision>
     decisions
 }
 
+/// The history, in which the number of each map is its place in a whole, as this table has it.
+fn with_places(history: History, path: &str) -> Result<History, Status> {
+    let table = read_with(path, bytes_of)?;
+    let placed = Places::read(&table).and_then(|places| history.with_places(&places));
+    placed.map_err(|fault| {
+        say(format_args!("malformed places: {path}: {fault}"));
+        Status::MALFORMED
+    })
+}
+
+/// The history of which evidence is looked for.
+fn history_of(command: &Find) -> Result<History, Status> {
+    let path = &command.history;
+    let history = read_with(path, |file| read_history_from(file, command.workers))?;
+    let Some(history) = history else {
+        say(format_args!("malformed history: fcbench judge {path} says what is wrong"));
+        return Err(Status::MALFORMED);
+    };
+    match &command.places {
+        Some(places) => with_places(history, places),
+        None => Ok(history),
+    }
+}
+
 /// Writes evidence for a history to standard output.
 pub fn find(command: &Find) -> Status {
     let limit = Limit::begin(command.seconds);
-    let history = match read_with(&command.history, |file| read_history_from(file, command.workers))
-    {
+    let history = match history_of(command) {
         Ok(history) => history,
         Err(status) => return status,
-    };
-    let Some(history) = history else {
-        let path = &command.history;
-        say(format_args!("malformed history: fcbench judge {path} says what is wrong"));
-        return Status::MALFORMED;
     };
     if command.summarizes {
         note(format_args!("; {}", Statistics::of(&history)));

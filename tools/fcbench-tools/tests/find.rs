@@ -1,6 +1,5 @@
 //! The output and the statuses of `find`.
 
-use std::io::Write;
 use std::path::PathBuf;
 use std::process::{Command, Output};
 
@@ -57,14 +56,69 @@ fn a_wrong_command_line_is_status_64() {
     }
 }
 
+/// A file for one test, which is removed after it.
+struct TestFile(PathBuf);
+
+impl TestFile {
+    fn new(name: &str, text: &str) -> TestFile {
+        let name = format!("fcbench-tools-{}-{name}", std::process::id());
+        let path = std::env::temp_dir().join(name);
+        std::fs::write(&path, text).expect("a file");
+        TestFile(path)
+    }
+
+    fn path(&self) -> &str {
+        self.0.to_str().expect("a path")
+    }
+}
+
+impl Drop for TestFile {
+    fn drop(&mut self) {
+        let _ = std::fs::remove_file(&self.0);
+    }
+}
+
 #[test]
 fn an_empty_history_has_no_evidence() {
-    let mut file = std::env::temp_dir();
-    file.push(format!("fcbench-tools-{}.edn", std::process::id()));
-    let mut empty = std::fs::File::create(&file).expect("a file");
-    empty.write_all(b"; nothing\n").expect("a file");
-    let output = run(&["find", file.to_str().expect("a path")]);
-    std::fs::remove_file(&file).expect("a file");
+    let empty = TestFile::new("empty.edn", "; nothing\n");
+    let output = run(&["find", empty.path()]);
     assert_eq!(output.status.code(), Some(0));
+    assert!(output.stdout.is_empty());
+}
+
+const SHARD: &str = "{:process 4, :type :invoke, :f :write, :value 1, :object 5}
+{:process 4, :type :ok, :f :write, :value 1, :object 5}
+";
+
+#[test]
+fn a_shard_has_the_numbers_of_the_whole() {
+    let (shard, places) = (TestFile::new("5.edn", SHARD), TestFile::new("5.places", "17\n20\n"));
+    let output = run(&["find", shard.path(), "--places", places.path()]);
+    assert_eq!(output.status.code(), Some(0));
+    assert_eq!(String::from_utf8_lossy(&output.stdout), "{:object 5, :order [17]}\n");
+}
+
+#[test]
+fn a_table_that_is_no_table_of_the_shard_is_status_2() {
+    let shard = TestFile::new("shard.edn", SHARD);
+    for (table, said) in [
+        ("17\n", "it has 1 places, and the history has 2 maps"),
+        ("17\n17\n", "line 2 is no place after that of line 1"),
+        ("x\n", "line 1 is no place"),
+    ] {
+        let places = TestFile::new("shard.places", table);
+        let output = run(&["find", shard.path(), "--places", places.path()]);
+        assert_eq!(output.status.code(), Some(2));
+        assert!(output.stdout.is_empty());
+        let said = format!("fcbench: malformed places: {}: {said}\n", places.path());
+        assert_eq!(String::from_utf8_lossy(&output.stderr), said);
+    }
+}
+
+#[test]
+fn a_table_that_is_not_there_is_status_4() {
+    let shard = TestFile::new("lone.edn", SHARD);
+    let output = run(&["find", shard.path(), "--places", "not_there.places"]);
+    assert_eq!(output.status.code(), Some(4));
     assert!(output.stdout.is_empty());
 }

@@ -24,6 +24,7 @@ mod kinds;
 mod lexer;
 mod maps;
 mod orders;
+mod places;
 mod reader;
 mod reasons;
 mod residences;
@@ -46,6 +47,7 @@ pub use kinds::{
     functions, kind, setting,
 };
 pub use lexer::{Lexer, Token, TokenKind, ends_word};
+pub use places::{Places, PlacesFault};
 pub use reader::{LONGEST, read_history, read_history_from};
 pub use reasons::{
     Beginning, Facts, FirstEvent, FoundReason, Lost, LostValue, Pattern, Search, Sentence, Shown,

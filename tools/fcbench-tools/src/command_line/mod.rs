@@ -9,12 +9,13 @@ use syntax::{COMMANDS, Commands, Syntax};
 pub use words::Refused;
 use words::{Fault, Words};
 
-/// Which history evidence is looked for, by how many threads, the most steps of the last search for each
-/// object and the most seconds, if they are given, whether progress is told, and whether the history is
-/// summarized.
+/// Which history evidence is looked for, the file that has the places of its maps in a whole, if it is a
+/// shard, by how many threads, the most steps of the last search for each object and the most seconds, if
+/// they are given, whether progress is told, and whether the history is summarized.
 #[derive(Clone, Debug, PartialEq, Eq)]
 pub struct Find {
     pub history: String,
+    pub places: Option<String>,
     pub workers: usize,
     pub steps: Option<u64>,
     pub seconds: Option<u64>,
@@ -71,6 +72,7 @@ fn one_for_each_processor() -> usize {
 fn find_of(mut words: Words) -> Result<Find, Fault> {
     let workers = words.take_number("--workers", 1, MOST_WORKERS as u64)?;
     Ok(Find {
+        places: words.take_value("--places"),
         workers: workers.map_or_else(one_for_each_processor, |number| number as usize),
         steps: words.take_number("--steps", 0, MOST_STEPS)?,
         seconds: words.take_number("--seconds", 1, MOST_SECONDS)?,
@@ -164,6 +166,7 @@ mod tests {
     fn reads_the_command_line() {
         let find = Find {
             history: "h.edn".into(),
+            places: None,
             workers: one_for_each_processor(),
             steps: None,
             seconds: None,
@@ -190,6 +193,13 @@ mod tests {
         let line = "find --summary --workers 4 --progress --seconds=60 --steps 0 -- -h.edn";
         assert_eq!(parsed(line), Some(Command::Find(find)));
         assert!(matches!(parsed("find -"), Some(Command::Find(find)) if find.history == "-"));
+        for line in ["find --places 5.places 5.edn", "find 5.edn --places=5.places"] {
+            let places = match parsed(line) {
+                Some(Command::Find(find)) if find.history == "5.edn" => find.places,
+                _ => None,
+            };
+            assert_eq!(places.as_deref(), Some("5.places"), "{line}");
+        }
         let draw = Draw {
             history: "h.edn".into(),
             certificates: Some("c.edn".into()),
@@ -230,7 +240,7 @@ mod tests {
     }
 
     /// Command lines, and what is said of them.
-    const REFUSED: [(&str, &str); 42] = [
+    const REFUSED: [(&str, &str); 44] = [
         ("", "a command is missing"),
         ("other h.edn", "'other' is no command"),
         ("-- judge h.edn", "'--' is no command"),
@@ -289,6 +299,11 @@ mod tests {
         (
             "draw a --seconds 1",
             "draw has no option '--seconds'; a file of this name comes after --",
+        ),
+        ("find a --places", "--places needs a value, <FILE>"),
+        (
+            "judge a --places b",
+            "judge has no option '--places'; a file of this name comes after --",
         ),
         (
             "judge a --progress",

@@ -136,6 +136,12 @@ pub const FIND: Syntax = Syntax {
     file: "HISTORY",
     other_file: None,
     options: &[
+        &OptionSpec::valued(
+            "--places",
+            "FILE",
+            "the history is a shard, and this table has the place of each of its maps in the whole, as split writes it:\n\
+             the evidence is in these numbers",
+        ),
         &OptionSpec::flag(
             "--progress",
             "print on standard error how many objects are done, after 2, 4, 8 seconds, and so on",
