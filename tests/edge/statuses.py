@@ -1,4 +1,5 @@
 """The table of exit statuses in docs/commands.md: each of its cells has an example here that ends so, and no other status has one."""
+import os
 import re
 
 from . import worked_rows
@@ -21,6 +22,18 @@ FILES = {
     "waits.edn": worked_rows.lines(worked_rows.ONE_CLIENT),
     "names.edn": "{:value 1, :is :a} {:value 2, :is :a}",
 }
+
+
+def shard(folder, history, evidence):
+    """The files of a folder with one shard, whose places are those of the whole."""
+    places = "".join(f"{it}\n" for it in range(history.count("{")))
+    return {f"{folder}/shards": "1\n", f"{folder}/0.edn": history, f"{folder}/0.places": places, f"{folder}/0.evidence": evidence}
+
+
+FILES.update(shard("valid", worked_rows.OVERLAPPING, worked_rows.order(1, 0, 4)))
+FILES.update(shard("refuted", worked_rows.THREE_VALUES, worked_rows.TWO_OF_THREE))
+FILES.update(shard("faulty", worked_rows.AFTER_INFO, ""))
+FILES.update(shard("open", worked_rows.OVERLAPPING, ""))
 FULL = "/dev/full"
 NO_VERIFIER = {"env": {"FCBENCH": "/not/there"}}
 NO_MEMORY = {"faults": {"REFUSE_AT": 1}}
@@ -76,6 +89,27 @@ EXAMPLES = {
         (3, ("search", "long.edn", "--steps", "0")),
         (3, ("search", HISTORY), NO_MEMORY),
         *of_files("search"),
+    ],
+    "split": [
+        (0, ("split", HISTORY, "made")),
+        (2, ("split", "malformed.edn", "made.2")),
+        (3, ("split", HISTORY, "made.3"), NO_MEMORY),
+        (4, ("split", HISTORY, "made")),
+        (4, ("split", "missing.edn", "made.4")),
+        (4, ("split", HISTORY, "made.5"), {"stdout": FULL}),
+        (64, ("split", HISTORY)),
+        (64, ("split", HISTORY, "made.6", "--no-such-option")),
+    ],
+    "merge": [
+        (0, ("merge", "valid")),
+        (1, ("merge", "refuted")),
+        (2, ("merge", "faulty")),
+        (3, ("merge", "open")),
+        (3, ("merge", "valid"), NO_MEMORY),
+        (4, ("merge", "missing")),
+        (4, ("merge", "valid"), {"stdout": FULL}),
+        (64, ("merge",)),
+        (64, ("merge", "valid", "--no-such-option")),
     ],
     "draw": [
         (0, ("draw", HISTORY)),
@@ -134,6 +168,7 @@ def ended(program, words, stdout=None, **how):
 def each_status(program, report):
     """Each cell of the table has an example that ends so. With 4, 64 and 70 nothing is printed, and with 64 standard error says why."""
     for name, text in FILES.items():
+        os.makedirs(os.path.dirname(f"{program.room}/{name}"), exist_ok=True)
         program.write(name, text)
     table = dict(in_table())
     report.equal("statuses: the commands of the table", list(EXAMPLES), list(table))

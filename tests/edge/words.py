@@ -8,7 +8,7 @@ from . import worked_rows
 from .worked_rows import CERTIFICATES, HISTORY
 from .running import OF_TOOLS, ROOT
 
-COMMANDS = ("check", "search", "refute", "verify", "run", "simulate")
+COMMANDS = ("check", "search", "refute", "verify", "split", "merge", "run", "simulate")
 # The script that sends each command to the program whose command it is.
 DISPATCH = f"{ROOT}/tools/fcbench.sh"
 
@@ -54,6 +54,8 @@ REFUSED_LINES = """
     find h.edn --seconds 0
     find --seconds 1000001 h.edn
     find h.edn --seconds
+    find h.edn --places
+    find h.edn --places p.places --places p.places
     judge
     judge h.edn c.edn
     judge -e.edn
@@ -71,6 +73,7 @@ REFUSED_LINES = """
     judge --seconds soon h.edn
     judge h.edn --seconds 1 --seconds 1
     judge --progress h.edn
+    judge h.edn --places p.places
     refute
     refute h.edn
     refute h.edn r.edn c.edn
@@ -96,6 +99,25 @@ REFUSED_LINES = """
     verify h.edn e.edn --workers
     verify h.edn e.edn --workers 2 --workers 2
     verify --workers 2 h.edn
+    split
+    split h.edn
+    split h.edn folder c.edn
+    split h.edn folder --shards 0
+    split --shards 10001 h.edn folder
+    split h.edn folder --shards many
+    split h.edn folder --shards
+    split h.edn folder --shards 2 --shards 2
+    split h.edn folder --steps 5
+    split h.edn folder --workers 2
+    split h.edn -folder
+    merge
+    merge folder c.edn
+    merge folder --steps
+    merge folder --steps 1000000001
+    merge --steps many folder
+    merge folder --steps 1 --steps 2
+    merge folder --shards 2
+    merge folder --workers 2
     draw
     draw h.edn c.edn d.edn
     draw --object -1 h.edn
@@ -153,6 +175,7 @@ NAMED = {
     "find h.edn --steps -1": "--steps takes a number from 0 to 1000000000, and not '-1'",
     "find --workers 0 h.edn": "--workers takes a number from 1 to 16, and not '0'",
     "find h.edn --workers 2 --workers 2": "--workers is given twice",
+    "find h.edn --places": "--places needs a value, <FILE>",
     "judge": "<HISTORY> is missing",
     "judge --json h.edn": "'--json'",
     "judge h.edn c.edn": "'c.edn' is one word too many",
@@ -218,6 +241,7 @@ ACCEPTED = (
     ("judge -- -e.edn", *JUDGED),
     ("judge h.edn --seconds 1000000", *SEARCHED),
     ("find --seconds=1000000 h.edn --progress", *FOUND),
+    ("find h.edn --places p.edn", (worked_rows.OVERLAPPING, "2\n3\n5\n7\n11\n13\n"), worked_rows.order(3, 2, 11), 0),
     ("refute h.edn r.edn", *REFUTED),
     (
         "refute h.edn --steps 7 r.edn",
@@ -234,6 +258,12 @@ ACCEPTED = (
     ("verify --workers=1 h.edn --steps 0 e.edn", *VERIFIED),
     ("verify h.edn --workers +4 -- e.edn", *VERIFIED),
     ("verify -- -h.edn e.edn", *VERIFIED),
+    ("split h.edn into.64", (worked_rows.OVERLAPPING,), "6 maps in 64 shards\n", 0),
+    ("split h.edn --shards 1 into.1", (worked_rows.OVERLAPPING,), "6 maps in 1 shards\n", 0),
+    ("split --shards=+10000 -- h.edn -into", (worked_rows.OVERLAPPING,), "6 maps in 10000 shards\n", 0),
+    ("merge into.64", (), "; object 0: open\n", 3),
+    ("merge into.1 --steps 7", (), "; object 0: open\n", 3),
+    ("merge --steps=1000000000 -- into.1", (), "; object 0: open\n", 3),
     ("run --kind=mutex --objects 1 --clients 1 --calls 0 --seed 0", (), "; yes: 0 operations, 0 objects\n", 0),
     ("simulate s.edn", *SIMULATED),
     ("simulate -- -s.edn", *SIMULATED),
@@ -252,10 +282,13 @@ def help_texts(program, report):
     options["run"] = ("--kind", "--objects", "--clients", "--calls", "--seed")
     options.update(
         verify=("--steps", "--workers"),
+        split=("--shards",),
+        merge=("--steps",),
         find=("--seconds", "--steps", "--workers", "--summary"),
         draw=("--object", "--from", "--to", "--steps"),
     )
     options["judge"] = (*options["find"], "--names")
+    options["find"] = (*options["find"], "--places")
     options["import"] = ("--names", "--independent", "--fail-is-reply", "--check-owners", "--initial")
     for command in (*COMMANDS, *OF_TOOLS):
         ran = program.run(command, "--help")

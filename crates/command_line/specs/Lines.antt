@@ -22,7 +22,7 @@ use Rattle.seq_objects.specs.Kinds.{kinds_named}
 use Rattle.command_line.specs.Command.{command}
 use Rattle.command_line.specs.declared.asking.Line.{Line}
 use Rattle.command_line.specs.declared.asking.Line.TheVariants.{Check, Search, Refute, Verify}
-use Rattle.command_line.specs.declared.asking.Line.TheVariants.{Run, Simulate}
+use Rattle.command_line.specs.declared.asking.Line.TheVariants.{Run, Simulate, Split, Merge}
 use Rattle.command_line.specs.declared.asking.LineFault.{LineFault}
 use Rattle.command_line.specs.declared.asking.LineFault.TheVariants.{Help, Refused, NoMemory}
 use Rattle.command_line.specs.declared.lines.NoLine.{NoLine}
@@ -30,7 +30,7 @@ use Rattle.command_line.specs.declared.lines.NoLine.TheVariants as unread
 use Rattle.command_line.specs.declared.asking.RunOptions.{RunOptions}
 use Rattle.command_line.specs.declared.table.Bounds.{Bounds}
 use Rattle.command_line.specs.declared.table.TheConstants.{WORKERS, STEPS, OBJECTS, CLIENTS, CALLS}
-use Rattle.command_line.specs.declared.table.TheConstants.{SEED, COMMANDS}
+use Rattle.command_line.specs.declared.table.TheConstants.{SEED, SHARDS, COMMANDS}
 use Rattle.command_line.specs.declared.table.Verb.{Verb}
 use Rattle.command_line.specs.declared.table.Verb.TheVariants as is
 
@@ -88,6 +88,13 @@ IsLine v rows (Verify history evidence steps workers) =
 IsLine v rows (Run options) = (v ≡ is.Run) × AreRunOptions rows options
 IsLine v rows (Simulate schedule) =
     (v ≡ is.Simulate) × IsFile (codes "SCHEDULE") rows (string_bytes schedule)
+IsLine v rows (Split history folder shards) =
+    (v ≡ is.Split) × IsFile (codes "HISTORY") rows (string_bytes history)
+    × IsFile (codes "FOLDER") rows (string_bytes folder)
+    × IsNumber SHARDS (first_of (codes "shards") rows) shards
+IsLine v rows (Merge folder steps) =
+    (v ≡ is.Merge) × IsFile (codes "FOLDER") rows (string_bytes folder)
+    × IsNumber STEPS (first_of (codes "steps") rows) steps
 
 -- the rows of what clap found
 abbrev pub rows_in : ArgMatches → List Row

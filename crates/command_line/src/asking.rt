@@ -65,6 +65,18 @@ pub enum Line {
     Simulate {
         schedule: String,
     },
+    /// To divide the history in a file into this number of shards, from 1 to 10,000, in a folder.
+    Split {
+        history: String,
+        folder: String,
+        shards: u32,
+    },
+    /// To verify the shards in a folder, each by its evidence, with at most this number of steps
+    /// for a search of which the evidence names no number.
+    Merge {
+        folder: String,
+        steps: u32,
+    },
 }
 
 /// Why there is no command: help was asked for, the words are wrong, or an allocation failed.

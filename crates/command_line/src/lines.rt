@@ -13,7 +13,7 @@ ghost use Rattle.seq_objects.specs.declared.kinds.Kinds.{Kinds};
 
 use crate::asking::{Line, RunOptions};
 use crate::table::{
-    Bounds, CALLS, CLIENTS, OBJECTS, SEED, STEPS, Takes, Verb, WORKERS, verb_named,
+    Bounds, CALLS, CLIENTS, OBJECTS, SEED, SHARDS, STEPS, Takes, Verb, WORKERS, verb_named,
 };
 use clap::ArgMatches;
 use model::Kind;
@@ -202,6 +202,26 @@ fn simulate_of(alloc: Global, found: &ArgMatches<'_>) -> Result<Line, NoLine>
     Ok(Line::Simulate { schedule })
 }
 
+fn split_of(alloc: Global, found: &ArgMatches<'_>) -> Result<Line, NoLine>
+    ensures { spec.IsRead Verb.Split (rows_in found.now) result }
+{
+    let (history, folder) = files_of(alloc, found, "FOLDER")?;
+    let shards = number_of(found, "shards", SHARDS)? as u32;
+    Ok(Line::Split {
+        history,
+        folder,
+        shards,
+    })
+}
+
+fn merge_of(alloc: Global, found: &ArgMatches<'_>) -> Result<Line, NoLine>
+    ensures { spec.IsRead Verb.Merge (rows_in found.now) result }
+{
+    let folder = file_of(alloc, found, "FOLDER")?;
+    let steps = number_of(found, "steps", STEPS)? as u32;
+    Ok(Line::Merge { folder, steps })
+}
+
 /// The line of this command with what is given.
 fn line_of(alloc: Global, verb: Verb, found: &ArgMatches<'_>) -> Result<Line, NoLine>
     ensures { spec.IsRead verb (rows_in found.now) result }
@@ -213,6 +233,8 @@ fn line_of(alloc: Global, verb: Verb, found: &ArgMatches<'_>) -> Result<Line, No
         Verb::Verify => verify_of(alloc, found),
         Verb::Run => run_of(found),
         Verb::Simulate => simulate_of(alloc, found),
+        Verb::Split => split_of(alloc, found),
+        Verb::Merge => merge_of(alloc, found),
     }
 }
 

@@ -13,6 +13,8 @@ pub enum Verb {
     Verify,
     Run,
     Simulate,
+    Split,
+    Merge,
 }
 
 /// The numbers that an option takes, and the one where it is absent.
@@ -86,13 +88,20 @@ pub const SEED: Bounds = Bounds {
     default: 0,
 };
 
+/// The shards that a history is divided into.
+pub const SHARDS: Bounds = Bounds {
+    least: 1,
+    most: 10_000,
+    default: 64,
+};
+
 const HISTORY: FileRow = (
     "HISTORY",
     "a file of operation maps as Jepsen writes them; docs/tutorial.md says how to make one from a Jepsen store",
 );
 
 /// The commands, as help lists them.
-pub const COMMANDS: [CommandRow; 6] = [
+pub const COMMANDS: [CommandRow; 8] = [
     (
         Verb::Check,
         "check",
@@ -208,6 +217,37 @@ pub const COMMANDS: [CommandRow; 6] = [
         "plays a schedule and judges its record",
         &[("SCHEDULE", "a file of steps of clients")],
         &[],
+    ),
+    (
+        Verb::Split,
+        "split",
+        "divides a history of any length into shards, each a history of its own, by objects",
+        &[
+            HISTORY,
+            (
+                "FOLDER",
+                "the folder where the shards are written; it is made if it is not there",
+            ),
+        ],
+        &[(
+            "shards",
+            "how many shards, 1 to 10000 (default 64)",
+            Takes::Number(SHARDS),
+        )],
+    ),
+    (
+        Verb::Merge,
+        "merge",
+        "verifies each shard of a history by its evidence, and judges the whole",
+        &[(
+            "FOLDER",
+            "the folder with the shards, and the evidence of each",
+        )],
+        &[(
+            "steps",
+            "the most steps of a search where the evidence names none, 0 to 1000000000 (default 1000000)",
+            Takes::Number(STEPS),
+        )],
     ),
 ];
 

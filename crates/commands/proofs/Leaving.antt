@@ -1,5 +1,5 @@
 -- What a command leaves, put together from what was sent: all lines, or a beginning of them.
-use Rattle.std.proofs.Common.{◌≡◌, ◌≢◌, ℕ, Bool, true, false, List, Option, refl, subst, sym, inl, inr}
+use Rattle.std.proofs.Common.{◌≡◌, ◌≢◌, ◌∙◌, ℕ, Bool, true, false, List, Option, refl, subst, sym, inl, inr}
 use Rattle.std.specs.Prelude.{◌⊎◌, Result, Ok, Err, IfOk}
 use Rattle.std.specs.Io.KnownBytes.{Appends}
 use Rattle.std.specs.declared.alloc.AllocError.{AllocError}
@@ -65,6 +65,16 @@ pub made_as : (P : Status → List ℕ → Type 0) (made : Result Output AllocEr
     → (status : Status) (out : List ℕ) → IsMade made status out → P status out ⊎ IsOutOfMemory status out
 made_as P (Ok o) h status out k = inl (subst (λ s. P s out) (sym k.0) (subst (P o.status) (sym k.1) h))
 made_as P (Err e) h status out k = inr k
+
+-- what was made has this property
+pub made_is : (P : Status → List ℕ → Type 0) (o : Output) → P o.status o.text.items
+    → (status : Status) (out : List ℕ) → IsMade (Ok o) status out → P status out
+made_is P o h status out k = subst (λ s. P s out) (sym k.0) (subst (P o.status) (sym k.1) h)
+
+-- what was made is exactly this
+pub exactly : (o : Output) (own : Status) (lines : List ℕ) → IsExactly own lines o.status o.text.items
+    → (status : Status) (out : List ℕ) → IsMade (Ok o) status out → IsExactly own lines status out
+exactly o own lines h status out k = (k.0 ∙ h.0, k.1 ∙ h.1)
 
 -- ---- a verdict
 

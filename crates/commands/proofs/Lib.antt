@@ -5,3 +5,4 @@ pub mod Meanings
 pub mod Leaving
 pub mod InMemory
 pub mod StatusMeanings
+pub mod Merges

@@ -1,9 +1,10 @@
 -- What the exit status of a command says of the history in its first file, by the status of its output: the number 0 is
 -- that of a yes alone, and 1 that of a no alone.
-use Rattle.std.proofs.Common.{◌≡◌, ◌≢◌, ◌∙◌, ◌⊎◌, ℕ, true, List, Option, inl, inr, sym, refl}
+use Rattle.std.proofs.Common.{◌≡◌, ◌≢◌, ◌∙◌, ℕ, true, List, Option, inl, inr, sym, refl}
 use Rattle.std.proofs.Common.{Bool}
 use Rattle.command_line.specs.declared.asking.Line.{Line}
 use Rattle.command_line.specs.declared.asking.Line.TheVariants.{Check, Search, Refute, Verify, Run, Simulate}
+use Rattle.command_line.specs.declared.asking.Line.TheVariants.{Split, Merge}
 use Rattle.judging.specs.Checks.{IsLinearizableRead, IsNotLinearizableRead}
 use Rattle.history_commands.specs.Outputs.{number_of}
 use Rattle.history_commands.specs.declared.status.Status.{Status}
@@ -12,7 +13,7 @@ use Rattle.history_commands.specs.declared.status.Status.TheVariants.{NoThread, 
 use Rattle.commands.specs.Leaves.{Leaves}
 use Rattle.commands.specs.Performed.{IsPerformedOn, says_no, says_yes}
 
-is_yes : (status : Status) → number_of status ≡ number_of Yes → status ≡ Yes
+pub is_yes : (status : Status) → number_of status ≡ number_of Yes → status ≡ Yes
 is_yes Yes e = refl
 is_yes No e = absurd cc
 is_yes Malformed e = absurd cc
@@ -22,7 +23,7 @@ is_yes NoThread e = absurd cc
 is_yes Failed e = absurd cc
 is_yes Usage e = absurd cc
 
-is_no : (status : Status) → number_of status ≡ number_of No → status ≡ No
+pub is_no : (status : Status) → number_of status ≡ number_of No → status ≡ No
 is_no Yes e = absurd cc
 is_no No e = refl
 is_no Malformed e = absurd cc
@@ -32,16 +33,16 @@ is_no NoThread e = absurd cc
 is_no Failed e = absurd cc
 is_no Usage e = absurd cc
 
-memory_not_yes : (status : Status) → status ≡ OutOfMemory → status ≢ Yes
+pub memory_not_yes : (status : Status) → status ≡ OutOfMemory → status ≢ Yes
 memory_not_yes status e y = let t = sym e ∙ y in absurd cc
 
-memory_not_no : (status : Status) → status ≡ OutOfMemory → status ≢ No
+pub memory_not_no : (status : Status) → status ≡ OutOfMemory → status ≢ No
 memory_not_no status e n = let t = sym e ∙ n in absurd cc
 
-yes_not_failed : (number : ℕ) → number ≡ number_of Yes → number ≢ number_of Failed
+pub yes_not_failed : (number : ℕ) → number ≡ number_of Yes → number ≢ number_of Failed
 yes_not_failed number y f = let t = sym y ∙ f in absurd cc
 
-no_not_failed : (number : ℕ) → number ≡ number_of No → number ≢ number_of Failed
+pub no_not_failed : (number : ℕ) → number ≡ number_of No → number ≢ number_of Failed
 no_not_failed number n f = let t = sym n ∙ f in absurd cc
 
 -- the sources of the two files, before and after
@@ -58,6 +59,8 @@ module _ (one one_after other other_after : Option (List ℕ)) where
   said_yes (Verify h e n w) status out (inl (a, b, r, q, inr memory)) s y = absurd (memory_not_yes status memory.0 y)
   said_yes (Run o) status out (inl done) s y = absurd cc
   said_yes (Simulate h) status out (inl done) s y = absurd cc
+  said_yes (Split h f n) status out (inl done) s y = absurd cc
+  said_yes (Merge f n) status out (inl done) s y = absurd cc
 
   said_no : (line : Line) (status : Status) (out : List ℕ)
       → IsPerformedOn line one one_after other other_after status out → says_no line ≡ true → status ≡ No
@@ -72,6 +75,8 @@ module _ (one one_after other other_after : Option (List ℕ)) where
   said_no (Verify h e k w) status out (inl (a, b, r, q, inr memory)) s n = absurd (memory_not_no status memory.0 n)
   said_no (Run o) status out (inl done) s n = absurd cc
   said_no (Simulate h) status out (inl done) s n = absurd cc
+  said_no (Split h f k) status out (inl done) s n = absurd cc
+  said_no (Merge f k) status out (inl done) s n = absurd cc
 
   module _ (line : Line) {before after : Option (List ℕ)} {number : ℕ} {broken : Bool}
       (left : Leaves (IsPerformedOn line one one_after other other_after) before number after broken) where

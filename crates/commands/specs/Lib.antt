@@ -3,3 +3,4 @@ pub mod Leaves
 pub mod Runs
 pub mod Simulated
 pub mod Performed
+pub mod Sharded

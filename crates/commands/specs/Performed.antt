@@ -4,13 +4,14 @@ use Rattle.edn.specs.Given.{WasRead}
 use Rattle.judging.specs.Reads.{read_limit, WasRefused}
 use Rattle.command_line.specs.declared.asking.Line.{Line}
 use Rattle.command_line.specs.declared.asking.Line.TheVariants.{Check, Search, Refute, Verify}
-use Rattle.command_line.specs.declared.asking.Line.TheVariants.{Run, Simulate}
+use Rattle.command_line.specs.declared.asking.Line.TheVariants.{Run, Simulate, Split, Merge}
 use Rattle.history_commands.specs.Checked.{IsCheck}
-use Rattle.history_commands.specs.Outputs.{IsOutOfMemory}
+use Rattle.history_commands.specs.Outputs.{IsExactly, IsOutOfMemory}
 use Rattle.history_commands.specs.Refuted.{IsRefute}
 use Rattle.history_commands.specs.Searches.{IsSearch}
 use Rattle.history_commands.specs.Verified.{IsVerification}
 use Rattle.history_commands.specs.declared.status.Status.{Status}
+use Rattle.history_commands.specs.declared.status.Status.TheVariants.{Usage}
 use Rattle.commands.specs.declared.sources.Unread.{Unread}
 use Rattle.commands.specs.declared.sources.Unread.TheVariants.{First, Second}
 use Rattle.commands.specs.Runs.{IsRun}
@@ -23,7 +24,8 @@ IsVerificationIn steps first second status out =
 
 -- The status and the lines are an output of the command that the line asks for, on the texts of its
 -- first and second file; or one line says that an allocation failed. A check says so by its
--- verdict.
+-- verdict. A command on a folder is not done on texts: it has no line, and ends as words do that
+-- ask for no command.
 abbrev pub IsPerformed : Line → List ℕ → List ℕ → Status → List ℕ → Type 0
 IsPerformed (Check history certs workers) first second status out = IsCheck first second status out
 IsPerformed (Search history steps order) first second status out =
@@ -36,6 +38,8 @@ IsPerformed (Run options) first second status out =
     IsRun options status out ⊎ IsOutOfMemory status out
 IsPerformed (Simulate schedule) first second status out =
     IsSimulation first status out ⊎ IsOutOfMemory status out
+IsPerformed (Split history folder shards) first second status out = IsExactly Usage [] status out
+IsPerformed (Merge folder steps) first second status out = IsExactly Usage [] status out
 
 -- ---- what the exit status says of the history in the first file
 
@@ -47,6 +51,8 @@ says_yes (Refute history reasons steps) = false
 says_yes (Verify history evidence steps workers) = true
 says_yes (Run options) = false
 says_yes (Simulate schedule) = false
+says_yes (Split history folder shards) = false
+says_yes (Merge folder steps) = false
 
 -- whether 1 says that it is not
 abbrev pub says_no : Line → Bool
@@ -56,6 +62,8 @@ says_no (Refute history reasons steps) = true
 says_no (Verify history evidence steps workers) = true
 says_no (Run options) = false
 says_no (Simulate schedule) = false
+says_no (Split history folder shards) = false
+says_no (Merge folder steps) = false
 
 -- ---- on files
 
@@ -67,6 +75,8 @@ has_first (Refute history reasons steps) = true
 has_first (Verify history evidence steps workers) = true
 has_first (Run options) = false
 has_first (Simulate schedule) = true
+has_first (Split history folder shards) = false
+has_first (Merge folder steps) = false
 
 abbrev pub has_second : Line → Bool
 has_second (Check history certs workers) = true
@@ -75,6 +85,8 @@ has_second (Refute history reasons steps) = true
 has_second (Verify history evidence steps workers) = true
 has_second (Run options) = false
 has_second (Simulate schedule) = false
+has_second (Split history folder shards) = false
+has_second (Merge folder steps) = false
 
 -- The text of a file that the command has is what was read of its source. What the source has left
 -- is given as it was before and after. Of a file that it does not have nothing was read.

@@ -2,6 +2,7 @@
 #![tactic(auto)]
 
 mod checking;
+mod folders;
 mod program;
 mod running;
 mod simulating;
@@ -11,8 +12,12 @@ mod verification;
 mod write_output;
 
 pub use command_line::{Line, LineFault, RunOptions, line};
+pub use folders::{
+    FolderFault, ShardFault, ShardFile, ShardFileTexts, ShardFiles, merge_shards, split_history,
+};
 pub use history_commands::Status;
-pub use judging::{In, NamedFile};
+pub use judging::{In, NamedFile, ReadFault, read_text};
 pub use program::{perform, perform_over};
+pub use shards::Folder;
 pub use sources::Unread;
 pub use statuses::status_of_fault;

@@ -1,8 +1,8 @@
 //! What the program does.
 
-ghost use Rattle.std.specs.Prelude.{◌≡◌, false, true, IfOk, IfErr};
+ghost use Rattle.std.specs.Prelude.{◌≡◌, [], false, true, IfOk, IfErr};
 ghost use Rattle.judging.specs.Checks.{IsLinearizableRead, IsNotLinearizableRead};
-ghost use Rattle.history_commands.specs.Outputs.{number_of};
+ghost use Rattle.history_commands.specs.Outputs.{IsExactly, number_of};
 ghost use Rattle.commands.specs.Leaves.{Leaves};
 ghost use Rattle.commands.specs.Performed.{IsPerformed, IsPerformedOn, IsUnread, says_no, says_yes};
 
@@ -14,17 +14,28 @@ use crate::verification::verify_sources;
 use crate::write_output::write_output;
 use command_line::Line;
 use edn::{Sink, Source};
-use history_commands::{Status, refute, search, verify};
+use history_commands::{Output, Status, refute, search, verify};
 use std::alloc::Global;
 use std::sync::Wait;
 use std::thread::Threads;
+
+/// The output where a command needs a folder.
+fn no_output(alloc: Global) -> Output
+    ensures { IsExactly Status.Usage [] result.status result.text.items }
+{
+    Output {
+        status: Status::Usage,
+        text: Vec::new(alloc),
+    }
+}
 
 /// Does the command on the bytes of its first and second file (empty where it has none), writes its
 /// output, and gives the exit status: 0 for yes, or where each object has a certificate; 1 for no,
 /// or where an object is impossible; 2 where a text other than evidence is malformed or a client of
 /// a schedule has not ended; 3 where an allocation failed, a thread could not be started, some
 /// object stays open, no reason shows that the history is not linearizable, or evidence is
-/// malformed; 4 where the output failed.
+/// malformed; 4 where the output failed; 64 where the command is one on a folder, which is not
+/// done.
 pub fn perform<R: Threads + Wait + Sync, S: Sink>(
     rt: &R,
     alloc: Global,
@@ -52,6 +63,9 @@ pub fn perform<R: Threads + Wait + Sync, S: Sink>(
         Line::Verify { steps, .. } => write_output(verify(alloc, first, second, *steps), sink),
         Line::Run(options) => write_output(run(rt, alloc, *options), sink),
         Line::Simulate { .. } => write_output(play(alloc, first), sink),
+        // `split` and `merge` do these, on a folder.
+        Line::Split { .. } => write_output(Ok(no_output(alloc)), sink),
+        Line::Merge { .. } => write_output(Ok(no_output(alloc)), sink),
     }
 }
 

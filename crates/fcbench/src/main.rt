@@ -1,8 +1,12 @@
 //! `fcbench`: judges histories of concurrent objects.
 #![tactic(auto)]
 
+mod shard_folder;
+
+use crate::shard_folder::{ShardFolder, ending_of};
 use commands::{
-    In, Line, LineFault, NamedFile, Status, Unread, line, perform_over, status_of_fault,
+    FolderFault, In, Line, LineFault, NamedFile, ReadFault, Status, Unread, line, merge_shards,
+    perform_over, split_history, status_of_fault,
 };
 use edn::Out;
 use std::fs::File;
@@ -60,7 +64,7 @@ fn files_of(line: &Line) -> (&str, &str) {
             evidence,
             ..
         } => (history, evidence),
-        Line::Run(_) => ("", ""),
+        Line::Run(_) | Line::Split { .. } | Line::Merge { .. } => ("", ""),
         Line::Simulate { schedule } => (schedule, ""),
     }
 }
@@ -78,6 +82,86 @@ fn run_line<R: Host>(rt: &R, line: &Line) -> io::Result<u8> {
     }
 }
 
+/// Says why a folder could not be written: an allocation failed, or another reason.
+fn report_unwritten<R: Print + Eprint>(rt: &R, name: &str, lacks_memory: bool) -> io::Result<u8> {
+    if lacks_memory {
+        return no_memory(rt);
+    }
+    rt.eprintln(format_args!("fcbench: cannot write {name}"))?;
+    Ok(Status::Failed.number())
+}
+
+/// Whether a split with this status has divided the whole.
+fn is_divided(status: u8) -> bool {
+    status == Status::Yes.number() || status == Status::Undecided.number()
+}
+
+/// Divides a history into shards in a folder that has none. Where it is not divided, nothing of it
+/// is left there.
+fn run_split<R: Host>(rt: &R, history: &str, name: &str, shards: u32) -> io::Result<u8> {
+    // The command line lets no other number pass.
+    if shards == 0 {
+        return Ok(Status::Usage.number());
+    }
+    let mut folder = ShardFolder::new(rt, rt.alloc(), name);
+    if let Err(error) = folder.make(shards) {
+        return report_unwritten(rt, name, error.kind() == io::ErrorKind::OutOfMemory);
+    }
+    let mut source = In::new(NamedFile::new(rt, history));
+    let mut output = Out::new(io::writer(rt));
+    let split = split_history(rt.alloc(), &mut source, &mut folder, shards, &mut output);
+    let is_whole = match split {
+        Ok(status) => is_divided(status) && folder.complete(shards).is_ok(),
+        Err(_) => false,
+    };
+    if !is_whole {
+        folder.remove(shards);
+    }
+    match split {
+        Ok(status) if is_divided(status) && !is_whole => report_unwritten(rt, name, false),
+        Ok(status) => Ok(status),
+        Err(FolderFault::History) => report_unreadable(rt, history, source.lacks_memory()),
+        Err(FolderFault::NoMemory) => no_memory(rt),
+        Err(_) => report_unwritten(rt, name, folder.lacks_memory()),
+    }
+}
+
+/// Verifies the shards in a folder.
+fn run_merge<R: Host>(rt: &R, name: &str, steps: u32) -> io::Result<u8> {
+    let folder = ShardFolder::new(rt, rt.alloc(), name);
+    let shards = match folder.count() {
+        Ok(shards) => shards,
+        Err(ReadFault::NoMemory) => return no_memory(rt),
+        Err(ReadFault::Failed) => {
+            rt.eprintln(format_args!("fcbench: cannot read {name}/shards"))?;
+            return Ok(Status::Failed.number());
+        }
+    };
+    let mut output = Out::new(io::writer(rt));
+    match merge_shards(rt.alloc(), &folder, shards, steps, &mut output) {
+        Ok(status) => Ok(status),
+        Err(FolderFault::Shard(shard, file)) => {
+            let ending = ending_of(file);
+            rt.eprintln(format_args!("fcbench: cannot read {name}/{shard}.{ending}"))?;
+            Ok(Status::Failed.number())
+        }
+        Err(_) => no_memory(rt),
+    }
+}
+
+/// Does the command.
+fn run_command<R: Host>(rt: &R, line: &Line) -> io::Result<u8> {
+    match line {
+        Line::Split {
+            history,
+            folder,
+            shards,
+        } => run_split(rt, history, folder, *shards),
+        Line::Merge { folder, steps } => run_merge(rt, folder, *steps),
+        _ => run_line(rt, line),
+    }
+}
+
 /// Whether the word after the program's name asks for the version, and is the only one.
 fn ask_for_version(words: &[String]) -> bool {
     match words {
@@ -92,7 +176,7 @@ fn run_words<R: Host>(rt: &R, words: &[String]) -> io::Result<u8> {
         return Ok(Status::Yes.number());
     }
     match line(rt.alloc(), words) {
-        Ok(line) => run_line(rt, &line),
+        Ok(line) => run_command(rt, &line),
         Err(fault) => explain(rt, &fault),
     }
 }

@@ -32,7 +32,9 @@ INSTALLED = sorted(
 # Words that are typed, and what is completed of the last one.
 TYPED = (
     ("a command", ("fcbench", "ju"), ["judge"]),
+    ("a command on shards", ("fcbench", "mer"), ["merge"]),
     ("an option", ("fcbench", "judge", "--st"), ["--steps"]),
+    ("the option for a table", ("fcbench", "find", "--pl"), ["--places"]),
     ("a value", ("fcbench", "search", "--first", "re"), ["return"]),
 )
 

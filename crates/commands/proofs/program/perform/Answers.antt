@@ -3,7 +3,7 @@ use Rattle.history_commands.specs.Searches.{IsSearch}
 use Rattle.history_commands.specs.Verified.{IsVerification}
 use Rattle.commands.specs.Runs.{IsRun}
 use Rattle.commands.specs.Simulated.{IsSimulation}
-use Rattle.commands.proofs.Leaving.{leaves_as, made_as}
+use Rattle.commands.proofs.Leaving.{exactly, leaves_as, made_as}
 use Rattle.commands.proofs.program.perform.Goals as goal
 
 pub returns-in-Check : goal.returns-in-Check
@@ -42,4 +42,17 @@ returns-in-Simulate g c = record {
   performs = rw c.in-Simulate.is
       (leaves_as c.write_output-in-Simulate.ensures.leaves
       (made_as (IsSimulation c.args.first.now) c.play.result c.play.ensures));
+}
+
+pub returns-in-Split : goal.returns-in-Split
+returns-in-Split g c = record {
+  performs = rw c.in-Split.is
+      (leaves_as c.write_output-in-Split.ensures.leaves (exactly c.no_output.result _ _ c.no_output.ensures));
+}
+
+pub returns-in-Merge : goal.returns-in-Merge
+returns-in-Merge g c = record {
+  performs = rw c.in-Merge.is
+      (leaves_as c.write_output-in-Merge.ensures.leaves
+      (exactly c.no_output-in-Merge.result _ _ c.no_output-in-Merge.ensures));
 }

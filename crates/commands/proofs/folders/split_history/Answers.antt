@@ -1,0 +1,12 @@
+use Rattle.commands.specs.Sharded.{IsSplitOutput}
+use Rattle.commands.proofs.Leaving.{leaves_as, made_is}
+use Rattle.commands.proofs.Merges.{shows_divided}
+use Rattle.commands.proofs.folders.split_history.Goals as goal
+
+pub returns : goal.returns
+returns g c =
+    let left = leaves_as c.write_output.ensures.leaves
+    (made_is (IsSplitOutput c.args.shards (g.F.Source.remaining c.args.history.now)
+    (g.F.Source.remaining c.split_output.new.history) (g.D.Folder.files c.args.folder.now)
+    (g.D.Folder.files c.split_output.new.folder)) c.in_ok-output.output c.in_ok-output.ensures) in
+    record { divided = shows_divided _ _ _ _ _ left; leaves = left; nothing_written = tt }

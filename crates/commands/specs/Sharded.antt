@@ -1,0 +1,79 @@
+-- What the commands on a folder of shards put out.
+use Rattle.std.specs.Prelude.{◌≡◌, ◌<◌, ◌⊎◌, ℕ, false, List, Option, get_or, length, nat_lt}
+use Rattle.std.specs.Prelude.{if◌then◌else◌}
+use Rattle.std.specs.List.{list_any}
+use Rattle.history.specs.Faults.{max_maps}
+use Rattle.history.specs.declared.fault.TextFault.{TextFault}
+use Rattle.history.specs.declared.fault.TextFault.TheVariants.{Text, Maps}
+use Rattle.report.specs.Lines.{verdict_text}
+use Rattle.report.specs.declared.verdict.Fault.{Fault}
+use Rattle.report.specs.declared.verdict.Fault.TheVariants.{HistoryText, HistoryMaps}
+use Rattle.report.specs.declared.verdict.Verdict.TheVariants as verdict
+use Rattle.shards.specs.Dividing.{Files, IsDivided, shard_among}
+use Rattle.shards.specs.Folders.{WasDivided}
+use Rattle.shards.specs.SplitFaults.{IsSplitFault}
+use Rattle.shards.specs.declared.fault.SplitFault.TheVariants as split
+use Rattle.history_commands.specs.Merged.{IsMerge, Shard}
+use Rattle.history_commands.specs.Outputs.{IsExactly, IsOutOfMemory}
+use Rattle.history_commands.specs.declared.status.Status.{Status}
+use Rattle.history_commands.specs.declared.status.Status.TheVariants as ends
+
+-- the fault of a history's text, as a verdict has it
+abbrev pub fault_of : TextFault → Fault
+fault_of (Text e) = HistoryText e
+fault_of (Maps f) = HistoryMaps f
+
+-- the line that says so
+abbrev pub fault_line : TextFault → List ℕ
+fault_line f = verdict_text false (verdict.Malformed (fault_of f))
+
+-- how a split ends into shards with these numbers of maps: undecided, where one has more than a
+-- text may have
+abbrev pub status_by_counts : List ℕ → Status
+status_by_counts counts =
+    if list_any (λ n. nat_lt max_maps n) counts then ends.Undecided else ends.Yes
+
+-- The output of a split. The whole was divided, and a status other than yes says that a shard is
+-- too large for one text; or the whole is malformed. What the source has left, and the files, are
+-- given as they were before and after.
+abbrev pub IsSplitOutput : ℕ → Option (List ℕ) → Option (List ℕ) → Option Files → Option Files
+    → Status → List ℕ → Type 0
+IsSplitOutput count left left_after files files_after status out =
+    ((counts : List ℕ) × WasDivided count counts left left_after files files_after
+    × (status ≡ status_by_counts counts))
+    ⊎ ((f : TextFault) × IsSplitFault (split.Malformed f) left left_after
+    × IsExactly ends.Malformed (fault_line f) status out)
+
+-- ---- a merge
+
+-- What the files of a folder may hold: of a shard with this number, this text, table and evidence.
+abbrev pub Holding : Type 1
+Holding = ℕ → List ℕ → List ℕ → List ℕ → Type 0
+
+-- this was read as the shard with this number, where a search has this limit
+abbrev pub IsReadAs : Holding → ℕ → ℕ → Shard → Type 0
+IsReadAs holds limit number s =
+    (s.number ≡ number) × (s.limit ≡ limit) × holds number s.text s.table s.evidence
+
+-- these were read as the shards, in the order of their numbers
+abbrev pub AreRead : Holding → ℕ → List Shard → Type 0
+AreRead holds limit shards =
+    (k : ℕ) (d : Shard) → k < length shards → IsReadAs holds limit k (get_or shards k d)
+
+-- the output of a merge of this many shards, which were read
+abbrev pub IsMergeOf : Holding → ℕ → ℕ → Status → List ℕ → Type 0
+IsMergeOf holds count limit status out =
+    (shards : List Shard) × (length shards ≡ count) × AreRead holds limit shards
+    × IsMerge shards status out
+
+-- the same, or one line says that an allocation failed
+abbrev pub IsMergeOfFolder : Holding → ℕ → ℕ → Status → List ℕ → Type 0
+IsMergeOfFolder holds count limit status out =
+    IsMergeOf holds count limit status out ⊎ IsOutOfMemory status out
+
+-- The files hold the texts of the shards of a whole, as a split of it makes them.
+abbrev pub HoldSplit : Holding → ℕ → List ℕ → Type 0
+HoldSplit holds count whole =
+    (files : Files) × IsDivided (shard_among count) whole files
+    × ((s : ℕ) (text table evidence : List ℕ) → s < count → holds s text table evidence
+    → text ≡ files.texts s)

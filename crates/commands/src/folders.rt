@@ -1,0 +1,293 @@
+//! The commands on a folder of shards: a history of any length is divided, and its shards are
+//! judged.
+
+ghost use Rattle.std.specs.Prelude.{◌≡◌, ◌<◌, ◌⊎◌, ℕ, List, false, length, nat_lt};
+ghost use Rattle.std.specs.Prelude.{IfOk, IfSome, OnErr};
+ghost use Rattle.history_commands.specs.Merged.{AreMerged, Shard};
+ghost use Rattle.history_commands.specs.Outputs.{IsExactly, number_of};
+ghost use Rattle.commands.specs.Leaves.{Leaves};
+ghost use Rattle.commands.specs.Sharded as spec;
+ghost use Rattle.commands.specs.Sharded.{AreRead, HoldSplit, IsMergeOf, IsMergeOfFolder};
+ghost use Rattle.commands.specs.Sharded.{IsSplitOutput, fault_line};
+ghost use Rattle.history.specs.Faults.{max_maps};
+ghost use Rattle.std.specs.List.{list_any};
+ghost use Rattle.shards.specs.Folders.{WasDivided};
+ghost use Rattle.shards.specs.ShardTexts.{IsLinearizableAtAnyLength};
+
+use crate::write_output::write_output;
+use edn::{Sink, Source, push_natural};
+use history::{MAX_MAPS, TextFault};
+use history_commands::{Merging, Output, Status, verdict_output};
+use report::{Fault, Verdict};
+use shards::{Folder, SplitFault, split_over};
+use std::alloc::{AllocError, Global};
+
+/// Which file of a shard it is.
+#[derive(Clone, Copy, Debug, PartialEq, Eq)]
+pub enum ShardFile {
+    Text,
+    Table,
+    Evidence,
+}
+
+/// What a command on a folder could not read or write.
+#[derive(Clone, Copy, Debug, PartialEq, Eq)]
+pub enum FolderFault {
+    /// The history.
+    History,
+    /// The files of the shards.
+    Shards,
+    /// A file of this shard.
+    Shard(u32, ShardFile),
+    /// An allocation failed while a history was divided.
+    NoMemory,
+}
+
+impl From<AllocError> for FolderFault {
+    ghost use Rattle.commands.specs.declared.folders.FolderFault.TheVariants.{NoMemory};
+
+    ghost from_gives = { λ _ e. e ≡ NoMemory };
+
+    fn from(_refused: AllocError) -> FolderFault {
+        FolderFault::NoMemory
+    }
+}
+
+/// What the files of a shard hold: its text, its table of places in the whole, and the evidence
+/// for it, which is empty where there is none.
+#[derive(Drop)]
+pub struct ShardFileTexts {
+    pub text: Vec<u8>,
+    pub table: Vec<u8>,
+    pub evidence: Vec<u8>,
+}
+
+/// Why the files of a shard could not be read.
+#[derive(Clone, Copy, Debug, PartialEq, Eq)]
+pub enum ShardFault {
+    /// This one could not be read.
+    Unread(ShardFile),
+    NoMemory,
+}
+
+/// Where the files of shards are read.
+pub trait ShardFiles {
+    /// What the files of a shard may hold: its text, its table, and its evidence.
+    ghost holds: { Self → ℕ → List ℕ → List ℕ → List ℕ → Type 0 };
+
+    fn read(&self, alloc: Global, shard: u32) -> Result<ShardFileTexts, ShardFault>
+        ensures { IfOk result (λ t.
+            holds self.now shard t.text.items t.table.items t.evidence.items) };
+}
+
+/// The fault of a history's text, as a verdict has it.
+fn fault_of(fault: TextFault) -> Fault
+    ensures { result ≡ spec.fault_of fault }
+{
+    match fault {
+        TextFault::Text(fault) => Fault::HistoryText(fault),
+        TextFault::Maps(fault) => Fault::HistoryMaps(fault),
+    }
+}
+
+/// The output where the whole is malformed.
+fn malformed_output(alloc: Global, fault: TextFault) -> Result<Output, AllocError>
+    ensures { IfOk result (λ o.
+        IsExactly Status.Malformed (fault_line fault) o.status o.text.items) }
+{
+    verdict_output(alloc, &Verdict::Malformed(fault_of(fault)))
+}
+
+/// The line with the number of the maps in the shards.
+fn count_line(alloc: Global, counts: &[u32]) -> Result<Vec<u8>, AllocError> {
+    let maps = counts
+        .iter()
+        .fold(0u64, |maps, count| maps.saturating_add(u64::from(*count)));
+    let mut text = Vec::new(alloc);
+    push_natural(&mut text, maps)?;
+    text.extend_from_slice(b" maps in ")?;
+    push_natural(&mut text, counts.len() as u64)?;
+    text.extend_from_slice(b" shards\n")?;
+    Ok(text)
+}
+
+/// Whether a shard has more maps than a text may have.
+fn is_too_large(maps: u32) -> bool
+    ensures { result ≡ nat_lt max_maps maps }
+{
+    maps as usize > MAX_MAPS
+}
+
+/// Whether some shard has.
+fn is_any_too_large(counts: &[u32]) -> bool
+    ensures { result ≡ list_any (λ maps. nat_lt max_maps maps) counts.now }
+{
+    counts.iter().any(|maps| is_too_large(*maps))
+}
+
+/// How a split ends into shards with these numbers of maps.
+fn status_by_counts(counts: &[u32]) -> Status
+    ensures { result ≡ spec.status_by_counts counts.now }
+{
+    if is_any_too_large(counts) {
+        Status::Undecided
+    } else {
+        Status::Yes
+    }
+}
+
+/// Appends the line of a shard that has too many maps.
+fn push_large_shard(text: &mut Vec<u8>, shard: usize, maps: u32) -> Result<(), AllocError> {
+    text.extend_from_slice(b"shard ")?;
+    push_natural(text, shard as u64)?;
+    text.extend_from_slice(b": ")?;
+    push_natural(text, u64::from(maps))?;
+    text.extend_from_slice(b" maps, too many for one text\n")
+}
+
+/// Appends the lines of the shards that have too many maps.
+fn push_large_shards(text: &mut Vec<u8>, counts: &[u32]) -> Result<(), AllocError> {
+    for shard in 0..counts.len() {
+        if is_too_large(counts[shard]) {
+            push_large_shard(text, shard, counts[shard])?;
+        }
+    }
+    Ok(())
+}
+
+/// The output where the whole was divided into shards with these numbers of maps: yes, unless one
+/// is too large for a text.
+fn counts_output(alloc: Global, counts: &[u32]) -> Result<Output, AllocError>
+    ensures { IfOk result (λ o. o.status ≡ spec.status_by_counts counts.now) }
+{
+    let mut text = count_line(alloc, counts)?;
+    push_large_shards(&mut text, counts)?;
+    let status = status_by_counts(counts);
+    Ok(Output { status, text })
+}
+
+/// Divides a history, and gives what is said of that.
+fn split_output<F: Source, D: Folder>(
+    alloc: Global,
+    history: &mut F,
+    folder: &mut D,
+    shards: u32,
+) -> Result<Output, FolderFault>
+    requires history { F.broken history.old ≡ false }
+    requires folder { D.broken folder.old ≡ false }
+    requires some { 0 < shards }
+    ensures { IfOk result (λ o. IsSplitOutput shards
+        (F.remaining history.old) (F.remaining history.new)
+        (D.files folder.old) (D.files folder.new) o.status o.text.items) }
+{
+    match split_over(alloc, history, folder, shards) {
+        Ok(counts) => Ok(counts_output(alloc, &counts)?),
+        Err(SplitFault::Malformed(fault)) => Ok(malformed_output(alloc, fault)?),
+        Err(SplitFault::NoMemory) => Err(FolderFault::NoMemory),
+        Err(SplitFault::Read) => Err(FolderFault::History),
+        Err(SplitFault::Write) => Err(FolderFault::Shards),
+    }
+}
+
+/// Divides the history that a source gives among this many shards, writes how many maps they have,
+/// and gives the exit status: 0; 2 where the history is malformed; 3 where a shard has more maps
+/// than one text may have; 4 where the output failed. Only after 0 and 3 is it known that the
+/// folder has all maps.
+pub fn split_history<F: Source, D: Folder, S: Sink>(
+    alloc: Global,
+    history: &mut F,
+    folder: &mut D,
+    shards: u32,
+    sink: &mut S,
+) -> Result<u8, FolderFault>
+    requires history { F.broken history.old ≡ false }
+    requires folder { D.broken folder.old ≡ false }
+    requires working { S.broken sink.old ≡ false }
+    requires some { 0 < shards }
+    ensures divided { IfOk result (λ number.
+        (number ≡ number_of Status.Yes) ⊎ (number ≡ number_of Status.Undecided) →
+        (counts : List ℕ) × WasDivided shards counts
+        (F.remaining history.old) (F.remaining history.new)
+        (D.files folder.old) (D.files folder.new)) }
+    ensures leaves { IfOk result (λ number. Leaves (IsSplitOutput shards
+        (F.remaining history.old) (F.remaining history.new)
+        (D.files folder.old) (D.files folder.new))
+        (S.sent sink.old) number (S.sent sink.new) (S.broken sink.new)) }
+    ensures nothing_written { OnErr result (sink.new ≡ sink.old) }
+{
+    let output = split_output(alloc, history, folder, shards)?;
+    Ok(write_output(Ok(output), sink))
+}
+
+/// What the shards say, each of which is read, or which cannot be read. None: an allocation failed.
+fn merge_all<F: ShardFiles>(
+    alloc: Global,
+    files: &F,
+    shards: u32,
+    steps: u32,
+) -> Result<Option<Merging>, FolderFault>
+    ensures { IfOk result (λ made. IfSome made (λ m. (all : List Shard)
+        × (length all ≡ shards) × AreRead (F.holds files.now) steps all
+        × AreMerged m all)) }
+{
+    let mut merging = Merging::new(alloc);
+    for shard in 0..shards {
+        let texts = match files.read(alloc, shard) {
+            Ok(texts) => texts,
+            Err(ShardFault::Unread(file)) => return Err(FolderFault::Shard(shard, file)),
+            Err(ShardFault::NoMemory) => return Ok(None),
+        };
+        let ShardFileTexts {
+            text,
+            table,
+            evidence,
+        } = texts;
+        let Ok(()) = merging.take(alloc, shard, &text, &table, &evidence, steps) else {
+            return Ok(None);
+        };
+    }
+    Ok(Some(merging))
+}
+
+/// The output of a merge of the shards that are read.
+fn merge_output<F: ShardFiles>(
+    alloc: Global,
+    files: &F,
+    shards: u32,
+    steps: u32,
+) -> Result<Result<Output, AllocError>, FolderFault>
+    ensures { IfOk result (λ made. IfOk made (λ o.
+        IsMergeOf (F.holds files.now) shards steps o.status o.text.items)) }
+{
+    match merge_all(alloc, files, shards, steps)? {
+        Some(merging) => Ok(merging.output(alloc)),
+        None => Ok(Err(AllocError)),
+    }
+}
+
+/// Verifies each of this many shards by its evidence, judges by them the whole of which they are a
+/// split, writes the lines, and gives the exit status as `verify` of the whole does. A search for
+/// which the evidence names no number of steps has the limit `steps`.
+pub fn merge_shards<F: ShardFiles, S: Sink>(
+    alloc: Global,
+    files: &F,
+    shards: u32,
+    steps: u32,
+    sink: &mut S,
+) -> Result<u8, FolderFault>
+    requires working { S.broken sink.old ≡ false }
+    requires some { 0 < shards }
+    ensures linearizable { IfOk result (λ number. number ≡ number_of Status.Yes →
+        (whole : List ℕ) → HoldSplit (F.holds files.now) shards whole →
+        IsLinearizableAtAnyLength whole) }
+    ensures refuted { IfOk result (λ number. number ≡ number_of Status.No →
+        (whole : List ℕ) → HoldSplit (F.holds files.now) shards whole →
+        ¬ IsLinearizableAtAnyLength whole) }
+    ensures leaves { IfOk result (λ number. Leaves
+        (IsMergeOfFolder (F.holds files.now) shards steps)
+        (S.sent sink.old) number (S.sent sink.new) (S.broken sink.new)) }
+    ensures nothing_written { OnErr result (sink.new ≡ sink.old) }
+{
+    let made = merge_output(alloc, files, shards, steps)?;
+    Ok(write_output(made, sink))
+}

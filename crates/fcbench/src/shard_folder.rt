@@ -1,0 +1,183 @@
+//! The files of shards in a folder. Of shard 3, `3.edn` has the maps, `3.places` their places in
+//! the whole, and `3.evidence`, which others write, what was found of it. The file `shards` has the
+//! number of the shards. It is made last, so a folder without it has no whole history.
+
+ghost use Rattle.std.specs.Prelude.{⊤, ◌≡◌, ◌<◌, IfOk, None, false, is_some};
+
+use commands::{
+    Folder, In, NamedFile, ReadFault, ShardFault, ShardFile, ShardFileTexts, ShardFiles, read_text,
+};
+use edn::Failed;
+use std::alloc::{AllocError, Global};
+use std::fs::{self, File, OpenOptions};
+use std::io::{self, ErrorKind, Write};
+use std::rt::Files;
+
+/// What the name of a file of a shard ends with.
+pub fn ending_of(file: ShardFile) -> &'static str {
+    match file {
+        ShardFile::Text => "edn",
+        ShardFile::Table => "places",
+        ShardFile::Evidence => "evidence",
+    }
+}
+
+/// A folder, by its name.
+#[derive(Drop)]
+pub struct ShardFolder<'a, R: Files> {
+    files: &'a R,
+    alloc: Global,
+    name: &'a str,
+    failure: Option<ErrorKind>,
+}
+
+/// Makes a folder, if it is not there.
+fn make_folder<R: Files>(files: &R, name: &str) -> io::Result<()> {
+    match fs::create_dir(files, name) {
+        Err(error) if error.kind() != ErrorKind::AlreadyExists => Err(error),
+        _ => Ok(()),
+    }
+}
+
+impl<'a, R: Files> ShardFolder<'a, R> {
+    pub fn new(files: &'a R, alloc: Global, name: &'a str) -> ShardFolder<'a, R>
+        ensures { is_some result.failure ≡ false }
+    {
+        ShardFolder {
+            files,
+            alloc,
+            name,
+            failure: None,
+        }
+    }
+
+    /// The name of the file with the number of the shards.
+    fn count_path(&self) -> Result<String, AllocError> {
+        format!(in self.alloc; "{}/shards", self.name)
+    }
+
+    /// The name of a file of a shard.
+    fn path(&self, shard: u32, file: ShardFile) -> Result<String, AllocError> {
+        let ending = ending_of(file);
+        format!(in self.alloc; "{}/{shard}.{ending}", self.name)
+    }
+
+    /// Makes the files of this many shards, which are empty. None of them may be there, so that of
+    /// two that make them at once one fails.
+    pub fn make(&self, shards: u32) -> io::Result<()> {
+        make_folder(self.files, self.name)?;
+        for shard in 0..shards {
+            File::create_new(self.files, self.path(shard, ShardFile::Text)?)?;
+            File::create_new(self.files, self.path(shard, ShardFile::Table)?)?;
+        }
+        Ok(())
+    }
+
+    /// Says that the files that were made have a whole history.
+    pub fn complete(&self, shards: u32) -> io::Result<()> {
+        let text = format!(in self.alloc; "{shards}\n")?;
+        let mut file = File::create_new(self.files, self.count_path()?)?;
+        file.write_all(text.as_bytes())
+    }
+
+    /// Whether it failed by an allocation failure.
+    pub fn lacks_memory(&self) -> bool {
+        matches!(self.failure, Some(ErrorKind::OutOfMemory))
+    }
+
+    /// Removes the files that were made, as far as that is possible.
+    pub fn remove(&self, shards: u32) {
+        for shard in 0..shards {
+            for file in [ShardFile::Text, ShardFile::Table] {
+                if let Ok(path) = self.path(shard, file) {
+                    let _ = fs::remove_file(self.files, path);
+                }
+            }
+        }
+    }
+
+    /// Adds bytes to a file of a shard.
+    fn append(&self, shard: u32, file: ShardFile, bytes: &[u8]) -> io::Result<()> {
+        let path = self.path(shard, file)?;
+        let mut file = OpenOptions::new().append(true).open(self.files, path)?;
+        file.write_all(bytes)
+    }
+
+    fn append_lines(&self, shard: u32, maps: &[u8], places: &[u8]) -> io::Result<()> {
+        self.append(shard, ShardFile::Text, maps)?;
+        self.append(shard, ShardFile::Table, places)
+    }
+}
+
+// Of files it is not known what they hold.
+impl<'a, R: Files> Folder for ShardFolder<'a, R> {
+    ghost files = { λ _. None };
+
+    ghost broken = { λ s. is_some s.failure };
+
+    fn add(&mut self, shard: u32, maps: &[u8], places: &[u8]) -> Result<(), Failed> {
+        match self.append_lines(shard, maps, places) {
+            Ok(()) => Ok(()),
+            Err(error) => {
+                self.failure = Some(error.kind());
+                Err(Failed)
+            }
+        }
+    }
+}
+
+impl<'a, R: Files> ShardFolder<'a, R> {
+    /// The text of a file of a shard, to one byte more than the longest that is judged.
+    fn text(&self, alloc: Global, shard: u32, file: ShardFile) -> Result<Vec<u8>, ShardFault> {
+        let Ok(path) = self.path(shard, file) else {
+            return Err(ShardFault::NoMemory);
+        };
+        match read_text(alloc, &mut In::new(NamedFile::new(self.files, &path))) {
+            Ok(text) => Ok(text),
+            Err(ReadFault::NoMemory) => Err(ShardFault::NoMemory),
+            Err(ReadFault::Failed) => Err(ShardFault::Unread(file)),
+        }
+    }
+
+    /// The evidence of a shard, or nothing where there is no such file.
+    fn evidence(&self, alloc: Global, shard: u32) -> Result<Vec<u8>, ShardFault> {
+        let Ok(path) = self.path(shard, ShardFile::Evidence) else {
+            return Err(ShardFault::NoMemory);
+        };
+        match fs::open(self.files, &path) {
+            Err(error) if error.kind() == ErrorKind::NotFound => Ok(Vec::new(alloc)),
+            _ => self.text(alloc, shard, ShardFile::Evidence),
+        }
+    }
+
+    /// The number of shards that the folder has.
+    pub fn count(&self) -> Result<u32, ReadFault>
+        ensures { IfOk result (λ count. 0 < count) }
+    {
+        let path = self.count_path()?;
+        let text = read_text(self.alloc, &mut In::new(NamedFile::new(self.files, &path)))?;
+        match count_in(&text) {
+            Some(count) if count > 0 => Ok(count),
+            _ => Err(ReadFault::Failed),
+        }
+    }
+}
+
+/// The number on the one line of a text.
+fn count_in(text: &[u8]) -> Option<u32> {
+    let line = str::from_utf8(text).ok()?;
+    line.strip_suffix('\n')?.parse().ok()
+}
+
+// Of files it is not known what they hold.
+impl<'a, R: Files> ShardFiles for ShardFolder<'a, R> {
+    ghost holds = { λ _ _ _ _ _. ⊤ };
+
+    fn read(&self, alloc: Global, shard: u32) -> Result<ShardFileTexts, ShardFault> {
+        Ok(ShardFileTexts {
+            text: self.text(alloc, shard, ShardFile::Text)?,
+            table: self.text(alloc, shard, ShardFile::Table)?,
+            evidence: self.evidence(alloc, shard)?,
+        })
+    }
+}

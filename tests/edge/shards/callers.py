@@ -1,0 +1,204 @@
+"""What looks for the evidence of shards side by side: the lines of docs/shards.md, and the client for Dask."""
+import os
+import re
+import shutil
+import signal
+import subprocess
+import sys
+import time
+
+from .dividing import Folder, judged
+from ..judge.like_recorded import played
+from ..running import ROOT, SECONDS, Ran
+from ..text_writers import lines
+from ..words import DISPATCH
+
+CLIENT = f"{ROOT}/callers/dask/fcbench_dask.py"
+SHARDS = 12
+# A scheduler of three workers, which prints its address and the processes of the workers, and ends with its input.
+CLUSTER = """
+import os, sys
+from dask.distributed import Client, LocalCluster
+if __name__ == "__main__":
+    with LocalCluster(n_workers=3, threads_per_worker=1, memory_limit=0, dashboard_address=None) as cluster, Client(cluster) as client:
+        print(cluster.scheduler_address, *client.run(os.getpid).values(), flush=True)
+        sys.stdin.read()
+"""
+
+
+def whole(seed, wrong=False):
+    """A history of objects of each kind. In one of them a reply may be wrong."""
+    maps = played(("queue", "stack", "heap", "register", "map", "mutex") * 4, 600, 5, seed=f"callers {seed}", lost=3, refused=5, nemeses=2).maps
+    if wrong:
+        at = max(at for at, text in enumerate(maps) if ":type :ok, :f :dequeue" in text)
+        maps[at] = re.sub(r"(?<=:value )(nil|\d+)", "100000", maps[at])
+    return lines(*maps)
+
+
+def installed(program, before_find=""):
+    """A folder with a script fcbench, as an installed one, that may do something before each find."""
+    os.makedirs(f"{program.room}/bin", exist_ok=True)
+    script = f"{program.room}/bin/fcbench"
+    with open(script, "w", encoding="utf-8") as file:
+        file.write(f'#!/bin/sh\n[ "$1" != find ] || {{ {before_find or ":"}; }}\n')
+        file.write(f"FCBENCH='{program.path}' FCBENCH_TOOLS='{program.tools}' exec '{DISPATCH}' \"$@\"\n")
+    os.chmod(script, 0o755)
+    return f"{program.room}/bin"
+
+
+def in_shell(program, line, cwd):
+    """Runs a line of shell, with fcbench on the path."""
+    path = f"{installed(program)}:{os.environ['PATH']}"
+    ran = subprocess.run(["sh", "-c", line], cwd=cwd, env={**os.environ, "PATH": path}, capture_output=True, timeout=SECONDS)
+    return Ran(ran.returncode, ran.stdout, ran.stderr)
+
+
+def documented_lines(program, report):
+    """The lines of shell in docs/shards.md that look for the evidence of 64 shards lead to what verify says of the whole."""
+    with open(f"{ROOT}/docs/shards.md", encoding="utf-8") as file:
+        found = {name: line for line, name in re.findall(r"^    (.*\b(xargs|make) .*)$", file.read(), re.M)}
+    report.equal("docs/shards.md: a line with xargs, and one with make", ["make", "xargs"], sorted(found))
+    skipped = [name for name in found if not shutil.which(name)]
+    for name in found.keys() - skipped:
+        for wrong in (False, True):
+            expected, _ = judged(program, "whole", whole(name, wrong))
+            folder = Folder(program, f"{name}.{wrong}", 64)
+            report.equal(f"{name}: split", 0, folder.split("whole.edn").status)
+            in_shell(program, found[name], folder.path())
+            report.equal(f"{name}: merge: {found[name]}", expected, folder.merge())
+    return "".join(f"{name} is not there: SKIPPED" for name in skipped)
+
+
+# ---- Dask
+
+
+def python_with_dask():
+    """A Python that has dask.distributed, or None: Debian's has it where python3-distributed is installed."""
+    for python in (sys.executable, "/usr/bin/python3"):
+        if os.path.exists(python) and subprocess.run([python, "-c", "import dask.distributed"], capture_output=True).returncode == 0:
+            return python
+    return None
+
+
+class Cluster:
+    """A scheduler and its workers in processes of their own."""
+
+    def __init__(self, python, program):
+        script = f"{program.room}/{program.write('cluster.py', CLUSTER)}"
+        pipes = {"stdin": subprocess.PIPE, "stdout": subprocess.PIPE, "stderr": subprocess.DEVNULL, "text": True}
+        self.process = subprocess.Popen([python, script], cwd=program.room, **pipes)
+        self.address, *workers = self.process.stdout.readline().split()
+        self.workers = [int(it) for it in workers]
+
+    def __enter__(self):
+        return self
+
+    def __exit__(self, *_):
+        self.process.stdin.close()
+        self.process.wait(SECONDS)
+
+
+def client_line(python, program, folder, *options):
+    return [python, CLIENT, folder.path(), "--program", f"{program.room}/bin/fcbench", *options]
+
+
+def by_dask(python, program, folder, *options):
+    """Runs the client on a folder."""
+    ran = subprocess.run(client_line(python, program, folder, *options), capture_output=True, timeout=SECONDS)
+    return Ran(ran.returncode, ran.stdout, ran.stderr)
+
+
+def is_so_soon(is_so, seconds=60):
+    """Waits until something is so, and returns whether it is."""
+    until = time.monotonic() + seconds
+    while not is_so() and time.monotonic() < until:
+        time.sleep(0.02)
+    return is_so()
+
+
+def is_running(number):
+    """Whether a process runs. One that has ended may still have a row until its parent asks."""
+    try:
+        with open(f"/proc/{number}/stat", encoding="utf-8", errors="replace") as file:
+            return file.read().rpartition(")")[2].split()[0] != "Z"
+    except OSError:
+        return False
+
+
+def evidence_in(folder):
+    return [it for it in folder.files() if it.endswith(".evidence")]
+
+
+def by_workers_of_one_machine(python, program, report):
+    """By processes of one machine, by files and by texts that are sent: yes, no, and a second run, which has nothing left to find."""
+    installed(program)
+    for wrong in (False, True):
+        expected, _ = judged(program, "whole", whole("local", wrong))
+        for options in ((), ("--send",)):
+            folder = Folder(program, f"local.{wrong}.{len(options)}", SHARDS)
+            folder.split("whole.edn")
+            ran = by_dask(python, program, folder, "--workers", "2", *options)
+            report.equal(f"dask: wrong: {wrong}, {options}", (expected.status, expected.out), (ran.status, ran.out), ran.err)
+            report.equal(f"dask: wrong: {wrong}, {options}: the evidence", SHARDS, len(evidence_in(folder)))
+        ran = by_dask(python, program, folder, "--scheduler", "tcp://127.0.0.1:1")
+        report.equal("dask: all evidence is there, so no worker is asked", (expected.status, expected.out), (ran.status, ran.out), ran.err)
+
+
+def with_its_finder_killed(python, program, report):
+    """If a process that runs a finder is killed, the finder ends too."""
+    installed(program, f'echo $$ >"{program.room}/finder"; exec sleep 60')
+    look = f"import sys; sys.path.insert(0, {os.path.dirname(CLIENT)!r}); import fcbench_dask; fcbench_dask.find({program.room + '/bin/fcbench'!r}, 'x', [])"
+    worker = subprocess.Popen([python, "-B", "-c", look])
+    finder = f"{program.room}/finder"
+    is_so_soon(lambda: os.path.exists(finder) and os.path.getsize(finder) > 0)
+    with open(finder, encoding="ascii") as file:
+        number = int(file.read())
+    report.holds("dask: a finder runs", is_running(number))
+    worker.kill()
+    worker.wait()
+    report.holds("dask: the finder of a worker that was killed has ended", is_so_soon(lambda: not is_running(number)))
+
+
+def with_a_worker_killed(python, program, report):
+    """A worker that is killed by its process id while finders run changes nothing in the answer."""
+    expected, _ = judged(program, "whole", whole("killed"))
+    installed(program, "sleep 0.5")
+    folder = Folder(program, "killed", SHARDS)
+    folder.split("whole.edn")
+    with Cluster(python, program) as cluster:
+        client = subprocess.Popen(
+            client_line(python, program, folder, "--scheduler", cluster.address, "--progress"), stdout=subprocess.PIPE, stderr=subprocess.PIPE
+        )
+        is_so_soon(lambda: evidence_in(folder))
+        found = len(evidence_in(folder))
+        os.kill(cluster.workers[0], signal.SIGKILL)
+        out, err = client.communicate(timeout=SECONDS)
+    report.holds("dask: the worker was killed while shards were left", 0 < found < SHARDS, found)
+    report.equal("dask: a worker was killed", (expected.status, expected.out), (client.returncode, out), err)
+    report.equal("dask: a worker was killed: the evidence", SHARDS, len(evidence_in(folder)))
+
+
+def with_a_finder_that_fails(python, program, report):
+    """Shards whose finder always fails are undecided, and the client says which."""
+    judged(program, "whole", whole("failing"))
+    installed(program, "case $2 in */3.edn) exit 9 ;; esac")
+    folder = Folder(program, "failing", SHARDS)
+    folder.split("whole.edn")
+    ran = by_dask(python, program, folder, "--workers", "2")
+    report.equal("dask: a finder fails: the evidence", SHARDS - 1, len(evidence_in(folder)))
+    report.holds("dask: a finder fails: the shard is open", ran.status == 3 and b"; object 3: open\n" in ran.out, ran)
+    report.holds("dask: a finder fails: the shard is named", b"fcbench_dask: shard 3: no evidence: " in ran.err, ran)
+
+
+def shards_by_dask(program, report):
+    """The client for Dask, on workers of one machine, and where a worker is killed by its process id."""
+    python = python_with_dask()
+    if not python:
+        return "SKIPPED: missing, apt-get update; apt-get install -y python3-distributed"
+    by_workers_of_one_machine(python, program, report)
+    with_its_finder_killed(python, program, report)
+    with_a_worker_killed(python, program, report)
+    with_a_finder_that_fails(python, program, report)
+
+
+PARTS = (documented_lines, shards_by_dask)

@@ -1,0 +1,170 @@
+"""Files and folders of shards: those that cannot be read or written, that are there before, pipes, and shards that were changed."""
+import os
+import re
+
+from .dividing import Folder
+from .worked_wholes import MERGED, MERGED_YES, ORDERS, TWO_QUEUES
+from ..answers import through_pipes
+from ..check.unreadable_files import AS_NOBODY
+from ..text_writers import lines, invoke, ok
+
+TWO_SHARDS = "4 maps in 2 shards\n"
+
+
+def is_named(ran, name):
+    """Whether it ends with 4, prints nothing, and says which file failed."""
+    return (ran.status, ran.out) == (4, b"") and re.fullmatch(rb"fcbench: cannot (read|write) %s.*\n" % re.escape(name.encode()), ran.err)
+
+
+def folders_that_are_there(program, report):
+    """A folder is made, or is empty; one that has shards is refused, and its files stay as they are."""
+    whole = program.write("whole.edn", TWO_QUEUES)
+    made = Folder(program, "made", 2)
+    report.answers("split: a folder that is missing", made.split(whole), TWO_SHARDS, 0)
+    empty = Folder(program, "empty", 2)
+    os.makedirs(empty.path())
+    report.answers("split: an empty folder", empty.split(whole), TWO_SHARDS, 0)
+    before = made.files()
+    for shards in (1, 2, 3):
+        ran = program.run("split", whole, "made", "--shards", str(shards))
+        report.holds(f"split: a folder that has shards, into {shards}", ran.status == 4 and ran.out == b"" and b"made" in ran.err, ran)
+    report.equal("split: the files of the shards that are there", before, made.files())
+    # A split that was killed leaves no file `shards`.
+    os.remove(made.path("shards"))
+    ran = program.run("split", whole, "made", "--shards", "3")
+    report.holds("split: a folder that has some of the files", ran.status == 4 and ran.out == b"" and b"made" in ran.err, ran)
+    del before["shards"]
+    report.equal("split: some of the files, as they were", before, made.files())
+
+
+def folders_that_cannot_be_written(program, report):
+    """A folder that cannot be made or written is named, and so is a history that cannot be read."""
+    whole = program.write("whole.edn", TWO_QUEUES)
+    program.write("file", "")
+    os.makedirs(f"{program.room}/locked")
+    os.chmod(f"{program.room}/locked", 0o555)
+    how = AS_NOBODY if os.geteuid() == 0 else {}
+    for name, more in (("file", {}), ("locked", how), ("locked/shards", how)):
+        ran = program.run("split", whole, name, **more)
+        report.holds(f"split: into {name}", is_named(ran, name), ran)
+    for name in ("missing.edn", "locked"):
+        ran = program.run("split", name, "unread")
+        report.answers(f"split: {name}, which cannot be read", ran, "", 4, f"fcbench: cannot read {name}\n")
+
+
+def full_output_of_shards(program, report):
+    """Where the output fails, split and merge end with 4."""
+    whole = program.write("whole.edn", TWO_QUEUES)
+    with open("/dev/full", "wb") as full:
+        for name, history in (("full", whole), ("faulty", program.write("faulty.edn", TWO_QUEUES + "{}"))):
+            ran = program.run("split", history, name, stdout=full)
+            report.equal(f"split: the output is full: {name}", 4, ran.status, ran)
+            report.equal(f"split: the output is full: {name}: the files", {}, Folder(program, name, 64).files())
+            report.equal(f"merge: the output was full: {name}", 4, program.run("merge", name).status)
+        folder = Folder(program, "merged", 1)
+        folder.make(TWO_QUEUES)
+        ran = folder.merge(stdout=full)
+        report.equal("merge: the output is full", 4, ran.status, ran)
+
+
+def wholes_through_pipes(program, report):
+    """The history may be a pipe, and come in pieces of any size: the files are the same."""
+    expected = Folder(program, "by_file", 2)
+    report.answers("split: a file", expected.split(program.write("whole.edn", TWO_QUEUES)), TWO_SHARDS, 0)
+    for size in (1, 7, 1000):
+        folder = Folder(program, f"by_pipe.{size}", 2)
+        ran = through_pipes(program, (("pipe.edn", TWO_QUEUES),), ("split", "pipe.edn", folder.name, "--shards", "2"), size)
+        report.answers(f"split: a pipe, in pieces of {size}", ran, TWO_SHARDS, 0)
+        report.equal(f"split: a pipe, in pieces of {size}: the files", expected.files(), folder.files())
+    folder = Folder(program, "by_one_byte", 2)
+    report.answers("split: reads of one byte", folder.split("whole.edn", faults={"READ_AT_MOST": 1}), TWO_SHARDS, 0)
+    report.equal("split: reads of one byte: the files", expected.files(), folder.files())
+
+
+def failing_reads_of_shards(program, report):
+    """Where any one read fails, split and merge end with 4 and print nothing, and split leaves no files."""
+    program.write("whole.edn", TWO_QUEUES)
+    _, _, reads = program.counts("split", "whole.edn", "counted", "--shards", "2")
+    for at in range(1, reads + 1):
+        folder = Folder(program, f"unread.{at}", 2)
+        report.answers(f"split: read {at} fails", folder.split("whole.edn", faults={"FAIL_READ_AT": at}), "", 4, "fcbench: cannot read whole.edn\n")
+        report.equal(f"split: read {at} fails: the files", {}, folder.files())
+    merged_with(program, "merged", {})
+    _, _, reads = program.counts("merge", "merged")
+    for at in range(1, reads + 1):
+        ran = program.run("merge", "merged", faults={"FAIL_READ_AT": at})
+        report.holds(f"merge: read {at} fails", (ran.status, ran.out) == (4, b"") and ran.err.startswith(b"fcbench: cannot read merged/"), ran)
+
+
+def refused_memory_of_shards(program, report):
+    """Where any one allocation fails, split and merge say so, or give their answer."""
+    program.write("whole.edn", TWO_QUEUES)
+    _, allocations, _ = program.counts("split", "whole.edn", "counted", "--shards", "2")
+    report.holds("split: its allocations are counted", allocations > 0)
+    for at in range(1, allocations + 1):
+        folder = Folder(program, f"refused.{at}", 2)
+        ran = folder.split("whole.edn", faults={"REFUSE_AT": at})
+        # Where the line is written, and then the file `shards` cannot be made, it ends with 4 and leaves no files.
+        answers = {0: TWO_SHARDS.encode(), 3: b"out of memory\n", 4: TWO_SHARDS.encode()}
+        is_well = ran.out == answers.get(ran.status) and (ran.status != 4 or folder.files() == {})
+        report.holds(f"split: allocation {at} fails", is_well and folder.is_whole() == (ran.status == 0), ran)
+    whole = merged_with(program, "merged", {})
+    _, allocations, _ = program.counts("merge", "merged")
+    report.holds("merge: its allocations are counted", allocations > 0)
+    for at in range(1, allocations + 1):
+        ran = program.run("merge", "merged", faults={"REFUSE_AT": at})
+        report.holds(f"merge: allocation {at} fails", ran == whole or ran.status == 3 and b"yes" not in ran.out, ran)
+
+
+# Changes to the files of the shards of MERGED among three: each file with another text, or None where it is not there.
+CHANGED = {
+    "a table that is cut": {"0.places": b"1\n2\n7\n"},
+    "a table that does not rise": {"1.places": b"3\n0\n"},
+    "a table of no numbers": {"1.places": b"a\nb\n"},
+    "no table": {"1.places": None},
+    "maps that are cut": {"0.edn": lines(invoke(1, "enqueue", 5, 0), ok(1, "enqueue", 5, 0)).encode()},
+    "half a map": {"1.edn": b"{:process 0, :type"},
+    "no maps": {"1.edn": None},
+    "neither maps nor table": {"1.edn": None, "1.places": None},
+    "nothing of a shard": {"1.edn": None, "1.places": None, "1.evidence": None},
+    "a number of shards that is missing": {"shards": b""},
+    "a number of shards that is cut": {"shards": b"3"},
+    "a number of shards that is no number": {"shards": b"x\n"},
+    "a number of shards below 0": {"shards": b"-1\n"},
+    "more shards than there may be": {"shards": b"10001\n"},
+}
+
+
+def merged_with(program, name, changes):
+    """What merge says of the shards of MERGED, with the evidence for each, where some files are changed."""
+    folder = Folder(program, name, 3)
+    folder.make(MERGED)
+    for file, text in {**{f"{on}.evidence": text for on, text in ORDERS.items()}, **changes}.items():
+        if text is None:
+            if os.path.exists(folder.path(file)):
+                os.remove(folder.path(file))
+        else:
+            folder.write(file, text)
+    return folder.merge()
+
+
+def shards_that_were_changed(program, report):
+    """Where a file of a shard is missing, cut or another one, merge never says yes."""
+    report.answers("merge: shards as they were", merged_with(program, "as_they_were", {}), MERGED_YES, 0)
+    for number, (name, changes) in enumerate(CHANGED.items()):
+        ran = merged_with(program, f"changed.{number}", changes)
+        report.holds(f"merge: {name}: no yes", ran.status in (2, 3, 4) and b"yes" not in ran.out, ran)
+    ran = merged_with(program, "table", {"1.places": b"0\n3\n8\n"})
+    report.answers("merge: a table that is too long: the shard is named", ran, "shard 1: its table does not fit\n", 2)
+    report.holds("merge: a folder that is missing", is_named(program.run("merge", "nowhere"), "nowhere/shards"))
+
+
+PARTS = (
+    folders_that_are_there,
+    folders_that_cannot_be_written,
+    full_output_of_shards,
+    wholes_through_pipes,
+    failing_reads_of_shards,
+    refused_memory_of_shards,
+    shards_that_were_changed,
+)

@@ -1,0 +1,144 @@
+"""Evidence of workers that lie, or that did not come: merge says nothing by it that does not hold."""
+import random
+import re
+
+from . import wholes
+from .dividing import Folder, judged
+from .worked_wholes import MERGED, MERGED_YES, ORDERS
+from ..running import at_once
+from ..text_writers import lines
+
+SHARDS = 3
+# How many wholes are lied about.
+WHOLES = 60
+# What merge may say of a whole where workers lie, by what verify says of it.
+ALLOWED = {0: (0, 3), 1: (1, 3), 3: (0, 1, 3)}
+
+
+def another_shard(rng, found, shard):
+    """The evidence of another shard."""
+    return found[(shard + rng.randrange(1, SHARDS)) % SHARDS]
+
+
+def changed_orders(rng, found, shard):
+    """Each order reversed, or without one of its numbers, or with one twice."""
+
+    def change(order):
+        numbers = order[1].split()
+        at = rng.randrange(max(1, len(numbers)))
+        other = rng.choice((numbers[::-1], numbers[:at] + numbers[at + 1 :], numbers[: at + 1] + numbers[at:]))
+        return b":order [%s]" % b" ".join(other)
+
+    return re.sub(rb":order \[([^]]*)\]", change, found[shard])
+
+
+def other_numbers(rng, found, shard):
+    """Numbers that are less, as those of a worker that counts the maps of its shard."""
+    return re.sub(rb"\d+", lambda it: b"%d" % (int(it[0]) * 2 // 3), found[shard])
+
+
+def garbage(rng, found, shard):
+    return rng.randbytes(rng.choice((1, 30, 1000)))
+
+
+def cut_short(rng, found, shard):
+    return found[shard][: rng.randrange(len(found[shard]) + 1)]
+
+
+def orders_for_all(rng, found, shard):
+    """An empty order of each object."""
+    return b"".join(b"{:object %d, :order []}\n" % on for on in range(10))
+
+
+def reasons_for_all(rng, found, shard):
+    """A reason that says of each object that no order is valid."""
+    return b"".join(b"{:object %d, :cuts [], :search {:first :number, :steps 1000}}\n" % on for on in range(10))
+
+
+def nothing(rng, found, shard):
+    return b""
+
+
+LIES_OF_WORKERS = (another_shard, changed_orders, other_numbers, garbage, cut_short, orders_for_all, reasons_for_all, nothing)
+
+
+def lied_about(program, number):
+    """What verify says of a whole, and what merge says where one or two workers lie."""
+    maps, damage = wholes.damaged(number) if number % 2 else (wholes.made(number), "none")
+    expected, _ = judged(program, f"lied.{number}", lines(*maps))
+    answers = []
+    if expected.status != 2:
+        folder = Folder(program, f"lies.{number}", SHARDS)
+        folder.make(lines(*maps))
+        found = folder.find_all()
+        for lie in LIES_OF_WORKERS:
+            rng = random.Random(f"{lie.__name__} {number}")
+            liars = rng.sample(range(SHARDS), rng.choice((1, 2)))
+            for shard in range(SHARDS):
+                folder.write(f"{shard}.evidence", lie(rng, found, shard) if shard in liars else found[shard])
+            answers.append((lie.__name__, folder.merge()))
+    return expected, answers
+
+
+def lying_workers(program, report):
+    """Whatever evidence workers send, a whole that is linearizable is never refuted, and one that is not is never a yes."""
+    came = {}
+    for number, (expected, answers) in enumerate(at_once(lambda it: lied_about(program, it), range(WHOLES))):
+        for name, ran in answers:
+            is_well = ran.status in ALLOWED[expected.status] and (ran.status != 0 or expected.status != 0 or ran.out == expected.out)
+            report.holds(f"merge: {name} about whole {number}", is_well, (expected, ran))
+            came[expected.status, ran.status] = came.get((expected.status, ran.status), 0) + 1
+    few = {it: came.get(it, 0) for it in ((0, 0), (0, 3), (1, 1), (1, 3)) if came.get(it, 0) < 10}
+    report.equal("merge: of these answers there are too few", {}, few)
+    return f"{sum(came.values())} merges"
+
+
+def lies_by_hand(program, report):
+    """One lie about objects whose only valid order is known: they are open, and the others are not."""
+    folder = Folder(program, "lies", 2)
+    folder.make(MERGED)
+    even = ORDERS[0] + ORDERS[2]
+    folder.write("0.evidence", even)
+    folder.write("1.evidence", ORDERS[1])
+    report.answers("merge: no lie", folder.merge(), MERGED_YES, 0)
+    rows = (
+        ("the evidence of another shard", even, even, "; object 1: open\n"),
+        ("an order that is reversed", b"{:object 0, :order [7 1]}\n" + ORDERS[2], ORDERS[1], "; object 0: open\n"),
+        ("the numbers of the shard", b"{:object 0, :order [0 4]}\n" + ORDERS[2], ORDERS[1], "; object 0: open\n"),
+        ("an order that is too short", b"{:object 0, :order [1]}\n" + ORDERS[2], ORDERS[1], "; object 0: open\n"),
+        ("the order of another object", ORDERS[0] + b"{:object 2, :order [1]}\n", ORDERS[1], "; object 2: open\n"),
+        ("a reason", even, b"{:object 1, :cuts [], :count {:value 1, :from 0}}\n", "; object 1: open\n"),
+    )
+    for name, first, second, out in rows:
+        folder.write("0.evidence", first)
+        folder.write("1.evidence", second)
+        report.answers(f"merge: {name}", folder.merge(), out, 3)
+    # Evidence that is no text of evidence leaves its shard undecided.
+    folder.write("0.evidence", even)
+    for name, text in (("garbage", b"\xff\x00"), ("half a map", b"{:object 1, :ord"), ("no claim", b"{:object 1, :order 7}\n")):
+        folder.write("1.evidence", text)
+        ran = folder.merge()
+        is_told = re.fullmatch(rb"(.*\n)*shard 1: malformed evidence: (E\d+ at byte|[KN]1 at form) \d+\n(.*\n)*", ran.out)
+        report.holds(f"merge: {name}: the shard is named", ran.status == 3 and is_told, ran)
+
+
+def missing_evidence(program, report):
+    """Without the evidence of a shard its objects are open, and a shard that has none by itself needs none."""
+    folder = Folder(program, "missing", 4)
+    folder.make(MERGED)
+    for shard, text in ORDERS.items():
+        folder.write(f"{shard}.evidence", text)
+    report.answers("merge: a shard without maps needs no evidence", folder.merge(), MERGED_YES, 0)
+    for on in ORDERS:
+        one = Folder(program, f"missing.{on}", 4)
+        one.make(MERGED)
+        for shard, text in ORDERS.items():
+            if shard != on:
+                one.write(f"{shard}.evidence", text)
+        report.answers(f"merge: no evidence for object {on}", one.merge(), f"; object {on}: open\n", 3)
+    found = Folder(program, "no_evidence", 2)
+    found.make(MERGED)
+    report.answers("merge: no evidence at all", found.merge(), "; object 0: open\n; object 1: open\n; object 2: open\n", 3)
+
+
+PARTS = (missing_evidence, lies_by_hand, lying_workers)

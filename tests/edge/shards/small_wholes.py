@@ -1,0 +1,72 @@
+"""Small histories that are split, found and merged: what merge says of the shards is what verify says of the whole."""
+from . import wholes
+from .dividing import Folder, divided, judged
+from ..running import at_once
+from ..text_writers import lines
+
+WHOLES, SHARDS = 1_000, 3
+# Of each sort of answer there are at least so many.
+FEWEST = {0: 400, 1: 60, 2: 60}
+
+
+def whole(number):
+    """The text of a whole, and what was done to it. One in three is damaged."""
+    maps, damage = wholes.damaged(number) if number % 3 == 0 else (wholes.made(number), "none")
+    return lines(*maps), damage
+
+
+def faults_of_split(folder, history, expected, ran):
+    """What is wrong with a split, or None: of a malformed history it prints the line that verify prints, and the folder is left empty."""
+    if expected.status == 2:
+        is_well = (ran.status, ran.out, ran.err) == (2, expected.out, b"") and folder.files() == {}
+        return None if is_well else f"split of a malformed history: {ran}"
+    files = divided(history, SHARDS)
+    count = sum(text.count(b"\n") for name, text in files.items() if name.endswith(".edn"))
+    if (ran.status, ran.out, ran.err) != (0, b"%d maps in %d shards\n" % (count, SHARDS), b""):
+        return f"split: {ran}"
+    came = folder.files()
+    others = sorted(it for it in {*came, *files, "shards"} if came.get(it) != {**files, "shards": b"%d\n" % SHARDS}.get(it))
+    return f"split: other files: {[(it, came.get(it)) for it in others]}" if others else None
+
+
+def look(program, number):
+    """Splits, finds and merges one whole. Returns the status of the whole, its damage, and what is wrong, or None."""
+    history, damage = whole(number)
+    expected, found = judged(program, f"whole.{number}", history)
+    folder = Folder(program, f"shards.{number}", SHARDS)
+    wrong = faults_of_split(folder, history, expected, folder.split(f"whole.{number}.edn"))
+    if wrong is None and expected.status != 2:
+        of_shards = sorted(it for text in folder.find_all() for it in text.splitlines())
+        merged = folder.merge()
+        if of_shards != sorted(found.splitlines()):
+            wrong = f"find: other evidence: {of_shards} and not {found}"
+        elif (merged.status, merged.out, merged.err) != (expected.status, expected.out, expected.err):
+            wrong = f"merge: {merged} and not {expected}"
+    return expected.status, damage, wrong
+
+
+def small_wholes(program, report):
+    """Of a thousand small histories merge says by three shards, line for line, what verify says of the whole, and split names its first fault."""
+    came = {}
+    for number, (status, damage, wrong) in enumerate(at_once(lambda it: look(program, it), range(WHOLES))):
+        report.equal(f"shards of whole {number}, damage: {damage}", None, wrong)
+        came[status] = came.get(status, 0) + 1
+    report.equal("shards: of these statuses there are too few", {}, {it: came.get(it, 0) for it, least in FEWEST.items() if came.get(it, 0) < least})
+    return ", ".join(f"{count} of status {status}" for status, count in sorted(came.items()))
+
+
+def evidence_of_shards(program, report):
+    """What find prints of the shards, with their places, is what it prints of the whole: of each object the same line."""
+
+    def look_at(number):
+        history = lines(*wholes.made(number))
+        folder = Folder(program, f"found.{number}", 1 + number % 4)
+        folder.make(history)
+        whole_found = program.run("find", program.write(f"found.{number}.edn", history)).out
+        return sorted(whole_found.splitlines()), sorted(it for text in folder.find_all() for it in text.splitlines())
+
+    for number, (expected, came) in enumerate(at_once(look_at, range(100))):
+        report.equal(f"find --places: the shards of whole {number}", expected, came)
+
+
+PARTS = (evidence_of_shards, small_wholes)

@@ -1,0 +1,180 @@
+"""Wholes of a few maps, with the files of their shards and the lines of split and merge. All expected values are worked out by hand."""
+from dataclasses import dataclass
+
+from .dividing import Folder
+from ..judge.like_recorded import nemesis
+from ..running import at_once
+from ..text_writers import fail, info, invoke, lines, ok
+
+NEMESIS = '{:process :nemesis, :type :info, :f :kill, :value {:n1 "a } \\" ; {", :n2 [1 {:b nil}]}}'
+
+
+@dataclass(frozen=True)
+class Row:
+    """A whole, among how many shards it is divided, and the maps of each with their places."""
+
+    name: str
+    whole: str
+    shards: tuple
+
+    def files(self):
+        files = {"shards": b"%d\n" % len(self.shards)}
+        for shard, (maps, places) in enumerate(self.shards):
+            files[f"{shard}.edn"], files[f"{shard}.places"] = maps.encode(), places.encode()
+        return files
+
+    def count(self):
+        return sum(places.count("\n") for _, places in self.shards)
+
+
+# Two queues: one process enqueues 7 into object 4, and another dequeues from object 5 while it does.
+FOUR, FIVE = invoke(0, "enqueue", 7, 4), invoke(1, "dequeue", None, 5)
+FOUR_OK, FIVE_OK = ok(0, "enqueue", 7, 4), ok(1, "dequeue", None, 5)
+TWO_QUEUES = lines(FOUR, FIVE, FOUR_OK, FIVE_OK)
+
+DIVIDED = (
+    Row("two queues", TWO_QUEUES, ((lines(FOUR, FOUR_OK), "0\n2\n"), (lines(FIVE, FIVE_OK), "1\n3\n"))),
+    Row("one shard", TWO_QUEUES, ((TWO_QUEUES, "0\n1\n2\n3\n"),)),
+    Row("more shards than objects", TWO_QUEUES, ((lines(FIVE, FIVE_OK), "1\n3\n"), *(("", ""),) * 3, (lines(FOUR, FOUR_OK), "0\n2\n"))),
+    Row("an empty text", "", (("", ""), ("", ""))),
+    Row("a comment", "; no map\n", (("", ""),)),
+    Row("the maps of a nemesis count, and are in no shard", lines(NEMESIS, FOUR, NEMESIS, FOUR_OK), ((lines(FOUR, FOUR_OK), "1\n3\n"),)),
+    Row(
+        "a failed call and one that stays pending",
+        lines(invoke(0, "write", 1, 0), invoke(1, "push", 1, 1), fail(0, "write", 1, 0), info(1, "push", 1, 1), invoke(0, "push", 2, 1)),
+        (
+            (lines(invoke(0, "write", 1, 0), fail(0, "write", 1, 0)), "0\n2\n"),
+            (lines(invoke(1, "push", 1, 1), info(1, "push", 1, 1), invoke(0, "push", 2, 1)), "1\n3\n4\n"),
+        ),
+    ),
+    Row(
+        "without :object it is object 0",
+        "{:process 3 :type :invoke :f :read}{:process 3 :type :ok :f :read}",
+        (("{:process 3 :type :invoke :f :read}\n{:process 3 :type :ok :f :read}\n", "0\n1\n"), ("", "")),
+    ),
+    Row(
+        "maps on several lines, two on a line, and comments between and in them",
+        "\n{:process 0,\n :type :invoke, ; here } and {\r\n :f :enqueue, :value 1, :note \"}\n{\", :more {:a [{}]}},,\t" + FIVE + "; {\n\n"
+        "{:process 0, :type :ok, :f :enqueue, :value 1} " + FIVE_OK,
+        (
+            (
+                "{:process 0,\n :type :invoke, ; here } and {\r\n :f :enqueue, :value 1, :note \"}\n{\", :more {:a [{}]}}\n"
+                "{:process 0, :type :ok, :f :enqueue, :value 1}\n",
+                "0\n2\n",
+            ),
+            (FIVE + "\n" + FIVE_OK + "\n", "1\n3\n"),
+        ),
+    ),
+    Row(
+        "the greatest object",
+        lines(invoke(0, "acquire", None, 65_535)),
+        (("", ""), (lines(invoke(0, "acquire", None, 65_535)), "0\n"), *(("", ""),) * 5),
+    ),
+)
+
+# Each shard is a history, and the whole is not. Object x is in shard x mod 2.
+FAULTS = (
+    ("busy in another shard", lines(invoke(3, "enqueue", 7, 1), invoke(3, "enqueue", 8, 2), ok(3, "enqueue", 7, 1), ok(3, "enqueue", 8, 2)), "H5 at map 1"),
+    ("busy in another shard, of another kind", lines(FOUR, invoke(0, "pop", None, 7), FOUR_OK), "H5 at map 1"),
+    ("closed in another shard", lines(FOUR, info(0, "enqueue", 7, 4), invoke(0, "dequeue", None, 5)), "H8 at map 2"),
+    ("closed in another shard, long before", lines(FOUR, info(0, "enqueue", 7, 4), FIVE, FIVE_OK, NEMESIS, invoke(0, "push", 1, 7)), "H8 at map 5"),
+    ("completed on another object", lines(FOUR, ok(0, "enqueue", 7, 5)), "H7 at map 1"),
+    ("completed without :object", lines(invoke(0, "enqueue", 7, 1), "{:process 0, :type :ok, :f :enqueue, :value 7}"), "H7 at map 1"),
+    ("completed twice, once on each", lines(FOUR, FOUR_OK, ok(0, "enqueue", 7, 5)), "H6 at map 2"),
+)
+
+# Faults of one map, or of the text.
+OTHER_FAULTS = (
+    ("no map", "7", "H1 at map 0"),
+    ("an object past the last", invoke(0, "read", None, 65_536), "H1 at map 0"),
+    ("no function", lines(FOUR, invoke(1, "drain", None, 5)), "H2 at map 1"),
+    ("no argument", lines(FOUR, invoke(1, "enqueue", None, 5)), "H3 at map 1"),
+    ("another kind", lines(FOUR, invoke(1, "push", 1, 4)), "H4 at map 1"),
+    ("never invoked", lines(NEMESIS, FOUR_OK), "H6 at map 1"),
+    ("no integer", lines(FOUR, FOUR_OK) + "{:process 007}", "E3 at byte 130"),
+    ("the end in a map", lines(FOUR, FOUR_OK) + "{:process 0", "E2 at byte 131"),
+    ("the end in a string", '{:note "', "E2 at byte 8"),
+    ("a bracket that closes nothing", FOUR + "\n}", "E3 at byte 62"),
+)
+
+
+def split(program, name, whole, shards):
+    """Splits a whole, and returns the folder and what that gave."""
+    folder = Folder(program, f"{name}.shards", shards)
+    return folder, folder.split(program.write(f"{name}.edn", whole))
+
+
+def divided_by_hand(program, report):
+    """The files of the shards are the maps as they are written, with their places, and each map of a client is in one of them."""
+    for number, row in enumerate(DIVIDED):
+        folder, ran = split(program, f"row.{number}", row.whole, len(row.shards))
+        report.answers(f"split: {row.name}", ran, f"{row.count()} maps in {len(row.shards)} shards\n", 0)
+        if ran.status == 0:
+            report.equal(f"split: {row.name}: the files", row.files(), folder.files())
+
+
+def faults_of_the_whole(program, report):
+    """The first fault of the whole is named, also where each shard alone is a history."""
+    rows = (*FAULTS, *OTHER_FAULTS)
+    runs = at_once(lambda at: split(program, f"fault.{at}", rows[at][1], 2), range(len(rows)))
+    for (name, whole, fault), (folder, ran) in zip(rows, runs):
+        report.answers(f"split: {name}", ran, f"malformed history: {fault}\n", 2)
+        checked = program.run("verify", program.write("faulty.edn", whole), program.write("nothing.edn", ""))
+        report.answers(f"verify: {name}", checked, f"malformed history: {fault}\n", 2)
+        report.equal(f"split: {name}: the files", {}, folder.files())
+        report.holds(f"merge: {name}: there are no shards", folder.merge().status == 4)
+
+
+# Object 0 is a queue, object 1 a stack, and object 2 a register.
+MERGED = lines(
+    invoke(0, "push", 1, 1),
+    invoke(1, "enqueue", 5, 0),
+    ok(1, "enqueue", 5, 0),
+    ok(0, "push", 1, 1),
+    nemesis("kill"),
+    invoke(1, "write", 3, 2),
+    ok(1, "write", 3, 2),
+    invoke(0, "dequeue", None, 0),
+    ok(0, "dequeue", 5, 0),
+)
+ORDERS = {0: b"{:object 0, :order [1 7]}\n", 1: b"{:object 1, :order [0]}\n", 2: b"{:object 2, :order [5]}\n"}
+MERGED_YES = "yes: 4 operations, 3 objects\nstack: 1 objects, 1 operations\nqueue: 1 objects, 2 operations\nregister: 1 objects, 1 operations\n"
+
+
+def merged_by_hand(program, report):
+    """The answer of merge is that of the whole, with the kinds in the order of their first invocations there."""
+    for shards in (1, 2, 3, 5):
+        folder = Folder(program, f"merged.{shards}", shards)
+        folder.make(MERGED)
+        for shard in range(shards):
+            folder.write(f"{shard}.evidence", b"".join(text for on, text in ORDERS.items() if on % shards == shard))
+        report.answers(f"merge: {shards} shards", folder.merge(), MERGED_YES, 0)
+    folder.write("1.evidence", b"")
+    report.answers("merge: no evidence for object 1", folder.merge(), "; object 1: open\n", 3)
+    folder.write("0.evidence", b"")
+    report.answers("merge: no evidence for objects 0 and 1", folder.merge(), "; object 0: open\n; object 1: open\n", 3)
+
+
+REFUTED = lines(nemesis("kill"), invoke(0, "push", 1, 4), ok(0, "push", 1, 4), invoke(0, "dequeue", None, 3), ok(0, "dequeue", 7, 3))
+NOTE = "value 7 was dequeued and never enqueued"
+REASON = f'{{:object 3, :cuts [{{:keep [7], :numbers [3]}} {{:until 5}}], :count {{:value 7, :from 0}}, :note "{NOTE}"}}\n'
+REFUTED_NO = lines(
+    "; object 3: impossible",
+    f"; {NOTE}",
+    "; events 3 and 4: process 0, :dequeue nil, :ok 7",
+    "; {:object 3, :cuts [{:keep [7], :numbers [3]} {:until 5}], :count {:value 7, :from 0}}",
+)
+
+
+def refuted_by_hand(program, report):
+    """A reason of one shard is a no of the whole, told in the numbers of the whole. Objects without evidence do not change it."""
+    folder = Folder(program, "refuted", 2)
+    folder.make(REFUTED)
+    folder.write("0.evidence", b"{:object 4, :order [1]}\n")
+    folder.write("1.evidence", REASON.encode())
+    report.answers("merge: one object is impossible", folder.merge(), REFUTED_NO, 1)
+    folder.write("0.evidence", b"")
+    report.answers("merge: one is impossible, and one is open", folder.merge(), REFUTED_NO + "; object 4: open\n", 1)
+
+
+PARTS = (divided_by_hand, faults_of_the_whole, merged_by_hand, refuted_by_hand)
