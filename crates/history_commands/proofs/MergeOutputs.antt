@@ -13,7 +13,7 @@ use Rattle.history_commands.specs.Merged.{Answer, AreInOrder, AreLinesWith, AreM
 use Rattle.history_commands.specs.Merged.{status_with}
 use Rattle.history_commands.specs.ShardCounts.{AreAdded, AreSums, Counted, seen_counts}
 use Rattle.history_commands.specs.declared.finding.Finding.{Finding}
-use Rattle.history_commands.specs.declared.finding.Finding.TheVariants.{Certified, Undecided, Refuted, Malformed}
+use Rattle.history_commands.specs.declared.finding.Finding.TheVariants.{Certified, Undecided, Refuted}
 use Rattle.history_commands.specs.declared.merging.Merging.{Merging}
 use Rattle.history_commands.specs.declared.object_lines.ObjectLines.{ObjectLines}
 use Rattle.history_commands.specs.declared.status.Status.{Status}
@@ -59,10 +59,6 @@ module _ (m : Merging) (shards : List Shard) (h : AreMerged m shards) where
       → status ≡ status_with Certified → out ≡ verdict_text false (verdict.Yes s) → IsMerge shards status out
   ends_certified s status out found sums is lines =
       ends_with Certified status out found is (s, sums (map (λ (a : Answer). a.counts) h.answers) h.counts_are, lines)
-
-  pub ends_malformed : (status : Status) (out : List ℕ) → m.finding ≡ Malformed → status ≡ status_with Malformed
-      → out ≡ m.notes.items → IsMerge shards status out
-  ends_malformed status out found is lines = ends_with Malformed status out found is (lines ∙ h.notes_are)
 
   -- the lines on objects follow what is said of shards
   follow : (out : List ℕ) (sorted : List (ℕ × List ℕ)) → AreInOrder (seen_lines m.lines.items) sorted

@@ -1,8 +1,8 @@
 -- Events that get the numbers of a list are renumbered: they say what they said, and their numbers rise, or the list
 -- does not fit. A table is written line by line. By steps of loops, an event or a number at a time.
-use Rattle.std.proofs.Common.{◌≡◌, ℕ, ◌+◌, ◌<◌, ◌≤◌, List, [], ◌∷◌, ◌++◌, length, get_or, map, take, drop, decimal}
-use Rattle.std.proofs.Common.{All, AllPairs, refl, ap, sym, ◌∙◌, subst, arith, append_assoc}
-use Rattle.std.proofs.lemmas.List.{at_drop_more, get_or-map, length-map, map_more}
+use Rattle.std.proofs.Common.{◌≡◌, ℕ, ◌+◌, ◌<◌, ◌≤◌, List, [], ◌∷◌, ◌++◌, length, get_or, map, take}
+use Rattle.std.proofs.Common.{All, AllPairs, refl, ap, sym, ◌∙◌, subst, arith}
+use Rattle.std.proofs.lemmas.List.{get_or-map, length-map, map_more}
 use Rattle.std.proofs.lemmas.List.Elements.{All-push, All-weaker}
 use Rattle.std.proofs.lemmas.List.Quantifiers.{all_pairs_push}
 use Rattle.events.specs.declared.event.Event.{Event}
@@ -11,19 +11,6 @@ use Rattle.shards.specs.Dividing.{numbered_by, table_text, with_numbers}
 use Rattle.shards.specs.Tables.{AreShort, FitsTable}
 
 -- ---- a table
-
--- one line more, of those that are left
-pub line_more : (ns : List ℕ) (i : ℕ) (t t1 t2 : List ℕ) → i < length ns → t1 ≡ t ++ decimal (get_or ns i 0)
-    → t2 ≡ t1 ++ 10 ∷ [] → t ++ table_text (drop i ns) ≡ table_text ns
-    → t2 ++ table_text (drop (i + 1) ns) ≡ table_text ns
-line_more ns i t t1 t2 less first second h =
-    let n = get_or ns i 0 in
-    let rest = table_text (drop (i + 1) ns) in
-    let left : table_text (drop i ns) ≡ decimal n ++ 10 ∷ rest = at_drop_more table_text ns i 0 less in
-    ap (λ u. u ++ rest) (second ∙ ap (λ u. u ++ 10 ∷ []) first)
-    ∙ (append_assoc (t ++ decimal n) (10 ∷ []) rest
-    ∙ (append_assoc t (decimal n) (10 ∷ rest)
-    ∙ (ap (λ u. t ++ u) (sym left) ∙ h)))
 
 -- ---- events
 

@@ -21,12 +21,12 @@ use Rattle.shards.specs.Dividing.{Files}
 use Rattle.shards.specs.Folders.{AddsFiles, AddsShards}
 use Rattle.shards.specs.ShardTexts.{SpelledMap}
 use Rattle.shards.specs.SplitFaults.{EndsPiece, HasTextFault, IsSplitFault}
-use Rattle.shards.specs.Taking.{AreTaken, AreTakenOf, AreTakenAfter, IsPieceFault, NoneWait, forms_of, no_lines}
+use Rattle.shards.specs.Taking.{AreTaken, AreTakenOf, AreTakenAfter, IsPieceFault, NoneWait, forms_of}
 use Rattle.shards.specs.Taking.{with_more}
 use Rattle.shards.specs.UnderWay.{AreUnderWay, EndsInsideForm, IsFaultFrom, IsFaultIn, PassesPiece, ReadsOn, StaysAs}
 use Rattle.shards.specs.UnderWay.{too_long_at}
-use Rattle.judging.proofs.Consuming.{nothing_consumed, one_more_consumed}
-use Rattle.shards.proofs.Flushing.{adds_both, adds_nothing}
+use Rattle.judging.proofs.Consuming.{one_more_consumed}
+use Rattle.shards.proofs.Flushing.{adds_both}
 
 forms_both : (a b : List SpelledMap) → forms_of (a ++ b) ≡ forms_of a ++ forms_of b
 forms_both a b = map-append (λ (m : SpelledMap). m.form) a b
@@ -99,23 +99,6 @@ pub record IsDividedSoFar (count : ℕ) (d : Divider) (p : Pieces) (left left_af
   pub written : Files
   pub under_way : AreUnderWay count d p text written
   pub adds : AddsFiles files files_after written
-
-pub nothing_so_far : (count : ℕ) (d : Divider) (p : Pieces) (left : Option (List ℕ)) (files : Option Files)
-    → p.text.items ≡ [] → p.start ≡ 0 → AreTaken count d [] no_lines → IsDividedSoFar count d p left left files files
-nothing_so_far count d p left files empty start taken = record {
-  text = [];
-  consumed = nothing_consumed left;
-  written = no_lines;
-  under_way = record {
-    front = [];
-    maps = [];
-    parts = sym empty;
-    start = start;
-    lines = nothing_before;
-    taken = taken;
-  };
-  adds = adds_nothing files;
-}
 
 pub more_so_far : (count : ℕ) (d : Divider) (p q : Pieces) (left now left_after : Option (List ℕ))
     (files files_after : Option Files) → ReadsOn p q now left_after

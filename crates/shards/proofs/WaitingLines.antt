@@ -1,7 +1,7 @@
 -- A list of what waits of each shard, in which one element is written: what is at its place, and at the others.
 use Rattle.std.proofs.Common.{◌≡◌, ◌≢◌, ℕ, zero, suc, ◌+◌, ◌<◌, ◌≤◌, inl, inr, List, [], ◌∷◌, ◌++◌, length, map}
 use Rattle.std.proofs.Common.{get_or, set, decimal, refl, ap, sym, ◌∙◌, arith}
-use Rattle.std.proofs.lemmas.Bool.{cases_eq, cases_lt}
+use Rattle.std.proofs.lemmas.Bool.{cases_eq}
 use Rattle.std.proofs.lemmas.List.{map-set, length-map, length-set, get_or-map, get_or-set_same, get_or-set_other}
 use Rattle.shards.specs.declared.waiting.Waiting.{Waiting}
 use Rattle.shards.specs.Taking.{AddsLine}
@@ -42,13 +42,6 @@ module _ {V : Type 0} (f : Waiting → V) (none : V) where
   at_nothing [] s l = refl
   at_nothing (w ∷ ws) zero l = absurd (omega arith)
   at_nothing (w ∷ ws) (suc s) l = at_nothing ws s (omega arith)
-
-  pub none_at_all : (ws : List Waiting) (n : ℕ) → length ws ≤ n → ((s : ℕ) → s < n → at ws s ≡ none) → (s : ℕ)
-      → at ws s ≡ none
-  none_at_all ws n l h s = elim (cases_lt s n) [
-    | inl less ↦ h s less
-    | inr above ↦ let beyond : length ws ≤ s = omega arith in at_nothing ws s beyond
-  ]
 
 -- one line more
 pub adds_line : (ws : List Waiting) (i : ℕ) (w v : Waiting) (text : List ℕ) (place : ℕ) → i < length ws
