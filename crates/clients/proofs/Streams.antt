@@ -4,13 +4,12 @@ use Rattle.std.proofs.lemmas.List.FromFn.{length-map-range_with_len, get_or-map-
 use Rattle.rand_core.specs.Stream.{Stream}
 use Rattle.model.specs.declared.Kind.TheVariants.{Queue}
 use Rattle.model.specs.declared.AnyOp.{AnyOp}
-use Rattle.model.specs.declared.AnyOp.TheVariants.{Acquire, Release}
 use Rattle.model.specs.Objects.{kind_of}
 use Rattle.seq_objects.specs.declared.kinds.Kinds.{Kinds}
 use Rattle.clients.specs.declared.draws.Draws.{Draws}
 use Rattle.clients.specs.Workloads.{Call, IsCall}
 use Rattle.seq_objects.specs.Kinds.{kind_in, kinds_of}
-use Rattle.clients.specs.Drawing.{draws_from, op_for, calls_from, mutex_calls_from}
+use Rattle.clients.specs.Drawing.{draws_from, op_for, calls_from, pairs_from}
 
 -- more: the calls so far; all: the calls from the stream on
 pub drawn_more : (kinds : Kinds) (m n left : ℕ) (s t : Stream) (d : Draws) (op : AnyOp) (so_far all : List Call)
@@ -23,19 +22,19 @@ drawn_more kinds m n left s t d op so_far all one_less e op_is is =
     ∷ calls_from kinds m left p.1) e
     ∙ ap (λ (k : ℕ). so_far ++ calls_from kinds m k s) (sym one_less) ∙ is
 
-pub pair_more : (m n left : ℕ) (s t u : Stream) (d e : Draws) (so_far all : List Call) → n ≡ suc left
-    → (d, t) ≡ draws_from m s → (e, u) ≡ draws_from m t
-    → so_far ++ mutex_calls_from m n s ≡ all
-    → ((so_far ++ (d.object, Acquire) ∷ []) ++ (d.object, Release) ∷ []) ++ mutex_calls_from m left u ≡ all
-pair_more m n left s t u d e so_far all one_less first second is =
-    append_assoc (so_far ++ (d.object, Acquire) ∷ []) ((d.object, Release) ∷ []) (mutex_calls_from m left u)
-    ∙ append_assoc so_far ((d.object, Acquire) ∷ []) ((d.object, Release) ∷ mutex_calls_from m left u)
-    ∙ ap (λ (p : Draws × Stream). so_far ++ (d.object, Acquire) ∷ (d.object, Release) ∷ mutex_calls_from m left p.1)
+pub pair_more : (take free : AnyOp) (m n left : ℕ) (s t u : Stream) (d e : Draws) (so_far all : List Call)
+    → n ≡ suc left → (d, t) ≡ draws_from m s → (e, u) ≡ draws_from m t
+    → so_far ++ pairs_from take free m n s ≡ all
+    → ((so_far ++ (d.object, take) ∷ []) ++ (d.object, free) ∷ []) ++ pairs_from take free m left u ≡ all
+pair_more take free m n left s t u d e so_far all one_less first second is =
+    append_assoc (so_far ++ (d.object, take) ∷ []) ((d.object, free) ∷ []) (pairs_from take free m left u)
+    ∙ append_assoc so_far ((d.object, take) ∷ []) ((d.object, free) ∷ pairs_from take free m left u)
+    ∙ ap (λ (p : Draws × Stream). so_far ++ (d.object, take) ∷ (d.object, free) ∷ pairs_from take free m left p.1)
     second
-    ∙ ap (λ (p : Draws × Stream). so_far ++ (p.0.object, Acquire) ∷ (p.0.object, Release)
-    ∷ mutex_calls_from m left (draws_from m p.1).1)
+    ∙ ap (λ (p : Draws × Stream). so_far ++ (p.0.object, take) ∷ (p.0.object, free)
+    ∷ pairs_from take free m left (draws_from m p.1).1)
     first
-    ∙ ap (λ (k : ℕ). so_far ++ mutex_calls_from m k s) (sym one_less) ∙ is
+    ∙ ap (λ (k : ℕ). so_far ++ pairs_from take free m k s) (sym one_less) ∙ is
 
 -- a call on one of the objects, of its kind
 pub is_call : (kinds : Kinds) (m x : ℕ) (op : AnyOp) → x < m → kind_of op ≡ kind_in kinds x

@@ -10,11 +10,13 @@ use Rattle.rand_pcg.specs.Lcg.{Lcg, started, increment_of}
 use Rattle.rand_pcg.specs.Pcg.{multiplier_64, pcg32}
 use Rattle.rand.specs.Uniform.{canon}
 use Rattle.model.specs.declared.Kind.{Kind}
-use Rattle.model.specs.declared.Kind.TheVariants.{Queue, Stack, Heap, Register, Map, Mutex}
+use Rattle.model.specs.declared.Kind.TheVariants.{Queue, Stack, Heap, Register, Map, Mutex, Set}
+use Rattle.model.specs.declared.Kind.TheVariants.{Counter, Lock}
 use Rattle.model.specs.declared.AnyOp.{AnyOp}
 use Rattle.model.specs.declared.AnyOp.TheVariants.{Enqueue, Dequeue, Push, Pop, Insert, ExtractMin}
 use Rattle.model.specs.declared.AnyOp.TheVariants.{Write, Read, Cas, Put, Get, Del, Acquire}
-use Rattle.model.specs.declared.AnyOp.TheVariants.{Release}
+use Rattle.model.specs.declared.AnyOp.TheVariants.{Release, Add, Remove, Has, FetchAdd, GetCount}
+use Rattle.model.specs.declared.AnyOp.TheVariants.{LockBy, UnlockBy}
 use Rattle.seq_objects.specs.declared.kinds.Kinds.{Kinds}
 use Rattle.seq_objects.specs.declared.kinds.Kinds.TheVariants.{One}
 use Rattle.seq_objects.specs.Kinds.{kind_in}
@@ -58,6 +60,10 @@ op_for Map d =
     one_of_three (d.choice % 3) (Put (pos d.first) (pos d.second)) (Get (pos d.first))
     (Del (pos d.first))
 op_for Mutex d = one_of_two (d.choice % 2) Acquire Release
+op_for Set d =
+    one_of_three (d.choice % 3) (Add (pos d.first)) (Remove (pos d.first)) (Has (pos d.first))
+op_for Counter d = one_of_two (d.choice % 2) (FetchAdd (pos d.first)) GetCount
+op_for Lock d = one_of_two (d.choice % 2) (LockBy (pos d.first)) (UnlockBy (pos d.first))
 
 -- this many calls
 abbrev pub calls_from : Kinds → ℕ → ℕ → Stream → List Call
@@ -66,22 +72,25 @@ calls_from kinds objects (suc n) s =
     let d = draws_from objects s in
     (d.0.object, op_for (kind_in kinds d.0.object) d.0) ∷ calls_from kinds objects n d.1
 
--- this many pairs of calls on mutexes: each acquires one that was drawn, and releases it; the
--- release draws its numbers too
-abbrev pub mutex_calls_from : ℕ → ℕ → Stream → List Call
-mutex_calls_from objects zero s = []
-mutex_calls_from objects (suc n) s =
+-- this many pairs of calls on objects of one kind: each takes one that was drawn, and frees it; the
+-- second draws its numbers too
+abbrev pub pairs_from : (take free : AnyOp) → ℕ → ℕ → Stream → List Call
+pairs_from take free objects zero s = []
+pairs_from take free objects (suc n) s =
     let d = draws_from objects s in
     let e = draws_from objects d.1 in
-    (d.0.object, Acquire) ∷ (d.0.object, Release) ∷ mutex_calls_from objects n e.1
+    (d.0.object, take) ∷ (d.0.object, free) ∷ pairs_from take free objects n e.1
 
 -- the generator of a client
 abbrev pub stream_for : ℕ → ℕ → Stream
 stream_for seed client = stream_at (started 64 multiplier_64 seed (increment_of 64 client))
 
--- the calls of a client; of mutexes, whole pairs
+-- the calls of a client; of mutexes and locks, whole pairs, where the owner of a lock is the client
 abbrev pub client_calls : Kinds → ℕ → ℕ → ℕ → ℕ → List Call
 client_calls (One Mutex) objects count seed client =
-    mutex_calls_from objects (count / 2) (stream_for seed client)
+    pairs_from Acquire Release objects (count / 2) (stream_for seed client)
+client_calls (One Lock) objects count seed client =
+    pairs_from (LockBy (pos client)) (UnlockBy (pos client)) objects (count / 2)
+    (stream_for seed client)
 client_calls kinds objects count seed client =
     calls_from kinds objects count (stream_for seed client)

@@ -2,7 +2,8 @@
 
 ghost use Rattle.std.specs.Prelude.{◌≡◌, ◌<◌, ◌≤◌, ◌*◌, length, All, IfOk};
 ghost use Rattle.seq_objects.specs.Kinds.{kinds_of};
-ghost use Rattle.clients.specs.Drawing.{calls_from, mutex_calls_from, client_calls, stream_at};
+ghost use Rattle.model.specs.Objects.{kind_of};
+ghost use Rattle.clients.specs.Drawing.{calls_from, pairs_from, client_calls, stream_at};
 ghost use Rattle.clients.specs.Workloads.{IsCall};
 
 use crate::draws::{draw, operation};
@@ -33,27 +34,30 @@ fn draw_calls(
     Ok(calls)
 }
 
-/// This many pairs of calls on mutexes: each acquires one that was drawn, and releases it. Both
-/// draw their numbers.
+/// This many pairs of calls on objects of one kind: each takes one that was drawn, and frees it.
+/// Both draw their numbers.
 fn draw_pairs(
     alloc: Global,
+    take: AnyOp,
+    free: AnyOp,
     objects: u32,
     count: u32,
     generator: &mut Lcg64Xsh32,
 ) -> Result<Vec<(u32, AnyOp)>, AllocError>
-    requires { 0 < objects }
+    requires some { 0 < objects }
+    requires kind { kind_of free ≡ kind_of take }
     ensures calls { IfOk result (λ v. v.items
-        ≡ mutex_calls_from objects count (stream_at generator.old)) }
+        ≡ pairs_from take free objects count (stream_at generator.old)) }
     ensures count { IfOk result (λ v. length v.items ≡ count * 2) }
-    ensures fit { IfOk result (λ v. All (IsCall (kinds_of (Kinds.One Kind.Mutex) objects))
+    ensures fit { IfOk result (λ v. All (IsCall (kinds_of (Kinds.One (kind_of take)) objects))
         v.items) }
 {
     let mut calls = Vec::with_capacity(alloc, count as usize * 2)?;
     for _ in 0..count {
         let draws = draw(generator, objects);
         draw(generator, objects);
-        calls.push((draws.object, AnyOp::Acquire))?;
-        calls.push((draws.object, AnyOp::Release))?;
+        calls.push((draws.object, take))?;
+        calls.push((draws.object, free))?;
     }
     Ok(calls)
 }
@@ -74,7 +78,15 @@ pub(crate) fn calls_of(
 {
     let mut generator = Lcg64Xsh32::new(seed, u64::from(client));
     match kinds {
-        Kinds::One(Kind::Mutex) => draw_pairs(alloc, objects, count / 2, &mut generator),
+        Kinds::One(Kind::Mutex) => {
+            let (take, free) = (AnyOp::Acquire, AnyOp::Release);
+            draw_pairs(alloc, take, free, objects, count / 2, &mut generator)
+        }
+        Kinds::One(Kind::Lock) => {
+            let owner = i64::from(client);
+            let (take, free) = (AnyOp::LockBy(owner), AnyOp::UnlockBy(owner));
+            draw_pairs(alloc, take, free, objects, count / 2, &mut generator)
+        }
         _ => draw_calls(alloc, kinds, objects, count, &mut generator),
     }
 }

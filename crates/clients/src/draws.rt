@@ -70,5 +70,14 @@ pub(crate) fn operation(kind: Kind, draws: Draws) -> AnyOp
         },
         Kind::Mutex if of_two => AnyOp::Acquire,
         Kind::Mutex => AnyOp::Release,
+        Kind::Set => match draws.choice % 3 {
+            0 => AnyOp::Add(first),
+            1 => AnyOp::Remove(first),
+            _ => AnyOp::Has(first),
+        },
+        Kind::Counter if of_two => AnyOp::FetchAdd(first),
+        Kind::Counter => AnyOp::GetCount,
+        Kind::Lock if of_two => AnyOp::LockBy(first),
+        Kind::Lock => AnyOp::UnlockBy(first),
     }
 }

@@ -40,6 +40,8 @@ fn kind_of(object: u32) -> Kind {
         2 | 7 | 12 => Kind::Heap,
         3 | 8 | 13 => Kind::Register,
         15 => Kind::Mutex,
+        9 => Kind::Set,
+        14 => Kind::Counter,
         _ => Kind::Map,
     }
 }
@@ -61,6 +63,13 @@ fn op_of(object: u32, which: u32, n: i64) -> AnyOp {
         (Kind::Map, _) => AnyOp::Get(n),
         (Kind::Mutex, _) if n < 4 => AnyOp::Acquire,
         (Kind::Mutex, _) => AnyOp::Release,
+        (Kind::Set, 0) => AnyOp::Add(n),
+        (Kind::Set, 1) => AnyOp::Remove(n),
+        (Kind::Set, _) => AnyOp::Has(n),
+        (Kind::Counter, 0) => AnyOp::FetchAdd(n),
+        (Kind::Counter, _) => AnyOp::GetCount,
+        (Kind::Lock, 0) => AnyOp::LockBy(n),
+        (Kind::Lock, _) => AnyOp::UnlockBy(n),
     }
 }
 

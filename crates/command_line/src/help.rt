@@ -12,7 +12,7 @@ use clap::error::ErrorKind;
 use std::alloc::{AllocError, Global};
 
 /// What `--kind` takes.
-const KINDS: &str = "queue, stack, heap, register, map, mutex, mixed";
+const KINDS: &str = "queue, stack, heap, register, map, mutex, set, counter, lock, mixed";
 
 /// What `--first` takes.
 const FIRSTS: &str = "number, return";

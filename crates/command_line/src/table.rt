@@ -186,7 +186,7 @@ pub const COMMANDS: [CommandRow; 8] = [
         &[
             (
                 "kind",
-                "the kind of all objects: queue, stack, heap, register, map or mutex; or mixed, which is the first five in turn (default queue)",
+                "the kind of all objects: queue, stack, heap, register, map, mutex, set, counter or lock; or mixed, which is the first five in turn (default queue)",
                 Takes::Kind,
             ),
             (

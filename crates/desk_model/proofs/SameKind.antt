@@ -1,53 +1,48 @@
 -- An operation leaves an object of the same kind.
-use Rattle.std.proofs.Common.{◌≡◌, Bool, true, false, cond, List, [], ◌∷◌, Option, Some, None, refl, sym, ap, subst, ◌∙◌}
+use Rattle.std.proofs.Common.{◌≡◌, Bool, true, false, cond, List, [], ◌∷◌, Option, Some, None}
+use Rattle.std.proofs.Common.{refl, sym, ap, subst, ◌∙◌}
 use Rattle.std.proofs.lemmas.Option.{same_Some}
 use Rattle.model.specs.declared.Kind.{Kind}
-use Rattle.model.specs.declared.Kind.TheVariants.{Queue, Stack, Heap, Register, Map, Mutex}
+use Rattle.model.specs.declared.Kind.TheVariants.{Queue, Stack, Heap, Register, Map, Mutex, Set, Counter, Lock}
 use Rattle.model.specs.declared.AnyOp.{AnyOp}
-use Rattle.model.specs.declared.AnyOp.TheVariants.{Enqueue, Dequeue, Push, Pop, Insert, ExtractMin, Write, Read, Cas, Put, Get, Del, Acquire, Release}
+use Rattle.model.specs.declared.AnyOp.TheVariants.{Cas}
 use Rattle.model.specs.declared.AnyReply.{AnyReply}
 use Rattle.model.specs.declared.AnyReply.TheVariants.{Swapped, NotSwapped}
-use Rattle.model.specs.Objects.{Content, queue, stack, heap, register, table, mutex, kind_with, empty, contains_value, next}
+use Rattle.model.specs.Objects.{Content, queue, stack, heap, register, table, mutex, elements, count, owner}
+use Rattle.model.specs.Objects.{kind_with, empty, contains_value, stepped, next}
+use Rattle.model.specs.Objects.{next_queue, next_stack, next_heap, next_register, next_map, next_mutex}
+use Rattle.model.specs.Objects.{next_set, next_counter, next_lock}
+use Rattle.model.proofs.Objects.{kind_of_empty}
 use Rattle.desk_model.specs.World.{AnyEntry, Replays}
 
 after_kind : (c d : Content) (q r : AnyReply) → ◌≡◌ {A = Option (Content × AnyReply)} (Some (c, q)) (Some (d, r)) → kind_with d ≡ kind_with c
 after_kind c d q r e = ap kind_with (sym (ap (λ (z : Content × AnyReply). z.0) (same_Some (c, q) (d, r) e)))
 
-none_kind : (c d : Content) (r : AnyReply) → ◌≡◌ {A = Option (Content × AnyReply)} None (Some (d, r)) → kind_with d ≡ kind_with c
-none_kind c d r e = absurd (cc)
+-- what a step of one kind leaves is of that kind
+stepped_kind : {C : Type 0} (content : C → Content) (kind : Kind) → ((c : C) → kind_with (content c) ≡ kind)
+    → (o : Option (C × AnyReply)) (d : Content) (r : AnyReply) → stepped content o ≡ Some (d, r) → kind_with d ≡ kind
+stepped_kind content kind is None d r e = absurd (cc)
+stepped_kind content kind is (Some p) d r e = after_kind (content p.0) d p.1 r e ∙ is p.0
 
--- the clauses stand as those of `next` do
-kind_next : (c : Content) (op : AnyOp) (d : Content) (r : AnyReply) → next c op ≡ Some (d, r) → kind_with d ≡ kind_with c
-kind_next (queue vs) (Enqueue x) d r e = after_kind _ _ _ _ e
-kind_next (queue []) Dequeue d r e = after_kind _ _ _ _ e
-kind_next (queue (v ∷ vs)) Dequeue d r e = after_kind _ _ _ _ e
-kind_next (stack vs) (Push x) d r e = after_kind _ _ _ _ e
-kind_next (stack []) Pop d r e = after_kind _ _ _ _ e
-kind_next (stack (v ∷ vs)) Pop d r e = after_kind _ _ _ _ e
-kind_next (heap vs) (Insert x) d r e = after_kind _ _ _ _ e
-kind_next (heap []) ExtractMin d r e = after_kind _ _ _ _ e
-kind_next (heap (v ∷ vs)) ExtractMin d r e = after_kind _ _ _ _ e
-kind_next (register v) (Write x) d r e = after_kind _ _ _ _ e
-kind_next (register v) Read d r e = after_kind _ _ _ _ e
+kind_next : (c : Content) (op : AnyOp) (d : Content) (r : AnyReply) → next c op ≡ Some (d, r)
+    → kind_with d ≡ kind_with c
+kind_next (queue vs) op d r e = stepped_kind queue Queue (λ c. refl) (next_queue vs op) d r e
+kind_next (stack vs) op d r e = stepped_kind stack Stack (λ c. refl) (next_stack vs op) d r e
+kind_next (heap vs) op d r e = stepped_kind heap Heap (λ c. refl) (next_heap vs op) d r e
 kind_next (register v) (Cas x y) d r e = cas (contains_value v x) e
   where
-    cas : (b : Bool) → ◌≡◌ {A = Option (Content × AnyReply)} (cond b (Some (register (Some y), Swapped x y)) (Some (register v, NotSwapped))) (Some (d, r)) → kind_with d ≡ Register
+    cas : (b : Bool)
+        → ◌≡◌ {A = Option (Content × AnyReply)}
+        (cond b (Some (register (Some y), Swapped x y)) (Some (register v, NotSwapped))) (Some (d, r))
+        → kind_with d ≡ Register
     cas true f = after_kind _ _ _ _ f
     cas false f = after_kind _ _ _ _ f
-kind_next (table m) (Put x y) d r e = after_kind _ _ _ _ e
-kind_next (table m) (Get x) d r e = after_kind _ _ _ _ e
-kind_next (table m) (Del x) d r e = after_kind _ _ _ _ e
-kind_next (mutex false) Acquire d r e = after_kind _ _ _ _ e
-kind_next (mutex true) Release d r e = after_kind _ _ _ _ e
-kind_next c op d r e = none_kind c d r e
-
-kind_of_empty : (kind : Kind) → kind_with (empty kind) ≡ kind
-kind_of_empty Queue = refl
-kind_of_empty Stack = refl
-kind_of_empty Heap = refl
-kind_of_empty Register = refl
-kind_of_empty Map = refl
-kind_of_empty Mutex = refl
+kind_next (register v) op d r e = stepped_kind register Register (λ c. refl) (next_register v op) d r e
+kind_next (table m) op d r e = stepped_kind table Map (λ c. refl) (next_map m op) d r e
+kind_next (mutex held) op d r e = stepped_kind mutex Mutex (λ c. refl) (next_mutex held op) d r e
+kind_next (elements s) op d r e = stepped_kind elements Set (λ c. refl) (next_set s op) d r e
+kind_next (count n) op d r e = stepped_kind count Counter (λ c. refl) (next_counter n op) d r e
+kind_next (owner o) op d r e = stepped_kind owner Lock (λ c. refl) (next_lock o op) d r e
 
 replays_kind : (c d : Content) (l : List AnyEntry) → Replays c l d → kind_with d ≡ kind_with c
 replays_kind c d [] h = ap kind_with (sym h)

@@ -10,7 +10,7 @@ use Rattle.edn_reader.specs.Token.{Token, open_vector, close_vector, open_map, c
 
 -- how many elements of a vector are kept
 abbrev pub most_items : ℕ
-most_items = 3
+most_items = 4
 
 -- an element of a vector, a vector or a map in place of which nil is kept
 abbrev pub truncated_item : Datum → Datum

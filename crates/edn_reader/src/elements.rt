@@ -91,7 +91,7 @@ impl<'a> Elements<'a> {
         Elements::over(alloc, false, None, text)
     }
 
-    /// Elements of which only the beginning of each value is kept: of a vector three elements, with
+    /// Elements of which only the beginning of each value is kept: of a vector four elements, with
     /// nil in place of those that are vectors and maps, and of a map none. An element that is no
     /// map is kept as a value is. What is not kept takes no memory, and is read as all else is.
     pub fn truncated(alloc: Global, text: &'a [u8]) -> Result<Elements<'a>, EdnFault>

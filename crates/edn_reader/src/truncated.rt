@@ -7,7 +7,7 @@ use crate::piece::Piece;
 use std::alloc::{AllocError, Global};
 
 /// How many elements of a vector are kept, where it is cut.
-const MOST_ITEMS: usize = 3;
+const MOST_ITEMS: usize = 4;
 
 /// The tokens so far that are kept: all, or the beginning of each value. How many brackets of a
 /// value are open is counted only where values are cut.

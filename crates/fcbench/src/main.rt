@@ -19,8 +19,8 @@ use std::sync::atomic::{AtomicBool, Ordering};
 use std::thread::{Threads, join, sleep};
 use std::time::{Clock, Duration};
 
-/// The version of the program, and the kit that proves it.
-const VERSION: &str = "fcbench 4.0.0, proved by rattle-kit-13f";
+/// The version of the program, and the logic that proves it.
+const VERSION: &str = "fcbench 5.0.0, proved by Rattle logic dac8208d650f15bf";
 
 /// How many times `watch` checks whether the command is done.
 const LOOKS: u32 = 200;

@@ -1,5 +1,5 @@
 pub mod Naming
-pub mod Pairs
+pub mod Tuples
 pub mod FirstFaults
 pub mod Noting
 pub mod OneMore

@@ -7,56 +7,73 @@ use Rattle.edn_reader.specs.Token.{Token, close_vector, leaf, tokens_of, items_t
 use Rattle.edn_reader.specs.Pieces.{token_buffer_tokens}
 use Rattle.edn_reader.specs.declared.Piece.{Piece}
 use Rattle.seq_objects.specs.declared.value.Value.{Value}
-use Rattle.seq_objects.specs.declared.value.Value.TheVariants.{Pair}
 use Rattle.edn_fields.specs.Fields.{value_at, natural_in, keyword_in, object_in, value_in}
 use Rattle.edn_fields.specs.Values.{IsValue, natural_first, keyword_first}
 use Rattle.edn_fields.specs.Operations.{HasValues, IsMapWith}
 use Rattle.edn_fields.specs.declared.operation.OperationValues.{OperationValues}
 use Rattle.edn_fields.proofs.Shapes.{natural_is, keyword_is}
 use Rattle.history.specs.Maps as spec
-use Rattle.history.specs.Maps.{type_named, object_at, pair_in, plain_value, client_with, client_in}
-use Rattle.history.specs.Views.{client_map, IsClient, Says, pair_first, plain_first}
+use Rattle.history.specs.Maps.{type_named, object_at, tuple_in, plain_value, client_with, client_in}
+use Rattle.history.specs.Views.{client_map, IsClient, Says, tuple_first, plain_first}
 use Rattle.history.specs.declared.client_map.ClientMap.{ClientMap}
 use Rattle.history.specs.declared.client_map.OperationMap.TheVariants.{Neither}
 
 -- ---- the value, by its first tokens
 
-no_first : (a : Datum) (ds : Items) → integer_in a ≡ None → None ≡ pair_in (item a ds)
+no_first : (a : Datum) (ds : Items) → integer_in a ≡ None → None ≡ tuple_in (item a ds)
 no_first a no_items e = refl
 no_first a (item b no_items) e = rw e refl
-no_first a (item b (item d ds)) e = refl
+no_first a (item b (item c no_items)) e = rw e refl
+no_first a (item b (item c (item d ds))) e = refl
 
-no_second : (a b : Datum) (ds : Items) → integer_in b ≡ None → None ≡ pair_in (item a (item b ds))
-no_second a b no_items e = by_first (integer_in a)
-  where
-    by_first : (o : Option ℤ) → None ≡ option_and_then (λ x. option_map (λ y. Pair x y) (integer_in b)) o
-    by_first None = refl
-    by_first (Some x) = rw e refl
-no_second a b (item d ds) e = refl
+no_second : (x : ℤ) (b : Datum) (ds : Items) → integer_in b ≡ None
+    → None ≡ tuple_in (item (atom (integer x)) (item b ds))
+no_second x b no_items e = rw e refl
+no_second x b (item c no_items) e = rw e refl
+no_second x b (item c (item d ds)) e = refl
+
+no_third : (x y : ℤ) (c : Datum) (ds : Items) → integer_in c ≡ None
+    → None ≡ tuple_in (item (atom (integer x)) (item (atom (integer y)) (item c ds)))
+no_third x y c no_items e = rw e refl
+no_third x y c (item d ds) e = refl
+
+third_by : (x y : ℤ) (c : Datum) (ds : Items) (ts : List Token)
+    → tuple_first (leaf (atom (integer x)) ∷ leaf (atom (integer y)) ∷
+    (((tokens_of c ++ items_tokens ds) ++ close_vector ∷ []) ++ ts))
+    ≡ tuple_in (item (atom (integer x)) (item (atom (integer y)) (item c ds)))
+third_by x y (atom nil) ds ts = no_third x y (atom nil) ds refl
+third_by x y (atom (boolean b)) ds ts = no_third x y (atom (boolean b)) ds refl
+third_by x y (atom (string s)) ds ts = no_third x y (atom (string s)) ds refl
+third_by x y (atom (keyword k)) ds ts = no_third x y (atom (keyword k)) ds refl
+third_by x y (vector es) ds ts = no_third x y (vector es) ds refl
+third_by x y (dictionary es) ds ts = no_third x y (dictionary es) ds refl
+third_by x y (atom (integer z)) no_items ts = refl
+third_by x y (atom (integer z)) (item (atom a) ds) ts = refl
+third_by x y (atom (integer z)) (item (vector es) ds) ts = refl
+third_by x y (atom (integer z)) (item (dictionary es) ds) ts = refl
 
 second_by : (x : ℤ) (b : Datum) (ds : Items) (ts : List Token)
-    → pair_first (leaf (atom (integer x)) ∷ (((tokens_of b ++ items_tokens ds) ++ close_vector ∷ []) ++ ts)) ≡ pair_in (item (atom (integer x)) (item b ds))
-second_by x (atom nil) ds ts = no_second (atom (integer x)) (atom nil) ds refl
-second_by x (atom (boolean b)) ds ts = no_second (atom (integer x)) (atom (boolean b)) ds refl
-second_by x (atom (string s)) ds ts = no_second (atom (integer x)) (atom (string s)) ds refl
-second_by x (atom (keyword k)) ds ts = no_second (atom (integer x)) (atom (keyword k)) ds refl
-second_by x (vector es) ds ts = no_second (atom (integer x)) (vector es) ds refl
-second_by x (dictionary es) ds ts = no_second (atom (integer x)) (dictionary es) ds refl
+    → tuple_first (leaf (atom (integer x)) ∷
+    (((tokens_of b ++ items_tokens ds) ++ close_vector ∷ []) ++ ts)) ≡ tuple_in (item (atom (integer x)) (item b ds))
+second_by x (atom nil) ds ts = no_second x (atom nil) ds refl
+second_by x (atom (boolean b)) ds ts = no_second x (atom (boolean b)) ds refl
+second_by x (atom (string s)) ds ts = no_second x (atom (string s)) ds refl
+second_by x (atom (keyword k)) ds ts = no_second x (atom (keyword k)) ds refl
+second_by x (vector es) ds ts = no_second x (vector es) ds refl
+second_by x (dictionary es) ds ts = no_second x (dictionary es) ds refl
 second_by x (atom (integer y)) no_items ts = refl
-second_by x (atom (integer y)) (item (atom a) ds) ts = refl
-second_by x (atom (integer y)) (item (vector es) ds) ts = refl
-second_by x (atom (integer y)) (item (dictionary es) ds) ts = refl
+second_by x (atom (integer y)) (item c ds) ts = third_by x y c ds ts
 
-pair_by : (ds : Items) (ts : List Token) → pair_first ((items_tokens ds ++ close_vector ∷ []) ++ ts) ≡ pair_in ds
-pair_by no_items ts = refl
-pair_by (item (atom nil) ds) ts = no_first (atom nil) ds refl
-pair_by (item (atom (boolean b)) ds) ts = no_first (atom (boolean b)) ds refl
-pair_by (item (atom (string s)) ds) ts = no_first (atom (string s)) ds refl
-pair_by (item (atom (keyword k)) ds) ts = no_first (atom (keyword k)) ds refl
-pair_by (item (vector es) ds) ts = no_first (vector es) ds refl
-pair_by (item (dictionary es) ds) ts = no_first (dictionary es) ds refl
-pair_by (item (atom (integer x)) no_items) ts = refl
-pair_by (item (atom (integer x)) (item b ds)) ts = second_by x b ds ts
+tuple_by : (ds : Items) (ts : List Token) → tuple_first ((items_tokens ds ++ close_vector ∷ []) ++ ts) ≡ tuple_in ds
+tuple_by no_items ts = refl
+tuple_by (item (atom nil) ds) ts = no_first (atom nil) ds refl
+tuple_by (item (atom (boolean b)) ds) ts = no_first (atom (boolean b)) ds refl
+tuple_by (item (atom (string s)) ds) ts = no_first (atom (string s)) ds refl
+tuple_by (item (atom (keyword k)) ds) ts = no_first (atom (keyword k)) ds refl
+tuple_by (item (vector es) ds) ts = no_first (vector es) ds refl
+tuple_by (item (dictionary es) ds) ts = no_first (dictionary es) ds refl
+tuple_by (item (atom (integer x)) no_items) ts = refl
+tuple_by (item (atom (integer x)) (item b ds)) ts = second_by x b ds ts
 
 plain_by : (d : Datum) (ts : List Token) → plain_first (tokens_of d ++ ts) ≡ plain_value d
 plain_by (atom nil) ts = refl
@@ -65,7 +82,7 @@ plain_by (atom (boolean false)) ts = refl
 plain_by (atom (integer z)) ts = refl
 plain_by (atom (string s)) ts = refl
 plain_by (atom (keyword k)) ts = refl
-plain_by (vector ds) ts = pair_by ds ts
+plain_by (vector ds) ts = tuple_by ds ts
 plain_by (dictionary es) ts = refl
 
 pub plain_is : (ps : List Piece) (o : Option Datum) → IsValue ps o → plain_first (token_buffer_tokens ps) ≡ plain_value (value_in o)

@@ -5,7 +5,8 @@ use Rattle.edn_reader.specs.Truncation.{most_items, truncated_item, truncated_it
 use Rattle.edn_reader.specs.Datum.{Datum, atom, vector, dictionary, Items, no_items, item, Entries}
 use Rattle.edn_fields.specs.Fields.{value_at, natural_in, keyword_in, value_in}
 use Rattle.edn_fields.proofs.Truncation.{value_of_truncated, natural_of_truncated, keyword_of_truncated}
-use Rattle.history.specs.Maps.{MapType, type_named, type_in, object_at, pair_in, plain_value, ClientMap, client_with, client_in}
+use Rattle.history.specs.Maps.{MapType, type_named, type_in, object_at, tuple_in, plain_value, ClientMap, client_with}
+use Rattle.history.specs.Maps.{client_in}
 use Rattle.history.specs.Views.{client_map, IsClient, Says}
 use Rattle.history.specs.declared.client_map.ClientMap as code
 use Rattle.history.specs.Names.{function_named}
@@ -24,16 +25,18 @@ integer_of_truncated (atom a) = refl
 integer_of_truncated (vector ds) = refl
 integer_of_truncated (dictionary es) = refl
 
-pair_of_truncated : (ds : Items) → pair_in (truncated_items most_items ds) ≡ pair_in ds
-pair_of_truncated no_items = refl
-pair_of_truncated (item a no_items) = refl
-pair_of_truncated (item a (item b no_items)) = rw (integer_of_truncated a, integer_of_truncated b) refl
-pair_of_truncated (item a (item b (item d ds))) = refl
+tuple_of_truncated : (ds : Items) → tuple_in (truncated_items most_items ds) ≡ tuple_in ds
+tuple_of_truncated no_items = refl
+tuple_of_truncated (item a no_items) = refl
+tuple_of_truncated (item a (item b no_items)) = rw (integer_of_truncated a, integer_of_truncated b) refl
+tuple_of_truncated (item a (item b (item c no_items))) =
+    rw (integer_of_truncated a, integer_of_truncated b, integer_of_truncated c) refl
+tuple_of_truncated (item a (item b (item c (item d ds)))) = refl
 
 plain_of_truncated : (o : Option Datum) → plain_value (value_in (option_map truncated_value o)) ≡ plain_value (value_in o)
 plain_of_truncated None = refl
 plain_of_truncated (Some (atom a)) = refl
-plain_of_truncated (Some (vector ds)) = pair_of_truncated ds
+plain_of_truncated (Some (vector ds)) = tuple_of_truncated ds
 plain_of_truncated (Some (dictionary es)) = refl
 
 -- ---- the map

@@ -13,8 +13,11 @@ use Rattle.edn_reader.proofs.Fronts.{both_begin, front_of}
 use Rattle.edn_reader.proofs.UsualFronts.{here, spaced, word_here, first_here, after_one, field, form_field, first_field}
 use Rattle.seq_objects.specs.declared.function.Function.{Function}
 use Rattle.seq_objects.specs.declared.function.Function.TheVariants.{Enqueue, Dequeue, Push, Pop, Insert, ExtractMin, Write, Read, Cas, Put, Get, Del, Acquire, Release}
+use Rattle.seq_objects.specs.declared.function.Function.TheVariants.{Clear, Create, PutIfAbsent, Replace, Assoc}
+use Rattle.seq_objects.specs.declared.function.Function.TheVariants.{Dissoc, Add, Remove, Has}
+use Rattle.seq_objects.specs.declared.function.Function.TheVariants.{FetchAdd, GetCount, LockBy, UnlockBy}
 use Rattle.seq_objects.specs.declared.value.Value.{Value}
-use Rattle.seq_objects.specs.declared.value.Value.TheVariants.{Nil, False, Int, Pair}
+use Rattle.seq_objects.specs.declared.value.Value.TheVariants.{Nil, False, True, Int, Pair}
 use Rattle.seq_objects.specs.Functions.{name_of}
 use Rattle.edn_fields.specs.Fields.{same_bytes, value_at, object_in}
 use Rattle.edn_fields.proofs.Finding.{same_bytes_is}
@@ -55,6 +58,19 @@ is_name_function Get = refl
 is_name_function Del = refl
 is_name_function Acquire = refl
 is_name_function Release = refl
+is_name_function Clear = refl
+is_name_function Create = refl
+is_name_function PutIfAbsent = refl
+is_name_function Replace = refl
+is_name_function Assoc = refl
+is_name_function Dissoc = refl
+is_name_function Add = refl
+is_name_function Remove = refl
+is_name_function Has = refl
+is_name_function FetchAdd = refl
+is_name_function GetCount = refl
+is_name_function LockBy = refl
+is_name_function UnlockBy = refl
 
 pub function_here : (f : Function) (text rest : List ℕ) → EndsToken rest → text ≡ 58 ∷ (name_of f ++ rest) → BeginWith (leaf (atom (keyword (name_of f))) ∷ []) text rest
 function_here f text rest e q = word_here (keyword (name_of f)) (58 ∷ name_of f) text rest (refl, is_name_function f) e q
@@ -66,6 +82,15 @@ nil_here text rest e q = record { form = atom nil; plain = refl; fits = tt; begi
 
 pub false_here : (text rest : List ℕ) → EndsToken rest → text ≡ codes "false" ++ rest → ReadsValue text False rest
 false_here text rest e q = record { form = atom (boolean false); plain = refl; fits = tt; begins = word_here (boolean false) (codes "false") text rest refl e q }
+
+pub true_here : (text rest : List ℕ) → EndsToken rest → text ≡ codes "true" ++ rest → ReadsValue text True rest
+true_here text rest e q = record {
+  form = atom (boolean true);
+  plain = refl;
+  fits = tt;
+  begins = word_here
+      (boolean true) (codes "true") text rest refl e q;
+}
 
 pub integer_here : (z : ℤ) (text rest : List ℕ) → BeginWith (leaf (atom (integer z)) ∷ []) text rest → ReadsValue text (Int z) rest
 integer_here z text rest b = record { form = atom (integer z); plain = refl; fits = tt; begins = b }

@@ -57,34 +57,117 @@ fn function_with<'a, const N: usize>(
     Some((function, after(text, bytes)?))
 }
 
+/// The function whose name begins with `a` and goes on so.
+#[inline(always)]
+fn after_a(text: &[u8]) -> Option<(Function, &[u8])>
+    ensures { IfSome result (λ x. 97 ∷ text.entry.now ≡ name_of x.0 ++ x.1.now) }
+{
+    if let Some(rest) = after(text, b"cquire") {
+        Some((Function::Acquire, rest))
+    } else if let Some(rest) = after(text, b"dd") {
+        Some((Function::Add, rest))
+    } else if let Some(rest) = after(text, b"ssoc") {
+        Some((Function::Assoc, rest))
+    } else {
+        None
+    }
+}
+
+/// The function whose name begins with `c` and goes on so.
+#[inline(always)]
+fn after_c(text: &[u8]) -> Option<(Function, &[u8])>
+    ensures { IfSome result (λ x. 99 ∷ text.entry.now ≡ name_of x.0 ++ x.1.now) }
+{
+    if let Some(rest) = after(text, b"as") {
+        Some((Function::Cas, rest))
+    } else if let Some(rest) = after(text, b"ontains") {
+        Some((Function::Has, rest))
+    } else if let Some(rest) = after(text, b"reate") {
+        Some((Function::Create, rest))
+    } else if let Some(rest) = after(text, b"lear") {
+        Some((Function::Clear, rest))
+    } else {
+        None
+    }
+}
+
+/// The function whose name begins with `d` and goes on so.
+#[inline(always)]
+fn after_d(text: &[u8]) -> Option<(Function, &[u8])>
+    ensures { IfSome result (λ x. 100 ∷ text.entry.now ≡ name_of x.0 ++ x.1.now) }
+{
+    if let Some(rest) = after(text, b"equeue") {
+        Some((Function::Dequeue, rest))
+    } else if let Some(rest) = after(text, b"el") {
+        Some((Function::Del, rest))
+    } else if let Some(rest) = after(text, b"issoc") {
+        Some((Function::Dissoc, rest))
+    } else {
+        None
+    }
+}
+
+/// The function whose name begins with `p` and goes on so.
+#[inline(always)]
+fn after_p(text: &[u8]) -> Option<(Function, &[u8])>
+    ensures { IfSome result (λ x. 112 ∷ text.entry.now ≡ name_of x.0 ++ x.1.now) }
+{
+    if let Some(rest) = after(text, b"ut-if-absent") {
+        Some((Function::PutIfAbsent, rest))
+    } else if let Some(rest) = after(text, b"ut") {
+        Some((Function::Put, rest))
+    } else if let Some(rest) = after(text, b"ush") {
+        Some((Function::Push, rest))
+    } else if let Some(rest) = after(text, b"op") {
+        Some((Function::Pop, rest))
+    } else {
+        None
+    }
+}
+
+/// The function whose name begins with `r` and goes on so.
+#[inline(always)]
+fn after_r(text: &[u8]) -> Option<(Function, &[u8])>
+    ensures { IfSome result (λ x. 114 ∷ text.entry.now ≡ name_of x.0 ++ x.1.now) }
+{
+    if let Some(rest) = after(text, b"ead") {
+        Some((Function::Read, rest))
+    } else if let Some(rest) = after(text, b"elease") {
+        Some((Function::Release, rest))
+    } else if let Some(rest) = after(text, b"emove") {
+        Some((Function::Remove, rest))
+    } else if let Some(rest) = after(text, b"eplace") {
+        Some((Function::Replace, rest))
+    } else {
+        None
+    }
+}
+
 /// The function whose name goes on so after its colon and its first letter.
 #[inline(always)]
 fn function_after(first: u8, text: &[u8]) -> Option<(Function, &[u8])>
     ensures { IfSome result (λ x. first ∷ text.entry.now ≡ name_of x.0 ++ x.1.now) }
 {
     match first {
-        b'a' => function_with(text, b"cquire", Function::Acquire),
-        b'c' => function_with(text, b"as", Function::Cas),
-        b'd' => function_with(text, b"equeue", Function::Dequeue).or(function_with(
-            text,
-            b"el",
-            Function::Del,
-        )),
+        b'a' => after_a(text),
+        b'c' => after_c(text),
+        b'd' => after_d(text),
         b'e' => function_with(text, b"nqueue", Function::Enqueue).or(function_with(
             text,
             b"xtract-min",
             Function::ExtractMin,
         )),
-        b'g' => function_with(text, b"et", Function::Get),
-        b'i' => function_with(text, b"nsert", Function::Insert),
-        b'p' => function_with(text, b"ut", Function::Put)
-            .or(function_with(text, b"ush", Function::Push))
-            .or(function_with(text, b"op", Function::Pop)),
-        b'r' => function_with(text, b"ead", Function::Read).or(function_with(
+        b'f' => function_with(text, b"etch-add", Function::FetchAdd),
+        b'g' => function_with(text, b"et-count", Function::GetCount).or(function_with(
             text,
-            b"elease",
-            Function::Release,
+            b"et",
+            Function::Get,
         )),
+        b'i' => function_with(text, b"nsert", Function::Insert),
+        b'l' => function_with(text, b"ock", Function::LockBy),
+        b'p' => after_p(text),
+        b'r' => after_r(text),
+        b'u' => function_with(text, b"nlock", Function::UnlockBy),
         b'w' => function_with(text, b"rite", Function::Write),
         _ => None,
     }
@@ -133,7 +216,8 @@ fn word_at<'a, const N: usize>(
     Some((value, rest))
 }
 
-/// An argument or a reply, and what follows it.
+/// An argument or a reply, and what follows it. A vector of three integers is none here: a map that
+/// has one is read by its tokens.
 #[inline(always)]
 pub(crate) fn value_at(text: &[u8]) -> Option<(Value, &[u8])>
     ensures { IfSome result (λ x. ReadsValue text.entry.now x.0 x.1.now) }
@@ -141,6 +225,7 @@ pub(crate) fn value_at(text: &[u8]) -> Option<(Value, &[u8])>
     match text {
         [b'n', ..] => word_at(text, b"nil", Value::Nil),
         [b'f', ..] => word_at(text, b"false", Value::False),
+        [b't', ..] => word_at(text, b"true", Value::True),
         [b'[', inside @ ..] => pair_after(inside),
         _ => {
             let (number, rest) = integer_at(text)?;

@@ -163,7 +163,7 @@ const MAP_FAULTS: [(&[u8], HistoryFaultKind, usize); 8] = [
         1,
     ),
     (
-        b"{:process 0, :type :invoke, :f :add, :value 1}",
+        b"{:process 0, :type :invoke, :f :peek, :value 1}",
         HistoryFaultKind::UnknownF,
         0,
     ),

@@ -9,7 +9,8 @@ use Rattle.model.specs.declared.AnyOp.{AnyOp}
 use Rattle.model.specs.declared.AnyOp.TheVariants as op
 use Rattle.model.specs.declared.AnyReply.{AnyReply}
 use Rattle.model.specs.declared.AnyReply.TheVariants.{Swapped, NotSwapped}
-use Rattle.model.specs.Objects.{Content, queue, stack, heap, register, table, mutex, contains_value, next_register}
+use Rattle.model.specs.Objects.{Content, queue, stack, heap, register, table, mutex, elements, count, owner}
+use Rattle.model.specs.Objects.{contains_value, next_register}
 use Rattle.model.specs.Objects.{next, empty, specification, any, stepped}
 use Rattle.model.specs.Linearizable.{IsLinearizable}
 use Rattle.model.specs.Orders.{Numbered, events, Call, ProcessCall, calls_in, calls_on, IsHistory, RepliesBy}
@@ -28,6 +29,9 @@ among kind.Heap c = heap c
 among kind.Register c = register c
 among kind.Map c = table c
 among kind.Mutex c = mutex c
+among kind.Set c = elements c
+among kind.Counter c = count c
+among kind.Lock c = owner c
 
 empty_among : (k : Kind) → empty k ≡ among k (specification k).empty
 empty_among kind.Queue = refl
@@ -36,6 +40,9 @@ empty_among kind.Heap = refl
 empty_among kind.Register = refl
 empty_among kind.Map = refl
 empty_among kind.Mutex = refl
+empty_among kind.Set = refl
+empty_among kind.Counter = refl
+empty_among kind.Lock = refl
 
 abbrev swap_by : Option ℤ → ℤ → ℤ → Bool → Option (Option ℤ × AnyReply)
 swap_by v a b it = if it then Some (Some b, Swapped a b) else Some (v, NotSwapped)
@@ -61,6 +68,19 @@ register_among v (op.Get j) = refl
 register_among v (op.Del j) = refl
 register_among v op.Acquire = refl
 register_among v op.Release = refl
+register_among v op.Clear = refl
+register_among v (op.Create w) = refl
+register_among v (op.PutIfAbsent j w) = refl
+register_among v (op.Replace j a b) = refl
+register_among v (op.Assoc j w) = refl
+register_among v (op.Dissoc j) = refl
+register_among v (op.Add w) = refl
+register_among v (op.Remove w) = refl
+register_among v (op.Has w) = refl
+register_among v (op.FetchAdd n) = refl
+register_among v op.GetCount = refl
+register_among v (op.LockBy o) = refl
+register_among v (op.UnlockBy o) = refl
 
 -- its steps are those of all kinds
 step_among : (k : Kind) (c : (specification k).Content) (o : AnyOp)
@@ -71,6 +91,9 @@ step_among kind.Heap c o = refl
 step_among kind.Register c o = register_among c o
 step_among kind.Map c o = refl
 step_among kind.Mutex c o = refl
+step_among kind.Set c o = refl
+step_among kind.Counter c o = refl
+step_among kind.Lock c o = refl
 
 own_step : (k : Kind) (made : Option ((specification k).Content × AnyReply)) (after : Content) (reply : AnyReply)
     → stepped (among k) made ≡ Some (after, reply)

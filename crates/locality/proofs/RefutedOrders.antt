@@ -11,7 +11,7 @@ use Rattle.model.specs.declared.Kind.TheVariants.{Queue, Mutex}
 use Rattle.model.specs.declared.AnyOp.{AnyOp}
 use Rattle.model.specs.declared.AnyOp.TheVariants.{Enqueue, Dequeue}
 use Rattle.model.specs.declared.AnyReply.{AnyReply}
-use Rattle.model.specs.declared.AnyReply.TheVariants.{Value, Swapped, NotSwapped}
+use Rattle.model.specs.declared.AnyReply.TheVariants.{Value, Swapped, NotSwapped, Flag}
 use Rattle.model.specs.Objects.{Content, queue, next, empty}
 use Rattle.model.specs.Linearizable.{IsLinearizable}
 use Rattle.model.specs.Orders.{Numbered, events, Return, Call, calls_on, IsHistory, ReturnsBefore, RepliesAlong, IsValidOrder}
@@ -171,6 +171,7 @@ value_itself (Value (Some v)) = let e = int_eq_equiv in e.refl v
 value_itself (Value None) = refl
 value_itself (Swapped a b) = refl
 value_itself NotSwapped = refl
+value_itself (Flag so) = refl
 
 replied_so : (o : Option Return) (given : AnyReply) → IfSome o (λ r. r.reply ≡ given) → replied o given ≡ true
 replied_so None given h = refl

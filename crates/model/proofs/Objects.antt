@@ -12,3 +12,6 @@ kind_of_empty kind.Heap = refl
 kind_of_empty kind.Register = refl
 kind_of_empty kind.Map = refl
 kind_of_empty kind.Mutex = refl
+kind_of_empty kind.Set = refl
+kind_of_empty kind.Counter = refl
+kind_of_empty kind.Lock = refl

@@ -1,4 +1,5 @@
 pub mod Specification
+pub mod Kinds
 pub mod Objects
 pub mod Histories
 pub mod Linearizable

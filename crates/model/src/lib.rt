@@ -11,6 +11,10 @@ pub enum Kind {
     Register,
     Map,
     Mutex,
+    Set,
+    Counter,
+    /// A lock that knows its owner.
+    Lock,
 }
 
 /// An operation with its argument.
@@ -32,6 +36,29 @@ pub enum AnyOp {
     Del(i64),
     Acquire,
     Release,
+    /// Leaves nothing in a register.
+    Clear,
+    /// Writes the value where a register contains nothing.
+    Create(i64),
+    /// The key, and the value that it gets where it has none.
+    PutIfAbsent(i64, i64),
+    /// The key, the value that is expected, and the new one.
+    Replace(i64, i64, i64),
+    /// The key, and its new value. The reply does not tell the earlier one.
+    Assoc(i64, i64),
+    /// The key that is removed. The reply does not tell its value.
+    Dissoc(i64),
+    Add(i64),
+    Remove(i64),
+    /// Whether a set has the value.
+    Has(i64),
+    /// Adds to a counter.
+    FetchAdd(i64),
+    GetCount,
+    /// The owner that takes a lock.
+    LockBy(i64),
+    /// The owner that frees it.
+    UnlockBy(i64),
 }
 
 /// What an operation answers.
@@ -42,4 +69,6 @@ pub enum AnyReply {
     /// A compare-and-set that took place, with its two values.
     Swapped(i64, i64),
     NotSwapped,
+    /// Whether it was so, or took place.
+    Flag(bool),
 }

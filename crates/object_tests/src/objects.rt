@@ -3,9 +3,9 @@ ghost use Rattle.model.specs.Objects.{kind_of, kind_with, next};
 
 use seq_objects::AnyReply::Value as Gives;
 use seq_objects::{
-    AnyObject, AnyOp, AnyReply, Function, Heap, HeapOp, Kind, MapObject, MapOp, Mutex, MutexOp,
-    Queue, QueueOp, Register, RegisterOp, SeqObject, Stack, StackOp, Value, function_of, kind_name,
-    op_of, reply_of, value_of_op, value_of_reply,
+    AnyObject, AnyOp, AnyReply, Counter, CounterOp, Function, Heap, HeapOp, Kind, Lock, LockOp,
+    MapObject, MapOp, Mutex, MutexOp, Queue, QueueOp, Register, RegisterOp, SeqObject, Set, SetOp,
+    Stack, StackOp, Value, function_of, kind_name, op_of, reply_of, value_of_op, value_of_reply,
 };
 use std::alloc::AllocError;
 use std::process::Abort;
@@ -68,9 +68,13 @@ fn sum_answers<S: SeqObject<Op = AnyOp, Reply = AnyReply>>(
 
 const NIL: Option<AnyReply> = Some(Gives(None));
 
+const YES: Option<AnyReply> = Some(AnyReply::Flag(true));
+
+const NO: Option<AnyReply> = Some(AnyReply::Flag(false));
+
 /// Operations on an object of each kind, which is empty at first, and their replies; none where it
 /// is not possible.
-const ROWS: [(Kind, &[(AnyOp, Option<AnyReply>)]); 6] = [
+const ROWS: [(Kind, &[(AnyOp, Option<AnyReply>)]); 11] = [
     (
         Kind::Queue,
         &[
@@ -137,6 +141,73 @@ const ROWS: [(Kind, &[(AnyOp, Option<AnyReply>)]); 6] = [
             (AnyOp::Acquire, NIL),
         ],
     ),
+    (
+        Kind::Register,
+        &[
+            (AnyOp::Create(1), YES),
+            (AnyOp::Create(2), NO),
+            (AnyOp::Read, Some(Gives(Some(1)))),
+            (AnyOp::Clear, NIL),
+            (AnyOp::Read, NIL),
+            (AnyOp::Create(2), YES),
+        ],
+    ),
+    (
+        Kind::Map,
+        &[
+            (AnyOp::PutIfAbsent(1, 10), YES),
+            (AnyOp::PutIfAbsent(1, 11), NO),
+            (AnyOp::Replace(1, 11, 12), NO),
+            (AnyOp::Replace(1, 10, 12), YES),
+            (AnyOp::Replace(2, 10, 12), NO),
+            (AnyOp::Get(1), Some(Gives(Some(12)))),
+            (AnyOp::Assoc(1, 13), NIL),
+            (AnyOp::Get(1), Some(Gives(Some(13)))),
+            (AnyOp::Dissoc(1), NIL),
+            (AnyOp::Dissoc(1), NIL),
+            (AnyOp::Get(1), NIL),
+            (AnyOp::Assoc(3, 30), NIL),
+        ],
+    ),
+    (
+        Kind::Set,
+        &[
+            (AnyOp::Has(1), NO),
+            (AnyOp::Add(1), YES),
+            (AnyOp::Add(1), NO),
+            (AnyOp::Add(-1), YES),
+            (AnyOp::Has(1), YES),
+            (AnyOp::Remove(1), YES),
+            (AnyOp::Remove(1), NO),
+            (AnyOp::Has(1), NO),
+            (AnyOp::Has(-1), YES),
+        ],
+    ),
+    (
+        Kind::Counter,
+        &[
+            (AnyOp::GetCount, Some(Gives(Some(0)))),
+            (AnyOp::FetchAdd(5), Some(Gives(Some(0)))),
+            (AnyOp::FetchAdd(i64::MAX), None),
+            (AnyOp::FetchAdd(-7), FIVE),
+            (AnyOp::FetchAdd(i64::MIN), None),
+            (AnyOp::GetCount, Some(Gives(Some(-2)))),
+            (AnyOp::FetchAdd(i64::MIN + 2), Some(Gives(Some(-2)))),
+            (AnyOp::GetCount, Some(Gives(Some(i64::MIN)))),
+        ],
+    ),
+    (
+        Kind::Lock,
+        &[
+            (AnyOp::UnlockBy(1), None),
+            (AnyOp::LockBy(1), NIL),
+            (AnyOp::LockBy(1), None),
+            (AnyOp::LockBy(2), None),
+            (AnyOp::UnlockBy(2), None),
+            (AnyOp::UnlockBy(1), NIL),
+            (AnyOp::LockBy(2), NIL),
+        ],
+    ),
 ];
 
 #[test]
@@ -176,6 +247,19 @@ fn register_map_and_mutex_answer_by_their_bound(rt: HostRuntime) -> Result<(), F
 }
 
 #[test]
+fn set_counter_and_lock_answer_by_their_bound(rt: HostRuntime) -> Result<(), Fail> {
+    let rows = [(SetOp::Add(5), YES), (SetOp::Has(5), YES)];
+    answers(&rt, Set::new(rt.alloc()), &rows)?;
+    let rows = [
+        (CounterOp::FetchAdd(5), Some(Gives(Some(0)))),
+        (CounterOp::GetCount, FIVE),
+    ];
+    answers(&rt, Counter::new(rt.alloc()), &rows)?;
+    let rows = [(LockOp::Lock(5), NIL), (LockOp::Unlock(6), None)];
+    answers(&rt, Lock::new(rt.alloc()), &rows)
+}
+
+#[test]
 fn objects_of_other_kinds_or_contents_differ(rt: HostRuntime) -> Result<(), Fail> {
     let mut stack = AnyObject::empty(rt.alloc(), Kind::Stack);
     assert!(rt; !stack.same(&AnyObject::empty(rt.alloc(), Kind::Queue)));
@@ -202,6 +286,19 @@ fn functions_have_their_names(rt: HostRuntime) {
         "del",
         "acquire",
         "release",
+        "clear",
+        "create",
+        "put-if-absent",
+        "replace",
+        "assoc",
+        "dissoc",
+        "add",
+        "remove",
+        "contains",
+        "fetch-add",
+        "get-count",
+        "lock",
+        "unlock",
     ];
     for (f, name) in Function::ALL.into_iter().zip(names) {
         assert!(rt; f.name() == name && Function::named(name.as_bytes()) == Some(f));
@@ -221,4 +318,11 @@ fn operations_and_replies_are_written_as_values_and_read_back(rt: HostRuntime) {
     assert!(rt; reply_of(Function::Enqueue, Value::Nil).is_none());
     assert!(rt; reply_of(Function::Get, Value::Nil) == NIL);
     assert!(rt; value_of_reply(&AnyReply::NotSwapped) == Value::False);
+    let replace = AnyOp::Replace(1, 2, 3);
+    assert!(rt; op_of(Function::Replace, Value::Triple(1, 2, 3)) == Some(replace));
+    assert!(rt; value_of_op(&replace) == Value::Triple(1, 2, 3));
+    assert!(rt; op_of(Function::PutIfAbsent, Value::Triple(1, 2, 3)).is_none());
+    assert!(rt; reply_of(Function::Add, Value::True) == YES);
+    assert!(rt; reply_of(Function::Cas, Value::True).is_none());
+    assert!(rt; value_of_reply(&AnyReply::Flag(true)) == Value::True);
 }

@@ -1,16 +1,22 @@
 -- Where a value definitely is not in an object before some number, an order is valid without what was done with it before.
-use Rattle.std.proofs.Common.{◌≡◌, ◌≢◌, ◌⊎◌, inl, inr, ℕ, ℤ, pos, ◌<◌, ◌≤◌, ◌+◌, nat_lt, Bool, true, false, not, ◌&&◌, ◌||◌, cond, List, [], ◌∷◌, ◌++◌}
+use Rattle.std.proofs.Common.{◌≡◌, ◌≢◌, ◌⊎◌, inl, inr, ℕ, ℤ, pos, ◌+ℤ◌, ◌<◌, ◌≤◌, ◌+◌, nat_lt, Bool, true, false, not}
+use Rattle.std.proofs.Common.{◌&&◌, ◌||◌, cond, List, [], ◌∷◌, ◌++◌}
 use Rattle.std.proofs.Common.{Option, Some, None, AllPairs, Contains, IfSome, IsSome, length, map, filter, refl, ap, sym, ◌∙◌, subst, arith}
 use Rattle.std.proofs.lemmas.Bool.Decides.{nat_tests}
 use Rattle.std.specs.Ordering.{int_cmp, int_eq}
 use Rattle.std.specs.FinMap as table_of
+use Rattle.std.specs.FinSet as set
 use Rattle.model.specs.declared.Kind.{Kind}
 use Rattle.model.specs.declared.Kind.TheVariants as kind
 use Rattle.model.specs.declared.AnyOp.{AnyOp}
 use Rattle.model.specs.declared.AnyOp.TheVariants.{Enqueue, Dequeue, Push, Pop, Insert, ExtractMin, Write, Read, Cas, Put, Get, Del, Acquire, Release}
+use Rattle.model.specs.declared.AnyOp.TheVariants.{Clear, Create, PutIfAbsent, Replace, Assoc, Dissoc, Add, Remove, Has}
+use Rattle.model.specs.declared.AnyOp.TheVariants.{FetchAdd, GetCount, LockBy, UnlockBy}
 use Rattle.model.specs.declared.AnyReply.{AnyReply}
 use Rattle.model.specs.declared.AnyReply.TheVariants.{Swapped, NotSwapped}
-use Rattle.model.specs.Objects.{Content, queue, stack, heap, register, table, mutex, empty, contains_value, with_value, next}
+use Rattle.model.specs.Objects.{Content, queue, stack, heap, register, table, mutex, elements, count, owner, empty}
+use Rattle.model.specs.Objects.{contains_value, with_value, next}
+use Rattle.model.specs.Objects.{inserted_if, is_absent, has_value}
 use Rattle.model.specs.Orders.{Call, Return, ReturnsBefore, RepliesAlong, IsValidOrder}
 use Rattle.model.proofs.Lists.{In, Pairs, in_filter, in_filter_passes, in_filter_from, filter_all, pairs_filter, in_from_contains, contains_from_in, all_from_in, all_at}
 use Rattle.model.proofs.Lists.{all_from_pairs, pairs_from_all, pairs_map, pairs_from_map, pairs_weaker}
@@ -19,6 +25,7 @@ use Rattle.projection.specs.Absent.{is_put_before, is_taken_before, IsAbsent, ca
 use Rattle.projection.proofs.Conserved.{one, tally, count_tally, kept_size, size_empty, size_cons, turn, Turn, count_among}
 use Rattle.projection.proofs.Contents.{IsRising, filter_in, filter_out, after_in, after_out, with_value_in, with_value_out, rising_with_value}
 use Rattle.projection.proofs.Booleans.{false_is_not_true, true_or_false}
+use Rattle.projection.proofs.Steps.{adds, frees}
 
 neither : ((false ≡ true) ⊎ (false ≡ true)) → ⊥
 neither k = elim k [ inl e ↦ false_is_not_true e | inr e ↦ false_is_not_true e ]
@@ -42,6 +49,9 @@ empty_others v kind.Heap = (refl, tt)
 empty_others v kind.Register = refl
 empty_others v kind.Map = refl
 empty_others v kind.Mutex = refl
+empty_others v kind.Set = refl
+empty_others v kind.Counter = refl
+empty_others v kind.Lock = refl
 
 none_of : (v : ℤ) (vs : List ℤ) → length (filter (int_eq v) vs) ≡ 0 → filter (others v) vs ≡ vs
 none_of v [] z = refl
@@ -103,18 +113,46 @@ register_goes v x (Cas a b) = go (contains_value x a) refl
     go : (t : Bool) → contains_value x a ≡ t → IfSome (swapped x a b t) (λ p. IsApart v (Cas a b) p.1 → Goes v (Cas a b) (register x) p.0 p.1)
     go true e = λ k. (register (Some b), ap (swapped x a b) e, refl)
     go false e = λ k. (register x, ap (swapped x a b) e, refl)
+register_goes v x Clear = λ a. (register None, refl, refl)
+register_goes v None (Create w) = λ a. (register (Some w), refl, refl)
+register_goes v (Some u) (Create w) = λ a. (register (Some u), refl, refl)
 register_goes v x op = tt
 
 table_goes : (v : ℤ) (m : table_of.FinMap int_cmp ℤ) (op : AnyOp) → IfSome (next (table m) op) (λ p. IsApart v op p.1 → Goes v op (table m) p.0 p.1)
 table_goes v m (Put k w) = λ a. (table (table_of.insert m k w), refl, refl)
 table_goes v m (Get k) = λ a. (table m, refl, refl)
 table_goes v m (Del k) = λ a. (table (table_of.remove m k), refl, refl)
+table_goes v m (PutIfAbsent k w) = λ a. (table (inserted_if (is_absent m k) m k w), refl, refl)
+table_goes v m (Replace k u w) = λ a. (table (inserted_if (has_value m k u) m k w), refl, refl)
+table_goes v m (Assoc k w) = λ a. (table (table_of.insert m k w), refl, refl)
+table_goes v m (Dissoc k) = λ a. (table (table_of.remove m k), refl, refl)
 table_goes v m op = tt
 
 mutex_goes : (v : ℤ) (held : Bool) (op : AnyOp) → IfSome (next (mutex held) op) (λ p. IsApart v op p.1 → Goes v op (mutex held) p.0 p.1)
 mutex_goes v false Acquire = λ a. (mutex true, refl, refl)
 mutex_goes v true Release = λ a. (mutex false, refl, refl)
 mutex_goes v held op = tt
+
+elements_goes : (v : ℤ) (s : set.FinSet int_cmp) (op : AnyOp)
+    → IfSome (next (elements s) op) (λ p. IsApart v op p.1 → Goes v op (elements s) p.0 p.1)
+elements_goes v s (Add w) = λ a. (elements (set.insert s w), refl, refl)
+elements_goes v s (Remove w) = λ a. (elements (set.remove s w), refl, refl)
+elements_goes v s (Has w) = λ a. (elements s, refl, refl)
+elements_goes v s op = tt
+
+count_goes : (v c : ℤ) (op : AnyOp) → IfSome (next (count c) op) (λ p. IsApart v op p.1 → Goes v op (count c) p.0 p.1)
+count_goes v c (FetchAdd n) = adds (λ p. IsApart v (FetchAdd n) p.1 → Goes v (FetchAdd n) (count c) p.0 p.1) c n
+    (λ does a. (count (c +ℤ n), does, refl))
+count_goes v c GetCount = λ a. (count c, refl, refl)
+count_goes v c op = tt
+
+lock_goes : (v : ℤ) (x : Option ℤ) (op : AnyOp)
+    → IfSome (next (owner x) op) (λ p. IsApart v op p.1 → Goes v op (owner x) p.0 p.1)
+lock_goes v None (LockBy o) = λ a. (owner (Some o), refl, refl)
+lock_goes v (Some p) (UnlockBy o) =
+    frees (λ q. IsApart v (UnlockBy o) q.1 → Goes v (UnlockBy o) (owner (Some p)) q.0 q.1) p o
+    (λ does a. (owner None, does, refl))
+lock_goes v x op = tt
 
 abbrev GoesAt : ℤ → AnyOp → Content → Content → Type 0
 GoesAt v op c d = IfSome (next c op) (λ p. IsApart v op p.1 → Goes v op d p.0 p.1)
@@ -126,6 +164,9 @@ goes v (heap vs) d op s = subst (GoesAt v op (heap vs)) (sym s.0) (heap_goes v v
 goes v (register x) d op s = subst (GoesAt v op (register x)) (sym s) (register_goes v x op)
 goes v (table m) d op s = subst (GoesAt v op (table m)) (sym s) (table_goes v m op)
 goes v (mutex held) d op s = subst (GoesAt v op (mutex held)) (sym s) (mutex_goes v held op)
+goes v (elements x) d op s = subst (GoesAt v op (elements x)) (sym s) (elements_goes v x op)
+goes v (count c) d op s = subst (GoesAt v op (count c)) (sym s) (count_goes v c op)
+goes v (owner x) d op s = subst (GoesAt v op (owner x)) (sym s) (lock_goes v x op)
 
 -- ---- a step that puts in the value, or takes it out, and that the part leaves out
 
@@ -163,6 +204,22 @@ skips v (table m) d (Get k) s = λ t. absurd (neither t)
 skips v (table m) d (Del k) s = λ t. absurd (neither t)
 skips v (mutex false) d Acquire s = λ k. absurd (neither k)
 skips v (mutex true) d Release s = λ k. absurd (neither k)
+skips v (register x) d Clear s = λ k. absurd (neither k)
+skips v (register None) d (Create w) s = λ k. absurd (neither k)
+skips v (register (Some u)) d (Create w) s = λ k. absurd (neither k)
+skips v (table m) d (PutIfAbsent k w) s = λ t. absurd (neither t)
+skips v (table m) d (Replace k u w) s = λ t. absurd (neither t)
+skips v (table m) d (Assoc k w) s = λ t. absurd (neither t)
+skips v (table m) d (Dissoc k) s = λ t. absurd (neither t)
+skips v (elements x) d (Add w) s = λ k. absurd (neither k)
+skips v (elements x) d (Remove w) s = λ k. absurd (neither k)
+skips v (elements x) d (Has w) s = λ k. absurd (neither k)
+skips v (count c) d (FetchAdd n) s =
+    adds (λ p. Touches v (FetchAdd n) p.1 → IsOthers v p.0 d) c n (λ does k. absurd (neither k))
+skips v (count c) d GetCount s = λ k. absurd (neither k)
+skips v (owner None) d (LockBy o) s = λ k. absurd (neither k)
+skips v (owner (Some p)) d (UnlockBy o) s =
+    frees (λ q. Touches v (UnlockBy o) q.1 → IsOthers v q.0 d) p o (λ does k. absurd (neither k))
 skips v c d op s = tt
 
 -- ---- how often the value is put in and taken out early

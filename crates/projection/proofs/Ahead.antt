@@ -12,9 +12,11 @@ use Rattle.model.specs.declared.Kind.TheVariants as variant
 use Rattle.model.specs.declared.AnyOp.{AnyOp}
 use Rattle.model.specs.declared.AnyOp.TheVariants.{Enqueue, Dequeue, Push, Pop, Insert, ExtractMin}
 use Rattle.model.specs.declared.AnyOp.TheVariants.{Write, Read, Cas, Put, Get, Del, Acquire}
-use Rattle.model.specs.declared.AnyOp.TheVariants.{Release}
+use Rattle.model.specs.declared.AnyOp.TheVariants.{Release, Clear, Create, PutIfAbsent, Replace, Assoc}
+use Rattle.model.specs.declared.AnyOp.TheVariants.{Dissoc, Add, Remove, Has, FetchAdd, GetCount}
+use Rattle.model.specs.declared.AnyOp.TheVariants.{LockBy, UnlockBy}
 use Rattle.model.specs.declared.AnyReply.{AnyReply}
-use Rattle.model.specs.declared.AnyReply.TheVariants.{Value, Swapped, NotSwapped}
+use Rattle.model.specs.declared.AnyReply.TheVariants.{Value, Swapped, NotSwapped, Flag}
 use Rattle.model.specs.Objects.{queue, stack, kind_of, empty}
 use Rattle.model.specs.Orders.{Call, Return, ReturnsBefore, RepliesAlong, IsValidOrder}
 use Rattle.model.proofs.Lists.{In, Pairs, in_append, in_left, in_split, in_from_contains, all_at}
@@ -81,6 +83,7 @@ shown_by op (Some r) at found e = go (is_removal op) refl e
         }
     in_reply (Swapped a c) s t q = absurd (cc q)
     in_reply NotSwapped s t q = absurd (cc q)
+    in_reply (Flag b) s t q = absurd (cc q)
 
     go : (t : Bool) → is_removal op ≡ t → cond t (found_in r.at r.reply) None ≡ Some (at, found)
         → Shown op (Some r) at found
@@ -310,6 +313,19 @@ removal_cases (Some b) (Get k) = inl (λ e. absurd (cc e), λ e. absurd (cc e))
 removal_cases (Some b) (Del k) = inl (λ e. absurd (cc e), λ e. absurd (cc e))
 removal_cases (Some b) Acquire = inl (λ e. absurd (cc e), λ e. absurd (cc e))
 removal_cases (Some b) Release = inl (λ e. absurd (cc e), λ e. absurd (cc e))
+removal_cases (Some b) Clear = inl (λ e. absurd (cc e), λ e. absurd (cc e))
+removal_cases (Some b) (Create v) = inl (λ e. absurd (cc e), λ e. absurd (cc e))
+removal_cases (Some b) (PutIfAbsent k v) = inl (λ e. absurd (cc e), λ e. absurd (cc e))
+removal_cases (Some b) (Replace k v w) = inl (λ e. absurd (cc e), λ e. absurd (cc e))
+removal_cases (Some b) (Assoc k v) = inl (λ e. absurd (cc e), λ e. absurd (cc e))
+removal_cases (Some b) (Dissoc k) = inl (λ e. absurd (cc e), λ e. absurd (cc e))
+removal_cases (Some b) (Add v) = inl (λ e. absurd (cc e), λ e. absurd (cc e))
+removal_cases (Some b) (Remove v) = inl (λ e. absurd (cc e), λ e. absurd (cc e))
+removal_cases (Some b) (Has v) = inl (λ e. absurd (cc e), λ e. absurd (cc e))
+removal_cases (Some b) (FetchAdd v) = inl (λ e. absurd (cc e), λ e. absurd (cc e))
+removal_cases (Some b) GetCount = inl (λ e. absurd (cc e), λ e. absurd (cc e))
+removal_cases (Some b) (LockBy v) = inl (λ e. absurd (cc e), λ e. absurd (cc e))
+removal_cases (Some b) (UnlockBy v) = inl (λ e. absurd (cc e), λ e. absurd (cc e))
 
 abbrev Bounded : (kind : Kind) (calls : List Call) (n : Call) (s : Split kind calls n) (from : ℕ)
     (op : AnyOp) (o : Option ℤ) → Type 0

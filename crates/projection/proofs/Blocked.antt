@@ -9,7 +9,9 @@ use Rattle.std.specs.List.{find, list_all, cons_option}
 use Rattle.model.specs.declared.AnyOp.{AnyOp}
 use Rattle.model.specs.declared.AnyOp.TheVariants.{Enqueue, Dequeue, Push, Pop, Insert, ExtractMin}
 use Rattle.model.specs.declared.AnyOp.TheVariants.{Write, Read, Cas, Put, Get, Del, Acquire}
-use Rattle.model.specs.declared.AnyOp.TheVariants.{Release}
+use Rattle.model.specs.declared.AnyOp.TheVariants.{Release, Clear, Create, PutIfAbsent, Replace, Assoc}
+use Rattle.model.specs.declared.AnyOp.TheVariants.{Dissoc, Add, Remove, Has, FetchAdd, GetCount}
+use Rattle.model.specs.declared.AnyOp.TheVariants.{LockBy, UnlockBy}
 use Rattle.model.specs.Objects.{kind_of}
 use Rattle.model.specs.Orders.{Call}
 use Rattle.model.proofs.Lists.{in_from_contains, contains_from_in, all_at, all_from_in, pairs_from_all}
@@ -96,6 +98,19 @@ before_calls (Some b) (Get k) number ops = refl
 before_calls (Some b) (Del k) number ops = refl
 before_calls (Some b) Acquire number ops = refl
 before_calls (Some b) Release number ops = refl
+before_calls (Some b) Clear number ops = refl
+before_calls (Some b) (Create v) number ops = refl
+before_calls (Some b) (PutIfAbsent k v) number ops = refl
+before_calls (Some b) (Replace k v w) number ops = refl
+before_calls (Some b) (Assoc k v) number ops = refl
+before_calls (Some b) (Dissoc k) number ops = refl
+before_calls (Some b) (Add v) number ops = refl
+before_calls (Some b) (Remove v) number ops = refl
+before_calls (Some b) (Has v) number ops = refl
+before_calls (Some b) (FetchAdd v) number ops = refl
+before_calls (Some b) GetCount number ops = refl
+before_calls (Some b) (LockBy v) number ops = refl
+before_calls (Some b) (UnlockBy v) number ops = refl
 
 found_return : (op : AnyOp) (e : End) → found_end op e ≡ found_by op (return_of e)
 found_return op (Returned at r) = refl
@@ -139,6 +154,19 @@ settled_calls (Some b) (Get k) from ops = refl
 settled_calls (Some b) (Del k) from ops = refl
 settled_calls (Some b) Acquire from ops = refl
 settled_calls (Some b) Release from ops = refl
+settled_calls (Some b) Clear from ops = refl
+settled_calls (Some b) (Create v) from ops = refl
+settled_calls (Some b) (PutIfAbsent k v) from ops = refl
+settled_calls (Some b) (Replace k v w) from ops = refl
+settled_calls (Some b) (Assoc k v) from ops = refl
+settled_calls (Some b) (Dissoc k) from ops = refl
+settled_calls (Some b) (Add v) from ops = refl
+settled_calls (Some b) (Remove v) from ops = refl
+settled_calls (Some b) (Has v) from ops = refl
+settled_calls (Some b) (FetchAdd v) from ops = refl
+settled_calls (Some b) GetCount from ops = refl
+settled_calls (Some b) (LockBy v) from ops = refl
+settled_calls (Some b) (UnlockBy v) from ops = refl
 
 -- the removal of a number, as a call
 blocked_from : (ops : List Invocation) (number from : ℕ) (op : AnyOp) (at : ℕ) (found : Option ℤ)

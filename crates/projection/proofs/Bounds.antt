@@ -14,9 +14,14 @@ use Rattle.model.specs.declared.Kind.{Kind}
 use Rattle.model.specs.declared.Kind.TheVariants as kind
 use Rattle.model.specs.declared.AnyOp.{AnyOp}
 use Rattle.model.specs.declared.AnyOp.TheVariants.{Enqueue, Dequeue, Push, Pop, Insert, ExtractMin, Write, Read, Cas, Put, Get, Del, Acquire, Release}
+use Rattle.model.specs.declared.AnyOp.TheVariants.{Clear, Create, PutIfAbsent, Replace, Assoc, Dissoc, Add, Remove, Has}
+use Rattle.model.specs.declared.AnyOp.TheVariants.{FetchAdd, GetCount, LockBy, UnlockBy}
 use Rattle.model.specs.declared.AnyReply.{AnyReply}
 use Rattle.model.specs.declared.AnyReply.TheVariants as reply
-use Rattle.model.specs.Objects.{Content, queue, stack, heap, register, table, mutex, empty, contains_value, next}
+use Rattle.model.specs.Objects as objects
+use Rattle.model.specs.Objects.{Content, queue, stack, heap, register, table, mutex, elements, owner, empty}
+use Rattle.model.specs.Objects.{contains_value, next}
+use Rattle.model.specs.Objects.{inserted_if, is_absent, has_value}
 use Rattle.model.specs.Orders.{Call, Return, ReturnsBefore, RepliesAlong, IsValidOrder}
 use Rattle.model.proofs.Lists.{In, Pairs, in_from_contains, all_at, pairs_from_all, pairs_weaker, pairs_from_map}
 use Rattle.projection.specs.declared.counting.Counted.{Counted}
@@ -34,6 +39,7 @@ use Rattle.search.specs.Outcomes.{IsNoneValid}
 use Rattle.projection.proofs.CutOperations.{rising_calls, calls_end}
 use Rattle.projection.proofs.Conserved.{one, tally, count_tally, balanced, count_among, and_false}
 use Rattle.projection.proofs.Booleans.{false_is_not_true, true_or_false, same_by_test, both_true}
+use Rattle.projection.proofs.Steps.{adds, frees}
 
 int_same : (v : ℤ) → int_eq v v ≡ true
 int_same v = grind (arith, ints)
@@ -66,6 +72,9 @@ stays a = omega arith
 
 written : (a b : ℕ) → a + 0 ≤ b + a
 written a b = omega arith
+
+none : (a : ℕ) → 0 + 0 ≤ a + 0
+none a = omega arith
 
 bound_at : (what : Counted) (c after : Content) (op : AnyOp) (r : AnyReply) (takes_it sets_it : Bool) (a b : ℕ) → takes what op (Some r) ≡ takes_it
     → sets what op (Some r) ≡ sets_it → there what after ≡ a → there what c ≡ b → a + one takes_it ≤ b + one sets_it → Bounded what op c after r
@@ -126,7 +135,8 @@ entry_put k v q w m = elim (true_or_false (int_eq q k)) [
   | inr e ↦ bound_at (Entry k v) (table m) (table (map.insert m q w)) (Put q w) (reply.Value (map.get m q)) false false
       (one (contains_value (map.get m k) v)) (one (contains_value (map.get m k) v))
       (and_not (int_eq q k) (is_reply v (Some (reply.Value (map.get m q)))) e) (and_not (int_eq q k) (int_eq w v) e)
-      (ap (λ (z : Option ℤ). one (contains_value z v)) (got_other m q k w e)) refl (stays (one (contains_value (map.get m k) v)))
+      (ap (λ (z : Option ℤ). one (contains_value z v)) (got_other m q k w e)) refl
+      (stays (one (contains_value (map.get m k) v)))
 ]
   where
     turned : (p q : ℕ) → p + q ≤ q + p
@@ -144,7 +154,8 @@ entry_del k v q m = elim (true_or_false (int_eq q k)) [
   | inr e ↦ bound_at (Entry k v) (table m) (table (map.remove m q)) (Del q) (reply.Value (map.get m q)) false false
       (one (contains_value (map.get m k) v)) (one (contains_value (map.get m k) v))
       (and_not (int_eq q k) (is_reply v (Some (reply.Value (map.get m q)))) e) refl
-      (ap (λ (z : Option ℤ). one (contains_value z v)) (gone_other m q k e)) refl (stays (one (contains_value (map.get m k) v)))
+      (ap (λ (z : Option ℤ). one (contains_value z v)) (gone_other m q k e)) refl
+      (stays (one (contains_value (map.get m k) v)))
 ]
   where
     turned : (p : ℕ) → 0 + p ≤ p + 0
@@ -195,6 +206,123 @@ none_del k q m = elim (true_or_false (int_eq q k)) [
     left None e = refl
     left (Some x) e = e
 
+-- a put of a value, whatever was there
+entry_set : (k v q w : ℤ) (m : map.FinMap int_cmp ℤ) (op : AnyOp) (r : AnyReply) → takes (Entry k v) op (Some r) ≡ false
+    → sets (Entry k v) op (Some r) ≡ (int_eq q k && int_eq w v)
+    → Bounded (Entry k v) op (table m) (table (map.insert m q w)) r
+entry_set k v q w m op r t s = elim (true_or_false (int_eq q k)) [
+  | inl e ↦
+      let got = ap (λ z. map.get (map.insert m z w) k) (same_by_test q k e) ∙ got_same m k w in
+      bound_at (Entry k v) (table m) (table (map.insert m q w)) op r false (int_eq w v) (one (int_eq w v))
+      (one (contains_value (map.get m k) v))
+      t (s ∙ and_first (int_eq q k) (int_eq w v) (int_eq w v) e refl)
+      (ap (λ (z : Option ℤ). one (contains_value z v)) got) refl
+      (written (one (int_eq w v)) (one (contains_value (map.get m k) v)))
+  | inr e ↦ bound_at (Entry k v) (table m) (table (map.insert m q w)) op r false false
+      (one (contains_value (map.get m k) v))
+      (one (contains_value (map.get m k) v)) t (s ∙ and_not (int_eq q k) (int_eq w v) e)
+      (ap (λ (z : Option ℤ). one (contains_value z v)) (got_other m q k w e)) refl
+      (stays (one (contains_value (map.get m k) v)))
+]
+
+entry_absent : (k v q w : ℤ) (m : map.FinMap int_cmp ℤ) (t : Bool)
+    → Bounded (Entry k v) (PutIfAbsent q w) (table m) (table (inserted_if t m q w)) (reply.Flag t)
+entry_absent k v q w m true = entry_set k v q w m (PutIfAbsent q w) (reply.Flag true) refl refl
+entry_absent k v q w m false = stays (one (contains_value (map.get m k) v))
+
+entry_replace : (k v q a w : ℤ) (m : map.FinMap int_cmp ℤ) (t : Bool) → has_value m q a ≡ t
+    → Bounded (Entry k v) (Replace q a w) (table m) (table (inserted_if t m q w)) (reply.Flag t)
+entry_replace k v q a w m false h = stays (one (contains_value (map.get m k) v))
+entry_replace k v q a w m true h = elim (true_or_false (int_eq q k)) [
+  | inl e ↦
+      let same = same_by_test q k e in
+      let got = ap (λ z. map.get (map.insert m z w) k) same ∙ got_same m k w in
+      bound_at (Entry k v) (table m) (table (map.insert m q w)) (Replace q a w) (reply.Flag true) (int_eq a v)
+      (int_eq w v) (one (int_eq w v))
+      (one (contains_value (map.get m k) v)) (and_first (int_eq q k) (int_eq a v) (int_eq a v) e refl)
+      (and_first (int_eq q k) (int_eq w v) (int_eq w v) e refl) (ap (λ (z : Option ℤ). one (contains_value z v)) got)
+      refl
+      (swapped v a w (map.get m k) (ap (λ z. contains_value (map.get m z) a) (sym same) ∙ h))
+  | inr e ↦ bound_at (Entry k v) (table m) (table (map.insert m q w)) (Replace q a w) (reply.Flag true) false false
+      (one (contains_value (map.get m k) v)) (one (contains_value (map.get m k) v))
+      (and_not (int_eq q k) (int_eq a v) e)
+      (and_not (int_eq q k) (int_eq w v) e) (ap (λ (z : Option ℤ). one (contains_value z v)) (got_other m q k w e)) refl
+      (stays (one (contains_value (map.get m k) v)))
+]
+
+entry_dissoc : (k v q : ℤ) (m : map.FinMap int_cmp ℤ)
+    → Bounded (Entry k v) (Dissoc q) (table m) (table (map.remove m q)) (reply.Value None)
+entry_dissoc k v q m = elim (true_or_false (int_eq q k)) [
+  | inl e ↦
+      let got = ap (λ z. map.get (map.remove m z) k) (same_by_test q k e) ∙ gone_same m k in
+      bound_at (Entry k v) (table m) (table (map.remove m q)) (Dissoc q) (reply.Value None) false false 0
+      (one (contains_value (map.get m k) v)) refl refl (ap (λ (z : Option ℤ). one (contains_value z v)) got) refl
+      (none _)
+  | inr e ↦ bound_at (Entry k v) (table m) (table (map.remove m q)) (Dissoc q) (reply.Value None) false false
+      (one (contains_value (map.get m k) v)) (one (contains_value (map.get m k) v)) refl refl
+      (ap (λ (z : Option ℤ). one (contains_value z v)) (gone_other m q k e)) refl
+      (stays (one (contains_value (map.get m k) v)))
+]
+
+-- a put that does not take the place of nothing, as the reply says, or of which nothing is known
+none_set : (k q w : ℤ) (m : map.FinMap int_cmp ℤ) (op : AnyOp) (r : AnyReply) → takes (NoEntry k) op (Some r) ≡ false
+    → sets (NoEntry k) op (Some r) ≡ false → Bounded (NoEntry k) op (table m) (table (map.insert m q w)) r
+none_set k q w m op r t s = elim (true_or_false (int_eq q k)) [
+  | inl e ↦
+      let got = ap (λ z. map.get (map.insert m z w) k) (same_by_test q k e) ∙ got_same m k w in
+      bound_at (NoEntry k) (table m) (table (map.insert m q w)) op r false false 0 (one (is_none (map.get m k))) t s
+      (ap (λ (z : Option ℤ). one (is_none z)) got) refl (none _)
+  | inr e ↦ bound_at (NoEntry k) (table m) (table (map.insert m q w)) op r false false (one (is_none (map.get m k)))
+      (one (is_none (map.get m k)))
+      t s (ap (λ (z : Option ℤ). one (is_none z)) (got_other m q k w e)) refl (stays (one (is_none (map.get m k))))
+]
+
+none_absent : (k q w : ℤ) (m : map.FinMap int_cmp ℤ) (t : Bool) → is_absent m q ≡ t
+    → Bounded (NoEntry k) (PutIfAbsent q w) (table m) (table (inserted_if t m q w)) (reply.Flag t)
+none_absent k q w m false h = stays (one (is_none (map.get m k)))
+none_absent k q w m true h = elim (true_or_false (int_eq q k)) [
+  | inl e ↦
+      let same = same_by_test q k e in
+      let got = ap (λ z. map.get (map.insert m z w) k) same ∙ got_same m k w in
+      bound_at (NoEntry k) (table m) (table (map.insert m q w)) (PutIfAbsent q w) (reply.Flag true)
+      (is_none (map.get m k)) false 0
+      (one (is_none (map.get m k))) (e ∙ sym (ap (λ z. is_none (map.get m z)) (sym same) ∙ absent (map.get m q) h)) refl
+      (ap (λ (z : Option ℤ). one (is_none z)) got) refl (turned _)
+  | inr e ↦ bound_at (NoEntry k) (table m) (table (map.insert m q w)) (PutIfAbsent q w) (reply.Flag true) false false
+      (one (is_none (map.get m k)))
+      (one (is_none (map.get m k))) e refl (ap (λ (z : Option ℤ). one (is_none z)) (got_other m q k w e)) refl
+      (stays (one (is_none (map.get m k))))
+]
+  where
+    turned : (p : ℕ) → 0 + p ≤ p + 0
+    turned p = omega arith
+
+    absent : (o : Option ℤ) → not (is_some o) ≡ true → is_none o ≡ true
+    absent None e = refl
+    absent (Some x) e = e
+
+none_replace : (k q a w : ℤ) (m : map.FinMap int_cmp ℤ) (t : Bool)
+    → Bounded (NoEntry k) (Replace q a w) (table m) (table (inserted_if t m q w)) (reply.Flag t)
+none_replace k q a w m true = none_set k q w m (Replace q a w) (reply.Flag true) refl refl
+none_replace k q a w m false = stays (one (is_none (map.get m k)))
+
+none_dissoc : (k q : ℤ) (m : map.FinMap int_cmp ℤ)
+    → Bounded (NoEntry k) (Dissoc q) (table m) (table (map.remove m q)) (reply.Value None)
+none_dissoc k q m = elim (true_or_false (int_eq q k)) [
+  | inl e ↦
+      let got = ap (λ z. map.get (map.remove m z) k) (same_by_test q k e) ∙ gone_same m k in
+      bound_at (NoEntry k) (table m) (table (map.remove m q)) (Dissoc q) (reply.Value None) false true 1
+      (one (is_none (map.get m k)))
+      refl e (ap (λ (z : Option ℤ). one (is_none z)) got) refl (once_more _)
+  | inr e ↦ bound_at (NoEntry k) (table m) (table (map.remove m q)) (Dissoc q) (reply.Value None) false false
+      (one (is_none (map.get m k)))
+      (one (is_none (map.get m k))) refl e (ap (λ (z : Option ℤ). one (is_none z)) (gone_other m q k e)) refl
+      (stays (one (is_none (map.get m k))))
+]
+  where
+    once_more : (p : ℕ) → 1 + 0 ≤ p + 1
+    once_more p = omega arith
+
 -- ---- one step
 
 bounded : (what : Counted) (c : Content) (op : AnyOp) → IfSome (next c op) (λ p. Bounded what op c p.0 p.1)
@@ -215,12 +343,23 @@ bounded (Value v) (register x) (Cas a b) = go (contains_value x a) refl
         → IfSome {T = Content × AnyReply} (cond t (Some (register (Some b), reply.Swapped a b)) (Some (register x, reply.NotSwapped))) (λ p. Bounded (Value v) (Cas a b) (register x) p.0 p.1)
     go true h = swapped v a b x h
     go false h = stays (one (contains_value x v))
+bounded (Value v) (register x) Clear = none (one (contains_value x v))
+bounded (Value v) (register None) (Create w) = written (one (int_eq w v)) 0
+bounded (Value v) (register (Some u)) (Create w) = stays (one (int_eq u v))
 bounded (Entry k v) (table m) (Put q w) = entry_put k v q w m
 bounded (Entry k v) (table m) (Get q) = stays (one (contains_value (map.get m k) v))
 bounded (Entry k v) (table m) (Del q) = entry_del k v q m
+bounded (Entry k v) (table m) (PutIfAbsent q w) = entry_absent k v q w m (is_absent m q)
+bounded (Entry k v) (table m) (Replace q a w) = entry_replace k v q a w m (has_value m q a) refl
+bounded (Entry k v) (table m) (Assoc q w) = entry_set k v q w m (Assoc q w) (reply.Value None) refl refl
+bounded (Entry k v) (table m) (Dissoc q) = entry_dissoc k v q m
 bounded (NoEntry k) (table m) (Put q w) = none_put k q w m
 bounded (NoEntry k) (table m) (Get q) = stays (one (is_none (map.get m k)))
 bounded (NoEntry k) (table m) (Del q) = none_del k q m
+bounded (NoEntry k) (table m) (PutIfAbsent q w) = none_absent k q w m (is_absent m q) refl
+bounded (NoEntry k) (table m) (Replace q a w) = none_replace k q a w m (has_value m q a)
+bounded (NoEntry k) (table m) (Assoc q w) = none_set k q w m (Assoc q w) (reply.Value None) refl refl
+bounded (NoEntry k) (table m) (Dissoc q) = none_dissoc k q m
 bounded Held (mutex false) Acquire = written 1 0
 bounded Held (mutex true) Release = omega arith
 bounded Free (mutex false) Acquire = omega arith
@@ -246,6 +385,22 @@ bounded what (table m) (Get q) = nothing
 bounded what (table m) (Del q) = nothing
 bounded what (mutex false) Acquire = nothing
 bounded what (mutex true) Release = nothing
+bounded what (register x) Clear = nothing
+bounded what (register None) (Create w) = nothing
+bounded what (register (Some u)) (Create w) = nothing
+bounded what (table m) (PutIfAbsent q w) = nothing
+bounded what (table m) (Replace q a w) = nothing
+bounded what (table m) (Assoc q w) = nothing
+bounded what (table m) (Dissoc q) = nothing
+bounded what (elements s) (Add v) = nothing
+bounded what (elements s) (Remove v) = nothing
+bounded what (elements s) (Has v) = nothing
+bounded what (objects.count c) (FetchAdd n) =
+    adds (λ p. Bounded what (FetchAdd n) (objects.count c) p.0 p.1) c n (λ does. nothing)
+bounded what (objects.count c) GetCount = nothing
+bounded what (owner None) (LockBy o) = nothing
+bounded what (owner (Some p)) (UnlockBy o) =
+    frees (λ q. Bounded what (UnlockBy o) (owner (Some p)) q.0 q.1) p o (λ does. nothing)
 bounded what c op = tt
 
 -- a pending call may set what it sets with some reply, and tells nothing that it takes away
@@ -253,10 +408,15 @@ may_set : (what : Counted) (op : AnyOp) (r : AnyReply) → sets what op (Some r)
 may_set (Value v) (Cas a b) (reply.Swapped c d) h = h
 may_set (Value v) (Cas a b) (reply.Value o) h = absurd (false_is_not_true h)
 may_set (Value v) (Cas a b) reply.NotSwapped h = absurd (false_is_not_true h)
+may_set (Value v) (Cas a b) (reply.Flag c) h = absurd (false_is_not_true h)
+may_set (Value v) (Create w) (reply.Flag false) h = absurd (false_is_not_true h)
+may_set (Entry k v) (PutIfAbsent q w) (reply.Flag false) h = absurd (false_is_not_true h)
+may_set (Entry k v) (Replace q a w) (reply.Flag false) h = absurd (false_is_not_true h)
 may_set (NoEntry k) (Del q) (reply.Value (Some w)) h = h
 may_set (NoEntry k) (Del q) (reply.Value None) h = absurd (false_is_not_true h)
 may_set (NoEntry k) (Del q) (reply.Swapped c d) h = absurd (false_is_not_true h)
 may_set (NoEntry k) (Del q) reply.NotSwapped h = absurd (false_is_not_true h)
+may_set (NoEntry k) (Del q) (reply.Flag c) h = absurd (false_is_not_true h)
 may_set (Entry k v) (Put q w) r h = h
 may_set Held Acquire r h = h
 may_set Free Release r h = h
@@ -346,6 +506,9 @@ single (heap vs) = false
 single (register x) = true
 single (table m) = true
 single (mutex b) = true
+single (elements s) = false
+single (objects.count c) = false
+single (owner x) = false
 
 single_empty : (k : Kind) → is_single k ≡ true → single (empty k) ≡ true
 single_empty kind.Queue e = e
@@ -354,6 +517,9 @@ single_empty kind.Heap e = e
 single_empty kind.Register e = refl
 single_empty kind.Map e = refl
 single_empty kind.Mutex e = refl
+single_empty kind.Set e = e
+single_empty kind.Counter e = e
+single_empty kind.Lock e = e
 
 single_next : (c : Content) (op : AnyOp) → IfSome (next c op) (λ p. single c ≡ true → single p.0 ≡ true)
 single_next (queue vs) (Enqueue v) = λ e. e
@@ -377,6 +543,22 @@ single_next (table m) (Get k) = λ e. refl
 single_next (table m) (Del k) = λ e. refl
 single_next (mutex false) Acquire = λ e. refl
 single_next (mutex true) Release = λ e. refl
+single_next (register x) Clear = λ e. refl
+single_next (register None) (Create v) = λ e. refl
+single_next (register (Some w)) (Create v) = λ e. refl
+single_next (table m) (PutIfAbsent k v) = λ e. refl
+single_next (table m) (Replace k v w) = λ e. refl
+single_next (table m) (Assoc k v) = λ e. refl
+single_next (table m) (Dissoc k) = λ e. refl
+single_next (elements s) (Add v) = λ e. e
+single_next (elements s) (Remove v) = λ e. e
+single_next (elements s) (Has v) = λ e. e
+single_next (objects.count c) (FetchAdd n) =
+    adds (λ p. single (objects.count c) ≡ true → single p.0 ≡ true) c n (λ does e. e)
+single_next (objects.count c) GetCount = λ e. e
+single_next (owner None) (LockBy o) = λ e. e
+single_next (owner (Some p)) (UnlockBy o) =
+    frees (λ q. single (owner (Some p)) ≡ true → single q.0 ≡ true) p o (λ does e. e)
 single_next c op = tt
 
 one_at_most : (b : Bool) → one b ≤ 1
@@ -387,6 +569,9 @@ once : (what : Counted) (c : Content) → single c ≡ true → there what c ≤
 once what (queue vs) e = absurd (false_is_not_true e)
 once what (stack vs) e = absurd (false_is_not_true e)
 once what (heap vs) e = absurd (false_is_not_true e)
+once what (elements s) e = absurd (false_is_not_true e)
+once what (objects.count c) e = absurd (false_is_not_true e)
+once what (owner x) e = absurd (false_is_not_true e)
 once (Value v) (register x) e = one_at_most (contains_value x v)
 once (Entry k v) (table m) e = one_at_most (contains_value (map.get m k) v)
 once (NoEntry k) (table m) e = one_at_most (is_none (map.get m k))

@@ -9,10 +9,13 @@ use Rattle.model.specs.declared.Kind.TheVariants as variant
 use Rattle.model.specs.declared.AnyOp.{AnyOp}
 use Rattle.model.specs.declared.AnyOp.TheVariants.{Enqueue, Dequeue, Push, Pop, Insert, ExtractMin}
 use Rattle.model.specs.declared.AnyOp.TheVariants.{Write, Read, Cas, Put, Get, Del, Acquire}
-use Rattle.model.specs.declared.AnyOp.TheVariants.{Release}
+use Rattle.model.specs.declared.AnyOp.TheVariants.{Release, Clear, Create, PutIfAbsent, Replace, Assoc}
+use Rattle.model.specs.declared.AnyOp.TheVariants.{Dissoc, Add, Remove, Has, FetchAdd, GetCount}
+use Rattle.model.specs.declared.AnyOp.TheVariants.{LockBy, UnlockBy}
 use Rattle.model.specs.declared.AnyReply.{AnyReply}
-use Rattle.model.specs.declared.AnyReply.TheVariants.{Value, Swapped, NotSwapped}
-use Rattle.model.specs.Objects.{Content, queue, stack, heap, register, table, mutex, empty, contains_value, next}
+use Rattle.model.specs.declared.AnyReply.TheVariants.{Value, Swapped, NotSwapped, Flag}
+use Rattle.model.specs.Objects.{Content, queue, stack, heap, register, table, mutex, elements, count, owner}
+use Rattle.model.specs.Objects.{empty, contains_value, next}
 use Rattle.model.specs.Orders.{Call, Return, RepliesAlong}
 use Rattle.model.proofs.Lists.{In, Pairs, in_left, in_middle}
 use Rattle.projection.specs.Parts.{reply_of, puts_in, is_kept_value, is_removal, takes_out}
@@ -20,6 +23,7 @@ use Rattle.projection.specs.Ahead.{is_value_ahead, may_take}
 use Rattle.projection.proofs.Contents.{IsRising, rising_with_value}
 use Rattle.projection.proofs.Conserved.{one, tally, kept_size, size_empty, turn}
 use Rattle.projection.proofs.Booleans.{false_is_not_true, both_true}
+use Rattle.projection.proofs.Steps.{adds, frees}
 
 pub joined : (a b : Bool) → a ≡ true → b ≡ true → (a && b) ≡ true
 joined true b e f = f
@@ -79,6 +83,9 @@ sound_empty variant.Heap = tt
 sound_empty variant.Register = tt
 sound_empty variant.Map = tt
 sound_empty variant.Mutex = tt
+sound_empty variant.Set = tt
+sound_empty variant.Counter = tt
+sound_empty variant.Lock = tt
 
 sound_next : (c : Content) (op : AnyOp) → IsSound c → IfSome (next c op) (λ p. IsSound p.0)
 sound_next (queue vs) (Enqueue v) s = tt
@@ -103,6 +110,14 @@ sound_next (table m) (Get k) s = tt
 sound_next (table m) (Del k) s = tt
 sound_next (mutex false) Acquire s = tt
 sound_next (mutex true) Release s = tt
+sound_next (register None) (Create v) s = tt
+sound_next (register (Some w)) (Create v) s = tt
+sound_next (count c) (FetchAdd n) s = adds (λ p. IsSound p.0) c n (λ does. tt)
+sound_next (elements x) (Add v) s = tt
+sound_next (elements x) (Remove v) s = tt
+sound_next (elements x) (Has v) s = tt
+sound_next (owner None) (LockBy o) s = tt
+sound_next (owner (Some p)) (UnlockBy o) s = frees (λ q. IsSound q.0) p o (λ does. tt)
 sound_next c op s = tt
 
 -- ---- the content that the removal finds
@@ -162,9 +177,21 @@ same_value x y e = ap back e
     back (Value z) = z
     back (Swapped a b) = None
     back NotSwapped = None
+    back (Flag b) = None
 
 some_none : (v : ℤ) → Some v ≡ None → ⊥
 some_none v e = absurd (cc e)
+
+-- a lock has no removals
+no_removal : (P : Content × AnyReply → Type 0) (x : Option ℤ) (op : AnyOp) → is_removal op ≡ true
+    → IfSome (next (owner x) op) P
+no_removal P None Dequeue t = tt
+no_removal P None Pop t = tt
+no_removal P None ExtractMin t = tt
+no_removal P (Some p) Dequeue t = tt
+no_removal P (Some p) Pop t = tt
+no_removal P (Some p) ExtractMin t = tt
+no_removal P x op t = absurd (false_is_not_true t)
 
 -- where a removal finds nothing, the object is empty, and where a heap's finds a value, it contains no lesser one
 emptied : (c : Content) (op : AnyOp) (o : Option ℤ) → IsSound c → (op ≡ Dequeue → o ≡ None)
@@ -190,6 +217,20 @@ emptied (table m) (Get k) o s d u t = absurd (false_is_not_true t)
 emptied (table m) (Del k) o s d u t = absurd (false_is_not_true t)
 emptied (mutex false) Acquire o s d u t = absurd (false_is_not_true t)
 emptied (mutex true) Release o s d u t = absurd (false_is_not_true t)
+emptied (owner x) op o s d u t = no_removal (λ p. p.1 ≡ Value o → kept_size (is_value_ahead o op) (owner x) ≡ 0) x op t
+emptied c Clear o s d u t = absurd (false_is_not_true t)
+emptied c (Create v) o s d u t = absurd (false_is_not_true t)
+emptied c (PutIfAbsent k v) o s d u t = absurd (false_is_not_true t)
+emptied c (Replace k v w) o s d u t = absurd (false_is_not_true t)
+emptied c (Assoc k v) o s d u t = absurd (false_is_not_true t)
+emptied c (Dissoc k) o s d u t = absurd (false_is_not_true t)
+emptied c (Add v) o s d u t = absurd (false_is_not_true t)
+emptied c (Remove v) o s d u t = absurd (false_is_not_true t)
+emptied c (Has v) o s d u t = absurd (false_is_not_true t)
+emptied c (FetchAdd n) o s d u t = absurd (false_is_not_true t)
+emptied c GetCount o s d u t = absurd (false_is_not_true t)
+emptied c (LockBy w) o s d u t = absurd (false_is_not_true t)
+emptied c (UnlockBy w) o s d u t = absurd (false_is_not_true t)
 emptied c op o s d u t = tt
 
 -- what is put in before the removal is taken out before it

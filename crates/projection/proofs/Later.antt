@@ -1,22 +1,27 @@
 -- Suffixes: what `operation_from` makes of the operations gives `calls_from`, and is a part.
-use Rattle.std.proofs.Common.{◌≡◌, ◌≢◌, inl, inr, ℕ, ℤ, ◌<◌, ◌==◌, nat_lt, Bool, true, false, cond, List, Option, Some, None, IfSome, All, Contains, refl, ap, sym, ◌∙◌, subst}
+use Rattle.std.proofs.Common.{◌≡◌, ◌≢◌, inl, inr, ℕ, ℤ, pos, ◌+ℤ◌, ◌<◌, ◌==◌, nat_lt, Bool, true, false, cond, List}
+use Rattle.std.proofs.Common.{Option, Some, None, IfSome, All, Contains, refl, ap, sym, ◌∙◌, subst}
 use Rattle.std.specs.Prelude.{option_map}
 use Rattle.std.specs.Option.{option_map_or}
 use Rattle.std.specs.List.{filter_map}
 use Rattle.std.proofs.lemmas.Option.{same_Some}
 use Rattle.std.proofs.lemmas.Bool.{eqb-true}
+use Rattle.model.specs.declared.Kind.TheVariants.{Counter}
 use Rattle.model.specs.declared.AnyOp.{AnyOp}
 use Rattle.model.specs.declared.AnyOp.TheVariants.{Dequeue, Pop, ExtractMin, Write, Read, Cas, Put, Get, Del, Acquire, Release}
+use Rattle.model.specs.declared.AnyOp.TheVariants.{Clear, Create, PutIfAbsent, Replace, Assoc, Dissoc, Add, Remove, Has}
+use Rattle.model.specs.declared.AnyOp.TheVariants.{FetchAdd, GetCount, LockBy, UnlockBy}
 use Rattle.model.specs.declared.AnyReply.{AnyReply}
-use Rattle.model.specs.declared.AnyReply.TheVariants.{Value, Swapped}
-use Rattle.model.specs.Objects.{kind_of}
+use Rattle.model.specs.declared.AnyReply.TheVariants.{Value, Swapped, Flag}
+use Rattle.model.specs.Objects.{kind_of, is_i64}
 use Rattle.model.specs.Orders.{Call, Return, IsValidOrder}
 use Rattle.model.proofs.Lists.{In, Pairs, in_from_contains, contains_from_in, all_from_in, all_at, pairs_from_all}
 use Rattle.events.specs.declared.operations.End.{End}
 use Rattle.events.specs.declared.operations.End.TheVariants.{Returned, Pending, Failed}
 use Rattle.events.specs.declared.operations.Invocation.{Invocation}
 use Rattle.events.specs.Operations.{call_with, call_of, calls_of, return_of, ObjectCalls, IsObjectHistory}
-use Rattle.projection.specs.Parts.{leaves, IsStart, key_of, ended_before, written_before, write_call, pending_call, overlapping, call_later, returned_call, call_from, calls_from}
+use Rattle.projection.specs.Parts.{leaves, leaves_count, IsStart, key_of, ended_before, written_before, write_call}
+use Rattle.projection.specs.Parts.{pending_call, overlapping, call_later, returned_call, call_from, calls_from}
 use Rattle.projection.specs.Cuts.{IsPart, IsSuffix}
 use Rattle.projection.specs.CutOperations.{has_failed, IsOnKey, is_over, as_returned, as_write, as_pending, overlapping_operation, operation_later, operation_from}
 use Rattle.projection.proofs.Sequences.{one_number, in_filter_map, in_filter_map_from}
@@ -25,6 +30,14 @@ use Rattle.projection.proofs.Suffixes.{start_valid}
 use Rattle.projection.proofs.CutOperations.{bind, IsCutOperation, cut_history, cut_calls, cut_lives, did_not_fail, all_calls, call_cases}
 
 -- ---- cut_operations
+
+count_kind : (n : ℤ) → IfSome (leaves_count n) (λ f. IfSome f (λ p. kind_of p.0 ≡ Counter))
+count_kind n = go (is_i64 n)
+  where
+    go : (t : Bool) → IfSome {T = Option (AnyOp × AnyReply)}
+        (cond t (Some (Some (FetchAdd n, Value (Some (pos 0))))) None) (λ f. IfSome f (λ p. kind_of p.0 ≡ Counter))
+    go true = refl
+    go false = tt
 
 pub leaves_kind : (op : AnyOp) (reply : AnyReply) → IfSome (leaves op reply) (λ f. IfSome f (λ p. kind_of p.0 ≡ kind_of op))
 leaves_kind Dequeue (Value None) = tt
@@ -40,6 +53,20 @@ leaves_kind (Get k) (Value (Some v)) = refl
 leaves_kind (Del k) reply = tt
 leaves_kind Acquire reply = refl
 leaves_kind Release reply = tt
+leaves_kind Clear reply = tt
+leaves_kind (Create v) (Flag true) = refl
+leaves_kind (PutIfAbsent k v) (Flag true) = refl
+leaves_kind (Replace k v w) (Flag true) = refl
+leaves_kind (Assoc k v) reply = refl
+leaves_kind (Dissoc k) reply = tt
+leaves_kind (Add v) reply = refl
+leaves_kind (Remove v) reply = tt
+leaves_kind (Has v) (Flag true) = refl
+leaves_kind (Has v) (Flag false) = tt
+leaves_kind (FetchAdd n) (Value (Some c)) = count_kind (c +ℤ n)
+leaves_kind GetCount (Value (Some c)) = count_kind c
+leaves_kind (LockBy o) reply = refl
+leaves_kind (UnlockBy o) reply = tt
 leaves_kind op reply = tt
 
 -- ---- where a suffix begins

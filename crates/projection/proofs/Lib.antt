@@ -1,5 +1,6 @@
 pub mod Booleans
 pub mod Simulation
+pub mod Steps
 pub mod Contents
 pub mod Conserved
 pub mod Fitting

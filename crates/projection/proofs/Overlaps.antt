@@ -7,13 +7,17 @@ use Rattle.model.specs.declared.Kind.{Kind}
 use Rattle.model.specs.declared.Kind.TheVariants.{Register}
 use Rattle.model.specs.declared.AnyOp.{AnyOp}
 use Rattle.model.specs.declared.AnyOp.TheVariants.{Enqueue, Dequeue, Push, Pop, Insert, ExtractMin, Write, Read, Cas, Put, Get, Del, Acquire, Release}
+use Rattle.model.specs.declared.AnyOp.TheVariants.{Clear, Create, PutIfAbsent, Replace, Assoc, Dissoc, Add, Remove, Has}
+use Rattle.model.specs.declared.AnyOp.TheVariants.{FetchAdd, GetCount, LockBy, UnlockBy}
 use Rattle.model.specs.declared.AnyReply.{AnyReply}
-use Rattle.model.specs.declared.AnyReply.TheVariants.{Value, Swapped, NotSwapped}
-use Rattle.model.specs.Objects.{Content, queue, stack, heap, register, table, mutex, empty, contains_value, next, kind_of}
+use Rattle.model.specs.declared.AnyReply.TheVariants.{Value, Swapped, NotSwapped, Flag}
+use Rattle.model.specs.Objects.{Content, queue, stack, heap, register, table, mutex, elements, count, owner, empty}
+use Rattle.model.specs.Objects.{contains_value, next, kind_of}
 use Rattle.model.specs.Orders.{Call, Return, ReturnsBefore, RepliesAlong}
 use Rattle.model.proofs.Lists.{In}
 use Rattle.projection.specs.Parts.{key_of, leaves, ended_before, written, written_before, write_call, pending_call, overlapping, call_later, returned_call}
 use Rattle.projection.proofs.Booleans.{less_by_test}
+use Rattle.projection.proofs.Steps.{adds, frees}
 
 -- ---- what was written
 
@@ -50,6 +54,24 @@ wrote (table m) (Get k) = λ w e. absurd (cc e)
 wrote (table m) (Del k) = λ w e. absurd (cc e)
 wrote (mutex false) Acquire = λ w e. absurd (cc e)
 wrote (mutex true) Release = λ w e. absurd (cc e)
+wrote (register c) Clear = λ v e. absurd (cc e)
+wrote (register None) (Create w) = λ v e. absurd (cc e)
+wrote (register (Some u)) (Create w) = λ v e. absurd (cc e)
+wrote (table m) (PutIfAbsent k v) = λ w e. absurd (cc e)
+wrote (table m) (Replace k u v) = λ w e. absurd (cc e)
+wrote (table m) (Assoc k v) = λ w e. absurd (cc e)
+wrote (table m) (Dissoc k) = λ w e. absurd (cc e)
+wrote (elements s) (Add v) = λ w e. absurd (cc e)
+wrote (elements s) (Remove v) = λ w e. absurd (cc e)
+wrote (elements s) (Has v) = λ w e. absurd (cc e)
+wrote (count c) (FetchAdd n) =
+    adds (λ p. (v : ℤ) → written (FetchAdd n) p.1 ≡ Some v → next (count c) (Write v) ≡ Some (p.0, Value (Some v))) c
+    n (λ does v e. absurd (cc e))
+wrote (count c) GetCount = λ v e. absurd (cc e)
+wrote (owner None) (LockBy o) = λ v e. absurd (cc e)
+wrote (owner (Some p)) (UnlockBy o) =
+    frees (λ q. (v : ℤ) → written (UnlockBy o) q.1 ≡ Some v → next (owner (Some p)) (Write v)
+    ≡ Some (q.0, Value (Some v))) p o (λ does v e. absurd (cc e))
 wrote c op = tt
 
 -- ---- along calls
@@ -233,6 +255,19 @@ first_write (Get x) reply p e k = absurd (cc k)
 first_write (Del x) reply p e k = absurd (cc k)
 first_write Acquire reply p e k = absurd (cc k)
 first_write Release reply p e k = absurd (cc k)
+first_write Clear reply p e k = absurd (cc (same_Some None (Some p) e))
+first_write (Create w) (Flag true) p e k = (w, sym (same_Some (Write w, Value (Some w)) p (same_Some _ _ e)))
+first_write (PutIfAbsent x y) reply p e k = absurd (cc k)
+first_write (Replace x y z) reply p e k = absurd (cc k)
+first_write (Assoc x y) reply p e k = absurd (cc k)
+first_write (Dissoc x) reply p e k = absurd (cc k)
+first_write (Add x) reply p e k = absurd (cc k)
+first_write (Remove x) reply p e k = absurd (cc k)
+first_write (Has x) reply p e k = absurd (cc k)
+first_write (FetchAdd n) reply p e k = absurd (cc k)
+first_write GetCount reply p e k = absurd (cc k)
+first_write (LockBy o) reply p e k = absurd (cc k)
+first_write (UnlockBy o) reply p e k = absurd (cc k)
 first_write op reply p e k = absurd (cc e)
 
 abbrev pub IsWrite : Call → Type 0

@@ -5,9 +5,12 @@ use Rattle.model.specs.declared.Kind.{Kind}
 use Rattle.model.specs.declared.Kind.TheVariants as kind
 use Rattle.model.specs.declared.AnyOp.{AnyOp}
 use Rattle.model.specs.declared.AnyOp.TheVariants.{Enqueue, Dequeue, Push, Pop, Insert, ExtractMin, Write, Read, Cas, Put, Get, Del, Acquire, Release}
+use Rattle.model.specs.declared.AnyOp.TheVariants.{Clear, Create, PutIfAbsent, Replace, Assoc, Dissoc, Add, Remove, Has}
+use Rattle.model.specs.declared.AnyOp.TheVariants.{FetchAdd, GetCount, LockBy, UnlockBy}
 use Rattle.model.specs.declared.AnyReply.{AnyReply}
-use Rattle.model.specs.declared.AnyReply.TheVariants.{Value, Swapped, NotSwapped}
-use Rattle.model.specs.Objects.{Content, queue, stack, heap, register, table, mutex, empty, contains_value, next, kind_of}
+use Rattle.model.specs.declared.AnyReply.TheVariants.{Value, Swapped, NotSwapped, Flag}
+use Rattle.model.specs.Objects.{Content, queue, stack, heap, register, table, mutex, elements, count, owner, empty}
+use Rattle.model.specs.Objects.{contains_value, next, kind_of}
 use Rattle.model.specs.Orders.{Call, IsValidOrder}
 use Rattle.model.proofs.Lists.{all_at}
 use Rattle.events.specs.declared.operations.Invocation.{Invocation}
@@ -20,6 +23,7 @@ use Rattle.projection.proofs.Contents.{IsCellShadow, same_expected}
 use Rattle.projection.proofs.Recasts.{IsInto, DoneOf, OpenOf, Steps, recast_maps, recast_operation, recast_call, recast_lives}
 use Rattle.projection.proofs.Mapped.{mapped_valid}
 use Rattle.projection.proofs.Booleans.{false_is_not_true}
+use Rattle.projection.proofs.Steps.{adds, frees}
 
 -- of another kind nothing stays, so the part says nothing
 abbrev IsCell : (ℤ → Bool) → Content → Content → Type 0
@@ -34,6 +38,9 @@ begins keeps kind.Heap = tt
 begins keeps kind.Register = refl
 begins keeps kind.Map = tt
 begins keeps kind.Mutex = tt
+begins keeps kind.Set = tt
+begins keeps kind.Counter = tt
+begins keeps kind.Lock = tt
 
 -- ---- steps
 
@@ -97,6 +104,35 @@ refused keeps other x y a b s = record { returned = λ kept. s; unfinished = pen
     pending true false = inl s
     pending false q = s
 
+creates_value : (keeps : ℤ → Bool) (other v : ℤ) (y : Option ℤ) → IsCellShadow keeps None y
+    → CellSteps keeps other (Create v) (register y) (register (Some v)) (Flag true)
+creates_value keeps other v y s =
+    record { returned = λ kept. done (keeps v) kept refl; unfinished = pending (keeps v) refl }
+  where
+    does : next (register y) (Create v) ≡ Some (register (Some v), Flag true)
+    does = ap (λ (z : Option ℤ). next (register z) (Create v)) s
+
+    done : (b kept : Bool) → keeps v ≡ b
+        → DoneOf (IsCell keeps) (cond b (Some (Create v, Flag true)) (cond kept (Some (write_of other)) None))
+        (register y) (register (Some v))
+    done true kept e = (register (Some v), does, λ k. refl)
+    done false true e = (register (Some other), refl, free keeps v (Some other) e)
+    done false false e = free keeps v y e
+
+    pending : (b : Bool) → keeps v ≡ b
+        → OpenOf (IsCell keeps) (cond b (Some (Create v)) None) (register y) (register (Some v))
+    pending true e = inr (register (Some v), Flag true, does, λ k. refl)
+    pending false e = free keeps v y e
+
+-- a creation that found a value, or a pending one that did
+found : (keeps : ℤ → Bool) (other w v : ℤ) (y : Option ℤ) → IsCellShadow keeps (Some w) y
+    → CellSteps keeps other (Create v) (register y) (register (Some w)) (Flag false)
+found keeps other w v y s = record { returned = λ kept. s; unfinished = pending (keeps v) }
+  where
+    pending : (b : Bool) → OpenOf (IsCell keeps) (cond b (Some (Create v)) None) (register y) (register (Some w))
+    pending true = inl s
+    pending false = s
+
 steps : (keeps : ℤ → Bool) (other : ℤ) (c d : Content) (op : AnyOp) → IsCell keeps c d → IfSome (next c op) (λ p. CellSteps keeps other op d p.0 p.1)
 steps keeps other (register x) (register y) (Write v) s = writes keeps other v y
 steps keeps other (register x) (register y) Read s = reads keeps other x y s
@@ -120,11 +156,33 @@ steps keeps other (table m) d (Get k) s = record { returned = λ kept. tt; unfin
 steps keeps other (table m) d (Del k) s = record { returned = λ kept. tt; unfinished = tt }
 steps keeps other (mutex false) d Acquire s = record { returned = λ kept. tt; unfinished = tt }
 steps keeps other (mutex true) d Release s = record { returned = λ kept. tt; unfinished = tt }
+steps keeps other (register x) (register y) Clear s =
+    record { returned = λ kept. (register None, refl, refl); unfinished = inr (register None, Value None, refl, refl) }
+steps keeps other (register None) (register y) (Create v) s = creates_value keeps other v y s
+steps keeps other (register (Some w)) (register y) (Create v) s = found keeps other w v y s
+steps keeps other (table m) d (PutIfAbsent k v) s = record { returned = λ kept. tt; unfinished = tt }
+steps keeps other (table m) d (Replace k v w) s = record { returned = λ kept. tt; unfinished = tt }
+steps keeps other (table m) d (Assoc k v) s = record { returned = λ kept. tt; unfinished = tt }
+steps keeps other (table m) d (Dissoc k) s = record { returned = λ kept. tt; unfinished = tt }
+steps keeps other (elements x) d (Add v) s = record { returned = λ kept. tt; unfinished = tt }
+steps keeps other (elements x) d (Remove v) s = record { returned = λ kept. tt; unfinished = tt }
+steps keeps other (elements x) d (Has v) s = record { returned = λ kept. tt; unfinished = tt }
+steps keeps other (count c) d (FetchAdd n) s =
+    adds (λ p. CellSteps keeps other (FetchAdd n) d p.0 p.1) c n
+    (λ does. record { returned = λ kept. tt; unfinished = tt })
+steps keeps other (count c) d GetCount s = record { returned = λ kept. tt; unfinished = tt }
+steps keeps other (owner None) d (LockBy o) s = record { returned = λ kept. tt; unfinished = tt }
+steps keeps other (owner (Some p)) d (UnlockBy o) s =
+    frees (λ q. CellSteps keeps other (UnlockBy o) d q.0 q.1) p o
+    (λ does. record { returned = λ kept. tt; unfinished = tt })
 steps keeps other (queue vs) d op s = tt
 steps keeps other (stack vs) d op s = tt
 steps keeps other (heap vs) d op s = tt
 steps keeps other (table m) d op s = tt
 steps keeps other (mutex b) d op s = tt
+steps keeps other (elements x) d op s = tt
+steps keeps other (count c) d op s = tt
+steps keeps other (owner x) d op s = tt
 steps keeps other (register x) (register y) op s = tt
 steps keeps other (register x) d op s = absurd s
 
@@ -155,6 +213,15 @@ done_like keeps other true Read (Value (Some v)) = go (keeps v)
     go false = refl
 done_like keeps other false Read (Value (Some v)) = tt
 done_like keeps other kept (Cas a b) (Swapped c d) = swap_like (keeps b) (keeps a) kept other a b (Swapped c d)
+done_like keeps other kept Clear reply = refl
+done_like keeps other kept (Create v) (Flag true) = go (keeps v) kept
+  where
+    go : (b kept : Bool) → IfSome {T = AnyOp × AnyReply}
+        (cond b (Some (Create v, Flag true)) (cond kept (Some (write_of other)) None))
+        (λ f. kind_of f.0 ≡ kind.Register)
+    go true kept = refl
+    go false true = refl
+    go false false = tt
 done_like keeps other kept op reply = tt
 
 open_like : (keeps : ℤ → Bool) (op : AnyOp) → IfSome (cell_open keeps op) (λ f. kind_of f ≡ kind_of op)
@@ -169,6 +236,12 @@ open_like keeps (Cas a b) = go (keeps b) (keeps a)
     go true true = refl
     go true false = refl
     go false q = tt
+open_like keeps Clear = refl
+open_like keeps (Create v) = go (keeps v)
+  where
+    go : (b : Bool) → IfSome {T = AnyOp} (cond b (Some (Create v)) None) (λ f. kind_of f ≡ kind.Register)
+    go true = refl
+    go false = tt
 open_like keeps op = tt
 
 pub cell_into : (keeps : ℤ → Bool) (other : ℤ) → IsInto (cell_done keeps other) (cell_open keeps) kind_of

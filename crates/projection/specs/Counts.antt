@@ -3,14 +3,16 @@ use Rattle.std.specs.Prelude.{◌≡◌, ◌==◌, ◌+◌, ◌<◌, ℕ, ℤ, n
 use Rattle.std.specs.Prelude.{List, Option, Some, None, count_by, if◌then◌else◌}
 use Rattle.std.specs.Ordering.{int_eq}
 use Rattle.model.specs.declared.Kind.{Kind}
-use Rattle.model.specs.declared.Kind.TheVariants.{Queue, Stack, Heap, Register, Map, Mutex}
+use Rattle.model.specs.declared.Kind.TheVariants.{Queue, Stack, Heap, Register, Map, Mutex, Set}
+use Rattle.model.specs.declared.Kind.TheVariants.{Counter, Lock}
 use Rattle.model.specs.declared.AnyOp.{AnyOp}
 use Rattle.model.specs.declared.AnyOp.TheVariants.{Enqueue, Dequeue, Push, Pop, Insert}
-use Rattle.model.specs.declared.AnyOp.TheVariants.{ExtractMin, Write, Cas, Put, Del}
+use Rattle.model.specs.declared.AnyOp.TheVariants.{ExtractMin, Write, Cas, Create, Put, Del}
+use Rattle.model.specs.declared.AnyOp.TheVariants.{PutIfAbsent, Replace, Assoc, Dissoc}
 use Rattle.model.specs.declared.AnyOp.TheVariants.{Acquire, Release}
 use Rattle.model.specs.declared.AnyReply.{AnyReply}
 use Rattle.model.specs.declared.AnyReply.TheVariants as reply
-use Rattle.model.specs.declared.AnyReply.TheVariants.{Swapped}
+use Rattle.model.specs.declared.AnyReply.TheVariants.{Swapped, Flag}
 use Rattle.model.specs.Orders.{Call}
 use Rattle.projection.specs.declared.counting.Counted.{Counted}
 use Rattle.projection.specs.declared.counting.Counted.TheVariants.{Value, Entry, NoEntry}
@@ -23,6 +25,11 @@ abbrev pub is_reply : ℤ → Option AnyReply → Bool
 is_reply v (Some (reply.Value (Some w))) = int_eq w v
 is_reply v other = false
 
+-- whether the reply is that the operation did not take place
+abbrev pub is_refused : Option AnyReply → Bool
+is_refused (Some (Flag false)) = true
+is_refused other = false
+
 -- Whether an operation with this reply sets the content: puts it in, or leaves it. With no reply:
 -- whether it may.
 abbrev pub sets : Counted → AnyOp → Option AnyReply → Bool
@@ -32,9 +39,14 @@ sets (Value v) (Insert w) r = int_eq w v
 sets (Value v) (Write w) r = int_eq w v
 sets (Value v) (Cas a b) None = int_eq b v
 sets (Value v) (Cas a b) (Some (Swapped c d)) = int_eq b v
+sets (Value v) (Create w) r = not (is_refused r) && int_eq w v
 sets (Entry k v) (Put q w) r = int_eq q k && int_eq w v
+sets (Entry k v) (PutIfAbsent q w) r = not (is_refused r) && (int_eq q k && int_eq w v)
+sets (Entry k v) (Replace q a b) r = not (is_refused r) && (int_eq q k && int_eq b v)
+sets (Entry k v) (Assoc q w) r = int_eq q k && int_eq w v
 sets (NoEntry k) (Del q) None = int_eq q k
 sets (NoEntry k) (Del q) (Some (reply.Value (Some w))) = int_eq q k
+sets (NoEntry k) (Dissoc q) r = int_eq q k
 sets Held Acquire r = true
 sets Free Release r = true
 sets what op r = false
@@ -47,7 +59,9 @@ takes (Value v) ExtractMin r = is_reply v r
 takes (Value v) (Cas a b) (Some (Swapped c d)) = int_eq a v
 takes (Entry k v) (Put q w) r = int_eq q k && is_reply v r
 takes (Entry k v) (Del q) r = int_eq q k && is_reply v r
+takes (Entry k v) (Replace q a b) (Some (Flag true)) = int_eq q k && int_eq a v
 takes (NoEntry k) (Put q w) (Some (reply.Value None)) = int_eq q k
+takes (NoEntry k) (PutIfAbsent q w) (Some (Flag true)) = int_eq q k
 takes Free Acquire (Some r) = true
 takes Held Release (Some r) = true
 takes what op r = false
@@ -78,9 +92,12 @@ is_single Heap = false
 is_single Register = true
 is_single Map = true
 is_single Mutex = true
+is_single Set = false
+is_single Counter = false
+is_single Lock = false
 
 -- How often the object can have contained it before this number, at most. Of a queue, stack or heap
--- that is known only at the beginning.
+-- that is known only at the beginning. Nothing is counted at a set, a counter or a lock.
 abbrev pub most_before : Kind → Counted → ℕ → Option ℕ
 most_before kind what from =
     if from == 0 then Some (times_at_first what) else (if is_single kind then Some 1 else None)

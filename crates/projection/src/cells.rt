@@ -5,13 +5,19 @@ ghost use Rattle.std.specs.List.{filter_map};
 ghost use Rattle.events.specs.Operations.{calls_of};
 ghost use Rattle.projection.specs.Cells as spec;
 ghost use Rattle.projection.specs.Cuts.{keeps_value, keeps_number, IsPart};
-ghost use Rattle.projection.specs.CutOperations.{recast_end, cell_operation};
+ghost use Rattle.projection.specs.CutOperations.{cell_operation};
 
 use crate::keeping::Values;
 use events::{End, Invocation, ObjectHistory};
 use seq_objects::{AnyOp, AnyReply};
 use std::alloc::{AllocError, Global};
 use std::collections::BTreeSet;
+
+/// The value in place of each value that is not kept.
+#[derive(Clone, Copy)]
+struct Other {
+    value: i64,
+}
 
 /// A write, with its reply.
 pub(crate) fn write_of(value: i64) -> (AnyOp, AnyReply)
@@ -68,6 +74,12 @@ fn returned_op(
             }
             _ => None,
         },
+        AnyOp::Clear => Some((op, reply)),
+        AnyOp::Create(value) => match reply {
+            AnyReply::Flag(true) if values.has(value) => Some((op, reply)),
+            AnyReply::Flag(true) if kept => Some(write_of(other)),
+            _ => None,
+        },
         _ => None,
     }
 }
@@ -77,7 +89,9 @@ fn pending_op(values: &Values, op: AnyOp) -> Option<AnyOp>
     ensures { result ≡ spec.cell_open (keeps_value values.now) op }
 {
     match op {
+        AnyOp::Clear => Some(op),
         AnyOp::Write(value) if values.has(value) => Some(op),
+        AnyOp::Create(value) if values.has(value) => Some(op),
         AnyOp::Cas(expected, new) if values.has(new) => {
             if values.has(expected) {
                 Some(op)
@@ -92,18 +106,18 @@ fn pending_op(values: &Values, op: AnyOp) -> Option<AnyOp>
 /// What an operation becomes; `None`: it is left out.
 fn cut_operation(
     values: &Values,
-    other: i64,
-    kept: bool,
+    other: Other,
+    numbers: &BTreeSet<u32>,
     operation: &Invocation,
 ) -> Option<Invocation>
-    ensures { result ≡ recast_end (spec.cell_done (keeps_value values.now) other kept)
-        (spec.cell_open (keeps_value values.now)) operation.now.number operation.now.op
-        operation.now.«end» }
+    ensures { result ≡ cell_operation (keeps_value values.now) other.value
+        (keeps_number numbers.now) operation.now }
 {
     let number = operation.number;
     match operation.end {
         End::Returned { at, reply } => {
-            let (op, reply) = returned_op(values, other, kept, operation.op, reply)?;
+            let kept = numbers.contains(&number);
+            let (op, reply) = returned_op(values, other.value, kept, operation.op, reply)?;
             Some(Invocation {
                 number,
                 op,
@@ -127,22 +141,22 @@ fn cut_operations(
     alloc: Global,
     operations: &[Invocation],
     values: &Values,
-    other: i64,
+    other: Other,
     numbers: &BTreeSet<u32>,
 ) -> Result<Vec<Invocation>, AllocError>
-    ensures { IfOk result (λ v. v.items ≡ filter_map
-        (cell_operation (keeps_value values.now) other (keeps_number numbers.now)) operations.now) }
+    ensures { IfOk result (λ v. v.items ≡ filter_map (cell_operation (keeps_value values.now)
+        other.value (keeps_number numbers.now)) operations.now) }
 {
     operations
         .iter()
-        .filter_map(|o| cut_operation(values, other, numbers.contains(&o.number), o))
+        .filter_map(|o| cut_operation(values, other, numbers, o))
         .collect(alloc)
 }
 
-/// The part of a register's operations that can leave one of these values, and of the others those
-/// with these numbers, which leave the other value in place of theirs. A read of a value that is
-/// not kept becomes a write of the other value, and so does a swap from such a value become a
-/// write. Of another kind of object nothing stays.
+/// The part of a register's operations that can leave one of these values, or nothing, and of the
+/// others those with these numbers, which leave the other value in place of theirs. A read of a
+/// value that is not kept becomes a write of the other value, and so does a swap from such a value
+/// become a write. Of another kind of object nothing stays.
 ///
 /// An error: an allocation failed.
 pub fn cell(
@@ -158,6 +172,7 @@ pub fn cell(
         ≡ spec.cell_calls (keeps_value values.now) other (keeps_number numbers.now)
         (calls_of history.now.ops)) }
 {
-    let ops = cut_operations(alloc, history.ops(), values, other, numbers)?;
+    let place = Other { value: other };
+    let ops = cut_operations(alloc, history.ops(), values, place, numbers)?;
     Ok(ObjectHistory::new(history.object(), history.kind(), ops))
 }

@@ -43,6 +43,16 @@ fn is_value(value: i64, reply: Option<AnyReply>) -> bool
     }
 }
 
+/// Whether the reply is that the operation did not take place.
+fn is_refused(reply: Option<AnyReply>) -> bool
+    ensures { result ≡ counts.is_refused reply }
+{
+    match reply {
+        Some(AnyReply::Flag(false)) => true,
+        _ => false,
+    }
+}
+
 /// Whether an operation with this reply sets the content; with no reply, whether it may.
 fn sets(counted: Counted, op: AnyOp, reply: Option<AnyReply>) -> bool
     ensures { result ≡ counts.sets counted op reply }
@@ -56,11 +66,20 @@ fn sets(counted: Counted, op: AnyOp, reply: Option<AnyReply>) -> bool
             None | Some(AnyReply::Swapped(..)) => new == value,
             _ => false,
         },
+        (Counted::Value(value), AnyOp::Create(new)) => !is_refused(reply) && new == value,
         (Counted::Entry { key, value }, AnyOp::Put(at, new)) => at == key && new == value,
+        (Counted::Entry { key, value }, AnyOp::PutIfAbsent(at, new)) => {
+            !is_refused(reply) && (at == key && new == value)
+        }
+        (Counted::Entry { key, value }, AnyOp::Replace(at, _, new)) => {
+            !is_refused(reply) && (at == key && new == value)
+        }
+        (Counted::Entry { key, value }, AnyOp::Assoc(at, new)) => at == key && new == value,
         (Counted::NoEntry(key), AnyOp::Del(at)) => match reply {
             None | Some(AnyReply::Value(Some(_))) => at == key,
             _ => false,
         },
+        (Counted::NoEntry(key), AnyOp::Dissoc(at)) => at == key,
         (Counted::Held, AnyOp::Acquire) => true,
         (Counted::Free, AnyOp::Release) => true,
         _ => false,
@@ -85,8 +104,16 @@ fn takes(counted: Counted, op: AnyOp, reply: AnyReply) -> bool
         (Counted::Entry { key, value }, AnyOp::Del(at)) => {
             at == key && is_value(value, Some(reply))
         }
+        (Counted::Entry { key, value }, AnyOp::Replace(at, old, _)) => match reply {
+            AnyReply::Flag(true) => at == key && old == value,
+            _ => false,
+        },
         (Counted::NoEntry(key), AnyOp::Put(at, _)) => match reply {
             AnyReply::Value(None) => at == key,
+            _ => false,
+        },
+        (Counted::NoEntry(key), AnyOp::PutIfAbsent(at, _)) => match reply {
+            AnyReply::Flag(true) => at == key,
             _ => false,
         },
         (Counted::Free, AnyOp::Acquire) => true,
@@ -136,6 +163,7 @@ fn most_before(kind: Kind, count: Count) -> Option<usize>
     match kind {
         Kind::Register | Kind::Map | Kind::Mutex => Some(1),
         Kind::Queue | Kind::Stack | Kind::Heap => None,
+        Kind::Set | Kind::Counter | Kind::Lock => None,
     }
 }
 

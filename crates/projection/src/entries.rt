@@ -6,7 +6,7 @@ ghost use Rattle.std.specs.List.{filter_map};
 ghost use Rattle.events.specs.Operations.{calls_of};
 ghost use Rattle.projection.specs.Entries as spec;
 ghost use Rattle.projection.specs.Cuts.{keeps_value, keeps_number, IsPart};
-ghost use Rattle.projection.specs.CutOperations.{recast_end, entry_operation};
+ghost use Rattle.projection.specs.CutOperations.{entry_operation};
 
 use crate::cells::{swap_done, write_of};
 use crate::keeping::Values;
@@ -91,15 +91,54 @@ fn returned_op(
 ) -> Option<(AnyOp, AnyReply)>
     ensures { result ≡ spec.entry_done key (keeps_value values.now) other kept op reply }
 {
-    let AnyReply::Value(found) = reply else {
-        return None;
-    };
     match op {
-        AnyOp::Put(at, value) if key == at => put_done(values, other, kept, value, found),
-        AnyOp::Get(at) if key == at => get_done(values, other, kept, found),
-        AnyOp::Del(at) if key == at => del_done(values, other, kept, found),
+        AnyOp::Put(at, value) if key == at => match reply {
+            AnyReply::Value(found) => put_done(values, other, kept, value, found),
+            _ => None,
+        },
+        AnyOp::Get(at) if key == at => match reply {
+            AnyReply::Value(found) => get_done(values, other, kept, found),
+            _ => None,
+        },
+        AnyOp::Del(at) if key == at => match reply {
+            AnyReply::Value(found) => del_done(values, other, kept, found),
+            _ => None,
+        },
+        AnyOp::PutIfAbsent(at, value) if key == at => match reply {
+            AnyReply::Flag(true) => put_done(values, other, kept, value, None),
+            _ => None,
+        },
+        AnyOp::Replace(at, old, new) if key == at => match reply {
+            AnyReply::Flag(true) => put_done(values, other, kept, new, Some(old)),
+            _ => None,
+        },
+        AnyOp::Assoc(at, value) if key == at => put_done(values, other, kept, value, None),
+        AnyOp::Dissoc(at) if key == at => del_done(values, other, kept, None),
         _ => None,
     }
+}
+
+/// What a pending put on the key becomes; `None`: it is left out.
+fn put_open(values: &Values, value: i64) -> Option<AnyOp>
+    ensures { result ≡ spec.put_open (keeps_value values.now) value }
+{
+    if values.has(value) {
+        return Some(AnyOp::Write(value));
+    }
+    None
+}
+
+/// What a pending replacement on the key becomes; `None`: it is left out.
+fn replace_open(values: &Values, old: i64, new: i64) -> Option<AnyOp>
+    ensures { result ≡ spec.replace_open (keeps_value values.now) old new }
+{
+    if !values.has(new) {
+        return None;
+    }
+    if values.has(old) {
+        return Some(AnyOp::Cas(old, new));
+    }
+    Some(AnyOp::Write(new))
 }
 
 /// What a pending operation becomes; `None`: it is left out.
@@ -107,7 +146,10 @@ fn pending_op(key: i64, values: &Values, op: AnyOp) -> Option<AnyOp>
     ensures { result ≡ spec.entry_open key (keeps_value values.now) op }
 {
     match op {
-        AnyOp::Put(at, value) if key == at && values.has(value) => Some(AnyOp::Write(value)),
+        AnyOp::Put(at, value) if key == at => put_open(values, value),
+        AnyOp::PutIfAbsent(at, value) if key == at => put_open(values, value),
+        AnyOp::Replace(at, old, new) if key == at => replace_open(values, old, new),
+        AnyOp::Assoc(at, value) if key == at => put_open(values, value),
         _ => None,
     }
 }
@@ -116,18 +158,17 @@ fn pending_op(key: i64, values: &Values, op: AnyOp) -> Option<AnyOp>
 fn cut_operation(
     place: Place,
     values: &Values,
-    kept: bool,
+    numbers: &BTreeSet<u32>,
     operation: &Invocation,
 ) -> Option<Invocation>
-    ensures { result ≡ recast_end
-        (spec.entry_done place.key (keeps_value values.now) place.other kept)
-        (spec.entry_open place.key (keeps_value values.now)) operation.now.number operation.now.op
-        operation.now.«end» }
+    ensures { result ≡ entry_operation place.key (keeps_value values.now) place.other
+        (keeps_number numbers.now) operation.now }
 {
     let number = operation.number;
     let Place { key, other } = place;
     match operation.end {
         End::Returned { at, reply } => {
+            let kept = numbers.contains(&number);
             let (op, reply) = returned_op(key, values, other, kept, operation.op, reply)?;
             Some(Invocation {
                 number,
@@ -160,7 +201,7 @@ fn cut_operations(
 {
     operations
         .iter()
-        .filter_map(|o| cut_operation(place, values, numbers.contains(&o.number), o))
+        .filter_map(|o| cut_operation(place, values, numbers, o))
         .collect(alloc)
 }
 

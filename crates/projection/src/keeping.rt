@@ -4,6 +4,7 @@ ghost use Rattle.std.specs.Prelude.{◌≡◌, ◌<◌, ◌-◌, true, IfOk, IfS
 ghost use Rattle.std.specs.Prelude.{filter, count_by};
 ghost use Rattle.std.specs.List.{list_all};
 ghost use Rattle.events.specs.Operations.{calls_of};
+ghost use Rattle.projection.specs.Parts as parts;
 ghost use Rattle.projection.specs.Parts.{fits, fits_removal, kept_calls};
 ghost use Rattle.projection.specs.Cuts.{keeps_all, keeps_value, keeps_number, IsClosedPart, IsPart};
 ghost use Rattle.projection.specs.CutOperations.{fits_end, is_put, is_taken, is_open_removal, is_kept_call};
@@ -14,7 +15,7 @@ use seq_objects::{AnyOp, AnyReply};
 use std::alloc::{AllocError, Global};
 use std::collections::BTreeSet;
 
-/// Which values are kept, or at a map which keys.
+/// Which values are kept, or at a map which keys. An element of a set is its own key.
 #[derive(Drop)]
 pub enum Values {
     All,
@@ -48,6 +49,63 @@ fn removal_fits(values: &Values, kept: bool, reply: Option<AnyReply>) -> bool
     }
 }
 
+/// Whether a read with this reply may be kept, or left out.
+fn read_fits(values: &Values, kept: bool, reply: Option<AnyReply>) -> bool
+    ensures { result ≡ parts.fits_read (keeps_value values.now) kept reply }
+{
+    match reply {
+        Some(AnyReply::Value(Some(value))) => !kept || values.has(value),
+        _ => true,
+    }
+}
+
+/// Whether a swap with this reply may be kept, or left out.
+fn cas_fits(values: &Values, kept: bool, expected: i64, new: i64, reply: Option<AnyReply>) -> bool
+    ensures { result ≡ parts.fits_cas (keeps_all values.now) (keeps_value values.now) kept expected
+        new reply }
+{
+    match reply {
+        None if kept => values.has(expected) || !values.has(new),
+        Some(AnyReply::Swapped(..)) if kept => values.has(expected),
+        None | Some(AnyReply::Swapped(..)) => !values.has(new),
+        Some(AnyReply::NotSwapped) => !kept || values.is_all(),
+        Some(_) => true,
+    }
+}
+
+/// Whether a creation of this value with this reply may be kept, or left out.
+fn create_fits(values: &Values, kept: bool, value: i64, reply: Option<AnyReply>) -> bool
+    ensures { result ≡ parts.fits_create (keeps_all values.now) (keeps_value values.now) kept value
+        reply }
+{
+    match reply {
+        Some(AnyReply::Flag(false)) => !kept || values.is_all(),
+        _ => kept || !values.has(value),
+    }
+}
+
+/// Whether a removal of this key with this reply may be kept, or left out.
+fn del_fits(values: &Values, kept: bool, key: i64, reply: Option<AnyReply>) -> bool
+    ensures { result ≡ parts.fits_del (keeps_value values.now) kept key reply }
+{
+    match reply {
+        None | Some(AnyReply::Value(Some(_))) => kept == values.has(key),
+        Some(AnyReply::Value(None)) => !kept || values.has(key),
+        Some(_) => true,
+    }
+}
+
+/// Whether a change at this key, or of this element, may be kept, or left out, by its reply:
+/// whether it took place.
+fn change_fits(values: &Values, kept: bool, key: i64, reply: Option<AnyReply>) -> bool
+    ensures { result ≡ parts.fits_change (keeps_value values.now) kept key reply }
+{
+    match reply {
+        Some(AnyReply::Flag(false)) => !kept || values.has(key),
+        _ => kept == values.has(key),
+    }
+}
+
 /// Whether an operation with this reply may be kept, or left out. No reply: it is pending.
 fn reply_fits(values: &Values, kept: bool, op: AnyOp, reply: Option<AnyReply>) -> bool
     ensures { result ≡ fits (keeps_all values.now) (keeps_value values.now) kept op reply }
@@ -58,25 +116,22 @@ fn reply_fits(values: &Values, kept: bool, op: AnyOp, reply: Option<AnyReply>) -
         AnyOp::Insert(value) => kept == values.has(value),
         AnyOp::Dequeue | AnyOp::Pop | AnyOp::ExtractMin => removal_fits(values, kept, reply),
         AnyOp::Write(value) => kept || !values.has(value),
-        AnyOp::Read => match reply {
-            Some(AnyReply::Value(Some(value))) => !kept || values.has(value),
-            _ => true,
-        },
-        AnyOp::Cas(expected, new) => match reply {
-            None if kept => values.has(expected) || !values.has(new),
-            Some(AnyReply::Swapped(..)) if kept => values.has(expected),
-            None | Some(AnyReply::Swapped(..)) => !values.has(new),
-            Some(AnyReply::NotSwapped) => !kept || values.is_all(),
-            Some(AnyReply::Value(_)) => true,
-        },
+        AnyOp::Read => read_fits(values, kept, reply),
+        AnyOp::Cas(expected, new) => cas_fits(values, kept, expected, new, reply),
+        AnyOp::Create(value) => create_fits(values, kept, value, reply),
         AnyOp::Put(key, _) => kept == values.has(key),
         AnyOp::Get(key) => !kept || values.has(key),
-        AnyOp::Del(key) => match reply {
-            None | Some(AnyReply::Value(Some(_))) => kept == values.has(key),
-            Some(AnyReply::Value(None)) => !kept || values.has(key),
-            Some(_) => true,
-        },
-        AnyOp::Acquire | AnyOp::Release => kept,
+        AnyOp::Del(key) => del_fits(values, kept, key, reply),
+        AnyOp::PutIfAbsent(key, _) => change_fits(values, kept, key, reply),
+        AnyOp::Replace(key, ..) => change_fits(values, kept, key, reply),
+        AnyOp::Assoc(key, _) => kept == values.has(key),
+        AnyOp::Dissoc(key) => kept == values.has(key),
+        AnyOp::Add(value) => change_fits(values, kept, value, reply),
+        AnyOp::Remove(value) => change_fits(values, kept, value, reply),
+        AnyOp::Has(value) => !kept || values.has(value),
+        AnyOp::GetCount => true,
+        AnyOp::Clear | AnyOp::Acquire | AnyOp::Release => kept,
+        AnyOp::FetchAdd(_) | AnyOp::LockBy(_) | AnyOp::UnlockBy(_) => kept,
     }
 }
 
@@ -199,7 +254,7 @@ fn cut_operations(
 }
 
 /// The part of the operations with these numbers that did not fail, which keeps these values, or at
-/// a map these keys.
+/// a map these keys, or at a set these elements.
 /// Of the pending removals it has at least the first ones: as many as kept values were put in, and
 /// not taken out by calls that returned. `None`: the part is not closed, so a whole with a valid
 /// order can have a part that has none.

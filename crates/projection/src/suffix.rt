@@ -1,7 +1,7 @@
 //! Suffixes: what can take effect from a call on that tells what the object then contains.
 
-ghost use Rattle.std.specs.Prelude.{◌≡◌, ◌≢◌, ◌<◌, ℕ, List, IfOk, IfSome, All, AllPairs, Contains};
-ghost use Rattle.std.specs.Prelude.{MatchBool, Option, None, true, false};
+ghost use Rattle.std.specs.Prelude.{◌≡◌, ◌≢◌, ◌<◌, ◌+ℤ◌, ℕ, List, IfOk, IfSome, All, AllPairs};
+ghost use Rattle.std.specs.Prelude.{Contains, MatchBool, Option, None, true, false};
 ghost use Rattle.std.specs.List.{filter_map};
 ghost use Rattle.model.specs.declared.AnyOp.{AnyOp};
 ghost use Rattle.model.specs.declared.AnyReply.{AnyReply};
@@ -13,6 +13,7 @@ ghost use Rattle.projection.specs.Cuts.{IsSuffix, IsPart};
 ghost use Rattle.projection.specs.CutOperations.{has_failed, is_over, overlapping_operation, operation_later};
 ghost use Rattle.projection.specs.CutOperations.{operation_from, IsOnKey};
 
+use crate::cells::write_of;
 use events::{End, Invocation, ObjectHistory};
 use seq_objects::{AnyOp, AnyReply};
 use std::alloc::{AllocError, Global};
@@ -28,7 +29,7 @@ struct Start {
     first: Option<First>,
 }
 
-/// The key of an operation of a map.
+/// The key of an operation of a map, or the element of one of a set.
 fn key_of(op: AnyOp) -> Option<i64>
     ensures { result ≡ parts.key_of op }
 {
@@ -36,8 +37,44 @@ fn key_of(op: AnyOp) -> Option<i64>
         AnyOp::Put(key, _) => Some(key),
         AnyOp::Get(key) => Some(key),
         AnyOp::Del(key) => Some(key),
+        AnyOp::PutIfAbsent(key, _) => Some(key),
+        AnyOp::Replace(key, ..) => Some(key),
+        AnyOp::Assoc(key, _) => Some(key),
+        AnyOp::Dissoc(key) => Some(key),
+        AnyOp::Add(value) => Some(value),
+        AnyOp::Remove(value) => Some(value),
+        AnyOp::Has(value) => Some(value),
         _ => None,
     }
+}
+
+/// A put under a key that has no value, with its reply.
+fn put_of(key: i64, value: i64) -> First
+    ensures { result ≡ (AnyOp.Put key value, AnyReply.Value Option.None) }
+{
+    (AnyOp::Put(key, value), AnyReply::Value(None))
+}
+
+/// An addition of an element that is not in a set, with its reply.
+fn add_of(value: i64) -> First
+    ensures { result ≡ (AnyOp.Add value, AnyReply.Flag true) }
+{
+    (AnyOp::Add(value), AnyReply::Flag(true))
+}
+
+/// An addition to a counter at 0, with its reply.
+fn count_of(count: i64) -> Option<First>
+    ensures { Option.Some result ≡ parts.leaves_count count }
+{
+    Some((AnyOp::FetchAdd(count), AnyReply::Value(Some(0))))
+}
+
+/// What an addition to this number leaves in a counter.
+fn sum_of(before: i64, more: i64) -> Option<Option<First>>
+    ensures { result ≡ parts.leaves_count (before +ℤ more) }
+{
+    let count = before.checked_add(more)?;
+    Some(count_of(count))
 }
 
 /// What an operation with this reply left, if the reply tells: nothing, or what this operation
@@ -45,35 +82,28 @@ fn key_of(op: AnyOp) -> Option<i64>
 fn first_of(op: AnyOp, reply: AnyReply) -> Option<Option<First>>
     ensures { result ≡ leaves op reply }
 {
-    match op {
-        AnyOp::Dequeue | AnyOp::Pop | AnyOp::ExtractMin => match reply {
-            AnyReply::Value(None) => Some(None),
-            _ => None,
-        },
-        AnyOp::Write(value) => Some(Some((AnyOp::Write(value), AnyReply::Value(Some(value))))),
-        AnyOp::Read => match reply {
-            AnyReply::Value(None) => Some(None),
-            AnyReply::Value(Some(value)) => Some(Some((
-                AnyOp::Write(value),
-                AnyReply::Value(Some(value)),
-            ))),
-            _ => None,
-        },
-        AnyOp::Cas(_, new) => match reply {
-            AnyReply::Swapped(..) => { Some(Some((AnyOp::Write(new), AnyReply::Value(Some(new))))) }
-            _ => None,
-        },
-        AnyOp::Put(key, value) => Some(Some((AnyOp::Put(key, value), AnyReply::Value(None)))),
-        AnyOp::Get(key) => match reply {
-            AnyReply::Value(None) => Some(None),
-            AnyReply::Value(Some(value)) => {
-                Some(Some((AnyOp::Put(key, value), AnyReply::Value(None))))
-            }
-            _ => None,
-        },
-        AnyOp::Del(_) => Some(None),
-        AnyOp::Acquire => Some(Some((AnyOp::Acquire, AnyReply::Value(None)))),
-        AnyOp::Release => Some(None),
+    match (op, reply) {
+        (AnyOp::Dequeue | AnyOp::Pop | AnyOp::ExtractMin, AnyReply::Value(None)) => Some(None),
+        (AnyOp::Write(value), _) => Some(Some(write_of(value))),
+        (AnyOp::Read, AnyReply::Value(None)) => Some(None),
+        (AnyOp::Read, AnyReply::Value(Some(value))) => Some(Some(write_of(value))),
+        (AnyOp::Cas(_, new), AnyReply::Swapped(..)) => Some(Some(write_of(new))),
+        (AnyOp::Create(value), AnyReply::Flag(true)) => Some(Some(write_of(value))),
+        (AnyOp::Put(key, value), _) => Some(Some(put_of(key, value))),
+        (AnyOp::Get(_), AnyReply::Value(None)) => Some(None),
+        (AnyOp::Get(key), AnyReply::Value(Some(value))) => Some(Some(put_of(key, value))),
+        (AnyOp::PutIfAbsent(key, value), AnyReply::Flag(true)) => Some(Some(put_of(key, value))),
+        (AnyOp::Replace(key, _, new), AnyReply::Flag(true)) => Some(Some(put_of(key, new))),
+        (AnyOp::Assoc(key, value), _) => Some(Some(put_of(key, value))),
+        (AnyOp::Add(value), _) => Some(Some(add_of(value))),
+        (AnyOp::Has(value), AnyReply::Flag(true)) => Some(Some(add_of(value))),
+        (AnyOp::Has(_), AnyReply::Flag(false)) => Some(None),
+        (AnyOp::FetchAdd(more), AnyReply::Value(Some(before))) => sum_of(before, more),
+        (AnyOp::GetCount, AnyReply::Value(Some(count))) => Some(count_of(count)),
+        (AnyOp::Acquire, _) => Some(Some((AnyOp::Acquire, AnyReply::Value(None)))),
+        (AnyOp::LockBy(owner), _) => Some(Some((AnyOp::LockBy(owner), AnyReply::Value(None)))),
+        (AnyOp::Clear | AnyOp::Del(_) | AnyOp::Dissoc(_) | AnyOp::Release, _) => Some(None),
+        (AnyOp::Remove(_) | AnyOp::UnlockBy(_), _) => Some(None),
         _ => None,
     }
 }
@@ -242,9 +272,10 @@ fn start_at(operations: &[Invocation], number: u32) -> Option<Start>
 }
 
 /// The part that begins with the call of this number. The call returned, its reply tells what it
-/// left, and at a map each call is on its key; `None`: it is not so. A call that returned before it
-/// is left out. Of those that overlap it, if it left a value, a write becomes a write, and so does
-/// a swap that was not refused. Any other is pending; if it left nothing, all of them are.
+/// left, and at a map each call is on its key, or at a set on its element; `None`: it is not so. A
+/// call that returned before it is left out. Of those that overlap it, if it left a value, a write
+/// becomes a write, and so does a swap that was not refused. Any other is pending; if it left
+/// nothing, all of them are.
 ///
 /// An error: an allocation failed.
 pub fn from(

@@ -15,9 +15,14 @@ comment_text false = []
 abbrev pub value_text : Value → List ℕ
 value_text value.Nil = codes "nil"
 value_text value.False = codes "false"
+value_text value.True = codes "true"
 value_text (value.Int z) = signed_decimal z
 value_text (value.Pair a b) =
     codes "[" ++ (signed_decimal a ++ (codes " " ++ (signed_decimal b ++ codes "]")))
+value_text (value.Triple a b c) =
+    codes "["
+    ++ (signed_decimal a
+    ++ (codes " " ++ (signed_decimal b ++ (codes " " ++ (signed_decimal c ++ codes "]")))))
 
 abbrev pub segment_text : Segment → List ℕ
 segment_text (segment.Text bytes) = bytes.now

@@ -18,15 +18,33 @@ pub(crate) enum Segment {
     Value(Value),
 }
 
+/// Appends two integers, and the end of their vector.
+fn push_last(text: &mut Vec<u8>, a: i64, b: i64) -> Result<(), AllocError>
+    ensures { OnOk result (text.new.items ≡ text.old.items
+        ++ (signed_decimal a ++ (codes " " ++ (signed_decimal b ++ codes "]")))) }
+{
+    push_integer(text, a)?;
+    text.extend_from_slice(b" ")?;
+    push_integer(text, b)?;
+    text.extend_from_slice(b"]")
+}
+
 fn push_pair(text: &mut Vec<u8>, a: i64, b: i64) -> Result<(), AllocError>
     ensures { OnOk result (text.new.items ≡ text.old.items ++ (codes "["
         ++ (signed_decimal a ++ (codes " " ++ (signed_decimal b ++ codes "]"))))) }
 {
     text.extend_from_slice(b"[")?;
+    push_last(text, a, b)
+}
+
+fn push_triple(text: &mut Vec<u8>, a: i64, b: i64, c: i64) -> Result<(), AllocError>
+    ensures { OnOk result (text.new.items ≡ text.old.items ++ (codes "[" ++ (signed_decimal a
+        ++ (codes " " ++ (signed_decimal b ++ (codes " " ++ (signed_decimal c ++ codes "]"))))))) }
+{
+    text.extend_from_slice(b"[")?;
     push_integer(text, a)?;
     text.extend_from_slice(b" ")?;
-    push_integer(text, b)?;
-    text.extend_from_slice(b"]")
+    push_last(text, b, c)
 }
 
 fn push_value(text: &mut Vec<u8>, value: Value) -> Result<(), AllocError>
@@ -35,8 +53,10 @@ fn push_value(text: &mut Vec<u8>, value: Value) -> Result<(), AllocError>
     match value {
         Value::Nil => text.extend_from_slice(b"nil"),
         Value::False => text.extend_from_slice(b"false"),
+        Value::True => text.extend_from_slice(b"true"),
         Value::Int(n) => push_integer(text, n),
         Value::Pair(a, b) => push_pair(text, a, b),
+        Value::Triple(a, b, c) => push_triple(text, a, b, c),
     }
 }
 

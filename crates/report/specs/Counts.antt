@@ -3,7 +3,8 @@ use Rattle.std.specs.Prelude.{◌≡◌, ℕ, ◌==◌, Bool, List, [], ◌∷�
 use Rattle.std.specs.Prelude.{nat_eq, Option, Some, None, if◌then◌else◌}
 use Rattle.std.specs.List.{list_any, filter_map}
 use Rattle.model.specs.declared.Kind.{Kind}
-use Rattle.model.specs.declared.Kind.TheVariants.{Queue, Stack, Heap, Register, Map, Mutex}
+use Rattle.model.specs.declared.Kind.TheVariants.{Queue, Stack, Heap, Register, Map, Mutex, Set}
+use Rattle.model.specs.declared.Kind.TheVariants.{Counter, Lock}
 use Rattle.model.specs.Objects.{kind_of}
 use Rattle.model.specs.Orders.{ProcessCall, calls_in}
 use Rattle.events.specs.declared.event.Action.{Action}
@@ -44,6 +45,9 @@ place_of Heap = 2
 place_of Register = 3
 place_of Map = 4
 place_of Mutex = 5
+place_of Set = 6
+place_of Counter = 7
+place_of Lock = 8
 
 abbrev pub same_kind : Kind → Kind → Bool
 same_kind k l = place_of k == place_of l

@@ -13,7 +13,8 @@ use Rattle.checker.specs.declared.refusal.Refusal.TheVariants as refusal
 use Rattle.seq_objects.specs.Functions.{word_of}
 use Rattle.seq_objects.specs.Values.{reply_value}
 use Rattle.seq_objects.specs.declared.value.Value.{Value}
-use Rattle.seq_objects.specs.declared.value.Value.TheVariants.{Nil, False, Int, Pair}
+use Rattle.seq_objects.specs.declared.value.Value.TheVariants.{Nil, False, True, Int, Pair}
+use Rattle.seq_objects.specs.declared.value.Value.TheVariants.{Triple}
 use Rattle.report.specs.declared.verdict.KindCount.{KindCount}
 use Rattle.report.specs.declared.verdict.Summary.{Summary}
 use Rattle.report.specs.declared.verdict.Fault.{Fault}
@@ -53,9 +54,14 @@ total_line s =
 abbrev pub value_line : Value → List ℕ
 value_line Nil = codes "nil\n"
 value_line False = codes "false\n"
+value_line True = codes "true\n"
 value_line (Int z) = signed_decimal z ++ codes "\n"
 value_line (Pair a b) =
     codes "[" ++ (signed_decimal a ++ (codes " " ++ (signed_decimal b ++ codes "]\n")))
+value_line (Triple a b c) =
+    codes "["
+    ++ (signed_decimal a
+    ++ (codes " " ++ (signed_decimal b ++ (codes " " ++ (signed_decimal c ++ codes "]\n")))))
 
 -- the line of a fault of the order for object x
 abbrev pub order_line : ℕ → OrderFault → List ℕ

@@ -171,7 +171,7 @@ fn count_kind(alloc: Global, kind: Kind, all: &[Invoked]) -> Result<KindCount, A
     })
 }
 
-/// Whether a kind has its counts. There are at most six, so they are compared one by one, and not
+/// Whether a kind has its counts. There are few, so they are compared one by one, and not
 /// by hash.
 fn is_among(counts: &IndexMap<Kind, KindCount>, kind: Kind) -> bool
     ensures { result ≡ list_any (same_kind kind) (keys counts.now) }

@@ -8,7 +8,7 @@ ghost use Rattle.report.specs.Segments.{segments_text};
 use crate::segments::Segment;
 use crate::verdict::{Fault, KindCount, Summary};
 use checker::{OrderFault, Refusal};
-use seq_objects::{AnyReply, Value, kind_name, value_of_reply};
+use seq_objects::{AnyReply, kind_name};
 
 /// The segments of a line. After the one that has the line feed are empty ones.
 pub(crate) type Line = [Segment; 9];
@@ -83,10 +83,13 @@ fn wrong_reply_line(object: u32, op: i64, gives: &AnyReply) -> Line
         Segment::Text(b": "),
         Segment::Integer(op),
     );
-    match value_of_reply(gives) {
-        Value::Nil => entry_line(code, object, op, b" gives nil\n"),
-        Value::False => entry_line(code, object, op, b" gives false\n"),
-        Value::Int(n) => [
+    match *gives {
+        AnyReply::Value(None) => entry_line(code, object, op, b" gives nil\n"),
+        AnyReply::NotSwapped | AnyReply::Flag(false) => {
+            entry_line(code, object, op, b" gives false\n")
+        }
+        AnyReply::Flag(true) => entry_line(code, object, op, b" gives true\n"),
+        AnyReply::Value(Some(n)) => [
             Segment::Text(code),
             number,
             colon,
@@ -97,7 +100,7 @@ fn wrong_reply_line(object: u32, op: i64, gives: &AnyReply) -> Line
             EMPTY,
             EMPTY,
         ],
-        Value::Pair(a, b) => [
+        AnyReply::Swapped(a, b) => [
             Segment::Text(code),
             number,
             colon,

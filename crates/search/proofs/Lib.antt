@@ -10,6 +10,7 @@ pub mod Generations
 pub mod Measure
 pub mod Orders
 pub mod Keys
+pub mod Members
 pub mod SortedArrays
 pub mod Answering
 pub mod Certificates

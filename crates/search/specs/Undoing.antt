@@ -1,18 +1,26 @@
 -- What objects contain that can go back, and what undoes an operation.
-use Rattle.std.specs.Prelude.{◌≡◌, ℤ, List, [], ◌∷◌, length, take, drop, ◌-◌, Some, None}
+use Rattle.std.specs.Prelude.{◌≡◌, ℤ, true, false, List, [], ◌∷◌, length, take, drop, ◌-◌}
+use Rattle.std.specs.Prelude.{Option, Some, None}
 use Rattle.std.specs.List.{remove}
 use Rattle.std.specs.FinMap as map
+use Rattle.std.specs.FinSet as set
 use Rattle.model.specs.declared.AnyOp.{AnyOp}
+use Rattle.model.specs.declared.AnyReply.{AnyReply}
 use Rattle.model.specs.declared.AnyReply.TheVariants.{Value}
-use Rattle.model.specs.Objects.{Content, queue, stack, heap, register, table, mutex, next}
+use Rattle.model.specs.Objects.{Content, queue, stack, heap, register, table, mutex, elements}
+use Rattle.model.specs.Objects.{count, owner, next}
+use Rattle.seq_objects.specs.declared.map_object.MapOp.{MapOp}
+use Rattle.seq_objects.specs.declared.map_object.MapOp.TheVariants as of_map
 use Rattle.search.specs.declared.reversible.Reversible.{Reversible}
 use Rattle.search.specs.declared.reversible.Reversible.TheVariants.{Queue, Stack, Heap, Register}
-use Rattle.search.specs.declared.reversible.Reversible.TheVariants.{Map, Mutex}
+use Rattle.search.specs.declared.reversible.Reversible.TheVariants.{Map, Mutex, Set, Counter}
+use Rattle.search.specs.declared.reversible.Reversible.TheVariants.{Lock}
 use Rattle.search.specs.declared.kept.Kept.{Kept}
 use Rattle.search.specs.declared.kept.Kept.TheVariants as kept
 use Rattle.search.specs.declared.step.Undo.{Undo}
 use Rattle.search.specs.declared.step.Undo.TheVariants.{Nothing, TakeFirst, TakeLast, TakeAt}
 use Rattle.search.specs.declared.step.Undo.TheVariants.{PutFirst, SetRegister, SetKey, SetHeld}
+use Rattle.search.specs.declared.step.Undo.TheVariants.{SetElement, SetCount, SetOwner}
 use Rattle.search.specs.declared.step.Step.{Step}
 
 abbrev pub content_of : Reversible → Content
@@ -22,6 +30,9 @@ content_of (Heap vs) = heap vs.items
 content_of (Register v) = register v
 content_of (Map m) = table m
 content_of (Mutex held) = mutex held
+content_of (Set s) = elements s
+content_of (Counter n) = count n
+content_of (Lock o) = owner o
 
 abbrev pub content_kept : Kept → Content
 content_kept (kept.Queue vs) = queue vs.items
@@ -47,6 +58,10 @@ undone (SetRegister v) (register w) = register v
 undone (SetKey k None) (table m) = table (map.remove m k)
 undone (SetKey k (Some v)) (table m) = table (map.insert m k v)
 undone (SetHeld held) (mutex h) = mutex held
+undone (SetElement v true) (elements s) = elements (set.insert s v)
+undone (SetElement v false) (elements s) = elements (set.remove s v)
+undone (SetCount n) (count m) = count n
+undone (SetOwner o) (owner p) = owner o
 undone u c = c
 
 -- the step of an operation, from one content to the next, and back by what undoes it
@@ -59,3 +74,18 @@ abbrev pub IsTaken : List ℤ → List ℤ → Step → Type 0
 IsTaken [] after step = (after ≡ []) × (step ≡ record { reply = Value None; undo = Nothing })
 IsTaken (v ∷ vs) after step =
     (after ≡ vs) × (step ≡ record { reply = Value (Some v); undo = PutFirst v })
+
+-- the value of a reply, where it is one
+abbrev pub value_in : AnyReply → Option ℤ
+value_in (Value v) = v
+value_in reply = None
+
+-- the key of an operation of a map
+abbrev pub key_of : MapOp → ℤ
+key_of (of_map.Put k v) = k
+key_of (of_map.Get k) = k
+key_of (of_map.Del k) = k
+key_of (of_map.PutIfAbsent k v) = k
+key_of (of_map.Replace k a b) = k
+key_of (of_map.Assoc k v) = k
+key_of (of_map.Dissoc k) = k

@@ -27,21 +27,32 @@ const BYTES_OF_A_SMALL_VALUE: usize = 4;
 
 const BYTES_OF_A_VALUE: usize = 16;
 
-/// How many bytes a key of a map takes with its value, in a tree whose nodes may be half full.
+/// How many bytes a key of a map takes with its value, in a tree whose nodes may be half full. An
+/// element of a set takes less.
 const BYTES_OF_A_KEY: usize = 64;
 
-/// How many keys a map that does these operations may have.
+/// The key of a map, or the element of a set, that the operation may add.
+fn key_added(op: &AnyOp) -> Option<i64> {
+    match *op {
+        AnyOp::Put(key, _) | AnyOp::PutIfAbsent(key, _) | AnyOp::Assoc(key, _) => Some(key),
+        AnyOp::Add(v) => Some(v),
+        _ => None,
+    }
+}
+
+/// How many keys a map that does these operations may have, or how many elements a set.
 fn key_count(alloc: Global, items: &[Invocation]) -> Result<usize, AllocError> {
     let mut keys = BTreeSet::new(alloc);
     for item in items {
-        if let AnyOp::Put(key, _) = item.op {
+        if let Some(key) = key_added(&item.op) {
             keys.insert(key)?;
         }
     }
     Ok(keys.len())
 }
 
-/// How many bytes this content takes at most, where a map has this many keys.
+/// How many bytes this content takes at most, where a map has this many keys, or a set this many
+/// elements.
 fn bytes_of_content(content: &Kept, keys: usize) -> usize {
     match content {
         Kept::Queue(values) => values.len().saturating_mul(BYTES_OF_A_SMALL_VALUE),
@@ -51,9 +62,9 @@ fn bytes_of_content(content: &Kept, keys: usize) -> usize {
             Reversible::Queue(values) => values.len().saturating_mul(BYTES_OF_A_VALUE),
             Reversible::Stack(values) => values.len().saturating_mul(BYTES_OF_A_VALUE),
             Reversible::Heap(values) => values.len().saturating_mul(BYTES_OF_A_VALUE),
-            Reversible::Map(_) => keys.saturating_mul(BYTES_OF_A_KEY),
-            Reversible::Register(_) => 0,
-            Reversible::Mutex(_) => 0,
+            Reversible::Map(_) | Reversible::Set(_) => keys.saturating_mul(BYTES_OF_A_KEY),
+            Reversible::Register(_) | Reversible::Mutex(_) => 0,
+            Reversible::Counter(_) | Reversible::Lock(_) => 0,
         },
     }
 }
@@ -64,7 +75,7 @@ fn bytes_of_content(content: &Kept, keys: usize) -> usize {
 pub(crate) struct Dead {
     pub older: Pairs,
     pub younger: Pairs,
-    /// How many keys a map may have.
+    /// How many keys a map may have, or how many elements a set.
     pub keys: usize,
 }
 

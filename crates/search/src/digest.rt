@@ -1,5 +1,6 @@
 //! A digest of the operations done and the content.
 
+use crate::step::{Step, Undo};
 use seq_objects::{AnyOp, AnyReply};
 
 /// Two ways to do the same operations that leave the same content have one digest, so that a pair
@@ -30,6 +31,17 @@ fn of_value(v: i64, place: u64) -> u64 {
 
 fn of_entry(key: i64, v: i64) -> u64 {
     mixed(of_value(v, 1), u64::from_ne_bytes(key.to_ne_bytes()))
+}
+
+/// What the key of the operation on a map has after it.
+fn value_after(op: &AnyOp, before: Option<i64>) -> Option<i64> {
+    match *op {
+        AnyOp::Put(_, v) | AnyOp::Assoc(_, v) => Some(v),
+        AnyOp::PutIfAbsent(_, v) => before.or(Some(v)),
+        AnyOp::Replace(_, expected, new) if before == Some(expected) => Some(new),
+        AnyOp::Del(_) | AnyOp::Dissoc(_) => None,
+        _ => before,
+    }
 }
 
 impl Digest {
@@ -92,29 +104,53 @@ impl Digest {
         }
     }
 
-    /// After one more operation, with what it replied.
-    pub fn after(&self, place: u32, op: &AnyOp, reply: &AnyReply) -> Digest {
+    /// Of what a register, a mutex, a counter or a lock contains after the operation.
+    fn with_cell(self, op: &AnyOp, reply: &AnyReply) -> Digest {
+        match (*op, *reply) {
+            (AnyOp::Write(v), _) => self.only(of_value(v, 0)),
+            (AnyOp::Cas(_, _), AnyReply::Swapped(_, v)) => self.only(of_value(v, 0)),
+            (AnyOp::Clear, _) => self.only(0),
+            (AnyOp::Create(v), AnyReply::Flag(true)) => self.only(of_value(v, 0)),
+            (AnyOp::Acquire, _) => self.only(1),
+            (AnyOp::Release, _) => self.only(0),
+            (AnyOp::FetchAdd(n), _) => self.with(u64::from_ne_bytes(n.to_ne_bytes())),
+            (AnyOp::LockBy(owner), _) => self.only(of_value(owner, 1)),
+            (AnyOp::UnlockBy(_), _) => self.only(0),
+            _ => self,
+        }
+    }
+
+    /// Of a map whose key had one value, and has another.
+    fn with_key(self, key: i64, before: Option<i64>, after: Option<i64>) -> Digest {
+        let digest = match before {
+            Some(v) => self.without(of_entry(key, v)),
+            None => self,
+        };
+        match after {
+            Some(v) => digest.with(of_entry(key, v)),
+            None => digest,
+        }
+    }
+
+    /// After one more operation, with its step.
+    pub fn after(&self, place: u32, op: &AnyOp, step: &Step) -> Digest {
         let digest = Digest {
             done: self.done.wrapping_add(mixed(place as u64, 7)),
             ..*self
         };
-        match (*op, *reply) {
+        match (*op, step.reply) {
             (AnyOp::Enqueue(v), _) => digest.in_at_back(v),
             (AnyOp::Push(v), _) => digest.in_at_back(v),
             (AnyOp::Dequeue, AnyReply::Value(Some(v))) => digest.out_at_front(v),
             (AnyOp::Pop, AnyReply::Value(Some(v))) => digest.out_at_back(v),
             (AnyOp::Insert(v), _) => digest.with(of_value(v, 0)),
             (AnyOp::ExtractMin, AnyReply::Value(Some(v))) => digest.without(of_value(v, 0)),
-            (AnyOp::Write(v), _) => digest.only(of_value(v, 0)),
-            (AnyOp::Cas(_, _), AnyReply::Swapped(_, v)) => digest.only(of_value(v, 0)),
-            (AnyOp::Put(key, v), AnyReply::Value(Some(old))) => {
-                digest.without(of_entry(key, old)).with(of_entry(key, v))
-            }
-            (AnyOp::Put(key, v), _) => digest.with(of_entry(key, v)),
-            (AnyOp::Del(key), AnyReply::Value(Some(old))) => digest.without(of_entry(key, old)),
-            (AnyOp::Acquire, _) => digest.only(1),
-            (AnyOp::Release, _) => digest.only(0),
-            _ => digest,
+            (AnyOp::Add(v), AnyReply::Flag(true)) => digest.with(of_value(v, 0)),
+            (AnyOp::Remove(v), AnyReply::Flag(true)) => digest.without(of_value(v, 0)),
+            _ => match step.undo {
+                Undo::SetKey(key, before) => digest.with_key(key, before, value_after(op, before)),
+                _ => digest.with_cell(op, &step.reply),
+            },
         }
     }
 }

@@ -8,6 +8,8 @@
 mod all;
 mod dead;
 mod digest;
+mod elements;
+mod entries;
 mod finding;
 mod found;
 mod kept;

@@ -1,15 +1,17 @@
 //! Objects whose operations can be undone.
 
-ghost use Rattle.std.specs.Prelude.{◌≡◌, ◌↔◌, IsTrue, IsSome, IfOk, OnOk};
+ghost use Rattle.std.specs.Prelude.{◌≡◌, ℤ, Option, ◌↔◌, IsTrue, IsSome, IfOk, OnOk};
 ghost use Rattle.model.specs.declared.AnyOp.{AnyOp};
-ghost use Rattle.model.specs.Objects.{empty, next};
+ghost use Rattle.model.specs.Objects.{Table, empty, next};
 ghost use Rattle.model.specs.Objects as objects;
 ghost use Rattle.search.specs.Undoing.{content_of, undone, IsStep};
 
+use crate::elements::{set_element, step_set};
+use crate::entries::{set_key, step_map};
 use crate::step::{Step, Undo};
 use crate::values::{less_count, replying, take_first, undo_values};
 use model::{AnyOp, AnyReply, Kind};
-use seq_objects::{MapObject, MapOp, SeqObject};
+use seq_objects::{MapObject, SeqObject, Set};
 use std::alloc::{AllocError, Global};
 use std::collections::VecDeque;
 
@@ -25,6 +27,10 @@ pub enum Reversible {
     Register(Option<i64>),
     Map(MapObject),
     Mutex(bool),
+    Set(Set),
+    Counter(i64),
+    /// The owner, if there is one.
+    Lock(Option<i64>),
 }
 
 fn step_queue(values: &mut VecDeque<i64>, op: &AnyOp) -> Result<Step, AllocError>
@@ -98,32 +104,21 @@ fn step_register(value: &mut Option<i64>, op: &AnyOp) -> Step
             reply: AnyReply::NotSwapped,
             undo: Undo::Nothing,
         },
-        _ => unreachable!(),
-    }
-}
-
-fn step_map(map: &mut MapObject, op: &AnyOp) -> Result<Step, AllocError>
-    requires { IsSome (next (objects.table map.old) op.now) }
-    ensures { IfOk result (IsStep (objects.table map.old) op.now (objects.table map.new)) }
-{
-    match *op {
-        AnyOp::Put(key, value) => {
-            let before = map.apply(&MapOp::Put { key, value })?;
-            Ok(Step {
-                reply: AnyReply::Value(before),
-                undo: Undo::SetKey(key, before),
-            })
+        AnyOp::Clear => {
+            *value = None;
+            Step {
+                reply: AnyReply::Value(None),
+                undo: Undo::SetRegister(before),
+            }
         }
-        AnyOp::Get(key) => Ok(Step {
-            reply: AnyReply::Value(map.apply(&MapOp::Get(key))?),
-            undo: Undo::Nothing,
-        }),
-        AnyOp::Del(key) => {
-            let before = map.apply(&MapOp::Del(key))?;
-            Ok(Step {
-                reply: AnyReply::Value(before),
-                undo: Undo::SetKey(key, before),
-            })
+        AnyOp::Create(v) => {
+            if before.is_none() {
+                *value = Some(v);
+            }
+            Step {
+                reply: AnyReply::Flag(before.is_none()),
+                undo: Undo::SetRegister(before),
+            }
         }
         _ => unreachable!(),
     }
@@ -141,16 +136,54 @@ fn step_mutex(held: &mut bool, op: &AnyOp) -> Step
     }
 }
 
-/// Gives the key its value, or none.
-fn set_key(map: &mut MapObject, key: i64, value: Option<i64>) -> Result<(), AllocError>
-    ensures { OnOk result
-        (objects.table map.new ≡ undone (Undo.SetKey key value) (objects.table map.old)) }
+fn step_counter(count: &mut i64, op: &AnyOp) -> Step
+    requires { IsSome (next (objects.count count.old) op.now) }
+    ensures { IsStep (objects.count count.old) op.now (objects.count count.new) result }
 {
-    match value {
-        Some(value) => map.apply(&MapOp::Put { key, value })?,
-        None => map.apply(&MapOp::Del(key))?,
+    let before = *count;
+    match *op {
+        AnyOp::FetchAdd(n) => {
+            *count = before + n;
+            replying(before, Undo::SetCount(before))
+        }
+        _ => replying(before, Undo::Nothing),
+    }
+}
+
+fn step_lock(owner: &mut Option<i64>, op: &AnyOp) -> Step
+    requires { IsSome (next (objects.owner owner.old) op.now) }
+    ensures { IsStep (objects.owner owner.old) op.now (objects.owner owner.new) result }
+{
+    let before = *owner;
+    *owner = match *op {
+        AnyOp::LockBy(taker) => Some(taker),
+        _ => None,
     };
-    Ok(())
+    Step {
+        reply: AnyReply::Value(None),
+        undo: Undo::SetOwner(before),
+    }
+}
+
+fn is_of_register(op: &AnyOp) -> bool
+    ensures { (v : Option ℤ) → IsTrue result ↔ IsSome (next (objects.register v) op.now) }
+{
+    match *op {
+        AnyOp::Write(_) | AnyOp::Read | AnyOp::Cas(_, _) => true,
+        AnyOp::Clear | AnyOp::Create(_) => true,
+        _ => false,
+    }
+}
+
+fn is_of_map(op: &AnyOp) -> bool
+    ensures { (m : Table) → IsTrue result ↔ IsSome (next (objects.table m) op.now) }
+{
+    match *op {
+        AnyOp::Put(_, _) | AnyOp::Get(_) | AnyOp::Del(_) => true,
+        AnyOp::PutIfAbsent(_, _) | AnyOp::Replace(_, _, _) => true,
+        AnyOp::Assoc(_, _) | AnyOp::Dissoc(_) => true,
+        _ => false,
+    }
 }
 
 impl Reversible {
@@ -165,6 +198,9 @@ impl Reversible {
             Kind::Register => Reversible::Register(None),
             Kind::Map => Reversible::Map(MapObject::new(alloc)),
             Kind::Mutex => Reversible::Mutex(false),
+            Kind::Set => Reversible::Set(Set::new(alloc)),
+            Kind::Counter => Reversible::Counter(0),
+            Kind::Lock => Reversible::Lock(None),
         }
     }
 
@@ -176,15 +212,22 @@ impl Reversible {
             Reversible::Queue(_) => matches!(*op, AnyOp::Enqueue(_) | AnyOp::Dequeue),
             Reversible::Stack(_) => matches!(*op, AnyOp::Push(_) | AnyOp::Pop),
             Reversible::Heap(_) => matches!(*op, AnyOp::Insert(_) | AnyOp::ExtractMin),
-            Reversible::Register(_) => {
-                matches!(*op, AnyOp::Write(_) | AnyOp::Read | AnyOp::Cas(_, _))
-            }
-            Reversible::Map(_) => {
-                matches!(*op, AnyOp::Put(_, _) | AnyOp::Get(_) | AnyOp::Del(_))
-            }
+            Reversible::Register(_) => is_of_register(op),
+            Reversible::Map(_) => is_of_map(op),
             Reversible::Mutex(held) => match *op {
                 AnyOp::Acquire => !*held,
                 AnyOp::Release => *held,
+                _ => false,
+            },
+            Reversible::Set(_) => matches!(*op, AnyOp::Add(_) | AnyOp::Remove(_) | AnyOp::Has(_)),
+            Reversible::Counter(count) => match *op {
+                AnyOp::FetchAdd(n) => count.checked_add(n).is_some(),
+                AnyOp::GetCount => true,
+                _ => false,
+            },
+            Reversible::Lock(owner) => match *op {
+                AnyOp::LockBy(_) => owner.is_none(),
+                AnyOp::UnlockBy(holder) => *owner == Some(holder),
                 _ => false,
             },
         }
@@ -202,6 +245,9 @@ impl Reversible {
             Reversible::Register(value) => Ok(step_register(value, op)),
             Reversible::Map(map) => step_map(map, op),
             Reversible::Mutex(held) => Ok(step_mutex(held, op)),
+            Reversible::Set(set) => step_set(set, op),
+            Reversible::Counter(count) => Ok(step_counter(count, op)),
+            Reversible::Lock(owner) => Ok(step_lock(owner, op)),
         }
     }
 
@@ -222,6 +268,15 @@ impl Reversible {
                 *held = before;
                 Ok(())
             }
+            (Reversible::Set(set), Undo::SetElement(v, is_in)) => set_element(set, v, is_in),
+            (Reversible::Counter(count), Undo::SetCount(before)) => {
+                *count = before;
+                Ok(())
+            }
+            (Reversible::Lock(owner), Undo::SetOwner(before)) => {
+                *owner = before;
+                Ok(())
+            }
             _ => Ok(()),
         }
     }
@@ -237,6 +292,9 @@ impl Reversible {
             Reversible::Register(value) => Reversible::Register(*value),
             Reversible::Map(map) => Reversible::Map(map.try_copy()?),
             Reversible::Mutex(held) => Reversible::Mutex(*held),
+            Reversible::Set(set) => Reversible::Set(set.try_copy()?),
+            Reversible::Counter(count) => Reversible::Counter(*count),
+            Reversible::Lock(owner) => Reversible::Lock(*owner),
         })
     }
 
@@ -251,6 +309,9 @@ impl Reversible {
             (Reversible::Register(a), Reversible::Register(b)) => a == b,
             (Reversible::Map(a), Reversible::Map(b)) => a.same(b),
             (Reversible::Mutex(a), Reversible::Mutex(b)) => a == b,
+            (Reversible::Set(a), Reversible::Set(b)) => a.same(b),
+            (Reversible::Counter(a), Reversible::Counter(b)) => a == b,
+            (Reversible::Lock(a), Reversible::Lock(b)) => a == b,
             _ => false,
         }
     }

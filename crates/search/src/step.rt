@@ -16,6 +16,10 @@ pub enum Undo {
     /// Gives a key its value, or none.
     SetKey(i64, Option<i64>),
     SetHeld(bool),
+    /// Adds an element of a set, or removes it.
+    SetElement(i64, bool),
+    SetCount(i64),
+    SetOwner(Option<i64>),
 }
 
 #[derive(Clone, Copy, Debug, PartialEq, Eq, Drop)]

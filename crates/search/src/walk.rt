@@ -178,7 +178,7 @@ impl State {
     {
         let place = self.at;
         let item = &trials.items[place as usize];
-        let digest = self.digest.after(place, &item.op, &step.reply);
+        let digest = self.digest.after(place, &item.op, &step);
         let high = self.high.max(place + 1);
         let pending = self.undone.pending_after(self.window.pending, place);
         self.undone.take_out(place);

@@ -1,3 +1,4 @@
+pub mod Members
 pub mod Places
 pub mod Sameness
 pub mod Tables

@@ -2,6 +2,9 @@
 use Rattle.std.proofs.Common.{◌≡◌, ℕ, ◌<◌, get_or, refl, lit<}
 use Rattle.seq_objects.specs.declared.function.Function.{Function}
 use Rattle.seq_objects.specs.declared.function.Function.TheVariants.{Enqueue, Dequeue, Push, Pop, Insert, ExtractMin, Write, Read, Cas, Put, Get, Del, Acquire, Release}
+use Rattle.seq_objects.specs.declared.function.Function.TheVariants.{Clear, Create, PutIfAbsent, Replace, Assoc}
+use Rattle.seq_objects.specs.declared.function.Function.TheVariants.{Dissoc, Add, Remove, Has, FetchAdd, GetCount}
+use Rattle.seq_objects.specs.declared.function.Function.TheVariants.{LockBy, UnlockBy}
 use Rattle.seq_objects.specs.Functions.{all_functions}
 
 abbrev pub place : Function → ℕ
@@ -19,10 +22,23 @@ place Get = 10
 place Del = 11
 place Acquire = 12
 place Release = 13
+place Clear = 14
+place Create = 15
+place PutIfAbsent = 16
+place Replace = 17
+place Assoc = 18
+place Dissoc = 19
+place Add = 20
+place Remove = 21
+place Has = 22
+place FetchAdd = 23
+place GetCount = 24
+place LockBy = 25
+place UnlockBy = 26
 
-pub place-below : (f : Function) → place f < 14
+pub place-below : (f : Function) → place f < 27
 place-below f =
-    elim f as (λ f. place f < 14) [
+    elim f as (λ f. place f < 27) [
       | Enqueue ↦ lit< tt
       | Dequeue ↦ lit< tt
       | Push ↦ lit< tt
@@ -37,6 +53,19 @@ place-below f =
       | Del ↦ lit< tt
       | Acquire ↦ lit< tt
       | Release ↦ lit< tt
+      | Clear ↦ lit< tt
+      | Create ↦ lit< tt
+      | PutIfAbsent ↦ lit< tt
+      | Replace ↦ lit< tt
+      | Assoc ↦ lit< tt
+      | Dissoc ↦ lit< tt
+      | Add ↦ lit< tt
+      | Remove ↦ lit< tt
+      | Has ↦ lit< tt
+      | FetchAdd ↦ lit< tt
+      | GetCount ↦ lit< tt
+      | LockBy ↦ lit< tt
+      | UnlockBy ↦ lit< tt
     ]
 
 pub get_or-place : (f d : Function) → get_or all_functions (place f) d ≡ f
@@ -56,4 +85,17 @@ get_or-place f d =
       | Del ↦ refl
       | Acquire ↦ refl
       | Release ↦ refl
+      | Clear ↦ refl
+      | Create ↦ refl
+      | PutIfAbsent ↦ refl
+      | Replace ↦ refl
+      | Assoc ↦ refl
+      | Dissoc ↦ refl
+      | Add ↦ refl
+      | Remove ↦ refl
+      | Has ↦ refl
+      | FetchAdd ↦ refl
+      | GetCount ↦ refl
+      | LockBy ↦ refl
+      | UnlockBy ↦ refl
     ]

@@ -1,7 +1,9 @@
 -- The entries of an ordered map, as a finite map.
-use Rattle.std.proofs.Common.{◌≡◌, ℤ, Bool, true, false, cond, T, List, [], ◌∷◌, ◌&&◌, Option, None, Some, length, refl, ap, sym, subst, ◌∙◌, Less}
+use Rattle.std.proofs.Common.{◌≡◌, ℤ, Bool, true, false, cond, not, T, List, [], ◌∷◌, ◌&&◌, Option, None, Some}
+use Rattle.std.proofs.Common.{is_some, length, refl, ap, sym, subst, ◌∙◌, Less}
 use Rattle.std.specs.Bool.{Decides}
-use Rattle.std.specs.Ordering.{int_cmp, eq_by_cmp, is_lt}
+use Rattle.std.specs.Ordering.{int_cmp, int_eq, eq_by_cmp, is_lt}
+use Rattle.std.specs.Option.{option_eq}
 use Rattle.std.specs.Cmp.{int_cmp_total, eq_by_cmp_equiv}
 use Rattle.std.specs.List.{AllByRecursion}
 use Rattle.std.specs.List.Sorted.{IsStrictlySortedBy}
@@ -10,9 +12,10 @@ use Rattle.std.specs.BTreeMap.{is_at}
 use Rattle.std.specs.FinMap.{FinMap, empty, empty_of_len, len-entries, find, is_sorted, from_sorted, get, insert, remove, get-from_sorted, get-insert}
 use Rattle.std.specs.FinMap.{get-remove, entries-from_sorted, entries, same_map, int_cmp-IsAntisymmetric}
 use Rattle.std.specs.FinMap.Entries.{below_all}
-use Rattle.model.specs.declared.AnyOp.TheVariants.{Put, Get, Del}
-use Rattle.model.specs.declared.AnyReply.TheVariants.{Value}
-use Rattle.model.specs.Objects.{Content, next, table}
+use Rattle.model.specs.declared.AnyOp.TheVariants.{Put, Get, Del, PutIfAbsent, Replace, Assoc, Dissoc}
+use Rattle.model.specs.declared.AnyReply.{AnyReply}
+use Rattle.model.specs.declared.AnyReply.TheVariants.{Value, Flag}
+use Rattle.model.specs.Objects.{Content, next, table, contains_value, inserted_if, has_value, is_absent}
 use Rattle.seq_objects.specs.declared.map_object.MapOp.TheVariants as of_map
 
 abbrev pub Entries : Type 0
@@ -32,11 +35,13 @@ both : (a b : Bool) → T a → T b → T (a && b)
 both true b p q = q
 both false b p q = p
 
-below_all-first : (k : ℤ) (es : Entries) → AllByRecursion (λ y. int_cmp k y ≡ Less) (keys_of es) → T (below_all int_cmp k es)
+below_all-first : {X : Type 0} (k : ℤ) (es : List (ℤ × X))
+    → AllByRecursion (λ y. int_cmp k y ≡ Less) (keys_of es) → T (below_all int_cmp k es)
 below_all-first k [] h = tt
 below_all-first k (e ∷ es) h = both _ _ (subst (λ r. T (is_lt r)) (sym h.0) tt) (below_all-first k es h.1)
 
-is_sorted-entries : (es : Entries) → Ordered es → T (is_sorted int_cmp es)
+pub is_sorted-entries : {X : Type 0} (es : List (ℤ × X)) → IsStrictlySortedBy int_cmp (keys_of es)
+    → T (is_sorted int_cmp es)
 unfolding IsStrictlySortedBy
 is_sorted-entries [] h = tt
 is_sorted-entries (e ∷ es) h = both _ _ (below_all-first e.0 es h.0) (is_sorted-entries es h.1)
@@ -90,6 +95,60 @@ next-del m es fs k r is he hf changes old =
     ap (λ n. Some (table n, Value (get m k))) (ap (λ n. remove n k) (sym is) ∙ sym (from_sorted-remove es fs k he hf changes))
     ∙ ap (λ o. Some (table (from_sorted fs), Value o)) (ap (λ n. get n k) (sym is) ∙ get-at_key es k he ∙ sym old)
 
+table_inserted : (m : FinMap int_cmp ℤ) (es fs : Entries) (k v : ℤ) → from_sorted es ≡ m → Ordered es
+    → Ordered fs → Changes es fs k (Some v)
+    → insert m k v ≡ from_sorted fs
+table_inserted m es fs k v is he hf changes = ap (λ n. insert n k v) (sym is)
+    ∙ sym (from_sorted-insert es fs k v he hf changes)
+
+table_at_key : (m : FinMap int_cmp ℤ) (es : Entries) (k : ℤ) → from_sorted es ≡ m → Ordered es → get m k ≡ at_key k es
+table_at_key m es k is he = ap (λ n. get n k) (sym is) ∙ get-at_key es k he
+
+-- an operation that changes the table where it is so, and replies whether it is so
+pub next_if_so : (m : FinMap int_cmp ℤ) (es fs : Entries) (k v : ℤ) (so b : Bool) → from_sorted es ≡ m
+    → Ordered es → Ordered fs → Changes es fs k (Some v)
+    → so ≡ b → b ≡ true
+    → ◌≡◌ {A = Option (Content × AnyReply)} (Some (table (inserted_if so m k v), Flag so)) (Some (
+      table
+          (from_sorted fs),
+      Flag b,
+    ))
+next_if_so m es fs k v so b is he hf changes told holds =
+    ap (λ c. Some (table (inserted_if c m k v), Flag c)) told
+    ∙ ap (λ c. Some (table (inserted_if c m k v), Flag b)) holds
+    ∙ ap (λ n. Some (table n, Flag b)) (table_inserted m es fs k v is he hf changes)
+
+pub next_if_not : (m : FinMap int_cmp ℤ) (k v : ℤ) (so b : Bool) → so ≡ b → b ≡ false
+    → ◌≡◌ {A = Option (Content × AnyReply)} (Some (table (inserted_if so m k v), Flag so)) (Some (table m, Flag b))
+next_if_not m k v so b told fails =
+    ap (λ c. Some (table (inserted_if c m k v), Flag c)) told
+    ∙ ap (λ c. Some (table (inserted_if c m k v), Flag b)) fails
+
+pub absent-at_key : (m : FinMap int_cmp ℤ) (es : Entries) (k : ℤ) → from_sorted es ≡ m → Ordered es
+    → is_absent m k ≡ not (is_some (at_key k es))
+absent-at_key m es k is he = ap (λ o. not (is_some o)) (table_at_key m es k is he)
+
+pub has-at_key : (m : FinMap int_cmp ℤ) (es : Entries) (k a : ℤ) → from_sorted es ≡ m → Ordered es
+    → has_value m k a ≡ contains_value (at_key k es) a
+has-at_key m es k a is he = ap (λ o. contains_value o a) (table_at_key m es k is he)
+
+pub contains-eq : (o : Option ℤ) (a : ℤ) → contains_value o a ≡ option_eq int_eq o (Some a)
+contains-eq None a = refl
+contains-eq (Some v) a = refl
+
+pub next-assoc : (m : FinMap int_cmp ℤ) (es fs : Entries) (k v : ℤ) → from_sorted es ≡ m → Ordered es
+    → Ordered fs → Changes es fs k (Some v)
+    → next (table m) (Assoc k v) ≡ Some (table (from_sorted fs), Value None)
+next-assoc m es fs k v is he hf changes = ap (λ n. Some (table n, Value None))
+    (table_inserted m es fs k v is he hf changes)
+
+pub next-dissoc : (m : FinMap int_cmp ℤ) (es fs : Entries) (k : ℤ) → from_sorted es ≡ m → Ordered es
+    → Ordered fs → Changes es fs k None
+    → next (table m) (Dissoc k) ≡ Some (table (from_sorted fs), Value None)
+next-dissoc m es fs k is he hf changes =
+    ap (λ n. Some (table n, Value None)) (ap (λ n. remove n k) (sym is)
+    ∙ sym (from_sorted-remove es fs k he hf changes))
+
 in_table : Content → FinMap int_cmp ℤ
 in_table (table m) = m
 in_table other = empty
@@ -106,3 +165,12 @@ same_tables m n es fs r em fn he hf decides = (
 
 pub same_put : (k k' v v' : ℤ) → k ≡ k' → v ≡ v' → of_map.Put k v ≡ of_map.Put k' v'
 same_put k k' v v' e f = λ i. of_map.Put (e i) (f i)
+
+pub same_assoc : (k k' v v' : ℤ) → k ≡ k' → v ≡ v' → of_map.Assoc k v ≡ of_map.Assoc k' v'
+same_assoc k k' v v' e f = λ i. of_map.Assoc (e i) (f i)
+
+pub same_put_if_absent : (k k' v v' : ℤ) → k ≡ k' → v ≡ v' → of_map.PutIfAbsent k v ≡ of_map.PutIfAbsent k' v'
+same_put_if_absent k k' v v' e f = λ i. of_map.PutIfAbsent (e i) (f i)
+
+pub same_replace : (k k' a a' b b' : ℤ) → k ≡ k' → a ≡ a' → b ≡ b' → of_map.Replace k a b ≡ of_map.Replace k' a' b'
+same_replace k k' a a' b b' e f g = λ i. of_map.Replace (e i) (f i) (g i)

@@ -3,7 +3,8 @@ use Rattle.std.specs.Prelude.{ℕ, ◌%◌, ◌==◌, List, Option, Some, None, 
 use Rattle.std.specs.Str.{bytes_eq}
 use Rattle.std.specs.List.{range_with_len}
 use Rattle.model.specs.declared.Kind.{Kind}
-use Rattle.model.specs.declared.Kind.TheVariants.{Queue, Stack, Heap, Register, Map, Mutex}
+use Rattle.model.specs.declared.Kind.TheVariants.{Queue, Stack, Heap, Register, Map, Mutex, Set}
+use Rattle.model.specs.declared.Kind.TheVariants.{Counter, Lock}
 use Rattle.seq_objects.specs.declared.kinds.Kinds.{Kinds}
 use Rattle.seq_objects.specs.declared.kinds.Kinds.TheVariants.{One, Mixed}
 
@@ -34,5 +35,8 @@ kinds_named k =
     else if bytes_eq k (codes "register") then Some (One Register)
     else if bytes_eq k (codes "map") then Some (One Map)
     else if bytes_eq k (codes "mutex") then Some (One Mutex)
+    else if bytes_eq k (codes "set") then Some (One Set)
+    else if bytes_eq k (codes "counter") then Some (One Counter)
+    else if bytes_eq k (codes "lock") then Some (One Lock)
     else if bytes_eq k (codes "mixed") then Some Mixed
     else None

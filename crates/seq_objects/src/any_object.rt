@@ -3,12 +3,15 @@
 ghost use Rattle.std.specs.Prelude.{◌≡◌};
 ghost use Rattle.model.specs.Objects.{empty};
 
+use crate::counter::{Counter, CounterOp};
 use crate::heap::{Heap, HeapOp};
+use crate::lock::{Lock, LockOp};
 use crate::map_object::{MapObject, MapOp};
 use crate::mutex::{Mutex, MutexOp};
 use crate::object::SeqObject;
 use crate::queue::{Queue, QueueOp};
 use crate::register::{Register, RegisterOp};
+use crate::set::{Set, SetOp};
 use crate::stack::{Stack, StackOp};
 use crate::value::function_of;
 use model::{AnyOp, AnyReply, Kind};
@@ -23,6 +26,9 @@ pub enum AnyObject {
     Register(Register),
     Map(MapObject),
     Mutex(Mutex),
+    Set(Set),
+    Counter(Counter),
+    Lock(Lock),
 }
 
 impl AnyObject {
@@ -37,6 +43,9 @@ impl AnyObject {
             Kind::Register => AnyObject::Register(Register::new(alloc)),
             Kind::Map => AnyObject::Map(MapObject::new(alloc)),
             Kind::Mutex => AnyObject::Mutex(Mutex::new(alloc)),
+            Kind::Set => AnyObject::Set(Set::new(alloc)),
+            Kind::Counter => AnyObject::Counter(Counter::new(alloc)),
+            Kind::Lock => AnyObject::Lock(Lock::new(alloc)),
         }
     }
 }
@@ -62,6 +71,9 @@ impl SeqObject for AnyObject {
             AnyObject::Register(_) => Kind::Register,
             AnyObject::Map(_) => Kind::Map,
             AnyObject::Mutex(_) => Kind::Mutex,
+            AnyObject::Set(_) => Kind::Set,
+            AnyObject::Counter(_) => Kind::Counter,
+            AnyObject::Lock(_) => Kind::Lock,
         }
     }
 
@@ -77,6 +89,9 @@ impl SeqObject for AnyObject {
             AnyObject::Register(register) => register.possible(&RegisterOp::from_any(op)),
             AnyObject::Map(map) => map.possible(&MapOp::from_any(op)),
             AnyObject::Mutex(mutex) => mutex.possible(&MutexOp::from_any(op)),
+            AnyObject::Set(set) => set.possible(&SetOp::from_any(op)),
+            AnyObject::Counter(counter) => counter.possible(&CounterOp::from_any(op)),
+            AnyObject::Lock(lock) => lock.possible(&LockOp::from_any(op)),
         }
     }
 
@@ -106,6 +121,18 @@ impl SeqObject for AnyObject {
                 let reply = mutex.apply(&MutexOp::from_any(op))?;
                 Ok(Mutex::any_reply(&reply))
             }
+            AnyObject::Set(set) => {
+                let reply = set.apply(&SetOp::from_any(op))?;
+                Ok(Set::any_reply(&reply))
+            }
+            AnyObject::Counter(counter) => {
+                let reply = counter.apply(&CounterOp::from_any(op))?;
+                Ok(Counter::any_reply(&reply))
+            }
+            AnyObject::Lock(lock) => {
+                let reply = lock.apply(&LockOp::from_any(op))?;
+                Ok(Lock::any_reply(&reply))
+            }
         }
     }
 
@@ -117,6 +144,9 @@ impl SeqObject for AnyObject {
             AnyObject::Register(register) => AnyObject::Register(register.try_copy()?),
             AnyObject::Map(map) => AnyObject::Map(map.try_copy()?),
             AnyObject::Mutex(mutex) => AnyObject::Mutex(mutex.try_copy()?),
+            AnyObject::Set(set) => AnyObject::Set(set.try_copy()?),
+            AnyObject::Counter(counter) => AnyObject::Counter(counter.try_copy()?),
+            AnyObject::Lock(lock) => AnyObject::Lock(lock.try_copy()?),
         })
     }
 
@@ -128,6 +158,9 @@ impl SeqObject for AnyObject {
             (AnyObject::Register(own), AnyObject::Register(other)) => own.same(other),
             (AnyObject::Map(own), AnyObject::Map(other)) => own.same(other),
             (AnyObject::Mutex(own), AnyObject::Mutex(other)) => own.same(other),
+            (AnyObject::Set(own), AnyObject::Set(other)) => own.same(other),
+            (AnyObject::Counter(own), AnyObject::Counter(other)) => own.same(other),
+            (AnyObject::Lock(own), AnyObject::Lock(other)) => own.same(other),
             _ => false,
         }
     }

@@ -23,11 +23,24 @@ pub enum Function {
     Del,
     Acquire,
     Release,
+    Clear,
+    Create,
+    PutIfAbsent,
+    Replace,
+    Assoc,
+    Dissoc,
+    Add,
+    Remove,
+    Has,
+    FetchAdd,
+    GetCount,
+    LockBy,
+    UnlockBy,
 }
 
 impl Function {
     /// All of them, kind by kind.
-    pub const ALL: [Function; 14] = [
+    pub const ALL: [Function; 27] = [
         Function::Enqueue,
         Function::Dequeue,
         Function::Push,
@@ -42,6 +55,19 @@ impl Function {
         Function::Del,
         Function::Acquire,
         Function::Release,
+        Function::Clear,
+        Function::Create,
+        Function::PutIfAbsent,
+        Function::Replace,
+        Function::Assoc,
+        Function::Dissoc,
+        Function::Add,
+        Function::Remove,
+        Function::Has,
+        Function::FetchAdd,
+        Function::GetCount,
+        Function::LockBy,
+        Function::UnlockBy,
     ];
 
     /// The name without a colon.
@@ -63,6 +89,19 @@ impl Function {
             Function::Del => "del",
             Function::Acquire => "acquire",
             Function::Release => "release",
+            Function::Clear => "clear",
+            Function::Create => "create",
+            Function::PutIfAbsent => "put-if-absent",
+            Function::Replace => "replace",
+            Function::Assoc => "assoc",
+            Function::Dissoc => "dissoc",
+            Function::Add => "add",
+            Function::Remove => "remove",
+            Function::Has => "contains",
+            Function::FetchAdd => "fetch-add",
+            Function::GetCount => "get-count",
+            Function::LockBy => "lock",
+            Function::UnlockBy => "unlock",
         }
     }
 
@@ -87,9 +126,19 @@ impl Function {
             Function::Enqueue | Function::Dequeue => Kind::Queue,
             Function::Push | Function::Pop => Kind::Stack,
             Function::Insert | Function::ExtractMin => Kind::Heap,
-            Function::Write | Function::Read | Function::Cas => Kind::Register,
-            Function::Put | Function::Get | Function::Del => Kind::Map,
+            Function::Write | Function::Read | Function::Cas | Function::Clear | Function::Create =>
+                Kind::Register,
+            Function::Put
+            | Function::Get
+            | Function::Del
+            | Function::PutIfAbsent
+            | Function::Replace
+            | Function::Assoc
+            | Function::Dissoc => Kind::Map,
             Function::Acquire | Function::Release => Kind::Mutex,
+            Function::Add | Function::Remove | Function::Has => Kind::Set,
+            Function::FetchAdd | Function::GetCount => Kind::Counter,
+            Function::LockBy | Function::UnlockBy => Kind::Lock,
         }
     }
 }
@@ -105,5 +154,8 @@ pub fn kind_name(kind: Kind) -> &'static str
         Kind::Register => "register",
         Kind::Map => "map",
         Kind::Mutex => "mutex",
+        Kind::Set => "set",
+        Kind::Counter => "counter",
+        Kind::Lock => "lock",
     }
 }

@@ -49,6 +49,12 @@ pub fn kinds_named(name: &[u8]) -> Option<Kinds>
         Some(Kinds::One(Kind::Map))
     } else if name == "mutex".as_bytes() {
         Some(Kinds::One(Kind::Mutex))
+    } else if name == "set".as_bytes() {
+        Some(Kinds::One(Kind::Set))
+    } else if name == "counter".as_bytes() {
+        Some(Kinds::One(Kind::Counter))
+    } else if name == "lock".as_bytes() {
+        Some(Kinds::One(Kind::Lock))
     } else if name == "mixed".as_bytes() {
         Some(Kinds::Mixed)
     } else {

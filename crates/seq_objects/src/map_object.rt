@@ -15,6 +15,23 @@ pub enum MapOp {
     Put { key: i64, value: i64 },
     Get(i64),
     Del(i64),
+    /// Puts the value where the key has none.
+    PutIfAbsent { key: i64, value: i64 },
+    /// Puts the new value where the key has the expected one.
+    Replace { key: i64, expected: i64, new: i64 },
+    /// Puts the value, and does not tell the earlier one.
+    Assoc { key: i64, value: i64 },
+    /// Removes the key, and does not tell its value.
+    Dissoc(i64),
+}
+
+/// What a map answers.
+#[derive(Clone, Copy, Debug, PartialEq, Eq)]
+pub enum MapReply {
+    /// The value that the key had before; none where it had none, or the operation tells none.
+    Value(Option<i64>),
+    /// Whether the value was put.
+    Changed(bool),
 }
 
 impl MapOp {
@@ -29,13 +46,16 @@ impl MapOp {
             AnyOp::Put(key, value) => MapOp::Put { key, value },
             AnyOp::Get(key) => MapOp::Get(key),
             AnyOp::Del(key) => MapOp::Del(key),
+            AnyOp::PutIfAbsent(key, value) => MapOp::PutIfAbsent { key, value },
+            AnyOp::Replace(key, expected, new) => MapOp::Replace { key, expected, new },
+            AnyOp::Assoc(key, value) => MapOp::Assoc { key, value },
+            AnyOp::Dissoc(key) => MapOp::Dissoc(key),
             _ => unreachable!(),
         }
     }
 }
 
-/// A map from integers to integers. Each operation takes logarithmic time. The reply is the value
-/// that the key had before; none where it had none.
+/// A map from integers to integers. Each operation takes logarithmic time.
 #[derive(Debug, Drop)]
 pub struct MapObject {
     values: BTreeMap<i64, i64>,
@@ -70,18 +90,17 @@ impl MapObject {
 
 impl SeqObject for MapObject {
     ghost use Rattle.model.specs.Objects.{table};
-    ghost use Rattle.model.specs.declared.AnyReply.TheVariants.{Value};
-    ghost use Rattle.seq_objects.specs.Operations.{map_op};
+    ghost use Rattle.seq_objects.specs.Operations.{map_op, map_reply};
 
     type Op = MapOp;
 
-    type Reply = Option<i64>;
+    type Reply = MapReply;
 
     ghost content = { table };
 
     ghost op_in = { map_op };
 
-    ghost reply_in = { Value };
+    ghost reply_in = { map_reply };
 
     fn kind(&self) -> Kind {
         Kind::Map
@@ -95,11 +114,33 @@ impl SeqObject for MapObject {
         true
     }
 
-    fn apply(&mut self, op: &MapOp) -> Result<Option<i64>, AllocError> {
+    fn apply(&mut self, op: &MapOp) -> Result<MapReply, AllocError> {
         match op {
-            MapOp::Put { key, value } => Ok(self.values.insert(*key, *value)?),
-            MapOp::Get(key) => Ok(self.values.get(key).copied()),
-            MapOp::Del(key) => Ok(self.values.remove(key)),
+            MapOp::Put { key, value } => Ok(MapReply::Value(self.values.insert(*key, *value)?)),
+            MapOp::Get(key) => Ok(MapReply::Value(self.values.get(key).copied())),
+            MapOp::Del(key) => Ok(MapReply::Value(self.values.remove(key))),
+            MapOp::PutIfAbsent { key, value } => {
+                let is_absent = !self.values.contains_key(key);
+                if is_absent {
+                    self.values.insert(*key, *value)?;
+                }
+                Ok(MapReply::Changed(is_absent))
+            }
+            MapOp::Replace { key, expected, new } => {
+                let is_expected = self.values.get(key).copied() == Some(*expected);
+                if is_expected {
+                    self.values.insert(*key, *new)?;
+                }
+                Ok(MapReply::Changed(is_expected))
+            }
+            MapOp::Assoc { key, value } => {
+                self.values.insert(*key, *value)?;
+                Ok(MapReply::Value(None))
+            }
+            MapOp::Dissoc(key) => {
+                self.values.remove(key);
+                Ok(MapReply::Value(None))
+            }
         }
     }
 
@@ -118,11 +159,18 @@ impl SeqObject for MapObject {
             MapOp::Put { key, value } => AnyOp::Put(key, value),
             MapOp::Get(key) => AnyOp::Get(key),
             MapOp::Del(key) => AnyOp::Del(key),
+            MapOp::PutIfAbsent { key, value } => AnyOp::PutIfAbsent(key, value),
+            MapOp::Replace { key, expected, new } => AnyOp::Replace(key, expected, new),
+            MapOp::Assoc { key, value } => AnyOp::Assoc(key, value),
+            MapOp::Dissoc(key) => AnyOp::Dissoc(key),
         }
     }
 
-    fn any_reply(reply: &Option<i64>) -> AnyReply {
-        AnyReply::Value(*reply)
+    fn any_reply(reply: &MapReply) -> AnyReply {
+        match *reply {
+            MapReply::Value(value) => AnyReply::Value(value),
+            MapReply::Changed(so) => AnyReply::Flag(so),
+        }
     }
 
     ghost use Rattle.std.proofs.Common.{rules};

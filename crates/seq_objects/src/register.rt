@@ -15,6 +15,10 @@ pub enum RegisterOp {
     Read,
     /// Writes the new value where the register contains the expected one.
     Cas { expected: i64, new: i64 },
+    /// Leaves nothing.
+    Clear,
+    /// Writes the value where the register contains nothing.
+    Create(i64),
 }
 
 impl RegisterOp {
@@ -29,6 +33,8 @@ impl RegisterOp {
             AnyOp::Write(v) => RegisterOp::Write(v),
             AnyOp::Read => RegisterOp::Read,
             AnyOp::Cas(expected, new) => RegisterOp::Cas { expected, new },
+            AnyOp::Clear => RegisterOp::Clear,
+            AnyOp::Create(v) => RegisterOp::Create(v),
             _ => unreachable!(),
         }
     }
@@ -37,10 +43,12 @@ impl RegisterOp {
 /// What a register answers.
 #[derive(Clone, Copy, Debug, PartialEq, Eq)]
 pub enum RegisterReply {
-    /// The value that was written or read; none where nothing was written yet.
+    /// The value that was written or read; none where nothing is there.
     Value(Option<i64>),
     Swapped { expected: i64, new: i64 },
     NotSwapped,
+    /// Whether the value was created.
+    Created(bool),
 }
 
 /// A register, which contains a value or none. It takes no memory.
@@ -107,6 +115,17 @@ impl SeqObject for Register {
                     Ok(RegisterReply::NotSwapped)
                 }
             }
+            RegisterOp::Clear => {
+                self.value = None;
+                Ok(RegisterReply::Value(None))
+            }
+            RegisterOp::Create(v) => match self.value {
+                Some(_) => Ok(RegisterReply::Created(false)),
+                None => {
+                    self.value = Some(v);
+                    Ok(RegisterReply::Created(true))
+                }
+            },
         }
     }
 
@@ -123,6 +142,8 @@ impl SeqObject for Register {
             RegisterOp::Write(v) => AnyOp::Write(v),
             RegisterOp::Read => AnyOp::Read,
             RegisterOp::Cas { expected, new } => AnyOp::Cas(expected, new),
+            RegisterOp::Clear => AnyOp::Clear,
+            RegisterOp::Create(v) => AnyOp::Create(v),
         }
     }
 
@@ -131,6 +152,7 @@ impl SeqObject for Register {
             RegisterReply::Value(v) => AnyReply::Value(v),
             RegisterReply::Swapped { expected, new } => AnyReply::Swapped(expected, new),
             RegisterReply::NotSwapped => AnyReply::NotSwapped,
+            RegisterReply::Created(so) => AnyReply::Flag(so),
         }
     }
 

@@ -15,8 +15,10 @@ use model::{AnyOp, AnyReply};
 pub enum Value {
     Nil,
     False,
+    True,
     Int(i64),
     Pair(i64, i64),
+    Triple(i64, i64, i64),
 }
 
 /// The operation of this name with this argument; none where the argument has not the shape that
@@ -42,6 +44,21 @@ pub fn op_of(f: Function, value: Value) -> Option<AnyOp>
         (Function::Del, Value::Int(key)) => Some(AnyOp::Del(key)),
         (Function::Acquire, Value::Nil) => Some(AnyOp::Acquire),
         (Function::Release, Value::Nil) => Some(AnyOp::Release),
+        (Function::Clear, Value::Nil) => Some(AnyOp::Clear),
+        (Function::Create, Value::Int(v)) => Some(AnyOp::Create(v)),
+        (Function::PutIfAbsent, Value::Pair(key, value)) => Some(AnyOp::PutIfAbsent(key, value)),
+        (Function::Replace, Value::Triple(key, expected, new)) => Some(AnyOp::Replace(
+            key, expected, new,
+        )),
+        (Function::Assoc, Value::Pair(key, value)) => Some(AnyOp::Assoc(key, value)),
+        (Function::Dissoc, Value::Int(key)) => Some(AnyOp::Dissoc(key)),
+        (Function::Add, Value::Int(v)) => Some(AnyOp::Add(v)),
+        (Function::Remove, Value::Int(v)) => Some(AnyOp::Remove(v)),
+        (Function::Has, Value::Int(v)) => Some(AnyOp::Has(v)),
+        (Function::FetchAdd, Value::Int(n)) => Some(AnyOp::FetchAdd(n)),
+        (Function::GetCount, Value::Nil) => Some(AnyOp::GetCount),
+        (Function::LockBy, Value::Int(owner)) => Some(AnyOp::LockBy(owner)),
+        (Function::UnlockBy, Value::Int(owner)) => Some(AnyOp::UnlockBy(owner)),
         _ => None,
     }
 }
@@ -66,6 +83,19 @@ pub fn function_of(op: &AnyOp) -> Function
         AnyOp::Del(_) => Function::Del,
         AnyOp::Acquire => Function::Acquire,
         AnyOp::Release => Function::Release,
+        AnyOp::Clear => Function::Clear,
+        AnyOp::Create(_) => Function::Create,
+        AnyOp::PutIfAbsent(..) => Function::PutIfAbsent,
+        AnyOp::Replace(..) => Function::Replace,
+        AnyOp::Assoc(..) => Function::Assoc,
+        AnyOp::Dissoc(_) => Function::Dissoc,
+        AnyOp::Add(_) => Function::Add,
+        AnyOp::Remove(_) => Function::Remove,
+        AnyOp::Has(_) => Function::Has,
+        AnyOp::FetchAdd(_) => Function::FetchAdd,
+        AnyOp::GetCount => Function::GetCount,
+        AnyOp::LockBy(_) => Function::LockBy,
+        AnyOp::UnlockBy(_) => Function::UnlockBy,
     }
 }
 
@@ -75,16 +105,25 @@ pub fn value_of_op(op: &AnyOp) -> Value
     ensures read_back { op_with (function_in op.now) result ≡ Some op.now }
 {
     match *op {
-        AnyOp::Enqueue(v) | AnyOp::Push(v) | AnyOp::Insert(v) | AnyOp::Write(v) => Value::Int(v),
-        AnyOp::Get(key) | AnyOp::Del(key) => Value::Int(key),
+        AnyOp::Enqueue(v) | AnyOp::Push(v) | AnyOp::Insert(v) => Value::Int(v),
+        AnyOp::Write(v) | AnyOp::Create(v) => Value::Int(v),
+        AnyOp::Add(v) | AnyOp::Remove(v) | AnyOp::Has(v) => Value::Int(v),
+        AnyOp::Get(key) | AnyOp::Del(key) | AnyOp::Dissoc(key) => Value::Int(key),
+        AnyOp::FetchAdd(n) => Value::Int(n),
+        AnyOp::LockBy(owner) | AnyOp::UnlockBy(owner) => Value::Int(owner),
         AnyOp::Cas(expected, new) => Value::Pair(expected, new),
         AnyOp::Put(key, value) => Value::Pair(key, value),
+        AnyOp::PutIfAbsent(key, value) => Value::Pair(key, value),
+        AnyOp::Assoc(key, value) => Value::Pair(key, value),
+        AnyOp::Replace(key, expected, new) => Value::Triple(key, expected, new),
         AnyOp::Dequeue
         | AnyOp::Pop
         | AnyOp::ExtractMin
         | AnyOp::Read
         | AnyOp::Acquire
-        | AnyOp::Release => Value::Nil,
+        | AnyOp::Release
+        | AnyOp::Clear
+        | AnyOp::GetCount => Value::Nil,
     }
 }
 
@@ -95,7 +134,12 @@ pub fn reply_of(f: Function, value: Value) -> Option<AnyReply>
     ensures value { IfSome result (λ reply. reply_value reply ≡ value) }
 {
     match f {
-        Function::Enqueue | Function::Push | Function::Insert | Function::Write => match value {
+        Function::Enqueue
+        | Function::Push
+        | Function::Insert
+        | Function::Write
+        | Function::FetchAdd
+        | Function::GetCount => match value {
             Value::Int(v) => Some(AnyReply::Value(Some(v))),
             _ => None,
         },
@@ -115,8 +159,24 @@ pub fn reply_of(f: Function, value: Value) -> Option<AnyReply>
             Value::False => Some(AnyReply::NotSwapped),
             _ => None,
         },
-        Function::Acquire | Function::Release => match value {
+        Function::Acquire
+        | Function::Release
+        | Function::Clear
+        | Function::Assoc
+        | Function::Dissoc
+        | Function::LockBy
+        | Function::UnlockBy => match value {
             Value::Nil => Some(AnyReply::Value(None)),
+            _ => None,
+        },
+        Function::Create
+        | Function::PutIfAbsent
+        | Function::Replace
+        | Function::Add
+        | Function::Remove
+        | Function::Has => match value {
+            Value::True => Some(AnyReply::Flag(true)),
+            Value::False => Some(AnyReply::Flag(false)),
             _ => None,
         },
     }
@@ -133,6 +193,7 @@ pub fn value_of_reply(reply: &AnyReply) -> Value
         AnyReply::Value(None) => Value::Nil,
         AnyReply::Value(Some(v)) => Value::Int(v),
         AnyReply::Swapped(expected, new) => Value::Pair(expected, new),
-        AnyReply::NotSwapped => Value::False,
+        AnyReply::NotSwapped | AnyReply::Flag(false) => Value::False,
+        AnyReply::Flag(true) => Value::True,
     }
 }

@@ -5,7 +5,7 @@ use Rattle.std.proofs.lemmas.Bool.{le-leb}
 use Rattle.model.specs.declared.AnyOp.{AnyOp}
 use Rattle.model.specs.declared.AnyOp.TheVariants as op
 use Rattle.seq_objects.specs.declared.value.Value.{Value}
-use Rattle.seq_objects.specs.declared.value.Value.TheVariants.{Nil, False, Int, Pair}
+use Rattle.seq_objects.specs.declared.value.Value.TheVariants.{Nil, False, True, Int, Pair, Triple}
 use Rattle.seq_objects.specs.Functions.{name_of}
 use Rattle.seq_objects.specs.Values.{function_in, op_with, op_value, reply_value, reply_with}
 use Rattle.events.specs.declared.event.Action.{Action}
@@ -50,8 +50,10 @@ client_is l low =
 value_back : (v : Value) → plain_value (value_form v) ≡ Some v
 value_back Nil = refl
 value_back False = refl
+value_back True = refl
 value_back (Int z) = refl
 value_back (Pair a b) = refl
+value_back (Triple a b c) = refl
 
 op_back : (o : AnyOp) → op_with (function_in o) (op_value o) ≡ Some o
 op_back (op.Enqueue v) = refl
@@ -68,6 +70,19 @@ op_back (op.Get k) = refl
 op_back (op.Del k) = refl
 op_back op.Acquire = refl
 op_back op.Release = refl
+op_back op.Clear = refl
+op_back (op.Create v) = refl
+op_back (op.PutIfAbsent k v) = refl
+op_back (op.Replace k a b) = refl
+op_back (op.Assoc k v) = refl
+op_back (op.Dissoc k) = refl
+op_back (op.Add v) = refl
+op_back (op.Remove v) = refl
+op_back (op.Has v) = refl
+op_back (op.FetchAdd n) = refl
+op_back op.GetCount = refl
+op_back (op.LockBy o) = refl
+op_back (op.UnlockBy o) = refl
 
 -- a line that follows says its action
 pub action_is : (l : Line) (last : Option Line) → Follows last l → action_of (map_of l).type (map_of l) ≡ Some l.event.action

@@ -36,6 +36,19 @@ function_named (op.Get k) = refl
 function_named (op.Del k) = refl
 function_named op.Acquire = refl
 function_named op.Release = refl
+function_named op.Clear = refl
+function_named (op.Create v) = refl
+function_named (op.PutIfAbsent k v) = refl
+function_named (op.Replace k a b) = refl
+function_named (op.Assoc k v) = refl
+function_named (op.Dissoc k) = refl
+function_named (op.Add v) = refl
+function_named (op.Remove v) = refl
+function_named (op.Has v) = refl
+function_named (op.FetchAdd n) = refl
+function_named op.GetCount = refl
+function_named (op.LockBy o) = refl
+function_named (op.UnlockBy o) = refl
 
 type_named : (a : Action) → is_name (type_of a) ≡ true
 unfolding is_name

@@ -12,7 +12,7 @@ use Rattle.edn_reader.specs.Text.{InProfile}
 use Rattle.edn_reader.specs.Laws.{EachSpelled}
 use Rattle.edn_reader.proofs.Joined.{text_spells_it, lines_spell_them}
 use Rattle.seq_objects.specs.declared.value.Value.{Value}
-use Rattle.seq_objects.specs.declared.value.Value.TheVariants.{Nil, False, Int, Pair}
+use Rattle.seq_objects.specs.declared.value.Value.TheVariants.{Nil, False, True, Int, Pair, Triple}
 use Rattle.seq_objects.specs.Functions.{kind_of_function}
 use Rattle.seq_objects.specs.Values.{function_in}
 use Rattle.events.specs.declared.event.Action.{Action}
@@ -234,8 +234,10 @@ invocation_event c x t y op (Returned u a ∷ js) i = elim i [
 value_fits : (n : ℕ) → 0 < n → (v : Value) → Fits n (value_form v)
 value_fits n low Nil = tt
 value_fits n low False = tt
+value_fits n low True = tt
 value_fits n low (Int z) = tt
 value_fits n low (Pair a b) = (low, (tt, (tt, tt)))
+value_fits n low (Triple a b c) = (low, (tt, (tt, (tt, tt))))
 
 form_fits : (l : Line) → Fits max_open (form_of l)
 form_fits l = (

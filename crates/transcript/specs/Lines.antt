@@ -1,6 +1,6 @@
 -- The lines of a record: each client event with the operation of its call, and the text of a line.
-use Rattle.std.specs.Prelude.{◌≡◌, ℕ, ◌+◌, ◌<◌, ◌==◌, false, pos, List, [], ◌∷◌, ◌++◌, Option, Some}
-use Rattle.std.specs.Prelude.{None, AllPairs, filter, map, codes}
+use Rattle.std.specs.Prelude.{◌≡◌, ℕ, ◌+◌, ◌<◌, ◌==◌, false, true, pos, List, [], ◌∷◌, ◌++◌}
+use Rattle.std.specs.Prelude.{Option, Some, None, AllPairs, filter, map, codes}
 use Rattle.edn_reader.specs.Datum.{Datum, nil, boolean, integer, keyword, atom, vector, dictionary}
 use Rattle.edn_reader.specs.Datum.{item}
 use Rattle.edn_reader.specs.Datum.{no_items, entry, no_entries}
@@ -9,7 +9,8 @@ use Rattle.model.specs.declared.AnyOp.{AnyOp}
 use Rattle.seq_objects.specs.Functions.{name_of}
 use Rattle.seq_objects.specs.Values.{function_in, op_value, reply_value}
 use Rattle.seq_objects.specs.declared.value.Value.{Value}
-use Rattle.seq_objects.specs.declared.value.Value.TheVariants.{Nil, False, Int, Pair}
+use Rattle.seq_objects.specs.declared.value.Value.TheVariants.{Nil, False, True, Int, Pair}
+use Rattle.seq_objects.specs.declared.value.Value.TheVariants.{Triple}
 use Rattle.desk_model.specs.declared.JournalEvent.TheVariants.{Invoked, Returned}
 use Rattle.desk_model.specs.World.{AnyEvent}
 use Rattle.events.specs.declared.event.Action.{Action}
@@ -63,8 +64,11 @@ events_in ls = map (λ l. l.event) ls
 abbrev pub value_form : Value → Datum
 value_form Nil = atom nil
 value_form False = atom (boolean false)
+value_form True = atom (boolean true)
 value_form (Int z) = atom (integer z)
 value_form (Pair a b) = vector (item (atom (integer a)) (item (atom (integer b)) no_items))
+value_form (Triple a b c) = vector
+    (item (atom (integer a)) (item (atom (integer b)) (item (atom (integer c)) no_items)))
 
 -- the value of :type
 abbrev pub type_of : Action → List ℕ

@@ -4,16 +4,22 @@ use Rattle.std.specs.Fmt.{signed_decimal}
 use Rattle.seq_objects.specs.Functions.{name_of}
 use Rattle.seq_objects.specs.Values.{function_in}
 use Rattle.seq_objects.specs.declared.value.Value.{Value}
-use Rattle.seq_objects.specs.declared.value.Value.TheVariants.{Nil, False, Int, Pair}
+use Rattle.seq_objects.specs.declared.value.Value.TheVariants.{Nil, False, True, Int, Pair}
+use Rattle.seq_objects.specs.declared.value.Value.TheVariants.{Triple}
 use Rattle.transcript.specs.declared.line.Line.{Line}
 use Rattle.transcript.specs.Lines.{type_of, value_of}
 
 abbrev pub value_text : Value → List ℕ
 value_text Nil = codes "nil"
 value_text False = codes "false"
+value_text True = codes "true"
 value_text (Int z) = signed_decimal z
 value_text (Pair a b) =
     codes "[" ++ (signed_decimal a ++ (codes " " ++ (signed_decimal b ++ codes "]")))
+value_text (Triple a b c) =
+    codes "["
+    ++ (signed_decimal a
+    ++ (codes " " ++ (signed_decimal b ++ (codes " " ++ (signed_decimal c ++ codes "]")))))
 
 abbrev pub process_text : Line → List ℕ
 process_text l =

@@ -39,6 +39,20 @@ fn value_in(line: &Line) -> Value
     }
 }
 
+/// The last two integers of a vector, and its bracket.
+fn write_last_two<S: Sink>(a: i64, b: i64, sink: &mut S) -> Result<(), Failed>
+    requires { S.broken sink.old ≡ false }
+    ensures ok { OnOk result (Appends (S.sent sink.old) (S.sent sink.new)
+        (signed_decimal a ++ (codes " " ++ (signed_decimal b ++ codes "]")))) }
+    ensures in_profile { OnOk result (IsInt64 a × IsInt64 b) }
+    ensures usable { OnOk result (S.broken sink.new ≡ false) }
+{
+    write_integer(a, sink)?;
+    write_bytes(b" ", sink)?;
+    write_integer(b, sink)?;
+    write_bytes(b"]", sink)
+}
+
 fn write_pair<S: Sink>(a: i64, b: i64, sink: &mut S) -> Result<(), Failed>
     requires { S.broken sink.old ≡ false }
     ensures ok { OnOk result (Appends (S.sent sink.old) (S.sent sink.new) (codes "["
@@ -47,10 +61,32 @@ fn write_pair<S: Sink>(a: i64, b: i64, sink: &mut S) -> Result<(), Failed>
     ensures usable { OnOk result (S.broken sink.new ≡ false) }
 {
     write_bytes(b"[", sink)?;
+    write_last_two(a, b, sink)
+}
+
+/// The last three integers of a vector, and its bracket.
+fn write_last_three<S: Sink>(a: i64, b: i64, c: i64, sink: &mut S) -> Result<(), Failed>
+    requires { S.broken sink.old ≡ false }
+    ensures ok { OnOk result (Appends (S.sent sink.old) (S.sent sink.new) (signed_decimal a
+        ++ (codes " " ++ (signed_decimal b ++ (codes " " ++ (signed_decimal c ++ codes "]")))))) }
+    ensures in_profile { OnOk result (IsInt64 a × IsInt64 b × IsInt64 c) }
+    ensures usable { OnOk result (S.broken sink.new ≡ false) }
+{
     write_integer(a, sink)?;
     write_bytes(b" ", sink)?;
-    write_integer(b, sink)?;
-    write_bytes(b"]", sink)
+    write_last_two(b, c, sink)
+}
+
+fn write_triple<S: Sink>(a: i64, b: i64, c: i64, sink: &mut S) -> Result<(), Failed>
+    requires { S.broken sink.old ≡ false }
+    ensures ok { OnOk result (Appends (S.sent sink.old) (S.sent sink.new) (codes "["
+        ++ (signed_decimal a ++ (codes " " ++ (signed_decimal b ++ (codes " "
+        ++ (signed_decimal c ++ codes "]"))))))) }
+    ensures in_profile { OnOk result (IsInt64 a × IsInt64 b × IsInt64 c) }
+    ensures usable { OnOk result (S.broken sink.new ≡ false) }
+{
+    write_bytes(b"[", sink)?;
+    write_last_three(a, b, c, sink)
 }
 
 fn write_value<S: Sink>(value: Value, sink: &mut S) -> Result<(), Failed>
@@ -62,8 +98,10 @@ fn write_value<S: Sink>(value: Value, sink: &mut S) -> Result<(), Failed>
     match value {
         Value::Nil => write_bytes(b"nil", sink),
         Value::False => write_bytes(b"false", sink),
+        Value::True => write_bytes(b"true", sink),
         Value::Int(n) => write_integer(n, sink),
         Value::Pair(a, b) => write_pair(a, b, sink),
+        Value::Triple(a, b, c) => write_triple(a, b, c, sink),
     }
 }
 

@@ -3,9 +3,9 @@ use Rattle.std.proofs.lemmas.Int.{ints}
 use Rattle.std.specs.Prelude.{Option, Some, None, IfSome}
 use Rattle.edn_reader.specs.Spells.{EndsToken}
 use Rattle.seq_objects.specs.declared.value.Value.{Value}
-use Rattle.seq_objects.specs.declared.value.Value.TheVariants.{Nil, False}
+use Rattle.seq_objects.specs.declared.value.Value.TheVariants.{Nil, False, True}
 use Rattle.history.specs.UsualForms.{ReadsValue}
-use Rattle.history.proofs.UsualForms.{nil_here, false_here, integer_here}
+use Rattle.history.proofs.UsualForms.{nil_here, false_here, true_here, integer_here}
 use Rattle.history.proofs.usual.value_at.Goals as goal
 
 word : (text w : List ℕ) (v : Value) (r : Option (Value × Bor (List ℕ))) → ((rest : List ℕ) → EndsToken rest → text ≡ w ++ rest → ReadsValue text v rest)
@@ -18,6 +18,10 @@ returns-in-110 c = word c.args.text.now (codes "nil") Nil c.word_at.result (nil_
 
 pub returns-in-102 : goal.returns-in-102
 returns-in-102 c = word c.args.text.now (codes "false") False c.word_at-in-102.result (false_here c.args.text.now) c.word_at-in-102.ensures
+
+pub returns-in-116 : goal.returns-in-116
+returns-in-116 c = word c.args.text.now (codes "true") True c.word_at-in-116.result
+    (true_here c.args.text.now) c.word_at-in-116.ensures
 
 pub returns-in_ok-number-in_default : goal.returns-in_ok-number-in_default
 returns-in_ok-number-in_default c =

@@ -1,0 +1,72 @@
+-- An element that was added or removed, put back.
+use Rattle.std.proofs.Common.{◌≡◌, ℤ, Bool, true, false, not, ◌||◌, ◌&&◌, Ordering, Less, Equal, Greater}
+use Rattle.std.proofs.Common.{refl, ap, sym, ◌∙◌}
+use Rattle.std.specs.Ordering.{int_cmp, is_eq}
+use Rattle.std.specs.Cmp.{int_cmp_total}
+use Rattle.std.specs.FinSet.{contains, insert, remove, contains-insert, contains-remove, same_set}
+use Rattle.std.specs.FinSet.{int_cmp-IsAntisymmetric}
+use Rattle.model.specs.declared.AnyOp.{AnyOp}
+use Rattle.model.specs.declared.AnyOp.TheVariants.{Add, Remove}
+use Rattle.model.specs.declared.AnyReply.TheVariants.{Flag}
+use Rattle.model.specs.Objects.{Elements, next, elements}
+use Rattle.search.specs.declared.step.Undo.TheVariants.{SetElement}
+use Rattle.search.specs.Undoing.{undone, IsStep}
+use Rattle.search.proofs.Keys.{answer, same_answer}
+
+-- the two sets agree on each element other than v
+abbrev Alike : Elements → Elements → ℤ → Type 0
+Alike s t v = (q : ℤ) → is_eq (int_cmp q v) ≡ false → contains t q ≡ contains s q
+
+added : (s t : Elements) (v q : ℤ) (r : Ordering) → r ≡ int_cmp q v → Alike s t v → true ≡ contains s v
+    → (is_eq r || contains t q) ≡ contains s q
+added s t v q Less e alike at = alike q (ap is_eq (sym e))
+added s t v q Equal e alike at = at ∙ ap (contains s) (sym (int_cmp-IsAntisymmetric q v (sym e)))
+added s t v q Greater e alike at = alike q (ap is_eq (sym e))
+
+removed : (s t : Elements) (v q : ℤ) (r : Ordering) → r ≡ int_cmp q v → Alike s t v → false ≡ contains s v
+    → (not (is_eq r) && contains t q) ≡ contains s q
+removed s t v q Less e alike at = alike q (ap is_eq (sym e))
+removed s t v q Equal e alike at = at ∙ ap (contains s) (sym (int_cmp-IsAntisymmetric q v (sym e)))
+removed s t v q Greater e alike at = alike q (ap is_eq (sym e))
+
+back : (s t : Elements) (v : ℤ) (was : Bool) → Alike s t v → was ≡ contains s v
+    → undone (SetElement v was) (elements t) ≡ elements s
+back s t v true alike at =
+    ap elements (same_set int_cmp_total int_cmp-IsAntisymmetric _ _ (λ q.
+    contains-insert int_cmp_total t v q ∙ added s t v q (int_cmp q v) refl alike at))
+back s t v false alike at =
+    ap elements (same_set int_cmp_total int_cmp-IsAntisymmetric _ _ (λ q.
+    contains-remove int_cmp_total t v q ∙ removed s t v q (int_cmp q v) refl alike at))
+
+alike_added : (s : Elements) (v : ℤ) → Alike s (insert s v) v
+alike_added s v q ne = contains-insert int_cmp_total s v q ∙ ap (λ b. b || contains s q) ne
+
+alike_removed : (s : Elements) (v : ℤ) → Alike s (remove s v) v
+alike_removed s v q ne = contains-remove int_cmp_total s v q ∙ ap (λ b. not b && contains s q) ne
+
+not_not : (a b : Bool) → a ≡ not b → not a ≡ b
+not_not true true e = absurd (cc e)
+not_not true false e = refl
+not_not false true e = refl
+not_not false false e = absurd (cc e)
+
+pub add_step : (s t : Elements) (v : ℤ) (so : Bool) (op : AnyOp) → op ≡ Add v
+    → next (elements s) (Add v) ≡ answer (elements t) (Flag so)
+    → IsStep (elements s) op (elements t) record { reply = Flag so; undo = SetElement v (not so) }
+add_step s t v so op is e =
+    let both = same_answer (elements t) (elements (insert s v)) (Flag so) (Flag (not (contains s v))) (sym e) in
+    let told : so ≡ not (contains s v) = cc (both.1) in record {
+      does = ap (next (elements s)) is ∙ e;
+      back = ap (undone (SetElement v (not so))) both.0
+          ∙ back s (insert s v) v (not so) (alike_added s v) (not_not so (contains s v) told);
+    }
+
+pub remove_step : (s t : Elements) (v : ℤ) (so : Bool) (op : AnyOp) → op ≡ Remove v
+    → next (elements s) (Remove v) ≡ answer (elements t) (Flag so)
+    → IsStep (elements s) op (elements t) record { reply = Flag so; undo = SetElement v so }
+remove_step s t v so op is e =
+    let both = same_answer (elements t) (elements (remove s v)) (Flag so) (Flag (contains s v)) (sym e) in
+    let told : so ≡ contains s v = cc (both.1) in record {
+      does = ap (next (elements s)) is ∙ e;
+      back = ap (undone (SetElement v so)) both.0 ∙ back s (remove s v) v so (alike_removed s v) told;
+    }
