@@ -24,13 +24,13 @@
  * The reply of enqueue, push, insert and write is their argument: where the reply is nil, the argument
  * is written, and recorder_text gives NULL where it is anything else. The reply of cas is its pair where
  * it swapped, else fcbench_false(). That of put and del is what was there before, or nil where nothing
- * was: a store that does not tell it has no put, and each of its keys is a register.
+ * was: a store that does not tell it has assoc and dissoc, whose reply is nil. So is that of clear,
+ * acquire, release, lock and unlock. That of add, remove, contains, create, put-if-absent and replace is
+ * fcbench_truth of what the call says, and that of fetch-add the number before.
  *
- * What a call was may be known only when it has returned, as put-if-absent, which is a put or a get.
- * Invoke it as the put, since if it times out, it may have put, and end it with journal_return_as. A
- * fetch-and-add that found n is a cas, whose argument and reply are fcbench_pair(n, n + 1). Invoke it as
- * a cas of any pair: journal_return_as sets the right one. If one times out, end the round and leave the
- * history out: its n is not known, and a right counter could get a no.
+ * What a call was may be known only when it has returned, as a put-if-absent that gives the value that it
+ * found, which is a get then. Invoke it as put-if-absent, since if it times out, it may have put, and end
+ * it with journal_return_as.
  *
  * An empty queue is a reply and no failure: where the dequeue finds nothing, return fcbench_nil().
  *
@@ -51,18 +51,23 @@
 #include <stdlib.h>
 #include <string.h>
 
-/* An argument or a reply: nil, false, a number, or a pair of numbers. */
-enum fcbench_shape { FCBENCH_NIL, FCBENCH_FALSE, FCBENCH_NUMBER, FCBENCH_PAIR };
+/* An argument or a reply: nil, a truth value, a number, or a vector of two or three numbers. */
+enum fcbench_shape { FCBENCH_NIL, FCBENCH_FALSE, FCBENCH_TRUE, FCBENCH_NUMBER, FCBENCH_PAIR, FCBENCH_TRIPLE };
 
 struct fcbench_value {
     enum fcbench_shape shape;
-    int64_t first, second;
+    int64_t first, second, third;
 };
 
-static inline struct fcbench_value fcbench_nil(void) { return (struct fcbench_value){FCBENCH_NIL, 0, 0}; }
-static inline struct fcbench_value fcbench_false(void) { return (struct fcbench_value){FCBENCH_FALSE, 0, 0}; }
-static inline struct fcbench_value fcbench_number(int64_t n) { return (struct fcbench_value){FCBENCH_NUMBER, n, 0}; }
-static inline struct fcbench_value fcbench_pair(int64_t a, int64_t b) { return (struct fcbench_value){FCBENCH_PAIR, a, b}; }
+static inline struct fcbench_value fcbench_nil(void) { return (struct fcbench_value){FCBENCH_NIL, 0, 0, 0}; }
+static inline struct fcbench_value fcbench_false(void) { return (struct fcbench_value){FCBENCH_FALSE, 0, 0, 0}; }
+static inline struct fcbench_value fcbench_truth(int is_so) { return (struct fcbench_value){is_so ? FCBENCH_TRUE : FCBENCH_FALSE, 0, 0, 0}; }
+static inline struct fcbench_value fcbench_number(int64_t n) { return (struct fcbench_value){FCBENCH_NUMBER, n, 0, 0}; }
+static inline struct fcbench_value fcbench_pair(int64_t a, int64_t b) { return (struct fcbench_value){FCBENCH_PAIR, a, b, 0}; }
+/* The argument of replace: a key, what is expected and what is new. */
+static inline struct fcbench_value fcbench_triple(int64_t key, int64_t expected, int64_t value) {
+    return (struct fcbench_value){FCBENCH_TRIPLE, key, expected, value};
+}
 
 /* How a call ended. One that is pending at the end is written with :info. */
 enum recorded_end { RECORDED_PENDING, RECORDED_OK, RECORDED_FAIL };
@@ -221,8 +226,12 @@ static inline void recorder_map(struct recorder_text *text, const struct recorde
     switch (value.shape) {
     case FCBENCH_NIL: recorder_print(text, "nil"); break;
     case FCBENCH_FALSE: recorder_print(text, "false"); break;
+    case FCBENCH_TRUE: recorder_print(text, "true"); break;
     case FCBENCH_NUMBER: recorder_print(text, "%" PRId64, value.first); break;
     case FCBENCH_PAIR: recorder_print(text, "[%" PRId64 " %" PRId64 "]", value.first, value.second); break;
+    case FCBENCH_TRIPLE:
+        recorder_print(text, "[%" PRId64 " %" PRId64 " %" PRId64 "]", value.first, value.second, value.third);
+        break;
     }
     recorder_print(text, ", :object %u}\n", (unsigned)call->object);
 }
@@ -256,19 +265,35 @@ static inline int recorded_is_put(const char *function) {
         || strcmp(function, "write") == 0;
 }
 
+/* Whether the reply of a function is a truth value. */
+static inline int recorded_is_question(const char *function) {
+    static const char *const questions[] = {"add", "remove", "contains", "create", "put-if-absent", "replace"};
+    for (size_t at = 0; at < sizeof questions / sizeof *questions; at++) {
+        if (strcmp(function, questions[at]) == 0)
+            return 1;
+    }
+    return 0;
+}
+
 /* The reply as it is written: nil of a function that puts a value in is its argument. */
 static inline struct fcbench_value recorded_reply(const struct recorded_call *call) {
     return call->end == RECORDED_OK && call->reply.shape == FCBENCH_NIL && recorded_is_put(call->function) ? call->argument : call->reply;
 }
 
 static inline int recorded_is_same(struct fcbench_value one, struct fcbench_value other) {
-    return one.shape == other.shape && one.first == other.first && one.second == other.second;
+    return one.shape == other.shape && one.first == other.first && one.second == other.second && one.third == other.third;
 }
 
-/* Whether each reply that is to be the argument of its call is. Of one that is not, it says so on standard error. */
+/* Whether each reply that is to be the argument of its call is, and each that is to be a truth value. Of one that is not, it says so on
+ * standard error. */
 static inline int recorder_has_replies(const struct recorder_event *events, uint64_t tickets) {
     for (uint64_t ticket = 0; ticket < tickets; ticket++) {
         const struct recorded_call *call = events[ticket].call;
+        int is_truth = call->reply.shape == FCBENCH_TRUE || call->reply.shape == FCBENCH_FALSE;
+        if (call->end == RECORDED_OK && recorded_is_question(call->function) && !is_truth) {
+            fprintf(stderr, "recorder: a reply of %s is neither true nor false\n", call->function);
+            return 0;
+        }
         if (call->end == RECORDED_OK && recorded_is_put(call->function) && !recorded_is_same(recorded_reply(call), call->argument)) {
             fprintf(stderr, "recorder: a reply of %s is not its argument: let it be nil\n", call->function);
             return 0;

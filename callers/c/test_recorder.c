@@ -298,6 +298,33 @@ static void calls_that_are_known_when_they_returned(void) {
     want_text(&recorder, wanted, "calls that are known when they returned");
 }
 
+/* A set, a counter, a lock, and a map that does not tell what was there. */
+static void sets_counters_and_locks(void) {
+    struct recorder recorder;
+    recorder_open(&recorder, 1);
+    recorder.yields = 0;
+    struct journal *journal = &recorder.journals[0];
+    JOURNAL_CALL(journal, 0, "add", fcbench_number(7), fcbench_truth(1));
+    JOURNAL_CALL(journal, 0, "add", fcbench_number(7), fcbench_truth(0));
+    JOURNAL_CALL(journal, 1, "fetch-add", fcbench_number(2), fcbench_number(0));
+    JOURNAL_CALL(journal, 2, "lock", fcbench_number(1), fcbench_nil());
+    JOURNAL_CALL(journal, 3, "assoc", fcbench_pair(1, 10), fcbench_nil());
+    JOURNAL_CALL(journal, 3, "replace", fcbench_triple(1, 10, 11), fcbench_truth(1));
+    static const char wanted[] = "{:process 0, :type :invoke, :f :add, :value 7, :object 0}\n"
+                                 "{:process 0, :type :ok, :f :add, :value true, :object 0}\n"
+                                 "{:process 0, :type :invoke, :f :add, :value 7, :object 0}\n"
+                                 "{:process 0, :type :ok, :f :add, :value false, :object 0}\n"
+                                 "{:process 0, :type :invoke, :f :fetch-add, :value 2, :object 1}\n"
+                                 "{:process 0, :type :ok, :f :fetch-add, :value 0, :object 1}\n"
+                                 "{:process 0, :type :invoke, :f :lock, :value 1, :object 2}\n"
+                                 "{:process 0, :type :ok, :f :lock, :value nil, :object 2}\n"
+                                 "{:process 0, :type :invoke, :f :assoc, :value [1 10], :object 3}\n"
+                                 "{:process 0, :type :ok, :f :assoc, :value nil, :object 3}\n"
+                                 "{:process 0, :type :invoke, :f :replace, :value [1 10 11], :object 3}\n"
+                                 "{:process 0, :type :ok, :f :replace, :value true, :object 3}\n";
+    want_text(&recorder, wanted, "sets, counters and locks");
+}
+
 /* Of five calls the second and third overlap, and the fourth and the one that did not return. */
 static void overlap(void) {
     struct recorder recorder;
@@ -322,6 +349,7 @@ int main(int count, char **words) {
     replies_of_calls_that_give_nothing();
     calls_that_may_fail();
     calls_that_are_known_when_they_returned();
+    sets_counters_and_locks();
     overlap();
     for (int run = 0; run < runs; run++) {
         judge_run(false);

@@ -132,7 +132,7 @@
   (is (false? (:valid? (judged (concat (done 0 :acquire nil 1) (done 1 :acquire nil 2)))))))
 
 (deftest what-the-profile-lacks
-  (is (= {:valid? :unknown, :reason ["operation 0: :txn is none of the functions :enqueue, :dequeue, :push, :pop, :insert, :extract-min, :write, :read, :cas, :put, :get, :del, :acquire, :release"]}
+  (is (= {:valid? :unknown, :reason ["operation 0: :txn is none of the functions :enqueue, :dequeue, :push, :pop, :insert, :extract-min, :write, :read, :cas, :clear, :create, :put, :get, :del, :put-if-absent, :replace, :assoc, :dissoc, :acquire, :release, :add, :remove, :contains, :fetch-add, :get-count, :lock, :unlock"]}
          (judged [{:process 0, :type :invoke, :f :txn, :value [[:r 1 nil]]}])))
   (is (= {:valid? :unknown, :reason ["operation 1: #{1} cannot be the reply of :read, which is an integer, string or keyword, or nil"]}
          (judged [{:process 0, :type :invoke, :f :read, :value nil} {:process 0, :type :ok, :f :read, :value #{1}}])))

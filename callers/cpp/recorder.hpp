@@ -21,14 +21,13 @@
 //
 // The reply of enqueue, push, insert and write is their argument: where the call gives nothing, it is written. `history` throws
 // where the call gives anything else, as a length. The reply of cas is its pair where it swapped, else Value::no(). That of put and
-// del is what was there before, or std::nullopt where nothing was: a store that does not tell it has no put, and each of its keys is
-// a register.
+// del is what was there before, or std::nullopt where nothing was: a store that does not tell it has assoc and dissoc, whose reply is
+// nothing. So is that of clear, acquire, release, lock and unlock. That of add, remove, contains, create, put-if-absent and replace is
+// Value::truth of what the call says, and that of fetch-add the number before.
 //
-// What a call was may be known only when it has returned, as put-if-absent, which is a put or a get. `invoke` it as the put, since if
-// it times out, it may have put, and end it with returned_as("put", {k, v}, std::nullopt) or returned_as("get", k, found). A
-// fetch-and-add that found n is returned_as("cas", {n, n + 1}, fcbench::Value(n, n + 1)). `invoke` it as a cas of any pair:
-// returned_as sets the right one. If one times out, end the round and leave the history out: its n is not known, and a right counter
-// could get a no.
+// What a call was may be known only when it has returned, as a put-if-absent that gives the value that it found, which is a get then.
+// `invoke` it as put-if-absent, since if it times out, it may have put, and end it with
+// returned_as("put-if-absent", {k, v}, Value::truth(true)) or returned_as("get", k, found).
 //
 // An empty queue is a reply and no failure, so use `call` for `bool try_pop(int &out)`:
 //     journal.call("dequeue", std::nullopt, [&] { int out; return queue.try_pop(out) ? std::optional(out) : std::nullopt; });
@@ -55,7 +54,7 @@
 
 namespace fcbench {
 
-// An argument or a reply: nil, false, a number, or a pair of numbers.
+// An argument or a reply: nil, a truth value, a number, or a vector of two or three numbers.
 class Value {
     template <class T>
     using if_bool = std::enable_if_t<std::is_same_v<T, bool>, int>;
@@ -73,17 +72,24 @@ public:
     Value(std::optional<T> number) : text_(number ? digits(*number) : "nil") {}
 
     template <class T, if_bool<T> = 0>
-    Value(T) = delete; // a bool is no argument or reply: give the number of your element, or `no` where a cas did not swap
+    Value(T) = delete; // a bool is no argument or reply: give the number of your element, `no` where a cas did not swap, or `truth`
 
     template <class T, class U, if_number<T> = 0, if_number<U> = 0>
     Value(T first, U second) : text_("[" + digits(first) + " " + digits(second) + "]") {}
 
-    // A compare-and-set that found another value.
-    static Value no() {
+    // The argument of replace: a key, what is expected and what is new.
+    template <class T, class U, class V, if_number<T> = 0, if_number<U> = 0, if_number<V> = 0>
+    Value(T key, U expected, V value) : text_("[" + digits(key) + " " + digits(expected) + " " + digits(value) + "]") {}
+
+    // The reply of add, remove, contains, create, put-if-absent and replace.
+    static Value truth(bool is_so) {
         Value value;
-        value.text_ = "false";
+        value.text_ = is_so ? "true" : "false";
         return value;
     }
+
+    // A compare-and-set that found another value.
+    static Value no() { return truth(false); }
 
     // No reply: it is enough for functions whose reply is known, as enqueue and acquire.
     static Value not_given() {
@@ -148,10 +154,10 @@ public:
 
     // Makes a call that may fail, and records it. `act` gives what is false only where the call definitely did not happen: a
     // std::optional of the reply, or a pointer to it, or a bool. A true has no reply, so a bool is for the functions alone whose
-    // reply is known: enqueue, push, insert, write, acquire and release. Otherwise the call is not made and std::logic_error thrown.
+    // reply is known: enqueue, push, insert, write, and those of `is_silent`. Otherwise the call is not made and std::logic_error thrown.
     template <class Act>
     auto try_call_on(std::uint16_t object, const char *function, Value argument, Act act) {
-        if (std::is_same_v<decltype(act()), bool> && !is_put(function) && !is_lock(function)) {
+        if (std::is_same_v<decltype(act()), bool> && !is_put(function) && !is_silent(function)) {
             throw std::logic_error(std::string("a bool is no reply of ") + function + ": give a std::optional of the reply");
         }
         invoke(object, function, std::move(argument));
@@ -239,14 +245,34 @@ private:
         return function == "enqueue" || function == "push" || function == "insert" || function == "write";
     }
 
+    // Whether the reply of a function is a truth value.
+    static bool is_question(const std::string &function) {
+        for (const char *question : {"add", "remove", "contains", "create", "put-if-absent", "replace"}) {
+            if (function == question) {
+                return true;
+            }
+        }
+        return false;
+    }
+
     // Whether the reply of a function is nil.
-    static bool is_lock(const std::string &function) { return function == "acquire" || function == "release"; }
+    static bool is_silent(const std::string &function) {
+        for (const char *silent : {"acquire", "release", "lock", "unlock", "assoc", "dissoc", "clear"}) {
+            if (function == silent) {
+                return true;
+            }
+        }
+        return false;
+    }
 
     // Throws where the reply of a call is missing, or is to be its argument and is not.
     void want_replies() const {
         for (std::size_t at = 1; at < events_.size(); at++) {
             const Event &call = events_[at - 1], &end = events_[at];
-            if (end.type == std::string("ok") && !end.value.is_given() && !is_lock(end.function)) {
+            if (end.type == std::string("ok") && is_question(end.function) && end.value.text() != "true" && end.value.text() != "false") {
+                throw std::logic_error(end.function + (" replied " + end.value.text()) + ", and neither true nor false");
+            }
+            if (end.type == std::string("ok") && !end.value.is_given() && !is_silent(end.function)) {
                 throw std::logic_error(end.function + std::string(" was given no reply: std::nullopt says that nothing was there"));
             }
             if (end.type == std::string("ok") && is_put(end.function) && end.value.text() != call.value.text()) {

@@ -390,33 +390,30 @@ static void values() {
     }
 }
 
-// A set, as a map in which the value of each element is 1.
-class Set {
-public:
-    bool add(int key) { return keys_.insert(key).second; }
-    bool remove(int key) { return keys_.erase(key) == 1; }
-    bool contains(int key) const { return keys_.count(key) == 1; }
-
-private:
-    std::set<int> keys_;
-};
-
-static void a_set() {
+// A set, a counter, a lock, and a map that does not tell what was there.
+static void sets_counters_and_locks() {
     fcbench::Recorder recorder(false);
     std::vector<fcbench::Journal> journals;
     journals.push_back(recorder.journal());
     fcbench::Journal &journal = journals[0];
-    Set set;
-    journal.call("put", {7, 1}, [&] { return set.add(7) ? std::nullopt : std::optional(1); });
-    journal.call("get", 7, [&] { return set.contains(7) ? std::optional(1) : std::nullopt; });
-    for (int key : {7, 7}) { // at first it is there
-        journal.call("put", {key, 1}, [&] { return set.add(key) ? std::nullopt : std::optional(1); });
-        journal.call("del", key, [&] { return set.remove(key) ? std::optional(1) : std::nullopt; });
-        journal.call("get", key, [&] { return set.contains(key) ? std::optional(1) : std::nullopt; });
+    std::set<int> set;
+    using fcbench::Value;
+    for (int element : {7, 7}) { // the second time it is there
+        journal.call("add", element, [&] { return fcbench::Value::truth(set.insert(element).second); });
+        journal.call("contains", element, [&] { return fcbench::Value::truth(set.count(element) == 1); });
     }
-    journal.call("del", 7, [&] { return set.remove(7) ? std::optional(1) : std::nullopt; });
-    const auto answer = fcbench::judge(recorder.history(journals));
-    want(answer.lines().rfind("yes: 9 operations", 0) == 0, "a set is linearizable", answer.lines());
+    journal.call("remove", 7, [&] { return Value::truth(set.erase(7) == 1); });
+    std::atomic<int> counter{0};
+    journal.call_on(1, "fetch-add", 2, [&] { return counter.fetch_add(2); });
+    journal.call_on(1, "get-count", std::nullopt, [&] { return counter.load(); });
+    journal.call_on(2, "lock", 1, [] {});
+    journal.call_on(2, "unlock", 1, [] {});
+    journal.call_on(3, "assoc", {1, 10}, [] {});
+    journal.call_on(3, "replace", {1, 10, 11}, [] { return Value::truth(true); });
+    const std::string text = recorder.history(journals);
+    want(text.find(":f :replace, :value [1 10 11], :object 3") != std::string::npos, "the argument of replace", text);
+    const auto answer = fcbench::judge(text);
+    want(answer.lines().rfind("yes: 11 operations, 4 objects", 0) == 0, "sets, counters and locks", answer.lines());
 }
 
 int main(int count, char **words) {
@@ -432,7 +429,7 @@ int main(int count, char **words) {
     pending_calls();
     failed_calls_and_steps();
     values();
-    a_set();
+    sets_counters_and_locks();
     for (int run = 0; run < runs; run++) {
         judge_run(false);
         judge_run(true);

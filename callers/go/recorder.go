@@ -28,12 +28,13 @@ import (
 //
 // The reply of enqueue, push, insert and write is their argument: where the call gives Nil, the argument is written. History panics
 // where the call gives anything else, as a length. The reply of cas is its pair where it swapped, else False. That of put and del is
-// what was there before, or Nil where nothing was: a store that does not tell it has no put, and each of its keys is a register.
+// what was there before, or Nil where nothing was: a store that does not tell it has assoc and dissoc, whose reply is Nil. So is that of
+// clear, acquire, release, lock and unlock. That of add, remove, contains, create, put-if-absent and replace is Truth of what the call
+// says, and that of fetch-add the number before.
 //
-// What a call was may be known only when it has returned, as put-if-absent, which is a put or a get. Invoke it as the put, since if it
-// times out, it may have put, and end it with ReturnedAs("put", Pair(k, v), Nil) or ReturnedAs("get", Number(k), Number(found)). A
-// fetch-and-add that found n is ReturnedAs("cas", Pair(n, n+1), Pair(n, n+1)). Invoke it as a cas of any pair: ReturnedAs sets the right
-// one. If one times out, end the round and leave the history out: its n is not known, and a right counter could get a no.
+// What a call was may be known only when it has returned, as a put-if-absent that gives the value that it found, which is a get then.
+// Invoke it as put-if-absent, since if it times out, it may have put, and end it with ReturnedAs("put-if-absent", Pair(k, v), True) or
+// ReturnedAs("get", Number(k), Number(found)).
 //
 // An empty queue is a reply and no failure: where Dequeue gives (int64, bool), give Nil where the bool is false, and use Call.
 //
@@ -55,39 +56,58 @@ const (
 	notGiven shape = iota
 	isNil
 	isFalse
+	isTrue
 	isNumber
 	isPair
+	isTriple
 )
 
 // Value is an argument or a reply. It is written as text only by History, so that no call takes longer for it. The zero Value is no
 // reply: it is enough for functions whose reply is known, as enqueue and acquire.
 type Value struct {
-	shape         shape
-	first, second int64
+	shape                shape
+	first, second, third int64
 }
 
 var (
 	// Nil is nothing, as the argument of dequeue, and its reply where the queue is empty.
 	Nil = Value{shape: isNil}
-	// False is the reply of a cas that found another value.
+	// False is the reply of a cas that found another value, or of a question that is not so.
 	False = Value{shape: isFalse}
+	// True is the reply of a question that is so, as of an add.
+	True = Value{shape: isTrue}
 )
+
+// Truth is the reply of a question, as of contains.
+func Truth(isSo bool) Value {
+	if isSo {
+		return True
+	}
+	return False
+}
 
 // Number is what is enqueued, read, written and so on.
 func Number(n int64) Value { return Value{shape: isNumber, first: n} }
 
 // Pair is the argument of put, a key and a value, and that of cas, what is expected and what is new.
-func Pair(first, second int64) Value { return Value{isPair, first, second} }
+func Pair(first, second int64) Value { return Value{isPair, first, second, 0} }
+
+// Triple is the argument of replace: a key, what is expected and what is new.
+func Triple(key, expected, new int64) Value { return Value{isTriple, key, expected, new} }
 
 // String is the value as a history has it.
 func (v Value) String() string {
 	switch v.shape {
 	case isFalse:
 		return "false"
+	case isTrue:
+		return "true"
 	case isNumber:
 		return fmt.Sprint(v.first)
 	case isPair:
 		return fmt.Sprintf("[%d %d]", v.first, v.second)
+	case isTriple:
+		return fmt.Sprintf("[%d %d %d]", v.first, v.second, v.third)
 	}
 	return "nil"
 }
@@ -211,8 +231,23 @@ func isPut(function string) bool {
 	return function == "enqueue" || function == "push" || function == "insert" || function == "write"
 }
 
-// isLock says whether the reply of a function is nil.
-func isLock(function string) bool { return function == "acquire" || function == "release" }
+// isSilent says whether the reply of a function is nil.
+func isSilent(function string) bool {
+	switch function {
+	case "acquire", "release", "lock", "unlock", "assoc", "dissoc", "clear":
+		return true
+	}
+	return false
+}
+
+// isQuestion says whether the reply of a function is a truth value.
+func isQuestion(function string) bool {
+	switch function {
+	case "add", "remove", "contains", "create", "put-if-absent", "replace":
+		return true
+	}
+	return false
+}
 
 // History is the history, after all goroutines have ended: each event at the place of its ticket. It panics where it is not handed
 // each journal of this recorder once, also those of a history that it made before: without the calls of one of them a correct
@@ -276,7 +311,10 @@ func (r *Recorder) Overlap(journals []*Journal) (share float64, atOnce int) {
 func (j *Journal) wantReplies() {
 	for at := 1; at < len(j.events); at++ {
 		call, end := j.events[at-1], j.events[at]
-		if end.kind == "ok" && end.value.shape == notGiven && !isLock(end.function) {
+		if end.kind == "ok" && isQuestion(end.function) && end.value != True && end.value != False {
+			panic(fmt.Sprintf("%s replied %s, and neither true nor false", end.function, end.value))
+		}
+		if end.kind == "ok" && end.value.shape == notGiven && !isSilent(end.function) {
 			panic(fmt.Sprintf("%s was given no reply: Nil says that nothing was there", end.function))
 		}
 		if end.kind == "ok" && isPut(end.function) && end.value != call.value {

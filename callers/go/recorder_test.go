@@ -294,3 +294,33 @@ func TestSteps(t *testing.T) {
 		t.Fatal(answer)
 	}
 }
+
+// A set, a counter, a lock, and a map that does not tell what was there.
+func TestSetsCountersAndLocks(t *testing.T) {
+	recorder := &Recorder{}
+	journal := recorder.Journal()
+	for _, call := range []struct {
+		function        string
+		argument, reply Value
+		object          uint16
+	}{
+		{"add", Number(7), Truth(true), 0},
+		{"add", Number(7), Truth(false), 0},
+		{"fetch-add", Number(2), Number(0), 1},
+		{"get-count", Nil, Number(2), 1},
+		{"lock", Number(1), Nil, 2},
+		{"unlock", Number(1), Nil, 2},
+		{"assoc", Pair(1, 10), Nil, 3},
+		{"replace", Triple(1, 10, 11), True, 3},
+	} {
+		journal.Invoke(call.object, call.function, call.argument)
+		journal.Returned(call.reply)
+	}
+	text := recorder.History([]*Journal{journal})
+	if !strings.Contains(text, ":f :replace, :value [1 10 11], :object 3") {
+		t.Fatal(text)
+	}
+	if answer := Judge(text); !answer.IsYes() {
+		t.Fatal(answer)
+	}
+}

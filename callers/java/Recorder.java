@@ -7,6 +7,7 @@ import java.util.Map;
 import java.util.Set;
 import java.util.concurrent.atomic.AtomicLong;
 import java.util.function.Supplier;
+import java.util.stream.Collectors;
 
 /**
  * Records the calls of threads on concurrent objects, as a history for fcbench. Copy this file. Needs Java 11.
@@ -32,15 +33,15 @@ import java.util.function.Supplier;
  *
  * <p>A journal that is not handed to {@link #history} takes its calls with it: it throws IllegalStateException then.
  *
- * <p>The reply of enqueue, push, insert and write is their argument, and that of acquire and release is null: such calls are made by
- * {@code run}, which drops what they give, as the boolean of {@code add}. The reply of cas is its pair where it swapped, else false.
- * That of put and del is what was there before, or null where nothing was: a store that does not tell it has no put, and each of its
- * keys is a register.
+ * <p>The reply of enqueue, push, insert and write is their argument, and that of acquire, release, lock, unlock, assoc, dissoc and clear is
+ * null: such calls are made by {@code run}, which drops what they give, as the boolean of a queue's {@code add}. The reply of cas is its
+ * pair where it swapped, else false. That of put and del is what was there before, or null where nothing was: a store that does not tell
+ * it has assoc and dissoc. That of add, remove, contains, create, put-if-absent and replace is a boolean, and that of fetch-add the number
+ * before, as getAndAdd gives it.
  *
- * <p>What a call was may be known only when it has returned, as putIfAbsent, which is a put or a get. Invoke it as the put, since if it
- * times out, it may have put, and end it with {@code returnedAs("put", pair(k, v), null)} or {@code returnedAs("get", k, found)}. A
- * getAndIncrement that found n is {@code returnedAs("cas", pair(n, n + 1), pair(n, n + 1))}. Invoke it as a cas of any pair: returnedAs
- * sets the right one. If one times out, end the round and leave the history out: its n is not known, and a right counter could get a no.
+ * <p>What a call was may be known only when it has returned, as putIfAbsent of a map, which gives the value that it found, and is a get
+ * then. Invoke it as put-if-absent, since if it times out, it may have put, and end it with
+ * {@code returnedAs("put-if-absent", pair(k, v), true)} or {@code returnedAs("get", k, found)}.
  *
  * <p>A call that does not return, as one that throws or times out, may have happened: its operation ends with :info, and the journal
  * goes on as a new process, as Jepsen's threads do. Use {@code failed} and {@link Failed} only where the call definitely did not happen: if a
@@ -79,6 +80,11 @@ public final class Recorder {
         return List.of(first, second);
     }
 
+    /** The argument of replace: a key, what is expected and what is new. */
+    public static Object triple(long key, long expected, long replacement) {
+        return List.of(key, expected, replacement);
+    }
+
     private static final class Event {
         final long ticket, process;
         final int object;
@@ -104,9 +110,14 @@ public final class Recorder {
             return Set.of("enqueue", "push", "insert", "write").contains(function);
         }
 
+        /** Whether the reply of the function is a boolean. */
+        boolean isQuestion() {
+            return Set.of("add", "remove", "contains", "create", "put-if-absent", "replace").contains(function);
+        }
+
         /** Whether the reply of the function is nil. */
-        boolean isLock() {
-            return Set.of("acquire", "release").contains(function);
+        boolean isSilent() {
+            return Set.of("acquire", "release", "lock", "unlock", "assoc", "dissoc", "clear").contains(function);
         }
 
         void appendTo(StringBuilder text) {
@@ -119,13 +130,13 @@ public final class Recorder {
         if (value == null || value == NOT_GIVEN) {
             return "nil";
         }
-        if (Boolean.FALSE.equals(value) || value instanceof Byte || value instanceof Short || value instanceof Integer || value instanceof Long) {
+        if (value instanceof Boolean || value instanceof Byte || value instanceof Short || value instanceof Integer || value instanceof Long) {
             return value.toString();
         }
-        if (value instanceof List && ((List<?>) value).size() == 2) {
-            return "[" + textOf(((List<?>) value).get(0)) + " " + textOf(((List<?>) value).get(1)) + "]";
+        if (value instanceof List && Set.of(2, 3).contains(((List<?>) value).size())) {
+            return ((List<?>) value).stream().map(Recorder::textOf).collect(Collectors.joining(" ", "[", "]"));
         }
-        throw new IllegalStateException(value + " is no argument or reply: give a number, a pair, false or null, or use run");
+        throw new IllegalStateException(value + " is no argument or reply: give a number, a pair, a boolean or null, or use run");
     }
 
     /** A number that looks drawn, for each ticket. */
@@ -245,12 +256,18 @@ public final class Recorder {
         private void wantReplies() {
             for (int at = 1; at < events.size(); at++) {
                 Event call = events.get(at - 1), end = events.get(at);
-                if (end.isOk() && end.value == NOT_GIVEN && !end.isLock()) {
+                if (end.isOk() && end.value == NOT_GIVEN && !end.isSilent()) {
                     throw new IllegalStateException(end.function + " was given no reply: use call, and give null where nothing was there");
+                }
+                if (end.isOk() && end.isQuestion() && !(end.value instanceof Boolean)) {
+                    throw new IllegalStateException(end.function + " replied " + textOf(end.value) + ", and neither true nor false");
                 }
                 if (end.isOk() && end.isPut() && !textOf(end.value).equals(textOf(call.value))) {
                     throw new IllegalStateException(end.function + " replied " + textOf(end.value) + " and not its argument "
                         + textOf(call.value) + ": use run");
+                }
+                if (end.isOk() && !end.isQuestion() && Boolean.TRUE.equals(end.value)) {
+                    throw new IllegalStateException(end.function + " replied true: give its reply, or use run");
                 }
             }
         }

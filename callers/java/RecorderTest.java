@@ -224,21 +224,27 @@ public final class RecorderTest {
             + "{:process 0, :type :ok, :f :cas, :value [3 4], :object 1}\n", "calls that are known when they returned");
     }
 
-    /** A set is a map in which the value of each element is 1. */
-    private static void aSet() throws Exception {
+    /** A set, a counter, a lock, and a map that does not tell what was there. */
+    private static void setsCountersAndLocks() throws Exception {
         Recorder recorder = new Recorder(false);
         Recorder.Journal journal = recorder.journal();
         Set<Long> set = ConcurrentHashMap.newKeySet();
-        journal.call("put", Recorder.pair(7, 1), () -> set.add(7L) ? null : 1);
-        journal.call("get", 7, () -> set.contains(7L) ? 1 : null);
-        for (long key : List.of(7L, 7L)) { // at first it is there
-            journal.call("put", Recorder.pair(key, 1), () -> set.add(key) ? null : 1);
-            journal.call("del", key, () -> set.remove(key) ? 1 : null);
-            journal.call("get", key, () -> set.contains(key) ? 1 : null);
+        for (long element : List.of(7L, 7L)) {
+            journal.call("add", element, () -> set.add(element));
+            journal.call("contains", element, () -> set.contains(element));
         }
-        journal.call("del", 7, () -> set.remove(7L) ? 1 : null);
-        Answer answer = judge(recorder.history(List.of(journal)));
-        want(answer.lines.get(0).equals("yes: 9 operations, 1 objects"), "a set is linearizable", answer.lines);
+        journal.call("remove", 7, () -> set.remove(7L));
+        AtomicLong counter = new AtomicLong();
+        journal.callOn(1, "fetch-add", 2, () -> counter.getAndAdd(2));
+        journal.callOn(1, "get-count", null, counter::get);
+        journal.runOn(2, "lock", 1, () -> {});
+        journal.runOn(2, "unlock", 1, () -> {});
+        journal.runOn(3, "assoc", Recorder.pair(1, 10), () -> {});
+        journal.callOn(3, "replace", Recorder.triple(1, 10, 11), () -> true);
+        String text = recorder.history(List.of(journal));
+        want(text.contains(":f :replace, :value [1 10 11], :object 3"), "the argument of replace", text);
+        Answer answer = judge(text);
+        want(answer.lines.get(0).equals("yes: 11 operations, 4 objects"), "sets, counters and locks", answer.lines);
     }
 
     private static String messageOf(Runnable act) {
@@ -274,7 +280,7 @@ public final class RecorderTest {
         Recorder.Journal word = words.journal();
         word.call("read", null, () -> "seven");
         String text = messageOf(() -> words.history(List.of(word)));
-        want(text.equals("seven is no argument or reply: give a number, a pair, false or null, or use run"), "a word", text);
+        want(text.equals("seven is no argument or reply: give a number, a pair, a boolean or null, or use run"), "a word", text);
     }
 
     private static void overlap() {
@@ -297,7 +303,7 @@ public final class RecorderTest {
         callsThatAreKnownWhenTheyReturned();
         refusals();
         overlap();
-        aSet();
+        setsCountersAndLocks();
         rightQueues(runs);
         races(runs);
         System.out.println("RecorderTest: passed, " + runs + " runs of each");

@@ -27,13 +27,13 @@ another thread: Recorder(yields=False) turns this off. `overlap` says how much t
 
 The reply of enqueue, push, insert and write is their argument: where the call gives None, the argument is written. `history` raises
 ValueError where it gives anything else, as a length. The reply of cas is True, or its pair, where it swapped, else False. That of put and del is
-what was there before, or None where nothing was: a store that does not tell it has no put, and each of its keys is a register. That of
-acquire and release is None, or True, as threading.Lock has it.
+what was there before, or None where nothing was: a store that does not tell it has assoc and dissoc. The reply of these, of clear, and of
+acquire, release, lock and unlock is None, or True, as threading.Lock has it. That of add, remove, contains, create, put-if-absent and replace
+is True or False. That of fetch-add is the number before.
 
-What a call was may be known only when it has returned, as put-if-absent, which is a put or a get. `invoke` it as the put, since if it
-times out, it may have put, and end it with returned_as("put", (k, v), None) or returned_as("get", k, found). A fetch-and-add that found n
-is returned_as("cas", (n, n + 1), (n, n + 1)). `invoke` it as a cas of any pair: returned_as sets the right one. If one times out, end the
-round and leave the history out: its n is not known, and a right counter could get a no.
+What a call was may be known only when it has returned, as a put-if-absent that gives the value that it found, which is a get then. `invoke` it
+as put-if-absent, since if it times out, it may have put, and end it with returned_as("put-if-absent", (k, v), True) or
+returned_as("get", k, found).
 
 A call that does not return, as one that raises or times out, may have happened: its operation ends with :info, and the journal goes on
 as a new process, as Jepsen's threads do. One that definitely did not happen raises Failed, or one of the errors that are given to try_call: its
@@ -43,11 +43,17 @@ import itertools
 import time
 
 # How many numbers the argument of each function has.
-ARGUMENTS = {"enqueue": 1, "dequeue": 0, "push": 1, "pop": 0, "insert": 1, "extract-min": 0, "write": 1, "read": 0, "cas": 2, "put": 2, "get": 1, "del": 1, "acquire": 0, "release": 0}
-SHAPES = ("None", "an integer", "a pair of integers")
+ARGUMENTS = {
+    **{"enqueue": 1, "dequeue": 0, "push": 1, "pop": 0, "insert": 1, "extract-min": 0, "acquire": 0, "release": 0, "lock": 1, "unlock": 1},
+    **{"write": 1, "read": 0, "cas": 2, "create": 1, "clear": 0, "add": 1, "remove": 1, "contains": 1, "fetch-add": 1, "get-count": 0},
+    **{"put": 2, "get": 1, "del": 1, "assoc": 2, "dissoc": 1, "put-if-absent": 2, "replace": 3},
+}
+SHAPES = ("None", "an integer", "a pair of integers", "three integers")
 PUTS = ("enqueue", "push", "insert", "write")
 # The reply of these is nil.
-LOCKS = ("acquire", "release")
+SILENT = ("acquire", "release", "lock", "unlock", "assoc", "dissoc", "clear")
+# The reply of these is true or false.
+QUESTIONS = ("add", "remove", "contains", "create", "put-if-absent", "replace")
 # A thread yields after one ticket of an invocation in this many.
 CALLS_TO_A_YIELD = 8
 
@@ -64,22 +70,22 @@ class Failed(Exception):
 
 
 def text_of(value):
-    """An argument or a reply: None, False, a number, or a pair of numbers."""
+    """An argument or a reply: None, a truth value, a number, or a vector of numbers."""
     if value is None or value is NotGiven:
         return "nil"
-    if value is False:
-        return "false"
+    if isinstance(value, bool):
+        return str(value).lower()
     if isinstance(value, (tuple, list)):
-        return f"[{value[0]} {value[1]}]"
+        return f"[{' '.join(map(str, value))}]"
     return str(value)
 
 
 def written(value):
     """The text of an argument or a reply. Raises ValueError for one that no history can have."""
-    if value is not None and value is not NotGiven and value is not False:
+    if value is not None and value is not NotGiven and not isinstance(value, bool):
         numbers = value if isinstance(value, (tuple, list)) else (value,)
         if any(isinstance(it, bool) or not isinstance(it, int) for it in numbers):
-            raise ValueError(f"{value!r} is neither an integer, nor a pair of integers, nor None or False")
+            raise ValueError(f"{value!r} is neither an integer, nor integers, nor None, True or False")
     return text_of(value)
 
 
@@ -96,7 +102,7 @@ def check_call(function, argument):
 
 def written_reply(function, argument, reply):
     """What a history has for this reply: the argument, where the call says no more than that it took place."""
-    if reply is True and function in LOCKS:
+    if reply is True and function in SILENT:
         return None
     took_place = reply is True and function == "cas" or reply in (None, NotGiven) and function in PUTS
     return argument if took_place else reply
@@ -178,11 +184,15 @@ class Journal:
         """Raises ValueError where the reply of a call is missing, or is to be its argument and is not."""
         for call, end in zip(self.events, self.events[1:]):
             _, _, kind, function, reply, _ = end
-            if kind == "ok" and reply is NotGiven and function not in LOCKS:
+            if kind == "ok" and reply is NotGiven and function not in SILENT:
                 raise ValueError(f"{function} was given no reply: returned(None) says that nothing was there")
             said, wanted = text_of(reply), text_of(call[4])
-            if kind == "ok" and function in LOCKS and said != "nil":
-                raise ValueError(f"{function} replied {said}: one that did not take the lock is a call that failed")
+            if kind == "ok" and function in SILENT and said != "nil":
+                raise ValueError(f"{function} replied {said}, and its reply is None: one that did not take place is a call that failed")
+            if kind == "ok" and function in QUESTIONS and not isinstance(reply, bool):
+                raise ValueError(f"{function} replied {said}, and neither True nor False")
+            if kind == "ok" and function not in (*QUESTIONS, *PUTS) and reply is True:
+                raise ValueError(f"{function} replied True, and its reply is no truth value")
             if kind == "ok" and function in PUTS and said != wanted:
                 raise ValueError(f"{function} replied {said} and not its argument {wanted}: let the call give None")
 

@@ -188,7 +188,7 @@ class Queues(unittest.TestCase):
 
     def test_reply_that_is_not_the_argument(self):
         """As a length, or a bool that says that it was done."""
-        for reply, said in ((2, "2"), (True, "True"), (False, "false")):
+        for reply, said in ((2, "2"), (True, "true"), (False, "false")):
             recorder = Recorder()
             journal = recorder.journal()
             journal.call("enqueue", 7, lambda: None)
@@ -243,6 +243,39 @@ class Queues(unittest.TestCase):
         journal.invoke("put", (1, 2))
         journal.returned(None)
         self.assertTrue(fcbench.judge(recorder.history([journal])).is_yes())
+
+    def test_sets_counters_and_locks(self):
+        """Functions whose reply is a truth value, a number, or nothing."""
+        recorder = Recorder()
+        journal = recorder.journal()
+        for number, function, argument, reply in (
+            (0, "add", 5, True),
+            (0, "add", 5, False),
+            (0, "contains", 5, True),
+            (0, "remove", 5, True),
+            (1, "fetch-add", 2, 0),
+            (1, "get-count", None, 2),
+            (2, "lock", 7, True),
+            (2, "unlock", 7, None),
+            (3, "assoc", (1, 10), None),
+            (3, "put-if-absent", (1, 11), False),
+            (3, "replace", (1, 10, 12), True),
+            (3, "dissoc", 1, None),
+            (4, "create", 1, True),
+            (4, "clear", None, None),
+        ):
+            journal.call(function, argument, lambda reply=reply: reply, number)
+        text = recorder.history([journal])
+        self.assertIn(":type :invoke, :f :replace, :value [1 10 12], :object 3", text)
+        self.assertTrue(fcbench.judge(text).lines.startswith("yes: 14 operations, 5 objects"), text)
+
+    def test_question_that_is_not_answered(self):
+        """The reply of add is a truth value."""
+        recorder = Recorder()
+        journal = recorder.journal()
+        journal.call("add", 5, lambda: None)
+        with self.assertRaisesRegex(ValueError, "^add replied nil, and neither True nor False"):
+            recorder.history([journal])
 
     def test_call_that_is_known_when_it_returned(self):
         """Put-if-absent twice on one key, and a fetch-and-add."""

@@ -22,13 +22,12 @@
 //! The reply of `enqueue`, `push`, `insert` and `write` is their argument: where the call gives nothing, it is written. Where it gives
 //! anything else, as a length, drop it by `|| { queue.push(v); }`: `history` panics at another reply.
 //!
-//! The reply of `put` and `del` is what was there before, or `None` where nothing was: a store that does not tell it has no `put`, and
-//! each of its keys is a register.
+//! The reply of `put` and `del` is what was there before, or `None` where nothing was: a store that does not tell it has `assoc` and
+//! `dissoc`, whose reply is nothing. So is that of `clear`, `acquire`, `release`, `lock` and `unlock`. That of `add`, `remove`, `contains`,
+//! `create`, `put-if-absent` and `replace` is a `bool`, and that of `fetch-add` the number before.
 //!
-//! What a call was may be known only when it has returned, as put-if-absent, which is a `put` or a `get`. `invoke` it as the `put`, since
-//! if it times out, it may have put, and end it with `returned_as`. A fetch-and-add that found `n` is a `cas`, whose argument and reply
-//! are `Value::pair(n, n + 1)`. `invoke` it as a `cas` of any pair: `returned_as` sets the right one. If one times out, end the round and
-//! leave the history out: its `n` is not known, and a right counter could get a no.
+//! What a call was may be known only when it has returned, as a put-if-absent that gives the value that it found, which is a `get` then.
+//! `invoke` it as `put-if-absent`, since if it times out, it may have put, and end it with `returned_as`.
 //!
 //! An empty queue is a reply and no failure: where `pop` gives a `Result`, record `journal.call("dequeue", (), || queue.pop().ok())`.
 //!
@@ -59,12 +58,16 @@ pub enum Value {
     NotGiven,
     /// Nothing, as the argument of `dequeue`, and its reply where the queue is empty.
     Nil,
-    /// The reply of a `cas` that found another value.
+    /// The reply of an operation that did not take place, as of a `cas` that found another value, or of a question that is not so.
     False,
+    /// The reply of one that did, as of an `add`.
+    True,
     /// What is enqueued, read, written and so on.
     Number(i64),
     /// The argument of `put`, a key and a value, and that of `cas`.
     Pair(i64, i64),
+    /// The argument of `replace`: a key, what is expected and what is new.
+    Triple(i64, i64, i64),
 }
 
 impl Value {
@@ -80,12 +83,7 @@ impl Value {
 
     /// The argument of `put`, a key and a value; or that of `cas`, what is expected and what is new.
     ///
-    /// The reply of a `cas` is this pair where it swapped, else `Value::False`. So for a compare-and-set `swap` that gives a `bool`:
-    ///
-    /// ```ignore
-    /// let pair = Value::pair(expected, new);
-    /// journal.call_as(0, "cas", pair, || register.swap(expected, new), |swapped| if *swapped { pair } else { Value::False });
-    /// ```
+    /// The reply of a `cas` is this pair where it swapped, or `true`, else `false`.
     ///
     /// # Panics
     ///
@@ -93,6 +91,16 @@ impl Value {
     #[must_use]
     pub fn pair(first: impl TryInto<i64>, second: impl TryInto<i64>) -> Value {
         Value::Pair(fitting(first), fitting(second))
+    }
+
+    /// The argument of `replace`: a key, what is expected and what is new.
+    ///
+    /// # Panics
+    ///
+    /// Where a number does not fit in `i64`.
+    #[must_use]
+    pub fn triple(key: impl TryInto<i64>, expected: impl TryInto<i64>, new: impl TryInto<i64>) -> Value {
+        Value::Triple(fitting(key), fitting(expected), fitting(new))
     }
 }
 
@@ -127,6 +135,18 @@ macro_rules! numbers {
 }
 
 numbers!(i8 i16 i32 i64 i128 isize u8 u16 u32 u64 u128 usize);
+
+impl From<bool> for Value {
+    fn from(is_so: bool) -> Value {
+        if is_so { Value::True } else { Value::False }
+    }
+}
+
+impl Reply for bool {
+    fn value(&self) -> Value {
+        Value::from(*self)
+    }
+}
 
 impl From<()> for Value {
     fn from(_nothing: ()) -> Value {
@@ -175,8 +195,10 @@ impl Display for Value {
         match self {
             Value::Nil | Value::NotGiven => f.write_str("nil"),
             Value::False => f.write_str("false"),
+            Value::True => f.write_str("true"),
             Value::Number(number) => write!(f, "{number}"),
             Value::Pair(first, second) => write!(f, "[{first} {second}]"),
+            Value::Triple(first, second, third) => write!(f, "[{first} {second} {third}]"),
         }
     }
 }
@@ -217,12 +239,18 @@ impl Event {
     }
 
     /// Whether the reply of the function is nil.
-    fn is_lock(&self) -> bool {
-        matches!(self.function, "acquire" | "release")
+    fn is_silent(&self) -> bool {
+        matches!(self.function, "acquire" | "release" | "lock" | "unlock" | "assoc" | "dissoc" | "clear")
+    }
+
+    /// Whether the reply of the function is true or false.
+    fn is_question(&self) -> bool {
+        matches!(self.function, "add" | "remove" | "contains" | "create" | "put-if-absent" | "replace")
     }
 
     fn reply(&self, reply: Value) -> Value {
-        if matches!(reply, Value::Nil | Value::NotGiven) && self.is_put() {
+        let took_place = reply == Value::True && self.function == "cas";
+        if took_place || matches!(reply, Value::Nil | Value::NotGiven) && self.is_put() {
             return self.value;
         }
         reply
@@ -429,10 +457,12 @@ impl Journal<'_> {
     ///
     /// Where no call is outstanding.
     pub fn returned_as(&mut self, function: &'static str, argument: impl Into<Value>, reply: impl Into<Value>) {
-        self.end(Kind::Ok, reply.into());
         let value = argument.into();
-        if let [.., call, end] = &mut self.events[..] {
-            (call.function, call.value, end.function) = (function, value, function);
+        let outstanding = self.outstanding.as_mut().expect("no call is outstanding");
+        (outstanding.function, outstanding.value) = (function, value);
+        self.end(Kind::Ok, reply.into());
+        if let [.., call, _] = &mut self.events[..] {
+            (call.function, call.value) = (function, value);
         }
     }
 
@@ -460,9 +490,20 @@ impl Journal<'_> {
     fn want_replies(&self) {
         for pair in self.events.windows(2) {
             let (call, end) = (&pair[0], &pair[1]);
-            let is_missing = matches!(end.kind, Kind::Ok) && end.value == Value::NotGiven && !end.is_lock();
+            let is_missing = matches!(end.kind, Kind::Ok) && end.value == Value::NotGiven && !end.is_silent();
             assert!(!is_missing, "{} was given no reply: None says that nothing was there", end.function);
             let is_right = !matches!(end.kind, Kind::Ok) || !end.is_put() || end.value == call.value;
+            let is_answered = !matches!(end.kind, Kind::Ok) || !end.is_question() || matches!(end.value, Value::True | Value::False);
+            assert!(is_answered, "{} replied {}, and neither true nor false", end.function, end.value);
+            let is_ok = matches!(end.kind, Kind::Ok);
+            let is_nothing = matches!(end.value, Value::Nil | Value::NotGiven);
+            assert!(
+                !is_ok || !end.is_silent() || is_nothing,
+                "{} replied {}, and its reply is nothing: one that did not take place is a call that failed",
+                end.function,
+                end.value
+            );
+            assert!(!is_ok || end.is_question() || end.value != Value::True, "{} replied true, which it cannot", end.function);
             assert!(is_right, "{} replied {} and not its argument {}: let the call give nothing", end.function, end.value, call.value);
         }
     }

@@ -443,7 +443,7 @@ fn a_compare_and_set() {
     journal.call("write", 1, || register.0.store(1, SeqCst));
     for (expected, new) in [(1, 2), (1, 3)] {
         let pair = Value::pair(expected, new);
-        journal.call_as(0, "cas", pair, || register.swap(expected, new), |swapped| if *swapped { pair } else { Value::False });
+        journal.call("cas", pair, || register.swap(expected, new));
     }
     journal.call("read", (), || register.0.load(SeqCst));
     let text = recorder.history(&[journal]);
@@ -478,6 +478,28 @@ fn a_reply_that_is_not_given() {
     }
 }
 
+/// Functions whose reply is a truth value, a number, or nothing.
+#[test]
+fn sets_counters_and_locks() {
+    let recorder = Recorder::without_yields();
+    let mut journal = recorder.journal();
+    for (function, reply) in [("add", true), ("add", false), ("contains", true), ("remove", true)] {
+        journal.call(function, 5, || reply);
+    }
+    journal.call_on(1, "fetch-add", 2, || 0);
+    journal.call_on(1, "get-count", (), || 2);
+    journal.call_on(2, "lock", 7, || ());
+    journal.call_on(2, "unlock", 7, || ());
+    journal.call_on(3, "assoc", Value::pair(1, 10), || ());
+    journal.call_on(3, "put-if-absent", Value::pair(1, 11), || false);
+    journal.call_on(3, "replace", Value::triple(1, 10, 12), || true);
+    journal.call_on(3, "dissoc", 1, || ());
+    let text = recorder.history(&[journal]);
+    assert!(text.contains(":f :replace, :value [1 10 12], :object 3"), "{text}");
+    let answer = judge(&text);
+    assert!(answer.lines.starts_with("yes: 12 operations, 4 objects"), "{answer}");
+}
+
 /// Put-if-absent twice on one key, and a fetch-and-add.
 #[test]
 fn calls_that_are_known_when_they_returned() {
@@ -489,7 +511,7 @@ fn calls_that_are_known_when_they_returned() {
     journal.returned_as("get", 1, 5);
     journal.call_on(1, "write", 3, || ());
     journal.invoke(1, "cas", Value::pair(0, 1));
-    journal.returned_as("cas", Value::pair(3, 4), Value::pair(3, 4));
+    journal.returned_as("cas", Value::pair(3, 4), true);
     let wanted = "{:process 0, :type :invoke, :f :put, :value [1 5], :object 0}
 {:process 0, :type :ok, :f :put, :value nil, :object 0}
 {:process 0, :type :invoke, :f :get, :value 1, :object 0}

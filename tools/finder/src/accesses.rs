@@ -1,7 +1,7 @@
 //! What each call of an object that has cells asks of one cell, and what it leaves there.
 
-use crate::kinds::Effect;
 pub use crate::kinds::Need;
+use crate::kinds::{Effect, Op};
 use crate::splitmix::NumberTable;
 use crate::timeline::Call;
 
@@ -40,6 +40,11 @@ pub struct Cell {
 impl Cell {
     fn new(key: Option<i64>) -> Cell {
         Cell { key, accesses: Vec::new(), contents: vec![None], numbers: NumberTable::default() }
+    }
+
+    /// Whether a part can keep some values of the cell.
+    pub fn has_values(&self) -> bool {
+        self.accesses.iter().all(|access| access.call.op.kind().has_values_in_cells())
     }
 
     /// How many contents there are.
@@ -94,4 +99,24 @@ pub fn cells_of(calls: &[Call]) -> Vec<Cell> {
     }
     cells.sort_unstable_by_key(|cell| cell.key);
     cells
+}
+
+/// What an operation on a token asks of its holder, and leaves.
+fn effect_on_holder(op: Op) -> Option<Effect> {
+    let owner = op.argument.last();
+    Some(match op.holds()? {
+        true => Effect { need: Need::Is(None), sets: Some(owner) },
+        false => Effect { need: Need::Is(owner), sets: Some(None) },
+    })
+}
+
+/// The calls on a token that has owners, as those on a cell that contains its owner.
+pub fn owners_of(calls: &[Call]) -> Cell {
+    let mut cell = Cell::new(None);
+    for call in calls {
+        if let Some(effect) = effect_on_holder(call.op) {
+            cell.add(call, effect);
+        }
+    }
+    cell
 }

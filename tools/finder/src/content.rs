@@ -1,7 +1,7 @@
 //! What an object contains, with operations that can be undone, for a search that goes forth and
 //! back.
 
-use crate::kinds::{Bag, Cells, Does, Family, Kind, Op, Reply};
+use crate::kinds::{Bag, Cells, Does, Family, Kind, Op, Reply, Value};
 use std::collections::BTreeMap;
 
 /// What an object contains, by the family of its kind.
@@ -10,8 +10,9 @@ pub enum Content {
     Values(Bag<i64>),
     Cell(Option<i64>),
     Cells(BTreeMap<i64, i64>),
-    /// Whether it is held.
-    Token(bool),
+    /// Who holds it, as the argument of its operations names him.
+    Token(Option<Value>),
+    Number(i64),
 }
 
 /// What brings back the content before an operation.
@@ -25,7 +26,8 @@ pub enum Undo {
     PutBack(i64),
     Set(Option<i64>),
     SetKey(i64, Option<i64>),
-    SetHeld(bool),
+    SetHolder(Option<Value>),
+    SetNumber(i64),
 }
 
 fn apply_to_values(values: &mut Bag<i64>, op: Op) -> Option<(Reply, Undo)> {
@@ -39,7 +41,7 @@ fn apply_to_values(values: &mut Bag<i64>, op: Op) -> Option<(Reply, Undo)> {
             let taken = values.take();
             Some((Reply::Value(taken), taken.map_or(Undo::Nothing, Undo::PutBack)))
         }
-        Does::Accesses(_) | Does::Acquires | Does::Releases => None,
+        Does::Accesses(_) | Does::Acquires | Does::Releases | Does::Adds | Does::Counts => None,
     }
 }
 
@@ -56,7 +58,8 @@ impl Content {
             Family::Container(container) => Content::Values(Bag::empty(container.gives)),
             Family::Cells(Cells { has_keys: false, .. }) => Content::Cell(None),
             Family::Cells(Cells { has_keys: true, .. }) => Content::Cells(BTreeMap::new()),
-            Family::Token(_) => Content::Token(false),
+            Family::Token(_) => Content::Token(None),
+            Family::Number(_) => Content::Number(0),
         }
     }
 
@@ -80,10 +83,15 @@ impl Content {
                 set_key(cells, key, after);
                 Some((reply, Undo::SetKey(key, before)))
             }
-            Content::Token(held) => {
-                let before = *held;
-                *held = op.holds().filter(|holds| *holds != before)?;
-                Some((Reply::Value(None), Undo::SetHeld(before)))
+            Content::Token(holder) => {
+                let before = *holder;
+                *holder = op.next_holder(before)?;
+                Some((Reply::Value(None), Undo::SetHolder(before)))
+            }
+            Content::Number(number) => {
+                let before = *number;
+                *number = before.checked_add(op.adds()?)?;
+                Some((Reply::Value(Some(before)), Undo::SetNumber(before)))
             }
         }
     }
@@ -95,9 +103,11 @@ impl Content {
             (Content::Values(values), Undo::PutBack(value)) => values.undo_take(value),
             (Content::Cell(content), Undo::Set(before)) => *content = before,
             (Content::Cells(cells), Undo::SetKey(key, before)) => set_key(cells, key, before),
-            (Content::Token(held), Undo::SetHeld(before)) => *held = before,
+            (Content::Token(holder), Undo::SetHolder(before)) => *holder = before,
+            (Content::Number(number), Undo::SetNumber(before)) => *number = before,
             // What undoes nothing, or is of another content.
-            (Content::Values(_) | Content::Cell(_) | Content::Cells(_) | Content::Token(_), _) => {}
+            (Content::Values(_) | Content::Cell(_) | Content::Cells(_), _) => {}
+            (Content::Token(_) | Content::Number(_), _) => {}
         }
     }
 }
@@ -120,7 +130,7 @@ impl Kept {
     pub fn of(content: &Content) -> Kept {
         let small = match content {
             Content::Values(values) => small_values(values),
-            Content::Cell(_) | Content::Cells(_) | Content::Token(_) => None,
+            Content::Cell(_) | Content::Cells(_) | Content::Token(_) | Content::Number(_) => None,
         };
         small.map_or_else(|| Kept::Whole(content.clone()), Kept::Small)
     }
@@ -133,7 +143,8 @@ impl Kept {
                 let mut small = small.iter().copied().map(i64::from);
                 values.all(|value| small.next() == Some(value)) && small.next().is_none()
             }
-            (Kept::Small(_), Content::Cell(_) | Content::Cells(_) | Content::Token(_)) => false,
+            (Kept::Small(_), Content::Cell(_) | Content::Cells(_)) => false,
+            (Kept::Small(_), Content::Token(_) | Content::Number(_)) => false,
         }
     }
 
@@ -144,7 +155,7 @@ impl Kept {
             Kept::Small(values) => values.len() * 4,
             Kept::Whole(Content::Values(values)) => values.len() * 16,
             Kept::Whole(Content::Cells(_)) => keys * 64,
-            Kept::Whole(Content::Cell(_) | Content::Token(_)) => 0,
+            Kept::Whole(Content::Cell(_) | Content::Token(_) | Content::Number(_)) => 0,
         }
     }
 }
@@ -163,6 +174,12 @@ mod tests {
             &["write 1", "cas 1 2", "cas 1 3", "read"],
             &["put 1 2", "put 1 3", "get 1", "del 1", "del 1"],
             &["acquire", "release"],
+            &["clear", "create 1", "create 2", "clear"],
+            &["put-if-absent 1 2", "put-if-absent 1 3", "replace 1 2 4", "replace 1 2 5"],
+            &["assoc 1 2", "dissoc 1", "dissoc 1"],
+            &["add 1", "add 1", "contains 1", "remove 1", "remove 1"],
+            &["fetch-add 3", "get-count", "fetch-add -5"],
+            &["lock 1", "unlock 1", "lock 2"],
         ] {
             let kind = op(ops[0]).kind();
             let mut content = Content::empty(kind);
@@ -182,8 +199,25 @@ mod tests {
 
     #[test]
     fn a_held_mutex_cannot_be_acquired() {
-        let mut mutex = Content::Token(true);
+        let mut mutex = Content::Token(Some(Value::Nil));
         assert!(mutex.apply(op("acquire")).is_none());
-        assert!(mutex == Content::Token(true));
+        assert!(mutex == Content::Token(Some(Value::Nil)));
+    }
+
+    #[test]
+    fn a_lock_is_unlocked_by_its_owner() {
+        let mut lock = Content::Token(Some(Value::Int(1)));
+        assert!(lock.apply(op("lock 1")).is_none());
+        assert!(lock.apply(op("unlock 2")).is_none());
+        assert!(lock.apply(op("unlock 1")).is_some());
+        assert!(lock == Content::Token(None));
+    }
+
+    #[test]
+    fn a_number_has_64_bits() {
+        let mut number = Content::Number(i64::MAX);
+        assert!(number.apply(op("fetch-add 1")).is_none());
+        assert!(number == Content::Number(i64::MAX));
+        assert!(number.apply(op("fetch-add -1")).is_some());
     }
 }

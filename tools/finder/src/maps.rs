@@ -40,7 +40,7 @@ impl<'a> Reader<'a> {
                 [b':', name @ ..] => Some(Element::Keyword(name)),
                 b"nil" => Some(Element::Plain(Value::Nil)),
                 b"false" => Some(Element::Plain(Value::False)),
-                b"true" => Some(Element::Other),
+                b"true" => Some(Element::Plain(Value::True)),
                 word => Some(Element::Plain(Value::Int(integer(word)?))),
             },
             TokenKind::OpenText | TokenKind::CloseVector | TokenKind::CloseMap => None,
@@ -49,7 +49,7 @@ impl<'a> Reader<'a> {
 
     /// The rest of a vector.
     fn vector(&mut self, depth: usize) -> Option<Element<'a>> {
-        let mut first = [None; 2];
+        let mut first = [None; 3];
         let mut count = 0;
         loop {
             let token = self.tokens.next()?;
@@ -63,7 +63,8 @@ impl<'a> Reader<'a> {
             count += 1;
         }
         Some(match first {
-            [Some(a), Some(b)] if count == 2 => Element::Plain(Value::Pair(a, b)),
+            [Some(a), Some(b), _] if count == 2 => Element::Plain(Value::Pair(a, b)),
+            [Some(a), Some(b), Some(c)] if count == 3 => Element::Plain(Value::Triple(a, b, c)),
             _ => Element::Other,
         })
     }

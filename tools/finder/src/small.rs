@@ -13,6 +13,7 @@ pub fn op(text: &str) -> Op {
         [] => Value::Nil,
         [one] => Value::Int(one),
         [one, other] => Value::Pair(one, other),
+        [one, other, another] => Value::Triple(one, other, another),
         _ => panic!("{text}"),
     };
     function(name.as_bytes()).and_then(|function| function.with(argument)).expect("an operation")
@@ -51,7 +52,12 @@ impl Random {
     fn op(&mut self, kind: Kind) -> Op {
         let (value, other) = (self.value(), self.value());
         let function = kind.functions[self.below(kind.functions.len() as u64) as usize];
-        let arguments = [Value::Nil, Value::Int(value), Value::Pair(value, other)];
+        let arguments = [
+            Value::Nil,
+            Value::Int(value),
+            Value::Pair(value, other),
+            Value::Triple(value % 2, other, self.0 as i64 % 3),
+        ];
         arguments.into_iter().find_map(|argument| function.with(argument)).expect("its shape")
     }
 
@@ -62,7 +68,9 @@ impl Random {
                 Reply::Swapped(expected, new)
             }
             (Shape::Swapped, _) => Reply::NotSwapped,
-            (Shape::Token, _) => Reply::Value(None),
+            (Shape::Token | Shape::Silent, _) => Reply::Value(None),
+            (Shape::Flag, _) => Reply::Flag(self.below(2) == 0),
+            (Shape::Number, _) => Reply::Value(Some(self.value())),
             _ if self.below(3) == 0 => Reply::Value(None),
             _ => Reply::Value(Some(self.value())),
         }
@@ -82,6 +90,29 @@ impl Random {
             let reply = self.reply(op.op);
             let failed = self.below(12) == 0;
             op.end = if failed { End::Failed } else { End::Returned { at: number, reply } };
+        }
+        ObjectHistory { object: 0, kind, ops }
+    }
+
+    /// A history as three processes record it of an object that is right, of which some operations
+    /// never return.
+    pub fn recorded(&mut self, kind: Kind, length: u32) -> ObjectHistory {
+        let mut ops: Vec<Invocation> = Vec::new();
+        let mut content = Content::empty(kind);
+        let mut open: Vec<Open> = Vec::new();
+        for number in 0..length {
+            if open.is_empty() || open.len() < 3 && self.below(2) == 0 {
+                open.push(Open { place: ops.len(), reply: None });
+                ops.push(Invocation { number, op: self.op(kind), end: End::Pending });
+                continue;
+            }
+            let mut own = open.swap_remove(self.below(open.len() as u64) as usize);
+            own.reply = own.reply.or_else(|| Some(content.apply(ops[own.place].op)?.0));
+            match (self.below(12), own.reply) {
+                (0, _) | (_, None) => {}
+                (1..4, _) => open.push(own),
+                (_, Some(reply)) => ops[own.place].end = End::Returned { at: number, reply },
+            }
         }
         ObjectHistory { object: 0, kind, ops }
     }

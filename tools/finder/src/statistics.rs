@@ -87,9 +87,12 @@ fn puts_tell_nothing(object: &ObjectHistory) -> bool {
             continue;
         };
         let op = operation.op;
+        let is_told = op.function.reply == Shape::Content;
         match (op.key(), op.sets()) {
-            (Some(_), Some(Some(_))) if reply != Reply::Value(None) => return false,
-            (Some(key), Some(Some(_))) => has_second |= !keys.insert(key),
+            (Some(_), Some(Some(_))) if is_told && reply != Reply::Value(None) => return false,
+            (Some(key), Some(Some(_))) if is_told => has_second |= !keys.insert(key),
+            (Some(key), Some(Some(_))) if !reply.is_refusal() => _ = keys.insert(key),
+            (Some(_), Some(Some(_))) => {}
             (Some(key), Some(None)) => _ = keys.remove(&key),
             (Some(_), None) | (None, _) => {}
         }
@@ -119,7 +122,7 @@ fn first_value(object: &ObjectHistory) -> Option<i64> {
     for operation in &object.ops {
         if let Some(value) = operation.op.new_value() {
             put.insert(value);
-            if operation.reply() != Some(Reply::NotSwapped) {
+            if !operation.reply().is_some_and(Reply::is_refusal) {
                 first_set = first_set.min(end_of(operation));
             }
         }
@@ -127,7 +130,7 @@ fn first_value(object: &ObjectHistory) -> Option<i64> {
     let seen = |it: &Invocation| match it.reply()? {
         Reply::Value(value) if it.op.only_looks() => value,
         Reply::Swapped(value, _) => Some(value),
-        Reply::Value(_) | Reply::NotSwapped => None,
+        Reply::Value(_) | Reply::NotSwapped | Reply::Flag(_) => None,
     };
     let all = object.ops.iter().filter_map(|it| Some((it.number, seen(it)?)));
     let mut strange = all.filter(|(_, value)| !put.contains(value));
@@ -212,8 +215,8 @@ pub fn warnings(history: &History) -> Vec<String> {
     let silent: Vec<u32> = silent.map(|it| it.object).collect();
     if let Some(objects) = named("object", &silent) {
         all.push(format!(
-            "{objects}: {SILENT_PUTS}, which says that the key had no value, also where it was put before. Unless these are \
-             puts if absent: if your store does not tell the earlier value, make each key a register, an object of its own"
+            "{objects}: {SILENT_PUTS}, which says that the key had no value, also where it was put before. If your store \
+             does not tell the earlier value, record :assoc; of a put if absent, record :put-if-absent"
         ));
     }
     all

@@ -63,16 +63,25 @@ impl<'a> Front<'a> {
         Some((function(name)?, Front(rest)))
     }
 
+    /// A pair, or three integers.
+    #[inline(always)]
+    fn vector(self) -> Option<(Value, Front<'a>)> {
+        let (first, rest) = self.after(b"[")?.integer()?;
+        let (second, rest) = rest.after(b" ")?.integer()?;
+        if let Some(rest) = rest.after(b"]") {
+            return Some((Value::Pair(first, second), rest));
+        }
+        let (third, rest) = rest.after(b" ")?.integer()?;
+        Some((Value::Triple(first, second, third), rest.after(b"]")?))
+    }
+
     #[inline(always)]
     fn value(self) -> Option<(Value, Front<'a>)> {
         match self.0.first()? {
             b'n' => Some((Value::Nil, self.after(b"nil")?)),
             b'f' => Some((Value::False, self.after(b"false")?)),
-            b'[' => {
-                let (first, rest) = self.after(b"[")?.integer()?;
-                let (second, rest) = rest.after(b" ")?.integer()?;
-                Some((Value::Pair(first, second), rest.after(b"]")?))
-            }
+            b't' => Some((Value::True, self.after(b"true")?)),
+            b'[' => self.vector(),
             _ => {
                 let (number, rest) = self.integer()?;
                 Some((Value::Int(number), rest))
@@ -164,7 +173,7 @@ mod tests {
             "{:process 1, :type :ok, :f :enqueue, :value 1234567890123456789}",
             "{:process 1, :type :ok, :f :enqueue, :value 1, :object 65536}",
             "{:process 1, :type :ok, :f :enqueue, :value 1, :other 2}",
-            "{:process 1, :type :ok, :f :enqueue, :value true}",
+            "{:process 1, :type :ok, :f :enqueue, :value [1 2 3 4]}",
             "{:process :nemesis, :type :info, :f :kill, :value nil}",
         ] {
             assert!(usual_event(text.as_bytes()).is_none(), "{text}");

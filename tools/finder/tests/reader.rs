@@ -51,6 +51,77 @@ fn refuses_events_that_do_not_fit() {
     }
 }
 
+/// A call, in the order of keys that is read by its bytes, or in another one.
+fn call(is_usual: bool, function: &str, argument: &str, reply: &str) -> String {
+    let event = |of_type: &str, value: &str| match is_usual {
+        true => format!("{{:process 0, :type :{of_type}, :f :{function}, :value {value}}}\n"),
+        false => format!("{{:f :{function}, :value {value}, :process 0, :type :{of_type}}}\n"),
+    };
+    event("invoke", argument) + &event("ok", reply)
+}
+
+#[test]
+fn reads_sets_counters_locks_and_new_functions() {
+    for is_usual in [true, false] {
+        for (function, argument, reply) in [
+            ("clear", "nil", "nil"),
+            ("create", "5", "true"),
+            ("create", "5", "false"),
+            ("put-if-absent", "[1 2]", "true"),
+            ("replace", "[1 2 3]", "false"),
+            ("assoc", "[1 2]", "nil"),
+            ("dissoc", "1", "nil"),
+            ("add", "-1", "true"),
+            ("remove", "1", "false"),
+            ("contains", "1", "true"),
+            ("fetch-add", "-3", "9223372036854775807"),
+            ("get-count", "nil", "0"),
+            ("lock", "1", "nil"),
+            ("unlock", "1", "nil"),
+        ] {
+            let text = call(is_usual, function, argument, reply);
+            assert!(is_history(&text), "{text}");
+        }
+    }
+}
+
+#[test]
+fn refuses_other_arguments_and_replies_of_new_functions() {
+    for is_usual in [true, false] {
+        for (function, argument, reply) in [
+            ("clear", "1", "nil"),
+            ("clear", "nil", "true"),
+            ("create", "5", "5"),
+            ("create", "nil", "true"),
+            ("put-if-absent", "1", "true"),
+            ("put-if-absent", "[1 2]", "nil"),
+            ("replace", "[1 2]", "true"),
+            ("replace", "[1 2 3 4]", "true"),
+            ("replace", "[1 2 nil]", "true"),
+            ("replace", "[1 2 3]", "[1 2 3]"),
+            ("assoc", "[1 2]", "2"),
+            ("dissoc", "[1 2]", "nil"),
+            ("dissoc", "1", "1"),
+            ("add", "1", "1"),
+            ("add", "true", "true"),
+            ("remove", "1", "nil"),
+            ("contains", "nil", "true"),
+            ("fetch-add", "1", "nil"),
+            ("fetch-add", "nil", "1"),
+            ("get-count", "nil", "nil"),
+            ("get-count", "1", "1"),
+            ("lock", "nil", "nil"),
+            ("lock", "1", "true"),
+            ("unlock", "1", "1"),
+            ("cas", "[1 2]", "true"),
+            ("write", "1", "true"),
+        ] {
+            let text = call(is_usual, function, argument, reply);
+            assert!(!is_history(&text), "{text}");
+        }
+    }
+}
+
 #[test]
 fn refuses_texts_that_are_not_edn() {
     for text in ["{", "{:process", "{:process 0", "{:a \"", "{:a \"\\", "(", "{:a (}", "}", "{1 2}"]

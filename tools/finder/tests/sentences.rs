@@ -231,3 +231,89 @@ fn what_was_lost_is_named() {
         assert_eq!(sentence(kind, pattern), text);
     }
 }
+
+#[test]
+fn sets_locks_and_counters_have_their_words() {
+    let of_element = |pattern| Sentence::of_pattern(kind("set"), Some(5), pattern).to_string();
+    for (pattern, text) in [
+        (
+            Pattern::Repeated { key: 5, sets: true },
+            "value 5 was added twice, and not removed in between",
+        ),
+        (
+            Pattern::Repeated { key: 5, sets: false },
+            "value 5 was removed twice, and not added in between",
+        ),
+        (Pattern::NeverSet(5), "value 5 was found and never added"),
+        (Pattern::TooEarly(5), "value 5 was found before it was added"),
+        (
+            Pattern::Stale(Some(5)),
+            "value 5 was found after it had been out of the set, and not added in between",
+        ),
+        (
+            Pattern::Stale(None),
+            "value 5 was not found after it had been in the set, and not removed in between",
+        ),
+        (
+            Pattern::CountExceeded(Counted::NoEntry(5)),
+            "value 5 was added more often than it can have been out of the set",
+        ),
+        (
+            Pattern::CountExceeded(Counted::Entry { key: 5, value: 5 }),
+            "value 5 was removed more often than it can have been in the set",
+        ),
+        (Pattern::General, "the following operations on value 5 have no valid order"),
+    ] {
+        assert_eq!(of_element(pattern), text);
+    }
+    let holder = |acquires, holder| Pattern::NotHolder { acquires, owner: 3, holder };
+    for (name, pattern, text) in [
+        ("lock", holder(false, Some(2)), "owner 3 unlocked what owner 2 had locked"),
+        ("lock", holder(false, None), "owner 3 unlocked what no owner had locked"),
+        ("lock", holder(true, Some(2)), "owner 3 locked what owner 2 had locked, and not unlocked"),
+        (
+            "lock",
+            Pattern::CountExceeded(Counted::Value(3)),
+            "owner 3 unlocked more often than it had locked",
+        ),
+        (
+            "lock",
+            Pattern::CountExceeded(Counted::Free),
+            "the lock was locked more often than it can have been free",
+        ),
+        (
+            "counter",
+            Pattern::Fell { found: 5, was: 7 },
+            "the counter was 5 after it had been 7, and nothing was subtracted",
+        ),
+        (
+            "counter",
+            Pattern::FoundTwice(5),
+            "two additions found the counter to be 5, and nothing was subtracted",
+        ),
+        (
+            "counter",
+            Pattern::NotReached(5),
+            "the counter was found to be 5, which it cannot have been by then",
+        ),
+    ] {
+        assert_eq!(sentence(kind(name), pattern), text);
+    }
+}
+
+#[test]
+fn new_functions_of_cells_have_their_words() {
+    let said = |pattern| Sentence::of_pattern(kind("map"), Some(1), pattern).to_string();
+    assert_eq!(
+        said(Pattern::DoneOverValue { name: "put-if-absent", number: 9 }),
+        "key 1: a value was definitely there when the :put-if-absent of event 9 found none"
+    );
+    assert_eq!(
+        said(Pattern::RefusedWithoutValue { name: "put-if-absent", number: 9 }),
+        "key 1: no value was there when the :put-if-absent of event 9 was refused"
+    );
+    assert_eq!(
+        said(Pattern::RefusedUnderItsValue { value: 7, number: 9 }),
+        "key 1: value 7 was definitely there when the :replace of event 9, which expects it, was refused"
+    );
+}

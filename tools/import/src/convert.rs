@@ -23,6 +23,8 @@ pub struct Options {
     pub replies: Replies,
     /// The owner that a client releases is to be the one that it acquired.
     pub checks_owners: bool,
+    /// The values of operations that lock and unlock are owners, which are kept.
+    pub has_owners: bool,
     /// What each register contains at first: one value for all, or a map with the values of objects.
     pub initial: Option<Form>,
 }
@@ -64,16 +66,19 @@ impl Kind {
 enum Said {
     Nil,
     False,
+    True,
     One(Form),
     Two(Form, Form),
+    Three(Form, Form, Form),
 }
 
 impl Said {
     fn values(&self) -> impl Iterator<Item = &Form> + Clone {
         let values = match self {
-            Said::Nil | Said::False => [None, None],
-            Said::One(value) => [Some(value), None],
-            Said::Two(first, second) => [Some(first), Some(second)],
+            Said::Nil | Said::False | Said::True => [None, None, None],
+            Said::One(value) => [Some(value), None, None],
+            Said::Two(first, second) => [Some(first), Some(second), None],
+            Said::Three(first, second, third) => [Some(first), Some(second), Some(third)],
         };
         values.into_iter().flatten()
     }
@@ -177,7 +182,7 @@ fn is_readable(name: &str) -> bool {
 fn no_function(f: &Form) -> String {
     match f {
         Form::Nil => format!("no :f, which is one of the functions {}", function_names()),
-        Form::Symbol(word) if function(word).is_some() => {
+        Form::Symbol(word) if function(word, false).is_some() => {
             format!("the symbol {word} cannot be an :f: write the keyword :{word}")
         }
         other => format!("{other} is none of the functions {}", function_names()),
@@ -200,6 +205,12 @@ fn argument_of(shape: Shape, form: &Form) -> Option<Said> {
                 pair.as_pair().filter(|(first, second)| is_value(first) && is_value(second))?;
             Some(Said::Two(first.clone(), second.clone()))
         }
+        (Shape::Triple, Form::Vector(items)) => match &items[..] {
+            [first, second, third] if items.iter().all(is_value) => {
+                Some(Said::Three(first.clone(), second.clone(), third.clone()))
+            }
+            _ => None,
+        },
         _ => None,
     }
 }
@@ -211,6 +222,14 @@ fn reply_of(shape: Shape, form: &Form, argument: &Said) -> Option<Said> {
         (Shape::Content | Shape::NumberOrNothing, Form::Nil) => Some(Said::Nil),
         (Shape::Content, value) => argument_of(Shape::Value, value),
         (Shape::NumberOrNothing, value) => argument_of(Shape::Number, value),
+        (Shape::Silent, done) if is_done(done) => Some(Said::Nil),
+        (Shape::Silent, repeated) => {
+            let shapes = [Shape::Value, Shape::Pair].into_iter();
+            let mut repeats = shapes.filter_map(|shape| argument_of(shape, repeated));
+            repeats.any(|it| it == *argument).then_some(Said::Nil)
+        }
+        (Shape::Flag, Form::Bool(flag)) => Some(if *flag { Said::True } else { Said::False }),
+        (Shape::Flag, _) => None,
         (Shape::Swapped, Form::Bool(false)) => Some(Said::False),
         (Shape::Swapped, Form::Bool(true)) => Some(argument.clone()),
         (Shape::Swapped, pair) => argument_of(Shape::Pair, pair).filter(|it| it == argument),
@@ -220,9 +239,10 @@ fn reply_of(shape: Shape, form: &Form, argument: &Said) -> Option<Said> {
 
 /// Whether the values of a history can only be tuples `[key value]`: a function without an argument has `[key nil]`, or one of a pair has
 /// `[key [a b]]`.
-fn has_tuples(all: &[Operation]) -> bool {
+fn has_tuples(all: &[Operation], has_owners: bool) -> bool {
     all.iter().any(|Operation { map, .. }| {
-        let Some(function) = name_of(map.get("f")).and_then(function) else {
+        let named = name_of(map.get("f"));
+        let Some(function) = named.and_then(|name| function(name, has_owners)) else {
             return false;
         };
         let is_invoked =
@@ -235,6 +255,7 @@ fn has_tuples(all: &[Operation]) -> bool {
                 *second == Form::Nil || function.argument == Shape::Token
             }
             Shape::Pair => second.as_pair().is_some(),
+            Shape::Triple => matches!(second, Form::Vector(items) if items.len() == 3),
             _ => false,
         }
     })
@@ -286,7 +307,7 @@ impl State<'_> {
                 }
                 _ => Ok(()),
             },
-            Does::Puts | Does::Takes | Does::Accesses(_) => Ok(()),
+            Does::Puts | Does::Takes | Does::Accesses(_) | Does::Adds | Does::Counts => Ok(()),
         }
     }
 
@@ -403,7 +424,9 @@ impl State<'_> {
             ));
         }
         let (f, kind) = (said(map, "f"), said(map, "type"));
-        let function = name_of(Some(f)).and_then(function).ok_or_else(|| no_function(f))?;
+        let has_owners = self.options.has_owners;
+        let named = name_of(Some(f)).and_then(|name| function(name, has_owners));
+        let function = named.ok_or_else(|| no_function(f))?;
         let kind = Kind::read(kind).ok_or_else(|| {
             format!("{kind} cannot be a :type, which is :invoke, :ok, :fail or :info")
         })?;
@@ -429,7 +452,7 @@ impl State<'_> {
 
 /// The events, and the failed operations of which it is told that they are left out.
 fn events_of(all: &[Operation], options: &Options) -> Result<(Vec<Entry>, Failures), Refused> {
-    let is_keyed = options.is_independent || has_tuples(all);
+    let is_keyed = options.is_independent || has_tuples(all, options.has_owners);
     let mut state = State {
         options,
         is_keyed,
@@ -524,7 +547,9 @@ fn initial_events(initial: &Form, events: &[Entry]) -> Result<Vec<Entry>, Refuse
 fn put_in(event: &Event) -> Option<&Form> {
     match (event.function.argument, event.function.reply, &event.value) {
         (Shape::Value, Shape::Done, Said::One(value)) => Some(value),
+        (Shape::Value, Shape::Flag, Said::One(value)) => Some(value),
         (Shape::Pair, _, Said::Two(_, value)) => Some(value),
+        (Shape::Triple, _, Said::Three(_, _, value)) => Some(value),
         _ => None,
     }
 }
@@ -603,8 +628,12 @@ fn write_event(text: &mut String, event: &Event, numbers: &Numbering) {
     let value = match &event.value {
         Said::Nil => "nil".to_owned(),
         Said::False => "false".to_owned(),
+        Said::True => "true".to_owned(),
         Said::One(value) => number(value).to_string(),
         Said::Two(first, second) => format!("[{} {}]", number(first), number(second)),
+        Said::Three(first, second, third) => {
+            format!("[{} {} {}]", number(first), number(second), number(third))
+        }
     };
     let (process, object) =
         (numbers.processes.number(&event.process), numbers.objects.number(&event.object));

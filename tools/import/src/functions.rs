@@ -10,10 +10,12 @@ pub fn shape_words(shape: Shape) -> &'static str {
         Shape::Value => "an integer, string or keyword",
         Shape::Number => "an integer of 64 bits",
         Shape::Pair => "a pair of integers, strings or keywords",
+        Shape::Triple => "three integers, strings or keywords in a vector",
         Shape::Nothing => "nil",
-        Shape::Done => "its argument, true, \"OK\" or nil",
+        Shape::Done | Shape::Silent => "its argument, true, \"OK\" or nil",
         Shape::Content => "an integer, string or keyword, or nil",
         Shape::NumberOrNothing => "an integer of 64 bits, or nil",
+        Shape::Flag => "true or false",
         Shape::Swapped => "true or its argument where it has set, and false where it has not",
         Shape::Token => {
             "nil, true, \"OK\", or the owner: an integer above 0, a string, a UUID, or a map of these"
@@ -21,9 +23,13 @@ pub fn shape_words(shape: Shape) -> &'static str {
     }
 }
 
-/// The function of this name.
-pub fn function(name: &str) -> Option<&'static Function> {
-    functions().find(|it| it.name == name || it.other_names.contains(&name))
+/// The function of this name. Where tokens have owners, that of a kind whose operations name them.
+pub fn function(name: &str, has_owners: bool) -> Option<&'static Function> {
+    let named = functions().find(|it| it.name == name || it.other_names.contains(&name))?;
+    let holds = named.holds().filter(|_| has_owners);
+    let owning =
+        functions().find(|it| it.kind.has_owner() && holds.is_some() && it.holds() == holds);
+    Some(owning.unwrap_or(named))
 }
 
 /// Whether a form can be a value: an integer of 64 bits, or a name. Names are compared for equality, and for nothing else.

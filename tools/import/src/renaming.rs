@@ -63,8 +63,8 @@ fn named_after(names: &Names, word: &str, list: &str) -> String {
     })
 }
 
-const WORDS: [&str; 9] =
-    ["event", "events", "map", "process", "processes", "key", "value", "values", "keys"];
+const WORDS: [&str; 10] =
+    ["event", "events", "map", "process", "processes", "key", "value", "values", "keys", "owner"];
 
 /// A sentence whose numbers have names, where a word before them says what they are.
 fn sentence(names: &Names, text: &str) -> String {
@@ -215,6 +215,10 @@ mod tests {
             (
                 "; value 7 was enqueued once and dequeued twice",
                 "; value :a was enqueued once and dequeued twice",
+            ),
+            (
+                "; owner 7 unlocked what owner 8 had locked",
+                "; owner :a unlocked what owner \"b\" had locked",
             ),
             (
                 "; values 7, 8 and 9 were in it when event 12 found nothing",

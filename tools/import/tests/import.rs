@@ -326,7 +326,7 @@ fn what_cannot_be_mapped_is_named_with_its_line() {
         ),
         (
             "{:process 0, :type :invoke, :f :drain}",
-            "line 1: operation 0: :drain is none of the functions :enqueue, :dequeue, :push, :pop, :insert, :extract-min, :write, :read, :cas, :put, :get, :del, :acquire, :release",
+            "line 1: operation 0: :drain is none of the functions :enqueue, :dequeue, :push, :pop, :insert, :extract-min, :write, :read, :cas, :clear, :create, :put, :get, :del, :put-if-absent, :replace, :assoc, :dissoc, :acquire, :release, :add, :remove, :contains, :fetch-add, :get-count, :lock, :unlock",
         ),
         (
             "{:process -1, :type :invoke, :f :read}",
@@ -350,7 +350,7 @@ fn what_cannot_be_mapped_is_named_with_its_line() {
         ),
         (
             "{:process 0, :type :invoke}",
-            "line 1: operation 0: no :f, which is one of the functions :enqueue, :dequeue, :push, :pop, :insert, :extract-min, :write, :read, :cas, :put, :get, :del, :acquire, :release",
+            "line 1: operation 0: no :f, which is one of the functions :enqueue, :dequeue, :push, :pop, :insert, :extract-min, :write, :read, :cas, :clear, :create, :put, :get, :del, :put-if-absent, :replace, :assoc, :dissoc, :acquire, :release, :add, :remove, :contains, :fetch-add, :get-count, :lock, :unlock",
         ),
         (
             "{:process 0, :type :invoke, :f write, :value 1}",
@@ -484,4 +484,80 @@ fn names_come_back() {
             .collect();
         assert_eq!(back, words, "{text}");
     }
+}
+
+#[test]
+fn clients_that_leave_the_argument_there() {
+    let text = "{:process 0, :type :invoke, :f :assoc, :value [:a 5]}
+{:process 0, :type :ok, :f :assoc, :value [:a 5]}
+{:process 0, :type :invoke, :f :dissoc, :value :a}
+{:process 0, :type :ok, :f :dissoc, :value :a}
+{:process 0, :type :invoke, :f :dissoc, :value :a}
+{:process 0, :type :ok, :f :dissoc, :value \"OK\"}
+{:process 0, :type :invoke, :f :replace, :value [:a 5 6]}
+{:process 0, :type :ok, :f :replace, :value false}
+{:process 0, :type :invoke, :f :put_if_absent, :value [:a 6]}
+{:process 0, :type :ok, :f :put_if_absent, :value true}
+{:process 1, :type :invoke, :f :clear, :object 7}
+{:process 1, :type :ok, :f :clear, :value true, :object 7}
+{:process 1, :type :invoke, :f :create, :value 5, :object 7}
+{:process 1, :type :ok, :f :create, :value true, :object 7}";
+    let wanted = "\
+{:process 0, :type :invoke, :f :assoc, :value [0 5], :object 0}
+{:process 0, :type :ok, :f :assoc, :value nil, :object 0}
+{:process 0, :type :invoke, :f :dissoc, :value 0, :object 0}
+{:process 0, :type :ok, :f :dissoc, :value nil, :object 0}
+{:process 0, :type :invoke, :f :dissoc, :value 0, :object 0}
+{:process 0, :type :ok, :f :dissoc, :value nil, :object 0}
+{:process 0, :type :invoke, :f :replace, :value [0 5 6], :object 0}
+{:process 0, :type :ok, :f :replace, :value false, :object 0}
+{:process 0, :type :invoke, :f :put-if-absent, :value [0 6], :object 0}
+{:process 0, :type :ok, :f :put-if-absent, :value true, :object 0}
+{:process 1, :type :invoke, :f :clear, :value nil, :object 7}
+{:process 1, :type :ok, :f :clear, :value nil, :object 7}
+{:process 1, :type :invoke, :f :create, :value 5, :object 7}
+{:process 1, :type :ok, :f :create, :value true, :object 7}
+";
+    assert_eq!(imported(text), (wanted.to_owned(), "{:value 0, :is :a}\n".to_owned()));
+    let strange = "{:process 0, :type :invoke, :f :assoc, :value [1 5]}
+{:process 0, :type :ok, :f :assoc, :value [1 6]}";
+    assert!(refused(strange, &Options::default()).starts_with("line 2: operation 1: [1 6] cannot"));
+}
+
+#[test]
+fn sets_counters_and_owners() {
+    let text = "{:process 0, :type :invoke, :f :add, :value \"x\"}
+{:process 0, :type :ok, :f :add, :value true}
+{:process 0, :type :invoke, :f :contains, :value \"y\"}
+{:process 0, :type :ok, :f :contains, :value false}
+{:process 1, :type :invoke, :f :fetch_add, :value -2, :object 1}
+{:process 1, :type :ok, :f :fetch_add, :value 7, :object 1}
+{:process 1, :type :invoke, :f :get_count, :object 1}
+{:process 1, :type :ok, :f :get_count, :value 5, :object 1}
+{:process 2, :type :invoke, :f :acquire, :value \"n1\", :object 2}
+{:process 2, :type :ok, :f :acquire, :value \"n1\", :object 2}
+{:process 2, :type :invoke, :f :unlock, :value 4, :object 2}
+{:process 2, :type :ok, :f :unlock, :object 2}";
+    let wanted = "\
+{:process 0, :type :invoke, :f :add, :value 0, :object 0}
+{:process 0, :type :ok, :f :add, :value true, :object 0}
+{:process 0, :type :invoke, :f :contains, :value 1, :object 0}
+{:process 0, :type :ok, :f :contains, :value false, :object 0}
+{:process 1, :type :invoke, :f :fetch-add, :value -2, :object 1}
+{:process 1, :type :ok, :f :fetch-add, :value 7, :object 1}
+{:process 1, :type :invoke, :f :get-count, :value nil, :object 1}
+{:process 1, :type :ok, :f :get-count, :value 5, :object 1}
+{:process 2, :type :invoke, :f :lock, :value 2, :object 2}
+{:process 2, :type :ok, :f :lock, :value nil, :object 2}
+{:process 2, :type :invoke, :f :unlock, :value 4, :object 2}
+{:process 2, :type :ok, :f :unlock, :value nil, :object 2}
+";
+    let owners = Options { has_owners: true, ..Options::default() };
+    assert_eq!(import(text, &owners).map(|it| it.text), Ok(wanted.to_owned()));
+    let grow_only = "{:process 0, :type :invoke, :f :add, :value 5}
+{:process 0, :type :ok, :f :add, :value 5}";
+    let why = "line 2: operation 1: 5 cannot be the reply of :add, which is true or false";
+    assert_eq!(refused(grow_only, &Options::default()), why);
+    let no_owner = "{:process 0, :type :invoke, :f :lock}";
+    assert!(refused(no_owner, &owners).contains("nil cannot be the argument of :lock"));
 }

@@ -247,6 +247,7 @@ fn reply(words: &str) -> Option<Reply> {
     Some(match words {
         "nil" => Reply::Value(None),
         "false" => Reply::NotSwapped,
+        "true" => Reply::Flag(true),
         pair if pair.starts_with('[') => {
             let (a, b) = pair.strip_prefix('[')?.strip_suffix(']')?.split_once(' ')?;
             Reply::Swapped(a.parse().ok()?, b.parse().ok()?)

@@ -97,6 +97,7 @@ fn import_of(mut words: Words) -> Result<Import, Fault> {
             None => import::Replies::default(),
         },
         checks_owners: words.take_flag("--check-owners"),
+        has_owners: words.take_flag("--owners"),
         initial: words.take_form("--initial")?.flatten(),
     };
     let names = words.take_value("--names");
@@ -218,6 +219,7 @@ mod tests {
                 is_independent: true,
                 replies: import::Replies::usual(),
                 checks_owners: true,
+                has_owners: false,
                 initial: import::form_of("0"),
             },
         };

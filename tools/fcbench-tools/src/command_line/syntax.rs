@@ -205,6 +205,11 @@ pub const IMPORT: Syntax = Syntax {
             "--check-owners",
             "the owner that a client releases must be the one that it acquired (default: owners are ignored)",
         ),
+        &OptionSpec::flag(
+            "--owners",
+            "the value of :lock, :unlock, :acquire and :release is an owner: they become :lock and :unlock (default: :acquire\n\
+             and :release, without owners)",
+        ),
         &OptionSpec::valued(
             "--initial",
             "VALUE",

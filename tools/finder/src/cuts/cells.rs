@@ -32,21 +32,25 @@ impl Cell<'_> {
 
     /// What found a content becomes. That an object which is one cell was empty is kept.
     fn found(&self, stays: bool, content: Option<i64>) -> Option<(Op, Reply)> {
-        let is_kept = self.kept(content).is_some() || content.is_none() && self.key.is_none();
-        stays.then(|| match is_kept {
+        stays.then(|| match self.is_kept(content) {
             true => lone_cell::finding(content),
             false => lone_cell::setting(self.other),
         })
     }
 
-    /// Whether the operation is one of an object which is one cell, and each value that it names is
-    /// kept.
+    /// Whether the content is kept: a value that is, or, of an object which is one cell, nothing.
+    fn is_kept(&self, content: Option<i64>) -> bool {
+        self.kept(content).is_some() || content.is_none() && self.key.is_none()
+    }
+
+    /// Whether the operation is one of an object which is one cell, and each content that it names
+    /// is kept.
     fn is_whole(&self, need: Need<Option<i64>>, new: Option<i64>) -> bool {
         let is_needed = match need {
             Need::Any => true,
-            Need::Is(old) | Need::IsNot(old) => self.kept(old).is_some(),
+            Need::Is(old) | Need::IsNot(old) => self.is_kept(old),
         };
-        self.key.is_none() && is_needed && self.kept(new).is_some()
+        self.key.is_none() && is_needed && self.is_kept(new)
     }
 
     /// What an operation with this reply becomes.
@@ -64,6 +68,9 @@ impl Cell<'_> {
     /// What a pending operation becomes.
     fn pending(&self, op: Op) -> Option<Op> {
         let Effect { need, sets } = op.effect(None)?;
+        if self.is_whole(need, sets?) {
+            return Some(op);
+        }
         let new = self.kept(sets?)?;
         let old = match need {
             Need::Is(old) => self.kept(old),

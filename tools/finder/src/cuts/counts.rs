@@ -66,6 +66,7 @@ impl Counted {
                 new.is_some_and(|new| self.place() == Some((op.key(), new)))
             }
             Family::Token(_) => op.holds().is_some_and(|holds| self.is_made_by(holds)),
+            Family::Number(_) => false,
         }
     }
 
@@ -85,6 +86,7 @@ impl Counted {
                 let is_other = matches!(self, Counted::Held | Counted::Free);
                 op.holds().is_some_and(|holds| is_other && !self.is_made_by(holds))
             }
+            Family::Number(_) => false,
         }
     }
 }
@@ -120,6 +122,9 @@ impl Count {
 pub fn is_exceeded(history: &ObjectHistory, count: Count) -> bool {
     if let Counted::Ahead(number) = count.counted {
         return is_blocked(history, number, count.from);
+    }
+    if !history.kind.is_countable() {
+        return false;
     }
     count.most_before(history).is_some_and(|most| {
         let set = history.ops.iter().filter(|o| count.is_set_by(o)).count();

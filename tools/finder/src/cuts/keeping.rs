@@ -30,7 +30,8 @@ fn fits_cell(values: &Values, kept: bool, effect: Option<Effect>, is_pending: bo
     };
     let leaves = sets.flatten().is_some_and(|value| values.has(value));
     match need {
-        _ if !kept => !leaves,
+        // What leaves nothing is kept.
+        _ if !kept => !leaves && sets != Some(None),
         Need::Any | Need::Is(None) => true,
         Need::Is(Some(value)) => values.has(value) || is_pending && !leaves,
         Need::IsNot(_) => *values == Values::All,
@@ -48,6 +49,7 @@ fn fits(values: &Values, kept: bool, op: Op, reply: Option<Reply>) -> bool {
             fits_cell(values, kept, op.effect(reply), reply.is_none())
         }
         Family::Token(_) => kept,
+        Family::Number(_) => kept || op.only_looks(),
     }
 }
 

@@ -112,9 +112,10 @@ fn without(history: &ObjectHistory, value: i64, before: u32) -> Option<ObjectHis
 #[cfg(test)]
 mod tests {
     use super::*;
-    use crate::kinds::Op;
+    use crate::content::Content;
+    use crate::kinds::{KINDS, Op};
     use crate::read_history;
-    use crate::small::op;
+    use crate::small::{Random, has_order, op};
 
     fn history_of(events: &[(u32, &str)]) -> ObjectHistory {
         let events = events.iter().map(|(process, rest)| format!("{{:process {process} {rest}}}"));
@@ -206,6 +207,99 @@ mod tests {
         };
         assert_eq!(ops(&[]), [op("write 1")]);
         assert_eq!(ops(&[2, 4]), [op("write 1"), op("cas 1 0")]);
+    }
+
+    /// A cut of some history that is drawn.
+    fn draw_cut(random: &mut Random, history: &ObjectHistory) -> Cut {
+        let mut some = |most: u64| random.below(most) as usize;
+        let count = history.ops.len() as u64;
+        let values = match some(4) {
+            0 => Values::All,
+            1 => Values::Only(BTreeSet::from([0, 1])),
+            one => Values::Only(BTreeSet::from([one as i64 - 2])),
+        };
+        let number = history.ops[some(count)].number;
+        let chosen = history.ops.iter().filter(|_| some(2) == 0);
+        let numbers = chosen.map(|o| o.number).collect();
+        let is_kept = |o: &&Invocation| match o.op.key() {
+            Some(key) => values.has(key),
+            None => true,
+        };
+        match some(5) {
+            0 => Cut::From(number),
+            1 => Cut::Until(number + some(3) as u32),
+            2 => Cut::Keep { values, numbers },
+            3 => {
+                let numbers = history.ops.iter().filter(is_kept).map(|o| o.number).collect();
+                Cut::Keep { values, numbers }
+            }
+            _ => {
+                let key = history.kind.has_keys().then_some(some(3) as i64);
+                Cut::Cell { key, values, other: 7, numbers }
+            }
+        }
+    }
+
+    fn has_some_order(history: &ObjectHistory) -> bool {
+        let calls = history.ops.iter().filter(|o| !o.has_failed());
+        let calls: Vec<Invocation> = calls.copied().collect();
+        has_order(&calls, &Content::empty(history.kind))
+    }
+
+    /// The operations on one key, where there are keys.
+    fn on_one_key(history: &ObjectHistory) -> ObjectHistory {
+        let key = history.ops[0].op.key();
+        let ops = history.ops.iter().filter(|o| o.op.key() == key);
+        history.with(ops.copied().collect())
+    }
+
+    #[test]
+    fn a_part_of_a_history_with_an_order_has_one() {
+        let mut random = Random::new(0x1234_5678_9abc_def1);
+        for kind in KINDS.iter().copied() {
+            let mut parts = 0;
+            for drawn in 0..20_000 {
+                let history = random.history(kind);
+                let history = if drawn % 2 == 0 { on_one_key(&history) } else { history };
+                if !has_some_order(&history) {
+                    continue;
+                }
+                let cut = draw_cut(&mut random, &history);
+                if matches!(cut, Cut::Cell { .. }) && !kind.has_values_in_cells() {
+                    continue;
+                }
+                if let Some(part) = cut.part_of(&history) {
+                    assert!(has_some_order(&part), "{cut:?} {history:?} {part:?}");
+                    parts += 1;
+                }
+            }
+            assert!(parts > 500, "{kind:?}: {parts}");
+        }
+    }
+
+    #[test]
+    fn no_history_that_exceeds_a_count_has_an_order() {
+        let mut random = Random::new(0x2468_ace0_1357_9bdf);
+        for kind in KINDS.iter().copied().filter(|kind| !kind.is_container()) {
+            let mut exceeded = 0;
+            for _ in 0..20_000 {
+                let history = random.history(kind);
+                let (key, value) = (random.below(3) as i64, random.below(3) as i64);
+                let counted = match random.below(4) {
+                    0 if kind.has_keys() => Counted::NoEntry(key),
+                    1 => Counted::Held,
+                    2 => Counted::Free,
+                    _ if kind.has_keys() => Counted::Entry { key, value },
+                    _ => Counted::Value(value),
+                };
+                let from = [0, 0, random.below(8) as u32][random.below(3) as usize];
+                if is_exceeded(&history, Count { counted, from }) {
+                    assert!(!has_some_order(&history), "{counted:?} {from} {history:?}");
+                    exceeded += 1;
+                }
+            }
+            assert_eq!(exceeded > 100, kind.is_countable(), "{kind:?}: {exceeded}");
+        }
     }
 
     #[test]

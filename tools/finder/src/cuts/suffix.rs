@@ -1,7 +1,7 @@
 //! Suffixes: what can take effect from a call on that tells what the object then contains.
 
 use crate::history::{End, Invocation, ObjectHistory};
-use crate::kinds::{Family, Op, Reply, lone_cell};
+use crate::kinds::{Family, Need, Op, Reply, lone_cell};
 
 /// An operation on an empty object, and its reply.
 type First = (Op, Reply);
@@ -19,14 +19,17 @@ fn left_by(op: Op, reply: Reply) -> Option<Option<First>> {
             content.map(|value| (cells.fill)(op.key(), value))
         }
         Family::Token(_) => (op.holds() == Some(true)).then_some((op, reply)),
+        Family::Number(number) => Some((number.fill)(op.steps(reply)?.1)),
     })
 }
 
 /// An operation that overlaps the first one: what set an object that is one cell sets it whatever
-/// was there, and any other is pending. Where the suffix begins empty, each is pending.
+/// was there, unless that must have been nothing, and any other is pending. Where the suffix begins
+/// empty, each is pending.
 fn overlapping(first: Option<First>, operation: &Invocation) -> Invocation {
     let effect = operation.reply().and_then(|reply| operation.op.effect(Some(reply)));
     let effect = effect.filter(|_| operation.op.kind().is_lone_cell());
+    let effect = effect.filter(|effect| effect.need != Need::Is(None));
     let written = effect.and_then(|effect| effect.sets.flatten());
     match (first, written, operation.end) {
         (Some(_), Some(value), End::Returned { at, .. }) => {

@@ -7,6 +7,9 @@ use super::op::{Op, Reply, Value};
 pub struct Cells {
     /// Whether there is a cell for each key. Else there is one.
     pub has_keys: bool,
+    /// Whether a cell contains a value, of which there are several. Else it contains its key, or
+    /// nothing: a part keeps the cell as a whole, and nothing is counted.
+    pub has_values: bool,
     /// An operation with its reply that leaves a value in an empty cell, that of a key where there
     /// are keys.
     pub fill: fn(Option<i64>, i64) -> (Op, Reply),
@@ -56,6 +59,20 @@ impl Effect {
     /// Whether it found another content than it asked for.
     pub fn is_refused(&self) -> bool {
         matches!(self.need, Need::IsNot(_))
+    }
+
+    /// That of an operation which sets its cell whatever it contains, and does not tell what.
+    pub fn sets(content: Option<i64>) -> Effect {
+        Effect { need: Need::Any, sets: Some(content) }
+    }
+
+    /// That of an operation which sets its cell to the second content where it contains the first
+    /// one, and replies whether it did so.
+    pub fn replaces(old: Option<i64>, new: Option<i64>, reply: Option<Reply>) -> Effect {
+        match reply.is_some_and(Reply::is_refusal) {
+            true => Effect { need: Need::IsNot(old), sets: None },
+            false => Effect { need: Need::Is(old), sets: Some(new) },
+        }
     }
 }
 

@@ -1,4 +1,5 @@
-//! Maps: a cell for each key. Each operation replies what was under the key before.
+//! Maps: a cell for each key. Most operations reply what was under the key before; others whether
+//! they set it, or nothing.
 
 use super::{Access, Cells, Effect, Family, Function, Need, Op, Reply, Room, Shape, Value, Words};
 
@@ -43,6 +44,59 @@ static DEL: Function = Function {
     )
 };
 
+static PUT_IF_ABSENT: Function = Function {
+    argument: Shape::Pair,
+    takes: "a pair of integers, [key value]",
+    other_names: &["put_if_absent"],
+    ..Function::telling_whether(
+        "put-if-absent",
+        &MAP,
+        Access {
+            effect: |entry, reply| Some(Effect::replaces(None, entry.last(), reply)),
+            next: |entry, content| (Reply::Flag(content.is_none()), content.or(entry.last())),
+        },
+    )
+};
+
+static REPLACE: Function = Function {
+    argument: Shape::Triple,
+    takes: "three integers, [key old new]",
+    ..Function::telling_whether(
+        "replace",
+        &MAP,
+        Access {
+            effect: |entry, reply| Some(Effect::replaces(entry.expected(), entry.last(), reply)),
+            next: |entry, content| match content == entry.expected() {
+                true => (Reply::Flag(true), entry.last()),
+                false => (Reply::Flag(false), content),
+            },
+        },
+    )
+};
+
+static ASSOC: Function = Function {
+    argument: Shape::Pair,
+    takes: "a pair of integers, [key value]",
+    ..Function::setting_silently(
+        "assoc",
+        &MAP,
+        Access {
+            effect: |entry, _| Some(Effect::sets(entry.last())),
+            next: |entry, _| (Reply::Value(None), entry.last()),
+        },
+    )
+};
+
+static DISSOC: Function = Function {
+    argument: Shape::Value,
+    takes: "a key, an integer",
+    ..Function::setting_silently(
+        "dissoc",
+        &MAP,
+        Access { effect: |_, _| Some(Effect::sets(None)), next: |_, _| (Reply::Value(None), None) },
+    )
+};
+
 /// An operation that puts a value under a key that has none.
 fn put(key: Option<i64>, value: i64) -> (Op, Reply) {
     let argument = Value::Pair(key.unwrap_or(0), value);
@@ -51,8 +105,8 @@ fn put(key: Option<i64>, value: i64) -> (Op, Reply) {
 
 pub static MAP: Room = Room {
     word: "map",
-    functions: &[&PUT, &GET, &DEL],
-    family: Family::Cells(Cells { has_keys: true, fill: put }),
+    functions: &[&PUT, &GET, &DEL, &PUT_IF_ABSENT, &REPLACE, &ASSOC, &DISSOC],
+    family: Family::Cells(Cells { has_keys: true, has_values: true, fill: put }),
     words: Words {
         put: "put",
         seen: "seen",

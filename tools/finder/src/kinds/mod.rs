@@ -1,7 +1,7 @@
 //! The kinds of objects. A kind has one room, the file of its name here, which has all that is
 //! special to it: its functions, what they ask of a content and leave there, the methods that find
 //! its orders and reasons, and the words for it. All other code works by what a room says, or by
-//! the family of the kind: a container, cells, or a token.
+//! the family of the kind: a container, cells, a token, or a number.
 //!
 //! A new kind is a room, and its lines in this file, the only one that lists the kinds.
 
@@ -12,11 +12,14 @@ mod room;
 #[cfg(test)]
 mod tests;
 
+mod counter;
 mod heap;
+mod lock;
 mod map;
 mod mutex;
 mod queue;
 mod register;
+mod set;
 mod stack;
 
 pub use cells::{Access, Cells, Effect, Need};
@@ -31,11 +34,20 @@ pub(crate) mod lone_cell {
 }
 
 /// The kinds, in the order in which messages list their functions.
-pub static KINDS: &[Kind] =
-    &[&queue::QUEUE, &stack::STACK, &heap::HEAP, &register::REGISTER, &map::MAP, &mutex::MUTEX];
+pub static KINDS: &[Kind] = &[
+    &queue::QUEUE,
+    &stack::STACK,
+    &heap::HEAP,
+    &register::REGISTER,
+    &map::MAP,
+    &mutex::MUTEX,
+    &set::SET,
+    &counter::COUNTER,
+    &lock::LOCK,
+];
 
 /// How many functions all kinds have together, in words.
-pub const FUNCTION_COUNT: &str = "fourteen";
+pub const FUNCTION_COUNT: &str = "twenty-seven";
 
 /// The functions of all kinds.
 pub fn functions() -> impl Iterator<Item = &'static Function> {

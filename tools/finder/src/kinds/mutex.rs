@@ -14,6 +14,7 @@ pub static MUTEX: Room = Room {
     word: "mutex",
     functions: &[&ACQUIRE, &RELEASE],
     family: Family::Token(Token {
+        has_owner: false,
         order: mutex_order,
         patterns: mutex_patterns,
         rare_patterns: rare_mutex_patterns,

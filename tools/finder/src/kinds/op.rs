@@ -19,6 +19,8 @@ pub enum Reply {
     /// A compare-and-set that took place, with its two values.
     Swapped(i64, i64),
     NotSwapped,
+    /// Whether the operation did what it asks for, or found what it looks for.
+    Flag(bool),
 }
 
 /// An argument or a reply, as a history writes it.
@@ -26,8 +28,10 @@ pub enum Reply {
 pub enum Value {
     Nil,
     False,
+    True,
     Int(i64),
     Pair(i64, i64),
+    Triple(i64, i64, i64),
 }
 
 /// What an operation does with the values of a container.
@@ -47,7 +51,8 @@ impl Reply {
             Reply::Value(None) => Value::Nil,
             Reply::Value(Some(value)) => Value::Int(value),
             Reply::Swapped(expected, new) => Value::Pair(expected, new),
-            Reply::NotSwapped => Value::False,
+            Reply::NotSwapped | Reply::Flag(false) => Value::False,
+            Reply::Flag(true) => Value::True,
         }
     }
 
@@ -55,7 +60,15 @@ impl Reply {
     pub fn content(self) -> Option<Option<i64>> {
         match self {
             Reply::Value(content) => Some(content),
-            Reply::Swapped(..) | Reply::NotSwapped => None,
+            Reply::Swapped(..) | Reply::NotSwapped | Reply::Flag(_) => None,
+        }
+    }
+
+    /// Whether it says that the object contained something else than the operation asks for.
+    pub fn is_refusal(self) -> bool {
+        match self {
+            Reply::NotSwapped | Reply::Flag(false) => true,
+            Reply::Value(_) | Reply::Swapped(..) | Reply::Flag(true) => false,
         }
     }
 }
@@ -64,16 +77,24 @@ impl Value {
     /// The first integer, which is the key where there are keys.
     pub fn first(self) -> Option<i64> {
         match self {
-            Value::Int(first) | Value::Pair(first, _) => Some(first),
-            Value::Nil | Value::False => None,
+            Value::Int(first) | Value::Pair(first, _) | Value::Triple(first, ..) => Some(first),
+            Value::Nil | Value::False | Value::True => None,
+        }
+    }
+
+    /// The last but one, which is the value to be replaced where there is one.
+    pub fn expected(self) -> Option<i64> {
+        match self {
+            Value::Pair(expected, _) | Value::Triple(_, expected, _) => Some(expected),
+            Value::Nil | Value::False | Value::True | Value::Int(_) => None,
         }
     }
 
     /// The last integer.
     pub fn last(self) -> Option<i64> {
         match self {
-            Value::Int(last) | Value::Pair(_, last) => Some(last),
-            Value::Nil | Value::False => None,
+            Value::Int(last) | Value::Pair(_, last) | Value::Triple(_, _, last) => Some(last),
+            Value::Nil | Value::False | Value::True => None,
         }
     }
 }
@@ -83,8 +104,10 @@ impl Display for Value {
         match self {
             Value::Nil => f.write_str("nil"),
             Value::False => f.write_str("false"),
+            Value::True => f.write_str("true"),
             Value::Int(value) => write!(f, "{value}"),
             Value::Pair(a, b) => write!(f, "[{a} {b}]"),
+            Value::Triple(a, b, c) => write!(f, "[{a} {b} {c}]"),
         }
     }
 }
@@ -103,7 +126,8 @@ impl Op {
     pub fn puts(self) -> Option<i64> {
         match self.function.does {
             Does::Puts => self.argument.last(),
-            Does::Takes | Does::Accesses(_) | Does::Acquires | Does::Releases => None,
+            Does::Takes | Does::Accesses(_) => None,
+            Does::Acquires | Does::Releases | Does::Adds | Does::Counts => None,
         }
     }
 
@@ -127,7 +151,7 @@ impl Op {
     pub fn key(self) -> Option<i64> {
         match &self.function.kind.family {
             Family::Cells(cells) if cells.has_keys => self.argument.first(),
-            Family::Cells(_) | Family::Container(_) | Family::Token(_) => None,
+            Family::Cells(_) | Family::Container(_) | Family::Token(_) | Family::Number(_) => None,
         }
     }
 
@@ -138,6 +162,7 @@ impl Op {
         match &self.function.does {
             Does::Accesses(access) => (access.effect)(self.argument, reply),
             Does::Puts | Does::Takes | Does::Acquires | Does::Releases => None,
+            Does::Adds | Does::Counts => None,
         }
     }
 
@@ -147,15 +172,36 @@ impl Op {
         match &self.function.does {
             Does::Accesses(access) => Some((access.next)(self.argument, content)),
             Does::Puts | Does::Takes | Does::Acquires | Does::Releases => None,
+            Does::Adds | Does::Counts => None,
         }
+    }
+
+    /// What the operation adds to a number: 0 if it only tells it. `None`: it is on no number.
+    pub fn adds(self) -> Option<i64> {
+        match self.function.does {
+            Does::Adds => self.argument.last(),
+            Does::Counts => Some(0),
+            Does::Puts | Does::Takes | Does::Accesses(_) | Does::Acquires | Does::Releases => None,
+        }
+    }
+
+    /// The number before and after the operation, by its reply.
+    pub fn steps(self, reply: Reply) -> Option<(i64, i64)> {
+        let before = reply.content()??;
+        Some((before, before.checked_add(self.adds()?)?))
     }
 
     /// Whether a token is held after the operation. `None`: it is on no token.
     pub fn holds(self) -> Option<bool> {
-        match self.function.does {
-            Does::Acquires => Some(true),
-            Does::Releases => Some(false),
-            Does::Puts | Does::Takes | Does::Accesses(_) => None,
+        self.function.holds()
+    }
+
+    /// Who holds a token after the operation, where this one does before it: its argument names who
+    /// acquires it, and who releases it. `None`: the operation is not possible, or on no token.
+    pub fn next_holder(self, holder: Option<Value>) -> Option<Option<Value>> {
+        match self.holds()? {
+            true => holder.is_none().then_some(Some(self.argument)),
+            false => (holder == Some(self.argument)).then_some(None),
         }
     }
 
@@ -180,7 +226,8 @@ impl Op {
             Does::Puts => false,
             Does::Takes => reply == Reply::Value(None),
             Does::Accesses(_) => self.effect(Some(reply)).is_some_and(|it| it.shows().is_some()),
-            Does::Acquires | Does::Releases => true,
+            Does::Acquires | Does::Releases | Does::Counts => true,
+            Does::Adds => self.steps(reply).is_some(),
         }
     }
 }

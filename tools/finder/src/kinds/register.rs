@@ -1,11 +1,12 @@
 //! Registers: one cell, which is written, read, and compared and set.
 
-use super::{Access, Cells, Does, Effect, Family, Function, Need, OfNothing, Op, Reply, Room};
+use super::room::NOTHING;
+use super::{Access, Cells, Does, Effect, Family, Function, OfNothing, Op, Reply, Room};
 use super::{Shape, Value, Words};
 
 static WRITE: Function = Function {
     does: Does::Accesses(Access {
-        effect: |new, _| Some(Effect { need: Need::Any, sets: Some(new.last()) }),
+        effect: |new, _| Some(Effect::sets(new.last())),
         next: |new, _| (Reply::Value(new.last()), new.last()),
     }),
     ..Function::putting("write", &REGISTER)
@@ -20,13 +21,7 @@ static CAS: Function = Function {
     replies: "its pair where it swapped, and false where it did not",
     of_nothing: Some(OfNothing::False),
     does: Does::Accesses(Access {
-        effect: |pair, reply| {
-            let expected = pair.first();
-            Some(match reply {
-                Some(Reply::NotSwapped) => Effect { need: Need::IsNot(expected), sets: None },
-                _ => Effect { need: Need::Is(expected), sets: Some(pair.last()) },
-            })
-        },
+        effect: |pair, reply| Some(Effect::replaces(pair.expected(), pair.last(), reply)),
         next: |pair, content| match pair {
             Value::Pair(expected, new) if content == Some(expected) => {
                 (Reply::Swapped(expected, new), Some(new))
@@ -37,10 +32,33 @@ static CAS: Function = Function {
     ..Function::putting("cas", &REGISTER)
 };
 
+static CLEAR: Function = Function {
+    argument: Shape::Nothing,
+    takes: NOTHING,
+    ..Function::setting_silently(
+        "clear",
+        &REGISTER,
+        Access { effect: |_, _| Some(Effect::sets(None)), next: |_, _| (Reply::Value(None), None) },
+    )
+};
+
+static CREATE: Function = Function::telling_whether(
+    "create",
+    &REGISTER,
+    Access {
+        effect: |new, reply| Some(Effect::replaces(None, new.last(), reply)),
+        next: |new, content| (Reply::Flag(content.is_none()), content.or(new.last())),
+    },
+);
+
 pub static REGISTER: Room = Room {
     word: "register",
-    functions: &[&WRITE, &READ, &CAS],
-    family: Family::Cells(Cells { has_keys: false, fill: |_, value| setting(value) }),
+    functions: &[&WRITE, &READ, &CAS, &CLEAR, &CREATE],
+    family: Family::Cells(Cells {
+        has_keys: false,
+        has_values: true,
+        fill: |_, value| setting(value),
+    }),
     words: Words {
         put: "written",
         seen: "read",

@@ -28,10 +28,20 @@ pub enum Family {
     Cells(Cells),
     /// The object is held, or free.
     Token(Token),
+    /// The object is a number, at first 0, to which amounts are added.
+    Number(Number),
 }
 
-/// The methods for an object that is held or free.
+/// What is special to an object that is a number.
+pub struct Number {
+    /// An operation with its reply that leaves this number in a new object.
+    pub fill: fn(i64) -> (Op, Reply),
+}
+
+/// What is special to an object that is held or free.
 pub struct Token {
+    /// Whether it is held by an owner, which its operations name.
+    pub has_owner: bool,
     /// An order of the calls that may be valid.
     pub(crate) order: OrderMethod,
     /// The patterns in which no order is valid, and those that are rare.
@@ -75,6 +85,7 @@ pub struct Function {
 pub(super) const INTEGER: &str = "an integer";
 pub(super) const NOTHING: &str = "nil";
 pub(super) const CONTENT: &str = "an integer or nil";
+pub(super) const WHETHER: &str = "true or false";
 
 /// What a function does to its object, in the words of the family.
 pub enum Does {
@@ -87,6 +98,10 @@ pub enum Does {
     /// It takes hold of a token, or lets it go.
     Acquires,
     Releases,
+    /// It adds its argument to a number, and tells the number before.
+    Adds,
+    /// It tells a number.
+    Counts,
 }
 
 /// What an argument or a reply is. A history has integers alone; other tools also write names.
@@ -97,6 +112,7 @@ pub enum Shape {
     /// An integer of 64 bits, since integers are compared by size.
     Number,
     Pair,
+    Triple,
     Nothing,
     /// The argument, or that it was done.
     Done,
@@ -104,6 +120,10 @@ pub enum Shape {
     NumberOrNothing,
     /// Whether it was set.
     Swapped,
+    /// Whether it did what it asks for.
+    Flag,
+    /// Nothing, or what a client notes where it was told nothing: its argument, or that it was done.
+    Silent,
     /// What a client notes where it has acquired or released a lock.
     Token,
 }
@@ -125,7 +145,7 @@ impl Room {
     pub fn gives(&self) -> Option<Gives> {
         match &self.family {
             Family::Container(container) => Some(container.gives),
-            Family::Cells(_) | Family::Token(_) => None,
+            Family::Cells(_) | Family::Token(_) | Family::Number(_) => None,
         }
     }
 
@@ -144,6 +164,26 @@ impl Room {
         matches!(self.family, Family::Cells(Cells { has_keys: true, .. }))
     }
 
+    /// Whether a part can keep some values of one cell.
+    pub fn has_values_in_cells(&self) -> bool {
+        matches!(self.family, Family::Cells(Cells { has_values: true, .. }))
+    }
+
+    /// Whether the object is held by an owner, which its operations name.
+    pub fn has_owner(&self) -> bool {
+        matches!(self.family, Family::Token(Token { has_owner: true, .. }))
+    }
+
+    /// Whether it can be counted how often a content is set and taken away.
+    pub fn is_countable(&self) -> bool {
+        match &self.family {
+            Family::Container(_) => true,
+            Family::Cells(cells) => cells.has_values,
+            Family::Token(token) => !token.has_owner,
+            Family::Number(_) => false,
+        }
+    }
+
     /// The name of the first of its functions that is so; empty where none is.
     fn name_where(&self, is_so: impl Fn(&Function) -> bool) -> &'static str {
         self.functions.iter().find(|function| is_so(function)).map_or("", |function| function.name)
@@ -151,7 +191,7 @@ impl Room {
 
     /// The name of its function that may be refused, because of what the object contains.
     pub fn swap_name(&self) -> &'static str {
-        self.name_where(|function| function.reply == Shape::Swapped)
+        self.name_where(Function::may_be_refused)
     }
 
     /// The name of its function that puts in, or takes hold.
@@ -220,11 +260,55 @@ impl Function {
         }
     }
 
-    /// Whether it only looks at its cell.
+    /// One that this is what it does to a cell, and that tells nothing of it.
+    pub(super) const fn setting_silently(
+        name: &'static str,
+        kind: Kind,
+        access: Access,
+    ) -> Function {
+        Function {
+            reply: Shape::Silent,
+            replies: NOTHING,
+            does: Does::Accesses(access),
+            ..Function::putting(name, kind)
+        }
+    }
+
+    /// One that replies whether it did this with a cell.
+    pub(super) const fn telling_whether(
+        name: &'static str,
+        kind: Kind,
+        access: Access,
+    ) -> Function {
+        Function {
+            reply: Shape::Flag,
+            replies: WHETHER,
+            of_nothing: Some(OfNothing::False),
+            does: Does::Accesses(access),
+            ..Function::putting(name, kind)
+        }
+    }
+
+    /// Whether it only looks at its cell, or tells a number.
     pub fn only_looks(&self) -> bool {
         match &self.does {
             Does::Accesses(access) => (access.effect)(Value::Nil, None).is_none(),
-            Does::Puts | Does::Takes | Does::Acquires | Does::Releases => false,
+            Does::Counts => true,
+            Does::Puts | Does::Takes | Does::Acquires | Does::Releases | Does::Adds => false,
+        }
+    }
+
+    /// Whether it replaces a value that its argument names, and is refused where another one is there.
+    pub fn may_be_refused(&self) -> bool {
+        self.reply == Shape::Swapped || self.argument == Shape::Triple
+    }
+
+    /// Whether a token is held after it. `None`: it is on no token.
+    pub fn holds(&self) -> Option<bool> {
+        match self.does {
+            Does::Acquires => Some(true),
+            Does::Releases => Some(false),
+            Does::Puts | Does::Takes | Does::Accesses(_) | Does::Adds | Does::Counts => None,
         }
     }
 
@@ -233,8 +317,10 @@ impl Function {
         let fits = match self.argument {
             Shape::Nothing | Shape::Token => argument == Value::Nil,
             Shape::Pair => matches!(argument, Value::Pair(..)),
+            Shape::Triple => matches!(argument, Value::Triple(..)),
             Shape::Value | Shape::Number => matches!(argument, Value::Int(_)),
             Shape::Done | Shape::Content | Shape::NumberOrNothing | Shape::Swapped => false,
+            Shape::Flag | Shape::Silent => false,
         };
         fits.then_some(Op { function: self, argument })
     }
@@ -244,12 +330,16 @@ impl Function {
         match (self.reply, value) {
             (Shape::Swapped, Value::Pair(expected, new)) => Some(Reply::Swapped(expected, new)),
             (Shape::Swapped, Value::False) => Some(Reply::NotSwapped),
-            (Shape::Done | Shape::Content | Shape::NumberOrNothing, Value::Int(value)) => {
-                Some(Reply::Value(Some(value)))
-            }
-            (Shape::Content | Shape::NumberOrNothing | Shape::Token, Value::Nil) => {
-                Some(Reply::Value(None))
-            }
+            (Shape::Flag, Value::True) => Some(Reply::Flag(true)),
+            (Shape::Flag, Value::False) => Some(Reply::Flag(false)),
+            (
+                Shape::Done | Shape::Content | Shape::NumberOrNothing | Shape::Number,
+                Value::Int(value),
+            ) => Some(Reply::Value(Some(value))),
+            (
+                Shape::Content | Shape::NumberOrNothing | Shape::Token | Shape::Silent,
+                Value::Nil,
+            ) => Some(Reply::Value(None)),
             _ => None,
         }
     }

@@ -1,21 +1,25 @@
 //! Orders of an object's calls that may be valid, each looked for by a method that is made for its
 //! kind. What is handed out was checked.
 //!
-//! The methods are made to find an order of any token, and of a container in which each value is
-//! put in once, in some n log n steps of n calls. Where values repeat those of a container find many
-//! orders, and further ones by its contents, and `cells` those of an object that has cells. They do
-//! not find each. The room of a kind says which methods are for it.
+//! The methods are made to find an order of any token without owners, and of a container in which
+//! each value is put in once, in some n log n steps of n calls. Where values repeat those of a
+//! container find many orders, and further ones by its contents, and `cells` those of an object that
+//! has cells, of a token with owners, and of a number. They do not find each. The room of a kind says
+//! which methods are for it.
 
 mod cells;
 mod heap;
 mod line;
+mod lock;
 mod mutex;
+mod number;
 mod queue;
 mod queue_search;
 mod stack;
 mod stack_search;
 
 pub use heap::heap_order;
+pub use lock::lock_order;
 pub use mutex::mutex_order;
 pub use queue::queue_order;
 pub use queue_search::searched_queue_order;
@@ -28,6 +32,7 @@ use crate::kinds::{ContainerOrders, Family};
 use crate::residences::Touches;
 use crate::timeline::Timeline;
 use cells::{CellsOrder, order_of_cells};
+use number::number_order;
 
 /// What the quick methods find.
 pub enum Quick {
@@ -43,7 +48,7 @@ pub enum Quick {
 fn container_orders(history: &ObjectHistory) -> Option<&'static ContainerOrders> {
     match &history.kind.family {
         Family::Container(container) => Some(&container.orders),
-        Family::Cells(_) | Family::Token(_) => None,
+        Family::Cells(_) | Family::Token(_) | Family::Number(_) => None,
     }
 }
 
@@ -56,6 +61,7 @@ pub fn quick_order(history: &ObjectHistory) -> Quick {
             CellsOrder::OpenCell { key } => return Quick::Open { key },
         },
         Family::Token(token) => (token.order)(&timeline),
+        Family::Number(_) => number_order(&timeline),
         Family::Container(container) => {
             let touches = Touches::of(&timeline.calls);
             if touches.overdraw() {
@@ -104,5 +110,25 @@ pub fn open_keys(history: &ObjectHistory) -> Vec<i64> {
     match history.kind.has_keys() {
         true => cells::open_keys(&Timeline::of(&history.ops)),
         false => Vec::new(),
+    }
+}
+
+#[cfg(test)]
+mod tests {
+    use super::*;
+    use crate::kinds::KINDS;
+    use crate::small::Random;
+
+    #[test]
+    fn orders_of_right_objects_are_found() {
+        let mut random = Random::new(0x0123_4567_89ab_cdef);
+        for kind in KINDS.iter().copied().filter(|kind| !kind.is_container()) {
+            let is_found = |length: u32, random: &mut Random| {
+                let history = random.recorded(kind, length);
+                matches!(quick_order(&history), Quick::Order(_))
+            };
+            let found = (0..1_000).filter(|k| is_found(10 + k % 60, &mut random)).count();
+            assert_eq!(found, 1_000, "{kind:?}");
+        }
     }
 }

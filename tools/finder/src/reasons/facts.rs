@@ -37,8 +37,9 @@ impl Undone {
             let first = all.next()?.number;
             Some(Undone { first, count: 1 + all.count(), were_refused })
         };
-        of(false, Invocation::has_failed)
-            .or_else(|| of(true, |o| o.reply() == Some(Reply::NotSwapped)))
+        of(false, Invocation::has_failed).or_else(|| {
+            of(true, |o| o.op.function.may_be_refused() && o.reply().is_some_and(Reply::is_refusal))
+        })
     }
 }
 

@@ -8,6 +8,7 @@ mod containers;
 mod facts;
 mod lost;
 mod narrow;
+mod numbers;
 mod pattern;
 mod plan;
 mod propose;
@@ -16,6 +17,7 @@ mod shrink;
 mod value_pairs;
 mod wholes;
 
+pub(crate) use cells::{lock_patterns, rare_lock_patterns};
 pub(crate) use cells::{mutex_patterns, rare_mutex_patterns};
 pub(crate) use containers::{Interval, Runs, extracts, queue_pairs, stack_pairs};
 pub use facts::{Facts, Undone};

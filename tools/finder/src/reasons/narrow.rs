@@ -99,6 +99,9 @@ impl<'a> Narrowing<'a> {
 fn pattern_in_window(pattern: Pattern) -> Pattern {
     match pattern {
         Pattern::Stale(_) | Pattern::RefusedUnderItsValue { .. } => pattern,
+        Pattern::DoneOverValue { .. } | Pattern::RefusedWithoutValue { .. } => pattern,
+        Pattern::Repeated { .. } | Pattern::NotHolder { .. } => pattern,
+        Pattern::Fell { .. } | Pattern::FoundTwice(_) => pattern,
         Pattern::CountExceeded(_) => pattern,
         _ => Pattern::General,
     }

@@ -44,6 +44,22 @@ pub enum Pattern {
     EachBeforeTheOther(i64, i64),
     /// A swap is refused while the value that it expects definitely is there.
     RefusedUnderItsValue { value: i64, number: u32 },
+    /// An operation sets a value and finds none before it, while one definitely is there.
+    DoneOverValue { name: &'static str, number: u32 },
+    /// An operation that sets a value where there is none is refused, while there definitely is
+    /// none.
+    RefusedWithoutValue { name: &'static str, number: u32 },
+    /// The key of a cell without values is put there twice, and not taken away in between, or taken
+    /// away twice.
+    Repeated { key: i64, sets: bool },
+    /// An owner takes hold of a token, or lets it go, while this holder has it.
+    NotHolder { acquires: bool, owner: i64, holder: Option<i64> },
+    /// A number is found after a greater one was there, and nothing is subtracted.
+    Fell { found: i64, was: i64 },
+    /// Two additions find the same number, and nothing is subtracted.
+    FoundTwice(i64),
+    /// A number is found that no addition can have left by then.
+    NotReached(i64),
     /// A content is taken away in a time more often than it can have been there.
     CountExceeded(Counted),
     /// More values definitely were ahead of what a removal found than can have been taken out
@@ -72,11 +88,16 @@ fn left_empty(op: Op, reply: Reply) -> Option<(&'static str, &'static str)> {
         Does::Takes => (reply == Reply::Value(None)).then_some(found_nothing),
         Does::Accesses(_) => {
             let effect = op.effect(Some(reply))?;
-            let takes_away = (effect.sets == Some(None)).then_some(("took", "the value away"));
+            let takes_away = match effect.need {
+                Need::Any => ("left", "nothing"),
+                _ if !op.kind().has_values_in_cells() => (op.kind().words.taken, "it"),
+                _ => ("took", "the value away"),
+            };
+            let takes_away = (effect.sets == Some(None)).then_some(takes_away);
             takes_away.or((effect.need == Need::Is(None)).then_some(found_nothing))
         }
         Does::Releases => Some((op.kind().words.taken, "the lock")),
-        Does::Puts | Does::Acquires => None,
+        Does::Puts | Does::Acquires | Does::Adds | Does::Counts => None,
     }
 }
 
@@ -150,10 +171,13 @@ pub struct Sentence {
 
 impl Display for Sentence {
     fn fmt(&self, f: &mut Formatter<'_>) -> fmt::Result {
-        if let Some(key) = self.key {
-            write!(f, "key {key}: ")?;
+        match self.key.filter(|_| !self.kind.has_values_in_cells()) {
+            Some(element) => self.say_of_element(element, f)?,
+            None => {
+                self.key.map_or(Ok(()), |key| write!(f, "key {key}: "))?;
+                self.say_pattern(f)?;
+            }
         }
-        self.say_pattern(f)?;
         self.beginning.map_or(Ok(()), |beginning| write!(f, "; {beginning}"))?;
         self.first.map_or(Ok(()), |first| write!(f, "; {first}"))
     }
@@ -183,13 +207,103 @@ impl Sentence {
         Sentence { kind, key, pattern, facts, beginning: None, first: None }
     }
 
+    /// What the pattern says of the key of a cell without values.
+    fn say_of_element(&self, element: i64, f: &mut Formatter<'_>) -> fmt::Result {
+        let Words { put, seen, taken, .. } = self.kind.words;
+        let word = self.kind.word;
+        match self.pattern {
+            Pattern::Repeated { sets, .. } => {
+                let (done, undone) = if sets { (put, taken) } else { (taken, put) };
+                write!(f, "value {element} was {done} twice, and not {undone} in between")
+            }
+            Pattern::NeverSet(_) => match self.facts.undone {
+                Some(undone) => {
+                    let undone = undone.text(self.kind.swap_name());
+                    write!(f, "value {element} was {seen} and only {put} by {undone}")
+                }
+                None => write!(f, "value {element} was {seen} and never {put}"),
+            },
+            Pattern::TooEarly(_) => write!(f, "value {element} was {seen} before it was {put}"),
+            Pattern::Stale(Some(_)) => {
+                let out = format!("after it had been out of the {word}");
+                write!(f, "value {element} was {seen} {out}, and not {put} in between")
+            }
+            Pattern::Stale(None) => {
+                let inside = format!("after it had been in the {word}");
+                write!(f, "value {element} was not {seen} {inside}, and not {taken} in between")
+            }
+            Pattern::CountExceeded(Counted::Entry { .. }) => {
+                write!(
+                    f,
+                    "value {element} was {taken} more often than it can have been in the {word}"
+                )
+            }
+            Pattern::CountExceeded(Counted::NoEntry(_)) => {
+                write!(
+                    f,
+                    "value {element} was {put} more often than it can have been out of the {word}"
+                )
+            }
+            _ => write!(f, "the following operations on value {element} have no valid order"),
+        }
+    }
+
+    /// What the pattern says of a token that has an owner, or of a number.
+    fn say_of_holder_or_number(&self, f: &mut Formatter<'_>) -> Option<fmt::Result> {
+        let Words { put, seen, taken, .. } = self.kind.words;
+        let word = self.kind.word;
+        Some(match self.pattern {
+            Pattern::NotHolder { acquires: true, owner, holder: Some(holder) } => {
+                write!(f, "owner {owner} {put} what owner {holder} had {put}, and not {taken}")
+            }
+            Pattern::NotHolder { acquires: false, owner, holder: Some(holder) } => {
+                write!(f, "owner {owner} {taken} what owner {holder} had {put}")
+            }
+            Pattern::NotHolder { acquires, owner, holder: None } => {
+                let done = if acquires { put } else { taken };
+                write!(f, "owner {owner} {done} what no owner had {put}")
+            }
+            Pattern::CountExceeded(Counted::Value(owner)) if self.kind.has_owner() => {
+                write!(f, "owner {owner} {taken} more often than it had {put}")
+            }
+            Pattern::Fell { found, was } => {
+                write!(
+                    f,
+                    "the {word} was {found} after it had been {was}, and nothing was subtracted"
+                )
+            }
+            Pattern::FoundTwice(number) => {
+                write!(
+                    f,
+                    "two additions {seen} the {word} to be {number}, and nothing was subtracted"
+                )
+            }
+            Pattern::NotReached(number) => {
+                write!(f, "the {word} was {seen} to be {number}, which it cannot have been by then")
+            }
+            _ => return None,
+        })
+    }
+
     fn say_pattern(&self, f: &mut Formatter<'_>) -> fmt::Result {
         let Words { put, seen, taken, .. } = self.kind.words;
         let word = self.kind.word;
+        if let Some(said) = self.say_of_holder_or_number(f) {
+            return said;
+        }
         if let Some((value, fate)) = self.pattern.of_value(self.kind, self.facts) {
             return write!(f, "value {value} was {fate}");
         }
         match self.pattern {
+            Pattern::DoneOverValue { name, number } => {
+                write!(
+                    f,
+                    "a value was definitely there when the :{name} of event {number} found none"
+                )
+            }
+            Pattern::RefusedWithoutValue { name, number } => {
+                write!(f, "no value was there when the :{name} of event {number} was refused")
+            }
             Pattern::SurelyNotEmpty { number } => {
                 write!(f, "the {word} was definitely not empty when event {number} found nothing")
             }

@@ -34,8 +34,8 @@ pub enum Element {
     Operation(u32),
 }
 
-/// What is kept, from a call on, until a number. Where `all_values` is set the elements are
-/// operations alone. Where there is a `key` it is that of a map, of which a cell is kept: the
+/// What is kept, from a call on, until a number. Where `all_values` is set, as at a number, the
+/// elements are operations alone. Where there is a `key` it is that of a map, of which a cell is kept: the
 /// values are those under the key.
 #[derive(Default)]
 pub struct Plan {
@@ -80,6 +80,8 @@ impl Values {
             },
             Family::Cells(_) => self.role_on_cell(operation),
             Family::Token(_) => Role::Kept,
+            Family::Number(_) if operation.op.only_looks() => Role::Optional,
+            Family::Number(_) => Role::Kept,
         }
     }
 
@@ -157,9 +159,10 @@ impl Plan {
         let mut left_over = 0..values.left_over(&history.ops);
         let optional = self.optional();
         let is_lone_cell = history.kind.is_lone_cell();
+        let names_few = is_lone_cell || matches!(history.kind.family, Family::Number(_));
         let begun = self.begun(&history.ops);
         let kept = history.ops.iter().filter(|o| match values.role_of(o) {
-            Role::Kept => !is_lone_cell || self.touches(o),
+            Role::Kept => !names_few || self.touches(o),
             Role::Optional => optional.contains(&o.number) || self.is_cut_swap(o, begun),
             Role::Pending => left_over.next().is_some(),
             Role::LeftOut => false,
@@ -199,6 +202,10 @@ impl Plan {
                 self.push_keeping(history, cuts);
             }
             (Family::Token(_), _) => self.push_window(cuts),
+            (Family::Number(_), _) => {
+                self.push_window(cuts);
+                self.push_keeping(history, cuts);
+            }
             (Family::Container(_) | Family::Cells(_), _) => {
                 self.push_keeping(history, cuts);
                 self.push_window(cuts);

@@ -2,6 +2,7 @@
 
 use super::cells::{cell_patterns, rare_cell_patterns};
 use super::containers::{container_patterns, lost_patterns};
+use super::numbers::number_patterns;
 use super::shrink::Judge;
 use super::value_pairs::value_pairs_of;
 use super::wholes::wholes_of;
@@ -74,6 +75,7 @@ impl Proposer<'_> {
             Family::Container(container) => container_patterns(container, timeline),
             Family::Cells(_) => cell_patterns(timeline),
             Family::Token(token) => (token.patterns)(timeline),
+            Family::Number(_) => number_patterns(timeline),
         };
         candidates.sort_by_key(|candidate| candidate.weight);
         candidates
@@ -82,7 +84,7 @@ impl Proposer<'_> {
     /// The candidates by patterns that take longer to be found, the lightest first.
     fn rare_patterns(&self, timeline: &Timeline) -> Vec<Candidate> {
         let mut candidates = match &self.history.kind.family {
-            Family::Container(_) => Vec::new(),
+            Family::Container(_) | Family::Number(_) => Vec::new(),
             Family::Cells(_) => rare_cell_patterns(timeline),
             Family::Token(token) => (token.rare_patterns)(timeline),
         };
@@ -216,7 +218,7 @@ impl Proposer<'_> {
         let others = match &self.history.kind.family {
             Family::Container(container) => lost_patterns(container.gives, timeline),
             Family::Token(_) => self.rare_patterns(timeline),
-            Family::Cells(_) => Vec::new(),
+            Family::Cells(_) | Family::Number(_) => Vec::new(),
         };
         best.into_iter().chain(self.best_of(others)).min_by_key(|found| found.size)
     }

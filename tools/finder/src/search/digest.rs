@@ -1,6 +1,7 @@
 //! A digest of the operations done and the content.
 
-use crate::kinds::{Effect, Family, Gives, Need, Op, Reply, Role};
+use crate::content::Undo;
+use crate::kinds::{Family, Gives, Op, Reply, Role};
 use crate::splitmix::{STEP, mixed};
 
 /// Two ways to do the same operations that leave the same content have one digest, so that a pair
@@ -75,27 +76,37 @@ impl Digest {
         }
     }
 
-    /// The operation of an object that has cells sets its cell, if it does.
-    fn set(&mut self, op: Op, reply: Reply) {
-        let Some(Effect { need, sets: Some(new) }) = op.effect(Some(reply)) else {
+    /// The operation of an object that has cells sets its cell, if it does, which contained what
+    /// this brings back.
+    fn set(&mut self, op: Op, reply: Reply, undo: Undo) {
+        let Some(new) = op.effect(Some(reply)).and_then(|effect| effect.sets) else {
             return;
         };
-        match (op.key(), need) {
-            (Some(key), Need::Is(old)) => self.replace(key, old, new),
-            (Some(key), Need::Any | Need::IsNot(_)) => self.replace(key, None, new),
+        match (op.key(), undo) {
+            (Some(key), Undo::SetKey(_, old)) => self.replace(key, old, new),
+            // The cell contains what it did before.
+            (Some(_), _) => {}
             (None, _) => self.content = new.map_or(0, |new| of_value(new, 0)),
         }
     }
 
-    /// After one more operation, at this place of the trials, with its reply.
-    pub fn after(mut self, place: usize, op: Op, reply: Reply) -> Digest {
+    /// After one more operation, at this place of the trials, with its reply, and with what undoes
+    /// it.
+    pub fn after(mut self, place: usize, op: Op, reply: Reply, undo: Undo) -> Digest {
         self.done = self.done.wrapping_add(pair(place as u64, 7));
         match (&op.kind().family, op.role(Some(reply))) {
             (Family::Container(container), Role::Puts(value)) => self.put(value, container.gives),
             (Family::Container(container), Role::Takes(value)) => self.take(value, container.gives),
             (Family::Container(_), Role::FindsNone | Role::Unknown) => {}
-            (Family::Cells(_), _) => self.set(op, reply),
-            (Family::Token(_), _) => self.content = u64::from(op.holds() == Some(true)),
+            (Family::Cells(_), _) => self.set(op, reply, undo),
+            (Family::Token(_), _) => {
+                let holder = op.argument.last().filter(|_| op.holds() == Some(true));
+                let is_held = u64::from(op.holds() == Some(true));
+                self.content = holder.map_or(is_held, |holder| of_value(holder, 2));
+            }
+            (Family::Number(_), _) => {
+                self.content = op.steps(reply).map_or(0, |(_, after)| of_value(after, 0));
+            }
         }
         self
     }

@@ -141,7 +141,7 @@ impl Walk {
     fn go_on(&mut self, reply: Reply, undo: Undo) -> bool {
         let place = self.at;
         let item = self.trials.items[place];
-        let digest = self.digest.after(place, item.op, reply);
+        let digest = self.digest.after(place, item.op, reply, undo);
         let high = self.high.max(place + 1);
         let pending = match self.window.pending {
             pending if pending == place => self.undone.after(place),

@@ -1,11 +1,10 @@
 //! What an object contains, as boxes: what it gives, and what was returned.
 
-use super::content::{Content, Item, held_text, value_reply};
+use super::content::{Content, Entries, Item, value_reply};
 use crate::figures::{CHARACTER, SMALL_CHARACTER, characters, count_text, digits};
 use crate::timeline::{BoxKind, ContentBox, Operation};
 use crate::words::Words;
 use finder::{Bag, Gives, Reply};
-use std::collections::BTreeMap;
 use std::ops::Range;
 
 /// An object that contains no more has a box for each.
@@ -117,19 +116,32 @@ impl Boxes<'_> {
         self.add_values(BoxKind::Absent, reply.value().to_string(), under, None);
     }
 
-    /// The entries of a map; where there are many only the one of the key.
-    fn entries(&mut self, items: &BTreeMap<i64, Item>, key: Option<i64>) {
+    /// The entries of cells with keys; where there are many only the one of the key, of which the
+    /// object gives this.
+    fn entries(&mut self, entries: &Entries, key: Option<i64>, gives: &'static str) {
+        let items = &entries.items;
         for (own, item) in items {
             let is_own = key == Some(*own);
             if is_own || items.len() <= FEW {
                 let (kind, under) =
-                    if is_own { (BoxKind::Gives, "gives") } else { (BoxKind::Plain, "") };
-                self.add_values(kind, format!("{own} {}", item.value), [under, ""], Some(item.by));
+                    if is_own { (BoxKind::Gives, gives) } else { (BoxKind::Plain, "") };
+                self.add_values(kind, entries.entry(*own, *item), [under, ""], Some(item.by));
             }
         }
         if let Some(key) = key.filter(|key| !items.contains_key(key)) {
-            self.add_values(BoxKind::Gives, format!("{key} nothing"), ["gives nil", ""], None);
+            let nothing = if entries.have_values { "nothing" } else { "not in it" };
+            self.add_values(BoxKind::Gives, format!("{key} {nothing}"), [gives, ""], None);
         }
+    }
+}
+
+/// What an object gives, in words; of a value only that it gives it.
+fn gives_words(gives: Option<Reply>) -> &'static str {
+    match gives {
+        Some(Reply::Value(None)) => "gives nil",
+        Some(Reply::Flag(true)) => "gives true",
+        Some(Reply::Flag(false)) => "gives false",
+        Some(Reply::Value(Some(_)) | Reply::Swapped(..) | Reply::NotSwapped) | None => "gives",
     }
 }
 
@@ -144,13 +156,20 @@ pub fn boxes_of(content: &Content, operation: &Operation, words: Words) -> Vec<C
             boxes.add_values(BoxKind::Gives, text, ["contains", ""], item.map(|item| item.by));
             boxes.absent(reply, ["returned", ""]);
         }
-        Content::Cells(items) => {
-            boxes.entries(items, operation.op().key());
+        Content::Cells(entries) => {
+            let op = operation.op();
+            boxes.entries(entries, op.key(), gives_words(content.gives(op)));
             boxes.absent(reply, ["returned", ""]);
         }
         Content::Token { holder, .. } => {
-            let word = held_text(holder.is_some());
-            boxes.add(BoxKind::Gives, word.into(), ["", ""], *holder);
+            let by = holder.map(|(by, _)| by);
+            boxes.add(BoxKind::Gives, content.text(&words), ["", ""], by);
+        }
+        Content::Number { number, by } => {
+            boxes.add(BoxKind::Gives, number.to_string(), ["contains", ""], *by);
+            if content.gives(operation.op()).is_some() {
+                boxes.absent(reply, ["returned", ""]);
+            }
         }
     }
     boxes.boxes

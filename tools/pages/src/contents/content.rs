@@ -2,7 +2,7 @@
 
 use crate::figures::count_text;
 use crate::words::Words;
-use finder::{Bag, Cells, Does, Effect, Family, Gives, Kind, Op, Reply, Shape};
+use finder::{Bag, Cells, Does, Effect, Family, Gives, Kind, Op, Reply, Shape, Value};
 use std::collections::BTreeMap;
 use std::fmt::Write;
 
@@ -18,12 +18,25 @@ pub struct Item {
 pub enum Content {
     Values(Bag<Item>),
     Cell(Option<Item>),
-    Cells(BTreeMap<i64, Item>),
-    /// Who holds it, and who released it last.
+    Cells(Entries),
+    /// Who holds it, by the operation and by its argument, and who released it last.
     Token {
-        holder: Option<u32>,
+        holder: Option<(u32, Value)>,
         releaser: Option<u32>,
     },
+    /// A number, and the operation that made it so; none at first.
+    Number {
+        number: i64,
+        by: Option<u32>,
+    },
+}
+
+/// The cells that contain something, by their keys.
+#[derive(Clone)]
+pub struct Entries {
+    pub items: BTreeMap<i64, Item>,
+    /// Whether a cell contains a value, and not only its key.
+    pub have_values: bool,
 }
 
 /// The reply that a value is.
@@ -41,8 +54,11 @@ impl Content {
         match &kind.family {
             Family::Container(container) => Content::Values(Bag::empty(container.gives)),
             Family::Cells(Cells { has_keys: false, .. }) => Content::Cell(None),
-            Family::Cells(Cells { has_keys: true, .. }) => Content::Cells(BTreeMap::new()),
+            Family::Cells(Cells { has_keys: true, has_values: have_values, .. }) => {
+                Content::Cells(Entries { items: BTreeMap::new(), have_values: *have_values })
+            }
             Family::Token(_) => Content::Token { holder: None, releaser: None },
+            Family::Number(_) => Content::Number { number: 0, by: None },
         }
     }
 
@@ -54,8 +70,9 @@ impl Content {
         match self {
             Content::Values(items) => items.next(),
             Content::Cell(item) => *item,
-            Content::Cells(items) => items.get(&op.key()?).copied(),
+            Content::Cells(entries) => entries.items.get(&op.key()?).copied(),
             Content::Token { .. } => None,
+            Content::Number { number, by } => by.map(|by| Item { value: *number, by }),
         }
     }
 
@@ -63,7 +80,17 @@ impl Content {
     pub fn lone_item(&self) -> Option<Item> {
         match self {
             Content::Cell(item) => *item,
-            Content::Values(_) | Content::Cells(_) | Content::Token { .. } => None,
+            Content::Values(_) | Content::Cells(_) => None,
+            Content::Token { .. } | Content::Number { .. } => None,
+        }
+    }
+
+    /// What the number is, where the object is one.
+    pub fn number(&self) -> Option<i64> {
+        match self {
+            Content::Number { number, .. } => Some(*number),
+            Content::Values(_) | Content::Cell(_) | Content::Cells(_) => None,
+            Content::Token { .. } => None,
         }
     }
 
@@ -74,16 +101,22 @@ impl Content {
             Does::Puts => Some(Reply::Value(op.puts())),
             Does::Takes => Some(value_reply(found)),
             Does::Accesses(_) => op.next(found.map(|item| item.value)).map(|(reply, _)| reply),
-            Does::Acquires => self.holder().is_none().then_some(Reply::Value(None)),
-            Does::Releases => self.holder().is_some().then_some(Reply::Value(None)),
+            Does::Acquires | Does::Releases => {
+                op.next_holder(self.holder().map(|(_, owner)| owner)).map(|_| Reply::Value(None))
+            }
+            Does::Adds | Does::Counts => {
+                let number = self.number()?;
+                number.checked_add(op.adds()?).map(|_| Reply::Value(Some(number)))
+            }
         }
     }
 
-    /// Who holds a token.
-    pub fn holder(&self) -> Option<u32> {
+    /// Who holds a token: the operation, and its argument.
+    pub fn holder(&self) -> Option<(u32, Value)> {
         match self {
             Content::Token { holder, .. } => *holder,
             Content::Values(_) | Content::Cell(_) | Content::Cells(_) => None,
+            Content::Number { .. } => None,
         }
     }
 
@@ -92,6 +125,7 @@ impl Content {
         match self {
             Content::Token { releaser, .. } => *releaser,
             Content::Values(_) | Content::Cell(_) | Content::Cells(_) => None,
+            Content::Number { .. } => None,
         }
     }
 
@@ -111,28 +145,37 @@ impl Content {
                 None => {}
             },
             Content::Cell(item) => *item = left.unwrap_or(*item),
-            Content::Cells(items) => match (op.key(), left) {
+            Content::Cells(Entries { items, .. }) => match (op.key(), left) {
                 (Some(key), Some(Some(item))) => _ = items.insert(key, item),
                 (Some(key), Some(None)) => _ = items.remove(&key),
                 (Some(_), None) | (None, _) => {}
             },
             Content::Token { holder, releaser } => match op.holds() {
-                Some(true) => *holder = Some(by),
+                Some(true) => *holder = Some((by, op.argument)),
                 Some(false) => (*holder, *releaser) = (None, Some(by)),
                 None => {}
             },
+            Content::Number { number, by: own } => {
+                if let Some(amount) = op.adds().filter(|amount| *amount != 0) {
+                    (*number, *own) = (number.saturating_add(amount), Some(by));
+                }
+            }
         }
     }
 
-    /// The values in it, with their keys where it has keys; of a token whether it is held.
+    /// The values in it, with their keys where it has keys; of a token whether it is held, and its
+    /// owner.
     pub fn values(&self) -> Vec<i64> {
         match self {
             Content::Values(items) => items.values().iter().map(|item| item.value).collect(),
             Content::Cell(item) => item.iter().map(|item| item.value).collect(),
-            Content::Cells(items) => {
+            Content::Cells(Entries { items, .. }) => {
                 items.iter().flat_map(|(key, item)| [*key, item.value]).collect()
             }
-            Content::Token { holder, .. } => holder.iter().map(|_| 1).collect(),
+            Content::Token { holder, .. } => {
+                holder.iter().map(|(_, owner)| owner.last().unwrap_or(1)).collect()
+            }
+            Content::Number { number, .. } => vec![*number],
         }
     }
 
@@ -141,8 +184,12 @@ impl Content {
         match self {
             Content::Values(items) => list_text(items, words),
             Content::Cell(item) => words.values(value_reply(*item).value().to_string()),
-            Content::Cells(items) => map_text(items, words),
-            Content::Token { holder, .. } => held_text(holder.is_some()).into(),
+            Content::Cells(entries) => entries.text(words),
+            Content::Token { holder, .. } => match holder.and_then(|(_, owner)| owner.last()) {
+                Some(owner) => words.values(owner.to_string()),
+                None => held_text(holder.is_some()).into(),
+            },
+            Content::Number { number, .. } => number.to_string(),
         }
     }
 }
@@ -181,15 +228,26 @@ fn list_text(items: &Bag<Item>, words: &Words) -> String {
     format!("[{} … {more} more … {}]", spaced(beginning, words), spaced(end, words))
 }
 
-/// The most keys that the text of a map has.
+/// The most keys that the text of cells has.
 const MOST_KEYS: usize = 6;
 
-/// A map in braces, of many keys the first ones.
-fn map_text(items: &BTreeMap<i64, Item>, words: &Words) -> String {
-    let entry = |(key, item): (&i64, &Item)| words.values(format!("{key} {}", item.value));
-    let mut entries: Vec<String> = items.iter().take(MOST_KEYS).map(entry).collect();
-    if items.len() > MOST_KEYS {
-        entries.push(format!("… {} more", count_text(items.len() - MOST_KEYS)));
+impl Entries {
+    /// The entry of a key, in words.
+    pub fn entry(&self, key: i64, item: Item) -> String {
+        match self.have_values {
+            true => format!("{key} {}", item.value),
+            false => key.to_string(),
+        }
     }
-    format!("{{{}}}", entries.join(", "))
+
+    /// The entries in braces, of many keys the first ones.
+    fn text(&self, words: &Words) -> String {
+        let shown = self.items.iter().take(MOST_KEYS);
+        let mut entries: Vec<String> =
+            shown.map(|(key, item)| words.values(self.entry(*key, *item))).collect();
+        if self.items.len() > MOST_KEYS {
+            entries.push(format!("… {} more", count_text(self.items.len() - MOST_KEYS)));
+        }
+        format!("{{{}}}", entries.join(", "))
+    }
 }

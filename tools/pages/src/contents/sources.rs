@@ -8,7 +8,7 @@ pub fn wanted(reply: Reply) -> Option<i64> {
     match reply {
         Reply::Value(value) => value,
         Reply::Swapped(expected, _) => Some(expected),
-        Reply::NotSwapped => None,
+        Reply::NotSwapped | Reply::Flag(_) => None,
     }
 }
 
@@ -17,7 +17,8 @@ pub fn value_put(operation: &Operation) -> Option<i64> {
     if operation.state() == State::Failed {
         return None;
     }
-    operation.op().new_value().filter(|_| operation.reply() != Some(Reply::NotSwapped))
+    let is_refused = operation.reply().is_some_and(Reply::is_refusal);
+    operation.op().new_value().filter(|_| !is_refused)
 }
 
 /// Whether the operation puts this value in, under this key of a map.

@@ -50,11 +50,10 @@ fn recorded_failure(failure: Failure, content: &Content, next: &Operation) -> Fa
     let Failure::Gives(gives, returned) = failure else {
         return failure;
     };
-    let may_be_refused = next.op().function.reply == Shape::Swapped;
-    let gives = if gives == Reply::NotSwapped && !may_be_refused {
-        value_reply(content.lone_item())
-    } else {
-        gives
+    let gives = match (gives, next.op().function.reply) {
+        (Reply::NotSwapped, Shape::Flag) => Reply::Flag(false),
+        (Reply::NotSwapped, shape) if shape != Shape::Swapped => value_reply(content.lone_item()),
+        _ => gives,
     };
     Failure::Gives(gives, next.reply().unwrap_or(returned))
 }

@@ -95,20 +95,16 @@ fn sets_anew(operation: &Operation, key: Option<i64>, value: Option<i64>) -> boo
         (Some(value), effect) => {
             puts(operation, key, value) && !effect.is_some_and(|effect| is_same(effect.need))
         }
-        (None, Some(effect)) => {
-            key.is_some() && operation.op().key() == key && effect.sets == Some(None)
-        }
+        (None, Some(effect)) => operation.op().key() == key && effect.sets == Some(None),
         (None, None) => false,
     }
 }
 
 /// What the cell contained where the operation took effect, if it says that.
 fn found_by(operation: &Operation) -> Option<Option<i64>> {
-    let reply = operation.reply()?;
-    match (operation.op().effect(Some(reply))?.need, reply) {
-        (Need::Is(_), Reply::Value(value)) => Some(value),
-        (Need::Is(_), Reply::Swapped(expected, _)) => Some(Some(expected)),
-        (Need::Is(_), Reply::NotSwapped) | (Need::Any | Need::IsNot(_), _) => None,
+    match operation.op().effect(Some(operation.reply()?))?.need {
+        Need::Is(content) => Some(content),
+        Need::Any | Need::IsNot(_) => None,
     }
 }
 
@@ -122,6 +118,7 @@ fn left_words(operation: &Operation, left: Option<i64>) -> Spans {
     let op = operation.op();
     let mut words = match (op.sets(), op.key()) {
         (Some(None), Some(key)) => return spans![" deleted key ", key],
+        (Some(None), None) => return spans![" left nothing"],
         (None, _) => spans![" found ", Reply::Value(left)],
         (Some(_), _) => spans![" set ", Reply::Value(left)],
     };
@@ -342,7 +339,7 @@ impl Reason<'_> {
         let (at, end) = (returned_before(earlier, later)?, later.returned()?);
         let (left, found) = (left_by(earlier)?, found_by(later)?);
         let is_same = earlier.op().key() == later.op().key();
-        if !self.kind.has_cells()
+        if !self.kind.has_values_in_cells()
             || !is_same
             || left == found
             || self.is_set_between(found, [earlier, later], end)

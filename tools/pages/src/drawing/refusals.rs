@@ -244,9 +244,32 @@ impl Refused<'_> {
 
     fn not_possible(&self, operation: Operation) -> Explanation {
         let (mut text, content) = self.as_entry(operation);
+        text.because = spans!["not possible"];
+        if content.number().is_some() {
+            self.say_overflow(&mut text);
+        } else {
+            self.say_holder(&mut text, &content, operation);
+        }
+        text.content = Some(content);
+        text
+    }
+
+    /// An addition is not possible, since the sum has too many bits.
+    fn say_overflow(&self, text: &mut Explanation) {
+        text.say(spans![
+            " is not possible: the ",
+            self.kind,
+            " contains ",
+            Span::Content,
+            " there, and the sum has more than 64 bits."
+        ]);
+    }
+
+    /// An operation on a token is not possible, because of who holds it.
+    fn say_holder(&self, text: &mut Explanation, content: &Content, operation: Operation) {
         let named = |number: Option<u32>| self.operation(number?);
         text.say(spans![" is not possible: the ", self.kind, " is "]);
-        if let Some(holder) = named(content.holder()) {
+        if let Some(holder) = named(content.holder().map(|(by, _)| by)) {
             text.say(spans!["held there, by "]);
             text.say_operation(holder, Mark::Giver);
         } else if let Some(releaser) = named(content.releaser()) {
@@ -258,12 +281,10 @@ impl Refused<'_> {
         let words = &self.kind.words;
         let (done, while_it_is) = match operation.op().holds() {
             Some(true) => (words.put, " only while it is free."),
+            Some(false) | None if self.kind.has_owner() => (words.taken, " only by its owner."),
             Some(false) | None => (words.taken, " only while it is held."),
         };
         text.say(spans![". A ", self.kind, " is ", done, while_it_is]);
-        text.because = spans!["not possible"];
-        text.content = Some(content);
-        text
     }
 
     fn wrong_reply(&self, operation: Operation, gives: Reply, returned: Reply) -> Explanation {
@@ -314,6 +335,10 @@ impl Refused<'_> {
         let (Some(value), Some(end)) = (wanted(returned), operation.returned()) else {
             return;
         };
+        // A number is a sum, which no operation puts there by itself.
+        if operation.op().adds().is_some() {
+            return;
+        }
         let Some(source) = self.last_putter(operation, value, end) else {
             let none = if puts(operation, operation.op().key(), value) {
                 " No other operation that was invoked before event "

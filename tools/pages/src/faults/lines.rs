@@ -271,12 +271,14 @@ mod tests {
             ":process \"n1\": expected is an integer of at least 0, or a keyword"
         );
         assert_eq!(said("[{:process 0}]", "H1", 0), "it is no map");
-        let locks = said(&event(":f :lock"), "H2", 0);
+        let drains = said(&event(":f :drain"), "H2", 0);
         assert!(
-            locks.starts_with(":f :lock: it is none of :enqueue, :dequeue, ")
-                && locks.ends_with(":release"),
-            "{locks}"
+            drains.starts_with(":f :drain: it is none of :enqueue, :dequeue, ")
+                && drains.ends_with(":unlock"),
+            "{drains}"
         );
+        let replaces = said(&event(":f :replace, :value [1 2]"), "H3", 0);
+        assert_eq!(replaces, ":value [1 2]: :replace takes three integers, [key old new]");
     }
 
     #[test]

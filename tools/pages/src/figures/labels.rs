@@ -21,10 +21,10 @@ fn told_reply(operation: &Operation) -> Option<Value> {
     let reply = operation.reply()?;
     let op = operation.op();
     let is_told = match op.function.reply {
-        Shape::Token | Shape::Nothing => false,
+        Shape::Token | Shape::Nothing | Shape::Silent => false,
         Shape::Done => reply.value() != op.argument,
-        Shape::Content | Shape::NumberOrNothing | Shape::Swapped => true,
-        Shape::Value | Shape::Number | Shape::Pair => true,
+        Shape::Content | Shape::NumberOrNothing | Shape::Swapped | Shape::Flag => true,
+        Shape::Value | Shape::Number | Shape::Pair | Shape::Triple => true,
     };
     is_told.then(|| reply.value())
 }

@@ -76,9 +76,9 @@ impl Operation {
     pub fn role(&self) -> Role {
         let op = self.op();
         match (&op.function.does, op.effect(None).map(|effect| (effect.need, effect.sets))) {
-            (Does::Puts | Does::Acquires, _) => Role::Put,
+            (Does::Puts | Does::Acquires | Does::Adds, _) => Role::Put,
             (Does::Takes | Does::Releases, _) => Role::Take,
-            (Does::Accesses(_), None | Some((_, None))) => Role::Read,
+            (Does::Counts, _) | (Does::Accesses(_), None | Some((_, None))) => Role::Read,
             (Does::Accesses(_), Some((_, Some(None)))) => Role::Take,
             (Does::Accesses(_), Some((Need::Any, Some(Some(_))))) => Role::Put,
             (Does::Accesses(_), Some((Need::Is(_) | Need::IsNot(_), Some(Some(_))))) => Role::Swap,

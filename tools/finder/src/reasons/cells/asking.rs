@@ -4,6 +4,7 @@ use super::scene::Scene;
 use super::sights::Sight;
 use super::{MOST, MOST_NAMED};
 use crate::accesses::{Access, NOTHING, Need};
+use crate::kinds::Reply;
 use crate::reasons::{Candidate, Pattern};
 
 /// Why a content cannot be there.
@@ -43,10 +44,29 @@ fn unset(scene: &Scene, access: &Access, content: usize) -> Option<Candidate> {
 /// What asks for the first of these contents after another was shown. The others are kept too.
 fn stale(scene: &Scene, access: &Access, contents: &[usize], sight: Sight) -> Candidate {
     let shown = scene.call(sight.place);
-    let mut plan = scene.plan(contents, &[shown, access.call]);
+    // An object which is one cell keeps a value that is set where there is none.
+    let new = access.sets.filter(|_| contents[0] == NOTHING && scene.cell.key.is_none());
+    let kept: Vec<usize> = contents.iter().copied().chain(new).collect();
+    let mut plan = scene.plan(&kept, &[shown, access.call]);
     plan.from = Some(shown.number);
     plan.until = Some(access.call.until());
-    scene.candidate(Pattern::Stale(scene.value(contents[0])), plan, 2)
+    scene.candidate(stale_pattern(scene, access, contents[0], sight), plan, 2)
+}
+
+/// What is said of a call that asks for this content after another was shown.
+fn stale_pattern(scene: &Scene, access: &Access, content: usize, sight: Sight) -> Pattern {
+    let shown = &scene.cell.accesses[sight.place];
+    let is_repeated = access.sets.is_some() && shown.sets == access.sets;
+    let op = access.call.op;
+    match (scene.cell.key, access.call.reply) {
+        (Some(key), _) if !scene.has_values && is_repeated => {
+            Pattern::Repeated { key, sets: access.sets != Some(NOTHING) }
+        }
+        (_, Some(Reply::Flag(_))) if scene.has_values && content == NOTHING => {
+            Pattern::DoneOverValue { name: op.name(), number: access.call.number }
+        }
+        _ => Pattern::Stale(scene.value(content)),
+    }
 }
 
 /// The candidates of a call that asks for a content that cannot be there. A key of few calls that

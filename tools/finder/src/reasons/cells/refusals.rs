@@ -1,10 +1,11 @@
-//! Swaps of a register that are refused while the value that they expect definitely is there.
+//! Calls that replace a content, and are refused while the content that they expect, a value or
+//! nothing, definitely is there.
 
 use super::MOST;
 use super::scene::Scene;
-use crate::accesses::{Access, Cell, Need};
+use crate::accesses::{Access, Cell, NOTHING, Need};
 use crate::reasons::{Candidate, Element, Pattern, Plan};
-use crate::timeline::PENDING;
+use crate::timeline::{Call, PENDING};
 
 /// A call that shows a content, and the one that begins last among those that show the same and
 /// return no later.
@@ -89,6 +90,25 @@ fn last_sight(scene: &Scene, shown: &[Shown], first: Shown) -> Shown {
     last_shown(shown, first.content, PENDING).unwrap_or(first)
 }
 
+/// The calls that show that this content is there from before a call until it ends: the first and
+/// the last one. There are none where the cell has been empty from the beginning. `None`: another
+/// content may be there.
+fn shown_around(
+    scene: &Scene,
+    shown: &[Shown],
+    overs: &[Over],
+    content: usize,
+    call: &Call,
+) -> Option<Vec<Call>> {
+    let over = others_over(overs, content, call.end);
+    let Some(first) = last_shown(shown, content, call.begin) else {
+        return (content == NOTHING && over == 0).then(Vec::new);
+    };
+    let last = last_sight(scene, shown, first);
+    let may_be_other = last.begin < call.end && over >= last.begin;
+    (!may_be_other).then(|| vec![scene.call(first.place), scene.call(last.place)])
+}
+
 /// What is wrong with a refused swap, if something is.
 fn candidate_of(
     scene: &Scene,
@@ -99,25 +119,24 @@ fn candidate_of(
     let Need::IsNot(content) = access.need else {
         return None;
     };
-    let first = last_shown(shown, content, access.call.begin)?;
-    let last = last_sight(scene, shown, first);
-    let end = access.call.end;
-    if last.begin < end && others_over(overs, content, end) >= last.begin {
-        return None;
-    }
-    let (first, last) = (scene.call(first.place), scene.call(last.place));
-    let calls = [first, access.call, last];
+    let around = shown_around(scene, shown, overs, content, &access.call)?;
+    let calls = around.iter().take(1).chain([&access.call]).chain(around.iter().skip(1));
+    let elements = calls.clone().map(|call| Element::Operation(call.number));
     let plan = Plan {
-        all_values: true,
-        from: Some(first.number),
-        until: Some(access.call.until().max(last.until())),
-        ..Plan::of(calls.iter().map(|call| Element::Operation(call.number)).collect())
+        all_values: scene.cell.key.is_none(),
+        from: around.first().map(|first| first.number),
+        until: calls.clone().map(Call::until).max(),
+        ..Plan::of(scene.cell.key.map(Element::Value).into_iter().chain(elements).collect())
     };
-    let (value, number) = (scene.value(content)?, access.call.number);
-    Some(scene.candidate(Pattern::RefusedUnderItsValue { value, number }, plan, 2))
+    let number = access.call.number;
+    let pattern = match scene.value(content) {
+        Some(value) => Pattern::RefusedUnderItsValue { value, number },
+        None => Pattern::RefusedWithoutValue { name: access.call.op.name(), number },
+    };
+    Some(scene.candidate(pattern, plan, 2))
 }
 
-/// The swaps that are refused while the value that they expect definitely is there.
+/// The calls that are refused while the content that they expect definitely is there.
 pub fn refusals(scene: &Scene) -> Vec<Candidate> {
     let accesses = &scene.cell.accesses;
     if !accesses.iter().any(|access| matches!(access.need, Need::IsNot(_))) {

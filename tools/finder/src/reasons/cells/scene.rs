@@ -15,13 +15,16 @@ pub fn needed(access: &Access) -> Option<usize> {
 
 pub struct Scene<'a> {
     pub cell: &'a Cell,
+    /// Whether a part can keep some values of the cell.
+    pub has_values: bool,
     pub setters: Setters,
     pub sights: Sights,
 }
 
 impl<'a> Scene<'a> {
     pub fn of(cell: &'a Cell) -> Scene<'a> {
-        Scene { cell, setters: Setters::of(cell), sights: Sights::of(cell) }
+        let has_values = cell.has_values();
+        Scene { cell, has_values, setters: Setters::of(cell), sights: Sights::of(cell) }
     }
 
     /// The value of a content; none for nothing.
@@ -34,11 +37,17 @@ impl<'a> Scene<'a> {
         self.cell.accesses[place].call
     }
 
+    /// The content that a call of the cell sets.
+    pub fn set_by(&self, call: &Call) -> Option<usize> {
+        let place = self.cell.accesses.partition_point(|access| access.call.begin < call.begin);
+        self.cell.accesses.get(place)?.sets
+    }
+
     /// The plan that keeps these contents of the cell, and these calls. A cell of a map as a
     /// register does not tell no value from a value that is not kept: where a key is to be without
-    /// a value it is kept whole.
+    /// a value it is kept whole, and so is a cell without values.
     pub fn plan(&self, contents: &[usize], calls: &[Call]) -> Plan {
-        let whole = self.cell.key.filter(|_| contents.contains(&NOTHING));
+        let whole = self.cell.key.filter(|_| !self.has_values || contents.contains(&NOTHING));
         let values: Vec<i64> = match whole {
             Some(key) => vec![key],
             None => contents.iter().filter_map(|content| self.value(*content)).collect(),

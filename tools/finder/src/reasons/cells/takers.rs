@@ -18,13 +18,13 @@ fn counted(scene: &Scene, content: usize) -> Option<Counted> {
 }
 
 /// The count, from this number on, in the part of a cell's plan, where a key of a map is a
-/// register.
-fn count_in_part(counted: Counted, from: u32) -> Count {
+/// register. `None`: a search must show it, since nothing is counted at a cell without values.
+fn count_in_part(scene: &Scene, counted: Counted, from: u32) -> Option<Count> {
     let counted = match counted {
         Counted::Entry { value, .. } => Counted::Value(value),
         _ => counted,
     };
-    Count { counted, from }
+    scene.has_values.then_some(Count { counted, from })
 }
 
 /// The content that a call takes away, by its reply.
@@ -92,7 +92,7 @@ pub fn excesses(scene: &Scene) -> Vec<Candidate> {
         let takers = &takers[..taken];
         let mut plan = scene.plan(&[content], takers);
         plan.until = takers.last().map(Call::until);
-        plan.count = Some(count_in_part(counted, 0));
+        plan.count = count_in_part(scene, counted, 0);
         let pattern = excess_pattern(scene, content, taken, counted);
         Some(scene.candidate(pattern, plan, 2 * taken))
     });
@@ -107,17 +107,39 @@ fn window(
     takers: &[Call],
     setters: &[Call],
 ) -> Option<Vec<Candidate>> {
-    let counted = counted(scene, content)?;
     let window = shortest_window(takers, setters, content == NOTHING)?;
     let inside = takers_in(takers, window);
+    let counted = counted(scene, content);
+    let pattern = window_pattern(counted, inside.last()?);
+    // What sets a register that contains nothing is kept with what it sets.
+    let new = inside.iter().filter(|_| counted.is_none()).filter_map(|call| scene.set_by(call));
+    let contents: Vec<usize> = [content].into_iter().chain(new).collect();
     let candidates = starts_in(&inside, window).into_iter().map(|start| {
-        let mut plan = scene.plan(&[content], &inside);
+        let mut plan = scene.plan(&contents, &inside);
         plan.until = inside.last().map(Call::until);
         plan.from = start.part;
-        plan.count = Some(count_in_part(counted, start.count));
-        scene.candidate(Pattern::CountExceeded(counted), plan, 2 * inside.len())
+        plan.count = counted.and_then(|it| count_in_part(scene, it, start.count));
+        if plan.count.is_none() {
+            plan.from = sight_before(scene, &inside);
+        }
+        scene.candidate(pattern.clone(), plan, 2 * inside.len())
     });
     Some(candidates.collect())
+}
+
+/// What is said of calls, of which this is the last, that take away too often what is counted; a
+/// register that contains nothing is not.
+fn window_pattern(counted: Option<Counted>, last: &Call) -> Pattern {
+    let (name, number) = (last.op.name(), last.number);
+    counted.map_or(Pattern::DoneOverValue { name, number }, Pattern::CountExceeded)
+}
+
+/// The last call that shows a content and returns before all of these calls begin, so that a part
+/// which begins with it has them.
+fn sight_before(scene: &Scene, calls: &[Call]) -> Option<u32> {
+    let begin = calls.iter().map(|call| call.begin).min()?;
+    let sight = scene.sights.last_before(begin)?;
+    Some(scene.call(sight.place).number)
 }
 
 /// The contents that are set more than once and in a window taken away more often than they can

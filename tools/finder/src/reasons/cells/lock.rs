@@ -1,0 +1,63 @@
+//! Locks: one is locked while it has an owner, or unlocked by another one than its owner. A lock is
+//! a cell that contains its owner, of which a part has all calls of a time.
+
+use super::scene::Scene;
+use super::{asking, takers};
+use crate::accesses::{NOTHING, Need, owners_of};
+use crate::cuts::Counted;
+use crate::reasons::{Candidate, Pattern, Plan};
+use crate::timeline::Timeline;
+
+/// The candidate whose part has all calls of its time.
+fn of_time(candidate: Candidate, pattern: Pattern) -> Candidate {
+    let Plan { from, until, .. } = candidate.plan;
+    let plan = Plan { from, until, ..Plan::default() };
+    Candidate { plan, pattern, ..candidate }
+}
+
+/// What is said of the last call of a plan, which another owner than its own stands against, or
+/// none.
+fn pattern_of(scene: &Scene, plan: &Plan) -> Option<Pattern> {
+    let access = scene.cell.accesses.iter().find(|it| Some(it.call.until()) == plan.until)?;
+    let first = plan.from.and_then(|from| {
+        scene.cell.accesses.iter().find(|access| access.call.number == from)?.shows()
+    });
+    let holder = first.and_then(|content| scene.value(content));
+    let acquires = access.need == Need::Is(NOTHING);
+    let owner = access.call.op.argument.last()?;
+    Some(Pattern::NotHolder { acquires, owner, holder })
+}
+
+/// The last call that was over before the last one of the plan began.
+fn start_of(scene: &Scene, plan: &Plan) -> Option<u32> {
+    let last = scene.cell.accesses.iter().find(|it| Some(it.call.until()) == plan.until)?;
+    let sight = scene.sights.last_before(last.call.begin)?;
+    Some(scene.call(sight.place).number)
+}
+
+/// Calls that ask for an owner that cannot be there.
+pub fn lock_patterns(timeline: &Timeline) -> Vec<Candidate> {
+    let cell = owners_of(&timeline.calls);
+    let scene = Scene::of(&cell);
+    let asking = asking::asking(&scene).into_iter().map(|mut candidate| {
+        let plan = &mut candidate.plan;
+        plan.from = plan.from.or_else(|| start_of(&scene, plan));
+        let pattern = pattern_of(&scene, &candidate.plan).unwrap_or(Pattern::General);
+        of_time(candidate, pattern)
+    });
+    asking.collect()
+}
+
+/// Times in which a lock is locked more often than it can have been free, or unlocked by an owner
+/// more often than it can have been locked.
+pub fn rare_lock_patterns(timeline: &Timeline) -> Vec<Candidate> {
+    let cell = owners_of(&timeline.calls);
+    let windows = takers::windows(&Scene::of(&cell)).into_iter().map(|candidate| {
+        let pattern = match candidate.pattern {
+            Pattern::CountExceeded(counted) => Pattern::CountExceeded(counted),
+            _ => Pattern::CountExceeded(Counted::Free),
+        };
+        of_time(candidate, pattern)
+    });
+    windows.collect()
+}
