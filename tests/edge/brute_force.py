@@ -6,7 +6,7 @@ import functools
 
 from .verify.reasons import NEXT
 from .running import at_once
-from .text_writers import lines
+from .text_writers import lines, value as written
 
 # The most objects of a history, and the most maps.
 MOST_OBJECTS, MOST_MAPS = 65_536, 1_000_000
@@ -70,8 +70,7 @@ def has_order(events):
 
 def template(events):
     """The maps of a history. In each `@` is for the number of the object, with which its processes, of two digits, end too."""
-    words = lambda value: "nil" if value is None else "false" if value is False else f"[{value[0]} {value[1]}]" if isinstance(value, tuple) else value
-    return "".join(f"{{:process {process + 10}@ :type :{kind} :f :{f} :value {words(value)} :object @}}\n" for process, kind, f, value in events)
+    return "".join(f"{{:process {process + 10}@ :type :{kind} :f :{f} :value {written(value)} :object @}}\n" for process, kind, f, value in events)
 
 
 class Sorted:

@@ -14,7 +14,17 @@ FUNCTIONS = {
     "map": ("put", "get", "del"),
     "mutex": ("acquire", "release"),
 }
-KIND_OF = {f: kind for kind, functions in FUNCTIONS.items() for f in functions}
+# The kinds that came later, and the kinds that were given further functions.
+LATER_FUNCTIONS = {
+    "set": ("add", "remove", "contains"),
+    "counter": ("fetch-add", "get-count"),
+    "lock": ("lock", "unlock"),
+    "register of all functions": (*FUNCTIONS["register"], "clear", "create"),
+    "map of all functions": (*FUNCTIONS["map"], "assoc", "dissoc", "put-if-absent", "replace"),
+}
+KIND_OF = {f: kind.split()[0] for kind, functions in {**FUNCTIONS, **LATER_FUNCTIONS}.items() for f in functions}
+WITHOUT_ARGUMENT = ("dequeue", "pop", "extract-min", "read", "acquire", "release", "clear", "get-count")
+ARGUMENTS = {"cas": 2, "put": 2, "assoc": 2, "put-if-absent": 2, "replace": 3}
 
 
 @dataclass
@@ -67,11 +77,11 @@ class Made:
 
 
 def argument_for(rng, f, values):
-    if f in ("enqueue", "push", "insert", "write"):
-        return rng.randrange(values)
-    if f in ("cas", "put"):
-        return rng.randrange(values), rng.randrange(values)
-    return rng.randrange(values) if f in ("get", "del") else None
+    if f in WITHOUT_ARGUMENT:
+        return None
+    if f in ARGUMENTS:
+        return tuple(rng.randrange(values) for _ in range(ARGUMENTS[f]))
+    return rng.randrange(values)
 
 
 def made(kind, seed, calls=12, processes=3, values=4, on=0):
@@ -83,7 +93,7 @@ def made(kind, seed, calls=12, processes=3, values=4, on=0):
         process = names[place]
         if process not in running:
             if begun < calls:
-                f = rng.choice(FUNCTIONS[kind])
+                f = rng.choice(FUNCTIONS.get(kind) or LATER_FUNCTIONS[kind])
                 argument = argument_for(rng, f, values)
                 running[process] = [len(maps), f, argument, None]
                 maps.append(text_writers.invoke(process, f, argument, on))

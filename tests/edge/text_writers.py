@@ -2,12 +2,12 @@
 
 
 def value(it):
-    """A value as EDN: an integer, nil, false, or a vector of two integers."""
+    """A value as EDN: an integer, nil, false, true, or a vector of integers."""
     if it is None:
         return "nil"
-    if it is False:
-        return "false"
-    return f"[{it[0]} {it[1]}]" if isinstance(it, tuple) else str(it)
+    if isinstance(it, bool):
+        return str(it).lower()
+    return f"[{' '.join(map(str, it))}]" if isinstance(it, tuple) else str(it)
 
 
 def operation_map(event_type, process, f, argument, on):

@@ -289,7 +289,7 @@ def help_texts(program, report):
     )
     options["judge"] = (*options["find"], "--names")
     options["find"] = (*options["find"], "--places")
-    options["import"] = ("--names", "--independent", "--fail-is-reply", "--check-owners", "--initial")
+    options["import"] = ("--names", "--independent", "--fail-is-reply", "--check-owners", "--owners", "--initial")
     for command in (*COMMANDS, *OF_TOOLS):
         ran = program.run(command, "--help")
         lacks = [it for it in options.get(command, ()) if it.encode() not in ran.out]
@@ -298,11 +298,11 @@ def help_texts(program, report):
 
 
 def version(program, report):
-    """The version is that of the changelog, and the kit is the one that is installed."""
+    """The version is that of the changelog, and the logic is that of the kit that is installed."""
     with open(f"{ROOT}/CHANGELOG.md", encoding="utf-8") as changelog:
-        newest = re.search(r"^## (\d+\.\d+\.\d+), .*\n\nProved by `(rattle-kit-[a-z0-9]+)`", changelog.read(), re.M)
+        newest = re.search(r"^## (\d+\.\d+\.\d+), .*\n\nProved by Rattle logic `([0-9a-f]+)`", changelog.read(), re.M)
     report.holds("version: the changelog has one", newest)
-    said = f"fcbench {newest[1]}, proved by {newest[2]}\n"
+    said = f"fcbench {newest[1]}, proved by Rattle logic {newest[2]}\n"
     for words in (("--version",), ("-V",)):
         report.answers(f"version: {words[0]}", program.run(*words), said, 0)
     with open(f"{os.path.dirname(os.path.realpath(shutil.which('rt')))}/../KIT-ID", encoding="utf-8") as kit:
@@ -342,7 +342,7 @@ def refused_words_are_named(program, report):
 
 def bad_words_are_told(program, report):
     """An option that takes one of some words, and is given another, is named, with the words that it takes."""
-    kinds = "queue, stack, heap, register, map, mutex, mixed"
+    kinds = "queue, stack, heap, register, map, mutex, set, counter, lock, mixed"
     for words, said in (
         (("run", "--kind", "tree"), f"error: --kind takes one of the words {kinds}\n"),
         (("search", "h.edn", "--first", "value"), "error: --first takes one of the words number, return\n"),

@@ -14,7 +14,7 @@ from ..running import ROOT, at_once
 COMMANDS = ("check", "verify")
 # With one worker a text is one piece.
 WORKERS = ("1", "2", "3", "4", "7", "16")
-# The words of bench/gen.py: all six kinds with calls that fail or stay pending, as Jepsen writes; objects of which each has many operations;
+# The words of bench/gen.py: six of the nine kinds with calls that fail or stay pending, as Jepsen writes; objects of which each has many operations;
 # more calls at once than there are pieces; and short maps of a single object.
 HISTORIES = {
     "mixed": "--kind all --objects 30 --calls 8000 --concurrency 24 --processes 40 --time --index --fail 0.05 --info 0.02 --nemesis 0.02",

@@ -119,7 +119,7 @@ def no_operation(rng, made):
 def unknown_function(rng, made):
     at = rng.randrange(len(made.maps) + 1)
     faulty = text_writers.invoke(991, rng.choice(("peek", "size", "x" * 50)), 1)
-    return whole(rng, "H2", made.maps, at, faulty, " names a function that is none of the fourteen.")
+    return whole(rng, "H2", made.maps, at, faulty, " names a function that is none of the twenty-seven.")
 
 
 def wrong_value(rng, made):

@@ -242,6 +242,43 @@ ALL = (
     ("map", 4, 4, True, 2_709_991, 2_423_248),
     ("mutex", 2, 4, False, 27_306, 15_481),
 )
+# The same of sets, counters and locks, and of the functions that registers and maps were given later. Their reasons may need a search.
+SEARCHED_FOR = {
+    "set": (("add", 7, (True, False)), ("remove", 7, (True, False)), ("contains", 7, (True, False)), ("add", 8, (True,))),
+    "counter": (("fetch-add", 1, (0, 1, 2)), ("fetch-add", 2, (0, 1, 2)), ("get-count", None, (0, 1, 2, 3))),
+    "counter at its limit": (("fetch-add", 2**63 - 1, (0, 2**63 - 2)), ("fetch-add", -1, (0, 2**63 - 1)), ("get-count", None, (0, 2**63 - 1))),
+    "lock": (("lock", 1, (None,)), ("lock", 2, (None,)), ("unlock", 1, (None,)), ("unlock", 2, (None,))),
+    "register that is created": (
+        ("create", 1, (True, False)),
+        ("clear", None, (None,)),
+        ("read", None, (1, 2, None)),
+        ("write", 2, (2,)),
+        ("cas", (1, 2), ((1, 2), False)),
+    ),
+    "map that tells whether it changed": (
+        ("put-if-absent", (7, 1), (True, False)),
+        ("replace", (7, 1, 2), (True, False)),
+        ("get", 7, (None, 1, 2)),
+        ("del", 7, (None, 1, 2)),
+    ),
+    "map that tells nothing": (
+        ("assoc", (7, 1), (None,)),
+        ("assoc", (7, 2), (None,)),
+        ("dissoc", 7, (None,)),
+        ("get", 7, (None, 1, 2)),
+    ),
+}
+# The kind, how many of its calls there are to choose from, and how many operations a history has at most.
+LATER = (
+    ("set", 4, 3),
+    ("set", 2, 4),
+    ("counter", 3, 3),
+    ("counter at its limit", 3, 3),
+    ("lock", 4, 4),
+    ("register that is created", 5, 3),
+    ("map that tells whether it changed", 4, 3),
+    ("map that tells nothing", 4, 3),
+)
 # How many histories are judged at a time.
 LOT = 4 * brute_force.MOST_OBJECTS
 WHOLE = re.compile(rb":cuts \[\]\}$", re.M)
@@ -327,6 +364,48 @@ def judged_by_force(program, report):
     return f"{sum(it[4] for it in ALL)} histories"
 
 
+def search_and_judge_both_sorts(program, report, name, histories):
+    """A search and a judgement find an order, or show that there is none; then refute accepts the reasons."""
+    search_both_sorts(program, report, f"search: {name}", histories)
+
+    def valid(history, text, count):
+        ran = program.run("judge", history)
+        expected = f"yes: {text.count(':type :invoke') - text.count(':type :fail')} operations, {count} objects\n".encode()
+        return [(f"judge: {name}", (0, b"", expected), (ran.status, ran.err, ran.out[: len(expected)]))]
+
+    def impossible(history, _, count):
+        ran = program.run("judge", history)
+        said = b"".join(it for it in ran.out.splitlines(True) if it.startswith(b"; object "))
+        differs = brute_force.difference(brute_force.all_say(count, "impossible"), said)
+        reasons = b"".join(it[2:] for it in ran.out.splitlines(True) if it.startswith(b"; {:object "))
+        refuted = program.run("refute", history, program.write(f"{history}.reasons", reasons))
+        shown = refuted.out.count(b"not linearizable: object ")
+        return [(f"judge: {name}, without an order", (1, b"", None, (1, count)), (ran.status, ran.err, differs, (refuted.status, shown)))]
+
+    brute_force.on_texts(program, report, histories.texts(True), valid)
+    brute_force.on_texts(program, report, histories.texts(False), impossible)
+
+
+def later_by_force(program, report):
+    """All histories of some calls of the kinds and functions that came later."""
+    judged = 0
+    for kind, calls, operations in LATER:
+        name = f"all small histories of a {kind} of at most {operations} operations"
+        made = Every(
+            SEARCHED_FOR[kind][:calls], operations, False, lambda it: search_and_judge_both_sorts(program, report, name, it)  # noqa: B023
+        )
+        report.holds(f"{name}: some have an order and some have none", 0 < made.without < made.count, (made.count, made.without))
+        judged += made.count
+    return f"{judged} histories"
+
+
+def later_at_random(program, report):
+    """Histories of up to six operations of these kinds, some of which fail or are pending."""
+    for kind, calls in SEARCHED_FOR.items():
+        histories = drawn_histories(report, f"drawn histories of a {kind}", calls, 2000, 6)
+        search_and_judge_both_sorts(program, report, f"drawn histories of a {kind}", histories)
+
+
 def drawn(calls, chance, operations):
     """A history of at most this many operations of two processes, some of which fail or are pending."""
     events, waiting, over, left = [], {}, set(), operations
@@ -347,16 +426,22 @@ def drawn(calls, chance, operations):
     return events
 
 
+def drawn_histories(report, name, calls, count, operations):
+    """This many histories that are drawn: with an order, and without."""
+    histories, chance = brute_force.Sorted(), brute_force.Chance(2026)
+    for _ in range(count):
+        events = drawn(calls, chance, operations)
+        if events:
+            histories.add(events)
+    report.holds(f"{name}: some have an order and some have none", 0 < histories.counts()[1] < histories.counts()[0])
+    return histories
+
+
 def judged_at_random(program, report):
     """Of a thousand histories of a kind that are drawn, a reason is found for each that has no valid order."""
     for kind, calls in JUDGED.items():
-        histories, chance = brute_force.Sorted(), brute_force.Chance(2026)
-        for _ in range(1000):
-            events = drawn(calls, chance, 4)
-            if events:
-                histories.add(events)
-        report.holds(f"judge: drawn histories of a {kind}: some have an order and some have none", 0 < histories.counts()[1] < histories.counts()[0])
+        histories = drawn_histories(report, f"judge: drawn histories of a {kind}", calls, 1000, 4)
         judge_both_sorts(program, report, f"judge: drawn histories of a {kind}", histories)
 
 
-PARTS = (searched_by_force, found_by_force, judged_by_force, judged_at_random)
+PARTS = (searched_by_force, found_by_force, judged_by_force, judged_at_random, later_by_force, later_at_random)

@@ -17,8 +17,8 @@ OF_EVENTS = (
     (":f :write, :value nil", ":value nil: :write takes an integer"),
     (":f :acquire, :value \"client-1\"", ":value \"client-1\": :acquire takes nil"),
     (":f :acquire, :value 7", ":value 7: :acquire takes nil"),
-    (":f :lock", ":f :lock: it is none of :enqueue, "),
-    (":f :unlock", ":f :unlock: it is none of :enqueue, "),
+    (":f :lock", ":value nil: :lock takes an integer"),
+    (":f :unlock", ":value nil: :unlock takes an integer"),
     (":f :drain", ":f :drain: it is none of :enqueue, "),
     (":f :read, :object :x", ":object :x: expected is an integer from 0 to 65535"),
 )

@@ -13,8 +13,10 @@ LINEARIZABLE = {
     "redis_map": ("map", 100_000),
     "postgres_register": ("register", 1_000),
     "redis_map_paused": ("map", 1_000),
+    "skip_list_set": ("set", 20_000),
+    "atomic_counter": ("counter", 10_000),
 }
-NOT_LINEARIZABLE = ("redis_replica_long", "sharded_queue_long")
+NOT_LINEARIZABLE = ("redis_replica_long", "sharded_queue_long", "unvalidated_list_set", "racy_counter")
 SHORT = ("postgres_queue", "redis_lock", "redis_replica", "racy_stack", "sharded_queue")
 MOST_SECONDS = 2
 

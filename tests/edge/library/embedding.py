@@ -376,7 +376,7 @@ def rust_callers(program, report):
         FCBENCH_RUNS=str(RUNS),
         RUSTFLAGS="-D warnings",
     )
-    report.equal("embedding: Rust: how many tests passed", 31, sum(map(int, re.findall(r"(\d+) passed", said))), said[-2000:])
+    report.equal("embedding: Rust: how many tests passed", 32, sum(map(int, re.findall(r"(\d+) passed", said))), said[-2000:])
     ran = subprocess.run(["cargo", "check", *package], env=elsewhere, capture_output=True, text=True)
     advice = f"libfcbench.a is not in {EXAMPLES}: run callers/build, or set FCBENCH_LIB to the absolute path of its folder"
     report.holds("embedding: Rust: what is said where the library is missing", ran.returncode != 0 and advice in ran.stderr, ran.stderr[-2000:])
@@ -396,7 +396,7 @@ def python_callers(program, report):
             FCBENCH_RUNS=str(RUNS),
             PYTHONDONTWRITEBYTECODE="1",
         )
-    report.equal("embedding: Python: how many tests ran", ["9", "14"], re.findall(r"Ran (\d+) tests", said), said[-2000:])
+    report.equal("embedding: Python: how many tests ran", ["9", "16"], re.findall(r"Ran (\d+) tests", said), said[-2000:])
 
 
 def go_callers(program, report):
@@ -411,7 +411,7 @@ def go_callers(program, report):
         "FCBENCH_RUNS": str(RUNS),
     }
     said = done(report, "Go: the tests of the package", ["go", "test", "-count=1", "-v", "."], "\nok ", FOLDER=f"{SOURCES}/go", **env)
-    report.equal("embedding: Go: how many tests passed", 18, said.count("--- PASS"), said[-2000:])
+    report.equal("embedding: Go: how many tests passed", 19, said.count("--- PASS"), said[-2000:])
     return None
 
 

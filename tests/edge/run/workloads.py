@@ -8,10 +8,15 @@ OPERATIONS = {
     "register": ("write", "read", "cas"),
     "map": ("put", "get", "del"),
     "mutex": ("acquire", "release"),
+    "set": ("add", "remove", "contains"),
+    "counter": ("fetch-add", "get-count"),
+    "lock": ("lock", "unlock"),
 }
+# Of these kinds a client makes whole pairs of calls.
+IN_PAIRS = ("mutex", "lock")
 MIXED = ("queue", "stack", "heap", "register", "map")
 KINDS_OF_A_RUN = (*OPERATIONS, "mixed")
-WITHOUT_ARGUMENT = ("dequeue", "pop", "extract-min", "read")
+WITHOUT_ARGUMENT = ("dequeue", "pop", "extract-min", "read", "get-count")
 MASK = 2**64 - 1
 
 
@@ -54,12 +59,12 @@ def argument(f, first, second):
 def calls_of(kind, objects, client, calls, seed):
     """The calls of one client, as (object, function, argument)."""
     generator, made = Generator(seed, client), []
-    for number in range(calls - calls % 2 if kind == "mutex" else calls):
+    for number in range(calls - calls % 2 if kind in IN_PAIRS else calls):
         on, choice, first, second = [generator.below(it) for it in (objects, 6, 100, 100)]
-        if kind == "mutex":
-            made.append((made[-1][0], "release", None) if number % 2 else (on, "acquire", None))
-            continue
         names = OPERATIONS[kind_of(kind, on)]
+        if kind in IN_PAIRS:
+            made.append((made[-1][0] if number % 2 else on, names[number % 2], client if kind == "lock" else None))
+            continue
         f = names[choice % len(names)]
         made.append((on, f, argument(f, first, second)))
     return made
@@ -81,7 +86,18 @@ def calls_in(output):
 
 
 def reply(f, of, content):
-    """What an object replies. Its content, which changes, is a list (queue, stack, heap) or a dict (register, map)."""
+    """What an object replies. Its content, which changes, is a list (queue, stack, heap, set, counter) or a dict (register, map)."""
+    if f in ("add", "remove", "contains"):
+        is_there = of in content
+        if f == "add" and not is_there:
+            content.append(of)
+        elif f == "remove" and is_there:
+            content.remove(of)
+        return is_there != (f == "add")
+    if f in ("fetch-add", "get-count"):
+        before = sum(content)
+        content.append(of or 0)
+        return before
     if f in ("enqueue", "push", "insert"):
         content.append(of)
         return of
@@ -109,7 +125,7 @@ def output_of_one_client(kind, objects, calls, seed):
     for number, (on, f, of) in enumerate(calls_of(kind, objects, 0, calls, seed)):
         named = kind_of(kind, on)
         content = contents.setdefault(on, {} if named in ("register", "map") else [])
-        got = None if named == "mutex" else reply(f, of, content)
+        got = None if named in IN_PAIRS else reply(f, of, content)
         out += [invoke(0, f, of, on), ok(0, f, got, on)]
         orders.setdefault(on, []).append(2 * number)
         kinds.setdefault(named, []).append(on)

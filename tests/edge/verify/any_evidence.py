@@ -9,12 +9,20 @@ from ..judge import orders_to_find
 from .reasons import maps_of, value_of, why_not_explained
 from ..worked_rows import EVIDENCE, HISTORY, REASONS
 from ..running import EXAMPLES, at_once
-from ..text_writers import certificate, lines
+from ..text_writers import certificate, invoke, lines, ok
 
 # How many made histories there are of each kind, and how often the evidence of each is spoilt.
 OF_EACH, SPOILT = 20, 6
 # How many texts of random bytes, and of random words.
 RANDOM = 100
+# The operation that frees an object, with its argument.
+FREED = {"mutex": ("release", None), "lock": ("unlock", 1)}
+# Replies of functions that tell what was there.
+REPLIES = (
+    (re.compile(r":f :(dequeue|pop|extract-min|read|get|put|del),"), ("nil", 0, 1, 2)),
+    (re.compile(r":f :(add|remove|contains|create|put-if-absent|replace),"), ("true", "false")),
+    (re.compile(r":f :(fetch-add|get-count),"), (0, 1, 2, 3)),
+)
 OPEN = re.compile(rb"(; object \d+: (open|out of steps after \d+)\n)+|malformed evidence: (E\d+ at byte|[KN]1 at form) \d+\n")
 WORDS = (
     *"{}[]" * 3,
@@ -49,12 +57,12 @@ def verified(program, history, evidence):
 
 def short_histories():
     """Histories of each kind with at most six calls, of which some have no valid order. Each has whether it has one."""
-    for kind in histories.FUNCTIONS:
+    for kind in (*histories.FUNCTIONS, *histories.LATER_FUNCTIONS):
         for seed in range(OF_EACH):
             made = histories.made(kind, f"evidence {seed}", calls=3 + seed % 4, processes=2, values=2)
-            maps = made.maps if seed % 3 == 0 or kind == "mutex" else exchanged(made.maps, seed)
-            if kind == "mutex" and seed % 3:
-                maps = [*maps, *[f"{{:process 99, :type :{it}, :f :release, :value nil, :object 0}}" for it in ("invoke", "ok") * 2]]
+            maps = made.maps if seed % 3 == 0 or kind in FREED else exchanged(made.maps, seed)
+            if kind in FREED and seed % 3:
+                maps = [*maps, *[it for _ in range(2) for it in (invoke(99, *FREED[kind], 0), ok(99, FREED[kind][0], None, 0))]]
             text = lines(*maps)
             yield text, has_order(text)
 
@@ -62,9 +70,9 @@ def short_histories():
 def exchanged(maps, seed):
     """The maps with another value in the last completion that has one."""
     rng = random.Random(f"exchanged {seed}")
-    last = [it for it, text in enumerate(maps) if ":type :ok" in text and re.search(r":f :(dequeue|pop|extract-min|read|get)\b", text)][-1:]
-    for it in last:
-        maps = [*maps[:it], re.sub(r":value [^,]+,", f":value {rng.choice(('nil', 0, 1, 2))},", maps[it]), *maps[it + 1 :]]
+    found = [(it, replies) for it, text in enumerate(maps) for pattern, replies in REPLIES if ":type :ok" in text and pattern.search(text)]
+    for it, replies in found[-1:]:
+        maps = [*maps[:it], re.sub(r":value [^,]+,", f":value {rng.choice(replies)},", maps[it]), *maps[it + 1 :]]
     return maps
 
 

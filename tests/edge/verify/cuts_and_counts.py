@@ -2,7 +2,7 @@
 from ..answers import in_files
 from .reasons import why_not_shown
 from ..worked_rows import HISTORY, REASONS, refute
-from ..text_writers import invoke, lines, ok
+from ..text_writers import invoke, lines, ok, one_process
 
 # Histories of one object each. A number in a cut is that of a map.
 
@@ -382,6 +382,81 @@ MAYBE_GONE = lines(
     ok(0, "extract-min"),
 )
 
+# Element 1 is added twice, each time as one that was not in the set.
+ADDED_TWICE = one_process(("add", 1, True), ("add", 2, True), ("add", 1, True))
+
+# Each operation of element 1 that can fail does so once.
+IN_AND_OUT = one_process(
+    ("add", 1, True),
+    ("add", 1, False),
+    ("contains", 1, True),
+    ("remove", 1, True),
+    ("remove", 1, False),
+    ("contains", 1, False),
+)
+
+# Element 1 is in the set, and then a removal does not find it.
+NOT_FOUND = one_process(("add", 1, True), ("add", 1, False), ("remove", 1, False))
+
+# A pending removal lets element 1 be added again.
+PENDING_REMOVAL = lines(
+    invoke(0, "add", 1),
+    ok(0, "add", True),
+    invoke(1, "remove", 1),
+    invoke(0, "add", 1),
+    ok(0, "add", True),
+)
+
+# A counter is at 5, and then at 4.
+COUNTED_DOWN = one_process(("fetch-add", 2, 0), ("fetch-add", 3, 2), ("get-count", None, 5), ("get-count", None, 4))
+
+# Two additions overlap; the one that was invoked first comes second.
+OVERLAPPING_ADDITIONS = lines(
+    invoke(1, "fetch-add", 1),
+    invoke(0, "fetch-add", 2),
+    ok(0, "fetch-add", 0),
+    ok(1, "fetch-add", 2),
+    invoke(0, "get-count"),
+    ok(0, "get-count", 3),
+)
+
+# The second addition has a sum past 64 bits.
+PAST_64_BITS = one_process(("fetch-add", 2**63 - 1, 0), ("fetch-add", 1, 2**63 - 1))
+
+# A lock that owner 1 takes while owner 2 has it.
+TAKEN_FROM_ANOTHER = one_process(("lock", 1, None), ("unlock", 1, None), ("lock", 2, None), ("lock", 1, None))
+
+# Owner 2 frees a lock that owner 1 has.
+FREED_BY_ANOTHER = one_process(("lock", 1, None), ("unlock", 2, None))
+
+# A value is created, another one is not, and the first is created again after a clear.
+CREATED = one_process(("create", 1, True), ("create", 2, False), ("clear", None, None), ("create", 1, True), ("read", None, 1))
+
+# A second value is created where one is.
+CREATED_TWICE = one_process(("create", 1, True), ("create", 2, True))
+
+# Value 1 is created once, since the second creation is refused, and swapped twice.
+SWAPPED_FROM_TWICE = one_process(("create", 1, True), ("create", 1, False), ("cas", (1, 2), (1, 2)), ("cas", (1, 3), (1, 3)))
+
+# Value 1 is read after a clear.
+CLEARED = one_process(("write", 1, 1), ("clear", None, None), ("read", None, 1))
+
+# Key 7 gets a value where it has none, another value in place of it, and is removed.
+REPLACED = one_process(
+    ("put-if-absent", (7, 1), True),
+    ("replace", (7, 1, 2), True),
+    ("replace", (7, 1, 3), False),
+    ("get", 7, 2),
+    ("dissoc", 7, None),
+    ("get", 7, None),
+)
+
+# Value 1 under key 7 is replaced twice, and was put there once.
+REPLACED_TWICE = one_process(("assoc", (7, 1), None), ("replace", (7, 1, 2), True), ("replace", (7, 1, 3), True))
+
+# Key 7 has no value twice, and a removal is pending at the end.
+ABSENT_TWICE = one_process(("put-if-absent", (7, 1), True), ("put-if-absent", (7, 2), True)) + lines(invoke(1, "dissoc", 7))
+
 NO_PART = "object 0: not shown: the cuts name no part\n"
 POSSIBLE = "object 0: not shown: the part has a valid order\n"
 NOT_EXCEEDED = "object 0: not shown: the count is not exceeded\n"
@@ -521,6 +596,90 @@ WINDOWS = (
     (TWO_HOLD, "", IMPOSSIBLE),
 )
 
+# Sets, counters and locks.
+SETS_COUNTERS_LOCKS = (
+    (ADDED_TWICE, "{:keep [1], :numbers [0 4]}", IMPOSSIBLE),
+    (ADDED_TWICE, "{:keep [1], :numbers [4]}", NO_PART),
+    (ADDED_TWICE, "{:keep [2], :numbers [2]}", POSSIBLE),
+    (ADDED_TWICE, "{:keep [2], :numbers [0 2]}", NO_PART),
+    # A suffix of a set is on one element.
+    (ADDED_TWICE, "{:from 0}", NO_PART),
+    (ADDED_TWICE, "{:keep [1], :numbers [0 4]} {:from 0}", IMPOSSIBLE),
+    (IN_AND_OUT, "", POSSIBLE),
+    # What failed may be left out, and what did not may not.
+    (IN_AND_OUT, "{:keep [1], :numbers [0 6]}", POSSIBLE),
+    (IN_AND_OUT, "{:keep [1], :numbers [0 2 4 6 8 10]}", POSSIBLE),
+    (IN_AND_OUT, "{:keep [1], :numbers [0 10]}", NO_PART),
+    (IN_AND_OUT, "{:keep [1], :numbers [6]}", NO_PART),
+    (IN_AND_OUT, "{:keep [2], :numbers [2]}", NO_PART),
+    *[(IN_AND_OUT, f"{{:from {number}}}", POSSIBLE) for number in (0, 2, 4, 6, 8, 10)],
+    (NOT_FOUND, "{:from 2}", IMPOSSIBLE),
+    (NOT_FOUND, "{:from 4}", POSSIBLE),
+    (PENDING_REMOVAL, "", POSSIBLE),
+    (PENDING_REMOVAL, "{:keep [1], :numbers [0 3]}", NO_PART),
+    (PENDING_REMOVAL, "{:keep [1], :numbers [0 2 3]}", POSSIBLE),
+    (COUNTED_DOWN, "{:keep [], :numbers [0 2 6]}", IMPOSSIBLE),
+    (COUNTED_DOWN, "{:keep [], :numbers [0 2 4]}", POSSIBLE),
+    (COUNTED_DOWN, "{:keep :all, :numbers [2 6]}", NO_PART),
+    (COUNTED_DOWN, "{:from 2}", IMPOSSIBLE),
+    (COUNTED_DOWN, "{:from 4}", IMPOSSIBLE),
+    (COUNTED_DOWN, "{:from 2} {:until 6}", POSSIBLE),
+    (COUNTED_DOWN, "{:from 6}", POSSIBLE),
+    (OVERLAPPING_ADDITIONS, "", POSSIBLE),
+    (OVERLAPPING_ADDITIONS, "{:from 0}", POSSIBLE),
+    (OVERLAPPING_ADDITIONS, "{:from 1}", POSSIBLE),
+    (PAST_64_BITS, "{:from 0}", IMPOSSIBLE),
+    (PAST_64_BITS, "{:from 2}", NO_PART),
+    (TAKEN_FROM_ANOTHER, "{:from 2}", IMPOSSIBLE),
+    (TAKEN_FROM_ANOTHER, "{:from 4}", IMPOSSIBLE),
+    (TAKEN_FROM_ANOTHER, "{:from 2} {:until 6}", POSSIBLE),
+    (TAKEN_FROM_ANOTHER, "{:keep :all, :numbers [4 6]}", NO_PART),
+    (FREED_BY_ANOTHER, "{:from 0}", IMPOSSIBLE),
+    (FREED_BY_ANOTHER, "{:from 2}", POSSIBLE),
+)
+
+# The operations of registers and maps that reply whether they took place, or whose reply tells nothing.
+CHANGES = (
+    (CREATED, "", POSSIBLE),
+    (CREATED, "{:keep [1], :numbers [0 4 6 8]}", POSSIBLE),
+    (CREATED, "{:keep [1], :numbers [0 6 8]}", NO_PART),
+    (CREATED, "{:keep [1], :numbers [4 6 8]}", NO_PART),
+    # Value 2, which is left out, may be what the failed creation found.
+    (CREATED, "{:keep [1], :numbers [0 2 4 6 8]}", NO_PART),
+    (CREATED, "{:keep :all, :numbers [0 2 4 6 8]}", POSSIBLE),
+    (CREATED, "{:keep :all, :numbers [0 4 6 8]}", POSSIBLE),
+    (CREATED, "{:cell [1], :other 0, :numbers [2 8]}", POSSIBLE),
+    (CREATED, "{:from 2}", NO_PART),
+    (CREATED, "{:from 4}", POSSIBLE),
+    (CREATED, "{:from 6}", POSSIBLE),
+    (CREATED_TWICE, "{:keep [2], :numbers [2]}", POSSIBLE),
+    (CREATED_TWICE, "{:keep [2], :numbers [0 2]}", IMPOSSIBLE),
+    (CREATED_TWICE, "{:cell [2], :other 0}", POSSIBLE),
+    (CREATED_TWICE, "{:cell [2], :other 0, :numbers [0]}", IMPOSSIBLE),
+    (CREATED_TWICE, "{:from 0}", IMPOSSIBLE),
+    (CLEARED, "{:from 2}", IMPOSSIBLE),
+    (CLEARED, "{:keep [1], :numbers [0 2 4]}", IMPOSSIBLE),
+    (CLEARED, "{:keep [1], :numbers [0 4]}", NO_PART),
+    # A clear stays in a cell, and the read is a chosen one.
+    (CLEARED, "{:cell [1], :other 0, :numbers [4]}", IMPOSSIBLE),
+    (CLEARED, "{:cell [1], :other 0}", POSSIBLE),
+    (REPLACED, "", POSSIBLE),
+    (REPLACED, "{:keep [7], :numbers [0 2 6 8]}", POSSIBLE),
+    (REPLACED, "{:keep [7], :numbers [0 2 4 6 8 10]}", POSSIBLE),
+    (REPLACED, "{:keep [7], :numbers [0 6 8]}", NO_PART),
+    (REPLACED, "{:keep [7], :numbers [0 2 6]}", NO_PART),
+    (REPLACED, "{:from 2}", POSSIBLE),
+    (REPLACED, "{:from 4}", NO_PART),
+    (REPLACED, "{:from 8}", POSSIBLE),
+    (REPLACED, "{:cell [2], :key 7, :other 0, :numbers [0 4 6 8 10]}", POSSIBLE),
+    (REPLACED_TWICE, "{:cell [1], :key 7, :other 0, :numbers [2 4]}", IMPOSSIBLE),
+    (REPLACED_TWICE, "{:cell [1 2 3], :key 7, :other 0}", IMPOSSIBLE),
+    (REPLACED_TWICE, "{:cell [1], :key 7, :other 0, :numbers [2]}", POSSIBLE),
+    (REPLACED_TWICE, "{:cell [1], :key 8, :other 0, :numbers [2 4]}", POSSIBLE),
+    (REPLACED_TWICE, "{:from 0}", IMPOSSIBLE),
+    (REPLACED_TWICE, "{:from 2}", IMPOSSIBLE),
+)
+
 # Parts without what was done with a value before it definitely was not in.
 VALUES_THAT_ARE_ABSENT = (
     (AGAIN, "", IMPOSSIBLE),
@@ -560,6 +719,8 @@ COUNTS = (
     (TWO_HOLD, 7, "{:free true, :from 4}", False),
     (TWO_HOLD, 100, "{:held true, :from 0}", False),
     # The pending put may have put it in once more.
+    (SWAPPED_FROM_TWICE, 100, "{:value 1, :from 0}", True),
+    (SWAPPED_FROM_TWICE, 6, "{:value 1, :from 0}", False),
     (TAKEN_TWICE, 6, "{:value 7, :from 0}", True),
     (TAKEN_TWICE, 7, "{:value 7, :from 0}", False),
     (TAKEN_TWICE, 5, "{:value 7, :from 0}", False),
@@ -577,6 +738,17 @@ COUNTS = (
     (REMOVED_ONCE, 100, "{:key 7, :from 3}", False),
     (REMOVED_ONCE, 100, "{:key 8, :from 0}", False),
     (REMOVED_ONCE, 100, "{:key 7, :value 1, :from 0}", False),
+    # Value 1 was put there once.
+    (REPLACED_TWICE, 100, "{:key 7, :value 1, :from 0}", True),
+    (REPLACED_TWICE, 4, "{:key 7, :value 1, :from 0}", False),
+    (REPLACED_TWICE, 100, "{:key 7, :value 2, :from 0}", False),
+    (REPLACED, 100, "{:key 7, :value 1, :from 0}", False),
+    # Two puts found no value; the pending removal may have left none.
+    (ABSENT_TWICE, 4, "{:key 7, :from 0}", True),
+    (ABSENT_TWICE, 5, "{:key 7, :from 0}", False),
+    # Nothing is counted at a set.
+    (ADDED_TWICE, 100, "{:value 1, :from 0}", False),
+    (ADDED_TWICE, 100, "{:value 1, :from 1}", False),
 )
 
 FREE = "{:free true, :from 4}"
@@ -614,7 +786,7 @@ def is_answered(program, report, name, history, text, steps, wanted, on=0):
 
 def parts_of_histories(program, report):
     """Each part, with what is known of it."""
-    for table in (PENDING_CALLS, PROJECTIONS, REGISTERS, ENTRIES, WINDOWS, VALUES_THAT_ARE_ABSENT):
+    for table in (PENDING_CALLS, PROJECTIONS, REGISTERS, ENTRIES, WINDOWS, SETS_COUNTERS_LOCKS, CHANGES, VALUES_THAT_ARE_ABSENT):
         for number, (history, cuts, wanted) in enumerate(table):
             is_answered(program, report, f"refute: row {number}: {cuts}", history, reason(cuts), 1000, wanted)
     for history, end, count, is_exceeded in COUNTS:

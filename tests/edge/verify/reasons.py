@@ -11,7 +11,7 @@ from .. import worked_rows
 from ..running import EXAMPLES
 from ..text_writers import lines
 
-VALUE = r"nil|false|-?\d+|\[-?\d+ -?\d+\]"
+VALUE = r"nil|false|true|-?\d+|\[-?\d+(?: -?\d+)+\]"
 TOLD = re.compile(
     rf"events? (\d+)(?: and (\d+))?: process (\d+), :([\w-]+) ({VALUE})(?:, :ok ({VALUE}))?"
     rf"(?:, counted as :([\w-]+) ({VALUE})(?:, :ok ({VALUE}))?)?(, pending)?"
@@ -23,11 +23,11 @@ MOST_ORDERED = 12
 
 
 def value_of(word):
-    """The value that a word of EDN is: an integer, None for nil, False, or a pair."""
+    """The value that a word of EDN is: an integer, None for nil, a truth value, or a tuple."""
     if word in (None, "nil"):
         return None
-    if word == "false":
-        return False
+    if word in ("false", "true"):
+        return word == "true"
     numbers = tuple(int(it) for it in re.findall(r"-?\d+", word))
     return numbers if word.startswith("[") else numbers[0]
 
@@ -69,18 +69,25 @@ def next_of_register(content, f, argument):
         return content, now
     if f == "write":
         return (argument,), argument
+    if f == "clear":
+        return (), None
+    if f == "create":
+        return ((argument,), True) if now is None else (content, False)
     return ((argument[1],), argument) if now == argument[0] else (content, False)
 
 
 def next_of_map(content, f, argument):
     of = dict(content)
-    key = argument[0] if f == "put" else argument
+    key, *values = argument if isinstance(argument, tuple) else (argument,)
     before = of.get(key)
-    if f == "put":
-        of[key] = argument[1]
-    elif f == "del":
+    if f == "put-if-absent" and before is not None or f == "replace" and before != values[0]:
+        return content, False
+    if f in ("del", "dissoc"):
         of.pop(key, None)
-    return tuple(sorted(of.items())), before
+    elif f != "get":
+        of[key] = values[-1]
+    reply = {"put-if-absent": True, "replace": True, "assoc": None, "dissoc": None}.get(f, before)
+    return tuple(sorted(of.items())), reply
 
 
 def next_of_mutex(content, f, argument):
@@ -89,13 +96,36 @@ def next_of_mutex(content, f, argument):
     return (("held",) if f == "acquire" else ()), None
 
 
+def next_of_set(content, f, argument):
+    is_there = argument in content
+    if f == "add":
+        return tuple(sorted({*content, argument})), not is_there
+    return (content if f == "contains" else tuple(it for it in content if it != argument)), is_there
+
+
+def next_of_counter(content, f, argument):
+    now = content[0] if content else 0
+    if f == "get-count":
+        return content, now
+    return ((now + argument,), now) if -(2**63) <= now + argument < 2**63 else None
+
+
+def next_of_lock(content, f, argument):
+    if f == "lock":
+        return None if content else ((argument,), None)
+    return ((), None) if content == (argument,) else None
+
+
 NEXT = {
     **dict.fromkeys(("enqueue", "dequeue"), next_of_queue),
     **dict.fromkeys(("push", "pop"), next_of_stack),
     **dict.fromkeys(("insert", "extract-min"), next_of_heap),
-    **dict.fromkeys(("read", "write", "cas"), next_of_register),
-    **dict.fromkeys(("put", "get", "del"), next_of_map),
+    **dict.fromkeys(("read", "write", "cas", "clear", "create"), next_of_register),
+    **dict.fromkeys(("put", "get", "del", "assoc", "dissoc", "put-if-absent", "replace"), next_of_map),
     **dict.fromkeys(("acquire", "release"), next_of_mutex),
+    **dict.fromkeys(("add", "remove", "contains"), next_of_set),
+    **dict.fromkeys(("fetch-add", "get-count"), next_of_counter),
+    **dict.fromkeys(("lock", "unlock"), next_of_lock),
 }
 
 
@@ -128,18 +158,30 @@ def sets_and_takes(count, f, argument, reply, has_returned):
     if "held" in count or "free" in count:
         gives, takes = ("acquire", "release") if "held" in count else ("release", "acquire")
         return f == gives, f == takes and has_returned
-    key, value = count.get("key"), count.get("value")
-    if key is None:
-        sets = f in ("enqueue", "push", "insert", "write") and argument == value
-        sets |= f == "cas" and argument[1] == value and (reply is not False or not has_returned)
-        takes = has_returned and f in ("dequeue", "pop", "extract-min") and reply == value
-        return sets, takes or has_returned and f == "cas" and reply is not False and argument[0] == value
-    if f == "get" or (argument[0] if f == "put" else argument) != key:
+    took_place = not has_returned or reply is not False
+    if count.get("key") is None:
+        return sets_and_takes_value(count.get("value"), f, argument, reply, has_returned, took_place)
+    return sets_and_takes_entry(count["key"], count.get("value"), f, argument, reply, has_returned, took_place)
+
+
+def sets_and_takes_value(value, f, argument, reply, has_returned, took_place):
+    """The same of a value in a queue, stack, heap or register."""
+    sets = f in ("enqueue", "push", "insert", "write", "create") and argument == value and took_place
+    sets |= f == "cas" and argument[1] == value and took_place
+    takes = has_returned and f in ("dequeue", "pop", "extract-min") and reply == value
+    return sets, takes or has_returned and f == "cas" and reply is not False and argument[0] == value
+
+
+def sets_and_takes_entry(key, value, f, argument, reply, has_returned, took_place):
+    """The same of a value under a key of a map, or of no value."""
+    if f == "get" or (argument[0] if isinstance(argument, tuple) else argument) != key:
         return False, False
     if value is None:
-        sets = f == "del" and (not has_returned or reply is not None)
-        return sets, f == "put" and has_returned and reply is None
-    return f == "put" and argument[1] == value, has_returned and reply == value
+        sets = f == "dissoc" or f == "del" and (not has_returned or reply is not None)
+        return sets, has_returned and (f == "put" and reply is None or f == "put-if-absent" and reply is True)
+    sets = f in ("put", "assoc", "put-if-absent", "replace") and argument[-1] == value and took_place
+    takes = f in ("put", "del") and reply == value or f == "replace" and reply is True and argument[1] == value
+    return sets, has_returned and takes
 
 
 def is_overdrawn(count, calls):
