@@ -27,7 +27,8 @@ class Module:
     """One file of specs/: its definitions, each with its lines, and where its words come from."""
 
     def __init__(self, path):
-        self.crate, self.name = path.split("/")[-3], os.path.basename(path)[:-5]
+        self.crate, _, file = os.path.relpath(path, f"{ROOT}/crates").partition("/specs/")
+        self.name = file.removesuffix(".antt").replace("/", ".")
         self.lines, self.used, self.whole, self.constructors = collections.defaultdict(list), {}, {}, {}
         with open(path) as file:
             self.read(file.read())
@@ -74,7 +75,7 @@ class Module:
 
 def modules():
     found = {}
-    for path in glob.glob(f"{ROOT}/crates/*/specs/*.antt"):
+    for path in glob.glob(f"{ROOT}/crates/*/specs/**/*.antt", recursive=True):
         module = Module(path)
         found[f"{module.crate}.specs.{module.name}"] = module
     return found
@@ -166,6 +167,9 @@ def closure(known, names):
         if path not in known:
             continue
         name = known[path].constructors.get(name, name)
+        if name not in known[path].lines and name in known[path].used:
+            # A name that the file passes on from another.
+            left.append((known[path].used[name], name))
         if (path, name) in seen or name not in known[path].lines:
             continue
         seen.add((path, name))
