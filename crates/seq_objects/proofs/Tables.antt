@@ -12,7 +12,7 @@ use Rattle.std.specs.BTreeMap.{is_at}
 use Rattle.std.specs.FinMap.{FinMap, empty, empty_of_len, len-entries, find, is_sorted, from_sorted, get, insert, remove, get-from_sorted, get-insert}
 use Rattle.std.specs.FinMap.{get-remove, entries-from_sorted, entries, same_map, int_cmp-IsAntisymmetric}
 use Rattle.std.specs.FinMap.Entries.{below_all}
-use Rattle.model.specs.declared.AnyOp.TheVariants.{Put, Get, Del, PutIfAbsent, Replace, Assoc, Dissoc}
+use Rattle.model.specs.declared.AnyOp.TheVariants.{Put, Get, Del, Assoc, Dissoc}
 use Rattle.model.specs.declared.AnyReply.{AnyReply}
 use Rattle.model.specs.declared.AnyReply.TheVariants.{Value, Flag}
 use Rattle.model.specs.Objects.{Content, next, table, contains_value, inserted_if, has_value, is_absent}

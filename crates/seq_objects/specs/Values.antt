@@ -11,85 +11,41 @@ use Rattle.model.specs.declared.AnyReply.{AnyReply}
 use Rattle.model.specs.declared.AnyReply.TheVariants as reply
 use Rattle.seq_objects.specs.declared.function.Function.{Function}
 use Rattle.seq_objects.specs.declared.function.Function.TheVariants as name
+use Rattle.seq_objects.specs.Functions.{Row, row, no_argument, integer, pair, triple, row_of}
+use Rattle.seq_objects.specs.Functions.{Replies, nil, number, number_or_nil, flag, swap}
 use Rattle.seq_objects.specs.declared.value.Value.{Value}
 use Rattle.seq_objects.specs.declared.value.Value.TheVariants.{Nil, False, True, Int, Pair, Triple}
 
--- The operation of this name with this argument. An argument of another shape makes none.
-abbrev pub op_with : Function → Value → Option AnyOp
-op_with name.Enqueue (Int v) = Some (Enqueue v)
-op_with name.Dequeue Nil = Some Dequeue
-op_with name.Push (Int v) = Some (Push v)
-op_with name.Pop Nil = Some Pop
-op_with name.Insert (Int v) = Some (Insert v)
-op_with name.ExtractMin Nil = Some ExtractMin
-op_with name.Write (Int v) = Some (Write v)
-op_with name.Read Nil = Some Read
-op_with name.Cas (Pair a b) = Some (Cas a b)
-op_with name.Put (Pair k v) = Some (Put k v)
-op_with name.Get (Int k) = Some (Get k)
-op_with name.Del (Int k) = Some (Del k)
-op_with name.Acquire Nil = Some Acquire
-op_with name.Release Nil = Some Release
-op_with name.Clear Nil = Some Clear
-op_with name.Create (Int v) = Some (Create v)
-op_with name.PutIfAbsent (Pair k v) = Some (PutIfAbsent k v)
-op_with name.Replace (Triple k a b) = Some (Replace k a b)
-op_with name.Assoc (Pair k v) = Some (Assoc k v)
-op_with name.Dissoc (Int k) = Some (Dissoc k)
-op_with name.Add (Int v) = Some (Add v)
-op_with name.Remove (Int v) = Some (Remove v)
-op_with name.Has (Int v) = Some (Has v)
-op_with name.FetchAdd (Int n) = Some (FetchAdd n)
-op_with name.GetCount Nil = Some GetCount
-op_with name.LockBy (Int o) = Some (LockBy o)
-op_with name.UnlockBy (Int o) = Some (UnlockBy o)
-op_with f value = None
+-- the operation that a row makes of this argument; one of another shape makes none
+abbrev pub op_in_row : Row → Value → Option AnyOp
+op_in_row (row name (no_argument op) replies) Nil = Some op
+op_in_row (row name (integer op) replies) (Int a) = Some (op a)
+op_in_row (row name (pair op) replies) (Pair a b) = Some (op a b)
+op_in_row (row name (triple op) replies) (Triple a b c) = Some (op a b c)
+op_in_row r value = None
 
--- The reply to an operation of this name that this value stands for. A value of another shape
--- stands for none.
+-- the operation of this name with this argument
+abbrev pub op_with : Function → Value → Option AnyOp
+op_with f value = op_in_row (row_of f) value
+
+-- the reply that this value stands for; one of another shape stands for none
+abbrev pub reply_in : Replies → Value → Option AnyReply
+reply_in nil Nil = Some (reply.Value None)
+reply_in number (Int v) = Some (reply.Value (Some v))
+reply_in number_or_nil (Int v) = Some (reply.Value (Some v))
+reply_in number_or_nil Nil = Some (reply.Value None)
+reply_in flag True = Some (reply.Flag true)
+reply_in flag False = Some (reply.Flag false)
+reply_in swap (Pair a b) = Some (reply.Swapped a b)
+reply_in swap False = Some reply.NotSwapped
+reply_in replies value = None
+
+abbrev pub replies_in : Row → Replies
+replies_in (row name argument replies) = replies
+
+-- the reply to an operation of this name that this value stands for
 abbrev pub reply_with : Function → Value → Option AnyReply
-reply_with name.Enqueue (Int v) = Some (reply.Value (Some v))
-reply_with name.Push (Int v) = Some (reply.Value (Some v))
-reply_with name.Insert (Int v) = Some (reply.Value (Some v))
-reply_with name.Write (Int v) = Some (reply.Value (Some v))
-reply_with name.Dequeue (Int v) = Some (reply.Value (Some v))
-reply_with name.Dequeue Nil = Some (reply.Value None)
-reply_with name.Pop (Int v) = Some (reply.Value (Some v))
-reply_with name.Pop Nil = Some (reply.Value None)
-reply_with name.ExtractMin (Int v) = Some (reply.Value (Some v))
-reply_with name.ExtractMin Nil = Some (reply.Value None)
-reply_with name.Read (Int v) = Some (reply.Value (Some v))
-reply_with name.Read Nil = Some (reply.Value None)
-reply_with name.Put (Int v) = Some (reply.Value (Some v))
-reply_with name.Put Nil = Some (reply.Value None)
-reply_with name.Get (Int v) = Some (reply.Value (Some v))
-reply_with name.Get Nil = Some (reply.Value None)
-reply_with name.Del (Int v) = Some (reply.Value (Some v))
-reply_with name.Del Nil = Some (reply.Value None)
-reply_with name.Cas (Pair a b) = Some (reply.Swapped a b)
-reply_with name.Cas False = Some reply.NotSwapped
-reply_with name.Acquire Nil = Some (reply.Value None)
-reply_with name.Release Nil = Some (reply.Value None)
-reply_with name.Clear Nil = Some (reply.Value None)
-reply_with name.Create True = Some (reply.Flag true)
-reply_with name.Create False = Some (reply.Flag false)
-reply_with name.PutIfAbsent True = Some (reply.Flag true)
-reply_with name.PutIfAbsent False = Some (reply.Flag false)
-reply_with name.Replace True = Some (reply.Flag true)
-reply_with name.Replace False = Some (reply.Flag false)
-reply_with name.Assoc Nil = Some (reply.Value None)
-reply_with name.Dissoc Nil = Some (reply.Value None)
-reply_with name.Add True = Some (reply.Flag true)
-reply_with name.Add False = Some (reply.Flag false)
-reply_with name.Remove True = Some (reply.Flag true)
-reply_with name.Remove False = Some (reply.Flag false)
-reply_with name.Has True = Some (reply.Flag true)
-reply_with name.Has False = Some (reply.Flag false)
-reply_with name.FetchAdd (Int v) = Some (reply.Value (Some v))
-reply_with name.GetCount (Int v) = Some (reply.Value (Some v))
-reply_with name.LockBy Nil = Some (reply.Value None)
-reply_with name.UnlockBy Nil = Some (reply.Value None)
-reply_with f value = None
+reply_with f value = reply_in (replies_in (row_of f)) value
 
 -- the name of an operation
 abbrev pub function_in : AnyOp → Function
