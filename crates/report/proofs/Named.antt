@@ -12,7 +12,8 @@ use Rattle.events.specs.declared.event.Action.{Action}
 use Rattle.events.specs.declared.event.Action.TheVariants.{Invoke, Ok, Fail, Info}
 use Rattle.events.specs.declared.event.Event.{Event}
 use Rattle.events.specs.Events.{IsNamed}
-use Rattle.report.specs.Counts.{Use, use_by, uses, with_new, same_kind, place_of, objects_in, kinds_in}
+use Rattle.seq_objects.specs.Kinds.{place_of}
+use Rattle.report.specs.Counts.{Use, use_by, uses, with_new, same_kind, objects_in, kinds_in}
 use Rattle.certificate.proofs.Reading.{Contains-cons}
 
 any_none : {X : Type 0} (p : X → Bool) (xs : List X) (k : ℕ) (d : X) → list_any p xs ≡ false → k < length xs

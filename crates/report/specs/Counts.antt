@@ -3,10 +3,9 @@ use Rattle.std.specs.Prelude.{◌≡◌, ℕ, ◌==◌, Bool, List, [], ◌∷�
 use Rattle.std.specs.Prelude.{nat_eq, Option, Some, None, if◌then◌else◌}
 use Rattle.std.specs.List.{list_any, filter_map}
 use Rattle.model.specs.declared.Kind.{Kind}
-use Rattle.model.specs.declared.Kind.TheVariants.{Queue, Stack, Heap, Register, Map, Mutex, Set}
-use Rattle.model.specs.declared.Kind.TheVariants.{Counter, Lock}
 use Rattle.model.specs.Objects.{kind_of}
 use Rattle.model.specs.Orders.{ProcessCall, calls_in}
+use Rattle.seq_objects.specs.Kinds.{place_of}
 use Rattle.events.specs.declared.event.Action.{Action}
 use Rattle.events.specs.declared.event.Action.TheVariants.{Invoke, Ok, Fail, Info}
 use Rattle.events.specs.declared.event.Event.{Event}
@@ -37,18 +36,7 @@ with_new same seen x = if list_any (same x) seen then seen else seen ++ x ∷ []
 abbrev pub first_seen : {X : Type 0} → (X → X → Bool) → List X → List X
 first_seen same xs = fold (with_new same) [] xs
 
--- the place of a kind in the list of them
-abbrev pub place_of : Kind → ℕ
-place_of Queue = 0
-place_of Stack = 1
-place_of Heap = 2
-place_of Register = 3
-place_of Map = 4
-place_of Mutex = 5
-place_of Set = 6
-place_of Counter = 7
-place_of Lock = 8
-
+-- whether both are one kind
 abbrev pub same_kind : Kind → Kind → Bool
 same_kind k l = place_of k == place_of l
 

@@ -1,4 +1,4 @@
--- Which kind each object of a desk or a machine has.
+-- The list of kinds, and which kind each object of a desk or a machine has.
 use Rattle.std.specs.Prelude.{ℕ, ◌%◌, ◌==◌, List, Option, Some, None, codes, map, if◌then◌else◌}
 use Rattle.std.specs.Str.{bytes_eq}
 use Rattle.std.specs.List.{range_with_len}
@@ -7,6 +7,18 @@ use Rattle.model.specs.declared.Kind.TheVariants.{Queue, Stack, Heap, Register, 
 use Rattle.model.specs.declared.Kind.TheVariants.{Counter, Lock}
 use Rattle.seq_objects.specs.declared.kinds.Kinds.{Kinds}
 use Rattle.seq_objects.specs.declared.kinds.Kinds.TheVariants.{One, Mixed}
+
+-- the place of a kind in the list of them
+abbrev pub place_of : Kind → ℕ
+place_of Queue = 0
+place_of Stack = 1
+place_of Heap = 2
+place_of Register = 3
+place_of Map = 4
+place_of Mutex = 5
+place_of Set = 6
+place_of Counter = 7
+place_of Lock = 8
 
 -- the kind at a place of the mixed ones: queue, stack, heap, register and map in turn
 abbrev pub mixed_kind : ℕ → Kind
