@@ -15,11 +15,11 @@ COMMANDS = ("check", "verify")
 # With one worker a text is one piece.
 WORKERS = ("1", "2", "3", "4", "7", "16")
 # The words of bench/gen.py: six of the nine kinds with calls that fail or stay pending, as Jepsen writes; objects of which each has many operations;
-# more calls at once than there are pieces; and short maps of a single object.
+# more calls at once than there are pieces, on objects of which each is called in a part of the history; and short maps of a single object.
 HISTORIES = {
     "mixed": "--kind all --objects 30 --calls 8000 --concurrency 24 --processes 40 --time --index --fail 0.05 --info 0.02 --nemesis 0.02",
     "few objects": "--kind mixed --objects 5 --calls 10000 --concurrency 8 --fail 0.02 --info 0.01 --time",
-    "at once": "--kind all --objects 200 --calls 11000 --concurrency 300 --processes 300 --index",
+    "at once": "--kind all --objects 200 --side-by-side 50 --calls 11000 --concurrency 300 --processes 300 --index",
     "one queue": "--kind queue --calls 12000 --concurrency 4 --unique --fill 0.6",
 }
 # A text that is shorter is read as a whole by any number of workers.
