@@ -65,26 +65,10 @@ WRONG_ORDER = lines(
 )
 
 # A swap fails, since the value that it expects was overwritten.
-FAILED_SWAP = lines(
-    invoke(0, "write", 2),
-    ok(0, "write", 2),
-    invoke(0, "write", 1),
-    ok(0, "write", 1),
-    invoke(0, "cas", (2, 3)),
-    ok(0, "cas", False),
-)
+FAILED_SWAP = one_process(("write", 2, 2), ("write", 1, 1), ("cas", (2, 3), False))
 
 # Value 3 comes by a swap from 1, and is read.
-SWAPPED = lines(
-    invoke(0, "write", 2),
-    ok(0, "write", 2),
-    invoke(0, "write", 1),
-    ok(0, "write", 1),
-    invoke(0, "cas", (1, 3)),
-    ok(0, "cas", (1, 3)),
-    invoke(0, "read"),
-    ok(0, "read", 3),
-)
+SWAPPED = one_process(("write", 2, 2), ("write", 1, 1), ("cas", (1, 3), (1, 3)), ("read", None, 3))
 
 # A pending swap sets the value from which another swap goes on.
 PENDING_SWAP = lines(
@@ -214,78 +198,22 @@ CROSSED = lines(
 )
 
 # The value under key 7 was removed, and is read afterwards.
-REMOVED = lines(
-    invoke(0, "put", (7, 1)),
-    ok(0, "put"),
-    invoke(0, "put", (8, 1)),
-    ok(0, "put"),
-    invoke(0, "del", 7),
-    ok(0, "del", 1),
-    invoke(0, "get", 8),
-    ok(0, "get", 1),
-    invoke(0, "get", 7),
-    ok(0, "get", 1),
-)
+REMOVED = one_process(("put", (7, 1), None), ("put", (8, 1), None), ("del", 7, 1), ("get", 8, 1), ("get", 7, 1))
 
 # Key 7 is found without a value by two puts and one removal, and has one value at a time.
-REMOVED_ONCE = lines(
-    invoke(0, "put", (7, 1)),
-    ok(0, "put"),
-    invoke(0, "del", 7),
-    ok(0, "del", 1),
-    invoke(0, "put", (7, 2)),
-    ok(0, "put"),
-    invoke(0, "put", (7, 3)),
-    ok(0, "put"),
-)
+REMOVED_ONCE = one_process(("put", (7, 1), None), ("del", 7, 1), ("put", (7, 2), None), ("put", (7, 3), None))
 
 # A stack that gives the lower of two values first.
-STACK = lines(
-    invoke(0, "push", 1),
-    ok(0, "push", 1),
-    invoke(0, "push", 5),
-    ok(0, "push", 5),
-    invoke(0, "push", 2),
-    ok(0, "push", 2),
-    invoke(0, "pop"),
-    ok(0, "pop", 1),
-    invoke(0, "pop"),
-    ok(0, "pop", 2),
-)
+STACK = one_process(("push", 1, 1), ("push", 5, 5), ("push", 2, 2), ("pop", None, 1), ("pop", None, 2))
 
 # A heap that gives the greater of two values first.
-HEAP = lines(
-    invoke(0, "insert", 1),
-    ok(0, "insert", 1),
-    invoke(0, "insert", 5),
-    ok(0, "insert", 5),
-    invoke(0, "insert", 2),
-    ok(0, "insert", 2),
-    invoke(0, "extract-min"),
-    ok(0, "extract-min", 2),
-    invoke(0, "extract-min"),
-    ok(0, "extract-min", 1),
-)
+HEAP = one_process(("insert", 1, 1), ("insert", 5, 5), ("insert", 2, 2), ("extract-min", None, 2), ("extract-min", None, 1))
 
 # Key 7 is removed, and then has no value.
-GONE = lines(
-    invoke(0, "put", (7, 1)),
-    ok(0, "put"),
-    invoke(0, "del", 7),
-    ok(0, "del", 1),
-    invoke(0, "get", 7),
-    ok(0, "get"),
-)
+GONE = one_process(("put", (7, 1), None), ("del", 7, 1), ("get", 7, None))
 
 # Two puts under key 7 find value 1, which was put there once.
-FOUND_TWICE = lines(
-    invoke(0, "put", (7, 1)),
-    ok(0, "put"),
-    invoke(0, "put", (7, 2)),
-    ok(0, "put", 1),
-    invoke(0, "put", (7, 3)),
-    ok(0, "put", 1),
-)
+FOUND_TWICE = one_process(("put", (7, 1), None), ("put", (7, 2), 1), ("put", (7, 3), 1))
 
 # Value 5 under key 7 is seen, and then 1, which a pending call put there.
 PENDING_ENTRY = lines(
@@ -462,7 +390,7 @@ POSSIBLE = "object 0: not shown: the part has a valid order\n"
 NOT_EXCEEDED = "object 0: not shown: the count is not exceeded\n"
 IMPOSSIBLE = "not linearizable: object 0: "
 
-# Projections of containers with pending takings and puts. Before each part that a laxer rule would take stands its whole, which has an order.
+# Projections of containers with pending takings and puts. The row before a part that a laxer rule would take is its whole, which has an order.
 PENDING_CALLS = (
     (PENDING_TAKING, "", POSSIBLE),
     (PENDING_TAKING, "{:keep [1 2], :numbers [0 2 5]}", NO_PART),

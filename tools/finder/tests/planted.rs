@@ -3,20 +3,22 @@
 
 use finder::{Evidence, Options, decide, read_history};
 
-/// The maps of calls, each by the process of its number: those with a reply return, the others are
-/// pending. A call begins at `+` and returns at `-`, and one without a sign does both.
+/// The maps of calls, each by the process of its number, or by several processes in turn. A call
+/// begins at `+` and returns at `-`, and one without a sign does both.
 fn text_of(calls: &[&str]) -> String {
     let mut text = String::new();
     for call in calls {
         let words: Vec<&str> = call.split(" | ").collect();
-        let [process, function, argument, reply] = words[..] else { panic!("{call}") };
-        let (begins, returns) = (!process.starts_with('-'), !process.starts_with('+'));
-        let head = format!("{{:process {}, :f :{function}", process.trim_matches(['+', '-']));
-        if begins {
-            text += &format!("{head}, :type :invoke, :value {argument}}}\n");
-        }
-        if returns {
-            text += &format!("{head}, :type :ok, :value {reply}}}\n");
+        let [processes, function, argument, reply] = words[..] else { panic!("{call}") };
+        for process in processes.split(' ') {
+            let (begins, returns) = (!process.starts_with('-'), !process.starts_with('+'));
+            let head = format!("{{:process {}, :f :{function}", process.trim_matches(['+', '-']));
+            if begins {
+                text += &format!("{head}, :type :invoke, :value {argument}}}\n");
+            }
+            if returns {
+                text += &format!("{head}, :type :ok, :value {reply}}}\n");
+            }
         }
     }
     text
@@ -52,13 +54,7 @@ fn sets() {
     assert_found(&["0 | contains | 5 | true"], "value 5 was found and never added", 1);
     let removed = ["0 | add | 5 | true", "1 | remove | 5 | true", "0 | remove | 5 | true"];
     assert_found(&removed, "value 5 was removed twice, and not added in between", 1);
-    let both = [
-        "0 | remove | 5 | false",
-        "+0 | add | 5 | true",
-        "+1 | add | 5 | true",
-        "-0 | add | 5 | true",
-        "-1 | add | 5 | true",
-    ];
+    let both = ["0 | remove | 5 | false", "+0 +1 -0 -1 | add | 5 | true"];
     assert_found(&both, "value 5 was added more often than it can have been out of the set", 2);
 }
 
@@ -70,13 +66,7 @@ fn counters() {
     let stale = ["0 | fetch-add | 3 | 0", "1 | get-count | nil | 3", "0 | get-count | nil | 0"];
     let said = "the counter was 0 after it had been 3, and nothing was subtracted";
     assert_found(&stale, said, 2);
-    let both = [
-        "0 | fetch-add | 1 | 0",
-        "+0 | fetch-add | 1 | 1",
-        "+1 | fetch-add | 1 | 1",
-        "-0 | fetch-add | 1 | 1",
-        "-1 | fetch-add | 1 | 1",
-    ];
+    let both = ["0 | fetch-add | 1 | 0", "+0 +1 -0 -1 | fetch-add | 1 | 1"];
     let said = "two additions found the counter to be 1, and nothing was subtracted";
     assert_found(&both, said, 3);
     let skipped = ["0 | fetch-add | 2 | 0", "0 | get-count | nil | 3"];

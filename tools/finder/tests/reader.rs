@@ -60,10 +60,21 @@ fn call(is_usual: bool, function: &str, argument: &str, reply: &str) -> String {
     event("invoke", argument) + &event("ok", reply)
 }
 
+/// Whether a call of each function, with its argument and its reply, is a history.
+fn assert_calls(are_histories: bool, calls: &[(&str, &str, &str)]) {
+    for (function, argument, reply) in calls {
+        for is_usual in [true, false] {
+            let text = call(is_usual, function, argument, reply);
+            assert_eq!(is_history(&text), are_histories, "{text}");
+        }
+    }
+}
+
 #[test]
 fn reads_sets_counters_locks_and_new_functions() {
-    for is_usual in [true, false] {
-        for (function, argument, reply) in [
+    assert_calls(
+        true,
+        &[
             ("clear", "nil", "nil"),
             ("create", "5", "true"),
             ("create", "5", "false"),
@@ -78,17 +89,15 @@ fn reads_sets_counters_locks_and_new_functions() {
             ("get-count", "nil", "0"),
             ("lock", "1", "nil"),
             ("unlock", "1", "nil"),
-        ] {
-            let text = call(is_usual, function, argument, reply);
-            assert!(is_history(&text), "{text}");
-        }
-    }
+        ],
+    );
 }
 
 #[test]
 fn refuses_other_arguments_and_replies_of_new_functions() {
-    for is_usual in [true, false] {
-        for (function, argument, reply) in [
+    assert_calls(
+        false,
+        &[
             ("clear", "1", "nil"),
             ("clear", "nil", "true"),
             ("create", "5", "5"),
@@ -115,11 +124,8 @@ fn refuses_other_arguments_and_replies_of_new_functions() {
             ("unlock", "1", "1"),
             ("cas", "[1 2]", "true"),
             ("write", "1", "true"),
-        ] {
-            let text = call(is_usual, function, argument, reply);
-            assert!(!is_history(&text), "{text}");
-        }
-    }
+        ],
+    );
 }
 
 #[test]
