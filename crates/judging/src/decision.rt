@@ -67,7 +67,7 @@ pub(crate) fn judge_read<R: Threads + Sync>(
 /// Where it answers Yes, the history that the text denotes is linearizable: some completion of
 /// it is, process by process, equal to one sequential history over all objects that is legal for
 /// every object and keeps every return before a later invocation; it answers No only with the first
-/// fault that truly stands in the certificates.
+/// fault that truly is in the certificates.
 ///
 /// The history's text comes first, then what its maps say, then the certificates' text, its forms,
 /// and the check; the first fault is the answer. `NoMemory` says that nothing was found to be wrong

@@ -478,7 +478,7 @@ async function answersToHands(tab) {
   return bad;
 }
 
-// In how many milliseconds a browser lays out so many paragraphs, where the bounds of time were chosen.
+// How many milliseconds a browser took to lay out this number of paragraphs where the bounds of time were chosen.
 const [PARAGRAPHS, USUAL] = [5000, 100];
 // The most times that a page is loaded until it is fast enough: other work on the machine only adds to a time.
 const MOST_LOADS = 20;

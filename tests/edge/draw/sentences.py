@@ -422,7 +422,7 @@ FORMS = {
     "c1": r"Object (\d+) has no certificate. The history has ([\d ]+) operations? on it, so it needs one: `\{:object \d+, :order \[..\]\}`.",
     "c2": r"The certificates give an order for object (\d+), and no invocation of the history names it. Each certificate must be of an "
     r"object of the history.",
-    "c3": r"Entry (\d+) of the order for object (\d+) is (⟨[^⟩]*⟩|`-?\d+`), which is no operation that can stand in it: (.*)\.",
+    "c3": r"Entry (\d+) of the order for object (\d+) is (⟨[^⟩]*⟩|`-?\d+`), which is no operation that can be in it: (.*)\.",
     "c4": rf"{REF} stands twice in the order for object (\d+), as entry (\d+) and again as entry (\d+). An operation takes effect once.",
     "c5": rf"The order puts {REF} before {REF}. But #(\d+) returned at event (\d+), before #(\d+) was invoked at event (\d+). An operation that "
     r"returned before another began must stand before it.",

@@ -64,7 +64,7 @@ PAGES = (
         (0,),
         "no",
         (
-            ", which is no operation that can stand in it: it failed at event 1, so it did not happen.</p>",
+            ", which is no operation that can be in it: it failed at event 1, so it did not happen.</p>",
             "<td>no operation</td>",
         ),
     ),

@@ -56,7 +56,7 @@ def ended(child):
 
 
 def by_option(program, path, seconds):
-    """A judgement that is stopped by an option after so many seconds. One worker takes the objects in turn."""
+    """A judgement that is stopped by an option after some seconds. One worker takes the objects in turn."""
     return ended(started(program, "judge", "--workers", "1", "--seconds", str(seconds), path))
 
 

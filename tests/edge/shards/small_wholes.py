@@ -5,7 +5,7 @@ from ..running import at_once
 from ..text_writers import lines
 
 WHOLES, SHARDS = 1_000, 3
-# Of each sort of answer there are at least so many.
+# The least number of answers with each status.
 FEWEST = {0: 400, 1: 60, 2: 60}
 
 

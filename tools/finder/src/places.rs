@@ -14,7 +14,7 @@ pub struct Places(Vec<u32>);
 pub enum PlacesFault {
     /// This line, counted from 1, has no place, or none after that of the line before.
     Line(usize),
-    /// There are so many places, and another number of maps.
+    /// The number of places is not that of the maps.
     Count { places: usize, maps: u32 },
 }
 

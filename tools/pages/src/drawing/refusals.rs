@@ -160,7 +160,7 @@ impl Refused<'_> {
             Some(operation) => text.say_operation(operation, Mark::Fault),
             None => text.say(spans![Span::Entry(number)]),
         }
-        text.say(spans![", which is no operation that can stand in it: "]);
+        text.say(spans![", which is no operation that can be in it: "]);
         text.say(self.why_unknown(number));
         text.say(spans!["."]);
         text.because = spans!["no operation"];

@@ -120,7 +120,7 @@ impl<'a> Shown<'a> {
     }
 }
 
-/// After these words stands the number of an event.
+/// The words before the number of an event.
 const EVENT_WORDS: [&str; 3] = ["event ", "events ", "Event "];
 
 pub fn code(text: &str) -> Html {

@@ -15,8 +15,8 @@ fn of_time(candidate: Candidate, pattern: Pattern) -> Candidate {
     Candidate { plan, pattern, ..candidate }
 }
 
-/// What is said of the last call of a plan, which another owner than its own stands against, or
-/// none.
+/// What is said of the last call of a plan: the lock has another owner than the call needs, or no
+/// owner.
 fn pattern_of(scene: &Scene, plan: &Plan) -> Option<Pattern> {
     let access = scene.cell.accesses.iter().find(|it| Some(it.call.until()) == plan.until)?;
     let first = plan.from.and_then(|from| {
