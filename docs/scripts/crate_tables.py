@@ -1,5 +1,5 @@
 #!/usr/bin/env python3
-"""Writes what each crate stands on into the tables of docs/architecture.md, from crates.txt.
+"""Writes what each crate depends on into the tables of docs/architecture.md, from crates.txt.
 
     docs/scripts/crate_tables.py [--check]
 
@@ -15,7 +15,7 @@ ROW = re.compile(r"\| `(\w+)` \| (.*) \|([^|]*)\|$")
 
 
 def groups():
-    """The headings of crates.txt, each with its crates and what these stand on."""
+    """The headings of crates.txt, each with its crates and what these depend on."""
     found, heading = [], None
     with open(f"{ROOT}/crates.txt") as file:
         for line in map(str.strip, file):
@@ -27,7 +27,7 @@ def groups():
     return found
 
 
-def stands_on(used, own):
+def cell_of(used, own):
     """The last cell of a row: crates of this repository, then those of the kit."""
     names = [f"`{it}`" for it in used if it in own] + [f"*{it}*" for it in used if it not in own]
     return f" {' '.join(names)} " if names else "  "
@@ -40,7 +40,7 @@ def page(text):
     own = [name for _, crates in listed for name, _ in crates]
     missing = [name for name in own if not rows.get(name, '').strip()]
     for heading, crates in listed:
-        made = "\n".join(f"| `{name}` | {rows.get(name, '')} |{stands_on(used, own)}|" for name, used in crates)
+        made = "\n".join(f"| `{name}` | {rows.get(name, '')} |{cell_of(used, own)}|" for name, used in crates)
         table = re.compile(rf"(### {re.escape(heading)}\n\n\| crate [^\n]*\n\|---[^\n]*\n)(?:\|[^\n]*\n)*")
         if not table.search(text):
             missing.append(heading)
