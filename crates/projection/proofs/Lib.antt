@@ -21,8 +21,12 @@ pub mod Listed
 pub mod Bounds
 pub mod Mapped
 pub mod Recasts
-pub mod Shadows
-pub mod Keyed
+pub mod OwnKind
+pub mod RegisterCalls
+pub mod Touched
+pub mod RegisterTouches
+pub mod MapTouches
+pub mod Places
 pub mod Absences
 pub mod AbsentValues
 pub mod Alone

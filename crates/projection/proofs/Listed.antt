@@ -9,7 +9,6 @@ use Rattle.std.specs.List.{filter_map, cons_option}
 use Rattle.std.proofs.lemmas.Option.{same_Some}
 use Rattle.std.proofs.lemmas.Bool.{eqb-true, eq-eqb}
 use Rattle.model.specs.declared.Kind.{Kind}
-use Rattle.model.specs.declared.Kind.TheVariants.{Register}
 use Rattle.model.specs.declared.AnyOp.{AnyOp}
 use Rattle.model.specs.declared.AnyReply.{AnyReply}
 use Rattle.model.specs.Objects.{kind_of, empty}
@@ -24,8 +23,10 @@ use Rattle.projection.specs.declared.cutting.Cut.TheVariants.{From, Until, Witho
 use Rattle.projection.specs.Parts.{IsStart, key_of, written_before, write_call, pending_call, overlapping, call_later}
 use Rattle.projection.specs.Parts.{returned_call, call_from, call_before, calls_before, kept_calls}
 use Rattle.projection.specs.Recasts.{recast}
-use Rattle.projection.specs.Cells.{cell_done, cell_open, cell_call, cell_calls}
-use Rattle.projection.specs.Entries.{entry_done, entry_open, entry_call, entry_calls}
+use Rattle.projection.specs.declared.kinds.Place.{Place}
+use Rattle.projection.specs.declared.kinds.Place.TheVariants.{OfRegister, OfKey}
+use Rattle.projection.specs.Kinds.{kind_of_part}
+use Rattle.projection.specs.Cells.{done_at, open_at, call_at, calls_at}
 use Rattle.projection.specs.Absent.{is_put_before, is_taken_before}
 use Rattle.projection.specs.Cuts.{keeps_value, keeps_number, IsSuffix, Names, NamesPart, kind_cut, part_kind}
 use Rattle.projection.specs.Listed.{has_number, listed}
@@ -35,8 +36,7 @@ use Rattle.projection.proofs.CutOperations.{filter_map-filter}
 use Rattle.projection.proofs.Prefixes.{prefix_valid}
 use Rattle.projection.proofs.Suffixes.{call_from_cases, start_valid}
 use Rattle.projection.proofs.Recasts.{recast_timed}
-use Rattle.projection.proofs.Shadows.{cell_into, cell_valid}
-use Rattle.projection.proofs.Keyed.{entry_into, entry_valid}
+use Rattle.projection.proofs.Places.{into_part, part_valid}
 use Rattle.projection.proofs.Later.{leaves_kind}
 use Rattle.projection.proofs.Named.{AreRising, from_timed, timed_named, rising_timed}
 use Rattle.projection.proofs.Booleans.{false_is_not_true}
@@ -100,6 +100,16 @@ from_kinds kind from calls part are h x i =
       | inr q ↦ subst (λ (z : Call). kind_of z.op ≡ kind) (sym q.1) (later_kind h.first h.at y.0 ∙ are.kinds y.0 y.1)
     ]
 
+kinds_at : (place : Place) (keeps : ℤ → Bool) (other : ℤ) (kept : ℕ → Bool) (kind : Kind) (calls part : List Call)
+    → AreCalls kind calls → part ≡ calls_at place keeps other kept calls → (x : Call) → In x part
+    → kind_of x.op ≡ kind_of_part place kind
+kinds_at place keeps other kept kind calls part are h x i =
+    let y = in_filter_map (call_at place keeps other kept) x calls (subst (In x) h i) in
+    let into = into_part place keeps other in
+    recast_kind (done_at place keeps other (kept y.0.number)) (open_at place keeps other)
+    (kind_of_part place (kind_of y.0.op)) y.0 x (into.returned (kept y.0.number) y.0.op) (into.unfinished y.0.op) y.2
+    ∙ ap (kind_of_part place) (are.kinds y.0 y.1)
+
 kinds_named : (cut : Cut) (kind : Kind) (calls part : List Call) → AreCalls kind calls → Names cut calls part
     → (x : Call) → In x part → kind_of x.op ≡ kind_cut cut kind
 kinds_named (From number) kind calls part are h x i = from_kinds kind number calls part are h x i
@@ -110,19 +120,9 @@ kinds_named (Until number) kind calls part are h x i =
 kinds_named (Without value before) kind calls part are h x i = are.kinds x (in_filter _ x calls (subst (In x) h.1 i))
 kinds_named (Keep values numbers) kind calls part are h x i = are.kinds x (in_filter _ x calls (subst (In x) h.1 i))
 kinds_named (Cell values other numbers) kind calls part are h x i =
-    let keeps : ℤ → Bool = keeps_value values in
-    let kept : ℕ → Bool = keeps_number numbers in
-    let y = in_filter_map (cell_call keeps other kept) x calls (subst (In x) h i) in
-    let into = cell_into keeps other in
-    recast_kind (cell_done keeps other (kept y.0.number)) (cell_open keeps) (kind_of y.0.op) y.0 x
-    (into.returned (kept y.0.number) y.0.op) (into.unfinished y.0.op) y.2 ∙ are.kinds y.0 y.1
+    kinds_at OfRegister (keeps_value values) other (keeps_number numbers) kind calls part are h x i
 kinds_named (Entry key values other numbers) kind calls part are h x i =
-    let keeps : ℤ → Bool = keeps_value values in
-    let kept : ℕ → Bool = keeps_number numbers in
-    let y = in_filter_map (entry_call key keeps other kept) x calls (subst (In x) h i) in
-    let into = entry_into key keeps other in
-    recast_kind (entry_done key keeps other (kept y.0.number)) (entry_open key keeps) Register y.0 x
-    (into.returned (kept y.0.number) y.0.op) (into.unfinished y.0.op) y.2
+    kinds_at (OfKey key) (keeps_value values) other (keeps_number numbers) kind calls part are h x i
 
 after_cut : (cut : Cut) (kind : Kind) (calls part : List Call) → AreCalls kind calls → Names cut calls part
     → AreCalls (kind_cut cut kind) part
@@ -302,6 +302,18 @@ from_step kind from calls part kept order are h covers v = go (kept from) refl
           (later_valid kind h.first h.at (kept_calls kept calls) order v),
     )
 
+step_at : (place : Place) (keeps : ℤ → Bool) (other : ℤ) (chosen : ℕ → Bool) (kind : Kind) (calls part : List Call)
+    (kept : ℕ → Bool) (order : List ℤ) → part ≡ calls_at place keeps other chosen calls
+    → IsValidOrder kind (kept_calls kept calls) order
+    → (o : List ℤ) × IsValidOrder (kind_of_part place kind) (kept_calls kept part) o
+step_at place keeps other chosen kind calls part kept order h v =
+    let found = part_valid place kind (kept_calls kept calls) keeps other chosen order v in
+    let same : calls_at place keeps other chosen (kept_calls kept calls) ≡ kept_calls kept part =
+    sym (commutes kept (call_at place keeps other chosen) calls
+    (λ y x i e. (recast_timed (done_at place keeps other (chosen y.number)) (open_at place keeps other) y x e).number))
+    ∙ ap (kept_calls kept) (sym h) in
+    (found.0, subst (λ cs. IsValidOrder (kind_of_part place kind) cs found.0) same found.1)
+
 step : (cut : Cut) (kind : Kind) (calls part : List Call) (kept : ℕ → Bool) (order : List ℤ) → AreCalls kind calls
     → Names cut calls part
     → Covers kept calls part → IsValidOrder kind (kept_calls kept calls) order
@@ -334,23 +346,9 @@ step (Keep values numbers) kind calls part kept order are h covers v =
     (λ e i k. let y = covers e i k in (y.0, subst (In y.0) h.1 y.1, y.2)) in
     (order, subst (λ cs. IsValidOrder kind cs order) (same ∙ ap (kept_calls kept) (sym h.1)) v)
 step (Cell values other numbers) kind calls part kept order are h covers v =
-    let keeps : ℤ → Bool = keeps_value values in
-    let found = cell_valid kind (kept_calls kept calls) keeps other (keeps_number numbers) order v in
-    let same : cell_calls keeps other (keeps_number numbers) (kept_calls kept calls) ≡ kept_calls kept part =
-    sym (commutes kept (cell_call keeps other (keeps_number numbers)) calls
-    (λ y x i e. (recast_timed (cell_done keeps other (keeps_number numbers y.number))
-    (cell_open keeps) y x e).number))
-    ∙ ap (kept_calls kept) (sym h) in
-    (found.0, subst (λ cs. IsValidOrder kind cs found.0) same found.1)
+    step_at OfRegister (keeps_value values) other (keeps_number numbers) kind calls part kept order h v
 step (Entry key values other numbers) kind calls part kept order are h covers v =
-    let keeps : ℤ → Bool = keeps_value values in
-    let found = entry_valid kind (kept_calls kept calls) key keeps other (keeps_number numbers) order v in
-    let same : entry_calls key keeps other (keeps_number numbers) (kept_calls kept calls) ≡ kept_calls kept part =
-    sym (commutes kept (entry_call key keeps other (keeps_number numbers)) calls
-    (λ y x i e. (recast_timed (entry_done key keeps other (keeps_number numbers y.number))
-    (entry_open key keeps) y x e).number))
-    ∙ ap (kept_calls kept) (sym h) in
-    (found.0, subst (λ cs. IsValidOrder Register cs found.0) same found.1)
+    step_at (OfKey key) (keeps_value values) other (keeps_number numbers) kind calls part kept order h v
 
 -- ---- cuts
 

@@ -1,6 +1,6 @@
 -- Cuts name one part at most. Each call of a part is invoked, and returns if it does, where a call of the whole is
 -- and does.
-use Rattle.std.proofs.Common.{◌≡◌, ℕ, ◌<◌, ◌==◌, Bool, true, false, cond, List, [], ◌∷◌, nat_lt, Option, Some, None}
+use Rattle.std.proofs.Common.{◌≡◌, ℕ, ℤ, ◌<◌, ◌==◌, Bool, true, false, cond, List, [], ◌∷◌, nat_lt, Option, Some, None}
 use Rattle.std.proofs.Common.{AllPairs, filter, refl, ap, sym, ◌∙◌, subst, arith}
 use Rattle.std.specs.Prelude.{option_map}
 use Rattle.std.specs.List.{filter_map}
@@ -12,8 +12,9 @@ use Rattle.model.specs.Orders.{Call, Return}
 use Rattle.model.proofs.Lists.{In, Pairs, in_from_contains, pairs_from_all}
 use Rattle.projection.specs.declared.cutting.Cut.{Cut}
 use Rattle.projection.specs.declared.cutting.Cut.TheVariants.{From, Until, Without, Keep, Cell, Entry}
-use Rattle.projection.specs.Cells.{cell_done, cell_open, cell_call}
-use Rattle.projection.specs.Entries.{entry_done, entry_open, entry_call}
+use Rattle.projection.specs.declared.kinds.Place.{Place}
+use Rattle.projection.specs.declared.kinds.Place.TheVariants.{OfRegister, OfKey}
+use Rattle.projection.specs.Cells.{done_at, open_at, call_at, calls_at}
 use Rattle.projection.specs.Parts.{return_before, call_before, calls_before, ended_before, call_later, returned_call}
 use Rattle.projection.specs.Parts.{call_from}
 use Rattle.projection.specs.Cuts.{keeps_value, keeps_number, IsSuffix, Names, NamesPart}
@@ -103,6 +104,15 @@ from_timed from calls part rising h y x i e = own (y.number == from) refl e
     own true q e = begins (eqb-true y.number from q) h.first e
     own false q e = over (ended_before from y.returned) e
 
+-- what a call becomes at a cell
+timed_at : (place : Place) (keeps : ℤ → Bool) (other : ℤ) (kept : ℕ → Bool) (calls part : List Call)
+    → part ≡ calls_at place keeps other kept calls → AreTimed calls part
+timed_at place keeps other kept calls part h = record {
+  becomes = call_at place keeps other kept;
+  named = h;
+  timed = λ y x i e. recast_timed (done_at place keeps other (kept y.number)) (open_at place keeps other) y x e;
+}
+
 pub timed_named : (cut : Cut) (calls part : List Call) → AreRising calls → Names cut calls part → AreTimed calls part
 timed_named (From number) calls part rising h = record {
   becomes = call_from number h.at h.first;
@@ -112,18 +122,10 @@ timed_named (From number) calls part rising h = record {
 timed_named (Until number) calls part rising h = subst (AreTimed calls) (sym h) (timed_before number calls)
 timed_named (Without value before) calls part rising h = subst (AreTimed calls) (sym h.1) (timed_filter _ calls)
 timed_named (Keep values numbers) calls part rising h = subst (AreTimed calls) (sym h.1) (timed_filter _ calls)
-timed_named (Cell values other numbers) calls part rising h = record {
-  becomes = cell_call (keeps_value values) other (keeps_number numbers);
-  named = h;
-  timed = λ y x i e. recast_timed (cell_done (keeps_value values) other (keeps_number numbers y.number))
-      (cell_open (keeps_value values)) y x e;
-}
-timed_named (Entry key values other numbers) calls part rising h = record {
-  becomes = entry_call key (keeps_value values) other (keeps_number numbers);
-  named = h;
-  timed = λ y x i e. recast_timed (entry_done key (keeps_value values) other (keeps_number numbers y.number))
-      (entry_open key (keeps_value values)) y x e;
-}
+timed_named (Cell values other numbers) calls part rising h =
+    timed_at OfRegister (keeps_value values) other (keeps_number numbers) calls part h
+timed_named (Entry key values other numbers) calls part rising h =
+    timed_at (OfKey key) (keeps_value values) other (keeps_number numbers) calls part h
 
 -- ---- one part
 

@@ -1,5 +1,5 @@
 -- The steps that are possible only after a test: an addition to a counter, and the release of a lock.
-use Rattle.std.proofs.Common.{◌≡◌, ℤ, ◌+ℤ◌, Bool, true, false, cond, Option, Some, None, IfSome, refl, ap}
+use Rattle.std.proofs.Common.{◌≡◌, ℤ, ◌+ℤ◌, Bool, true, false, cond, Some, None, IfSome, refl, ap}
 use Rattle.std.specs.Ordering.{int_eq}
 use Rattle.model.specs.declared.AnyOp.TheVariants.{FetchAdd, UnlockBy}
 use Rattle.model.specs.declared.AnyReply.{AnyReply}

@@ -1,55 +1,86 @@
--- A register of which the part keeps some values. All others are one other value, so that a call
--- that shows another value can stay as a write of it.
-use Rattle.std.specs.Prelude.{ℕ, ℤ, Bool, true, false, List, if◌then◌else◌}
-use Rattle.std.specs.Prelude.{Option, Some, None}
+-- One cell of an object, as a register of which the part keeps some contents. All others are one
+-- other value, so that a call that shows another content can stay as a write of it.
+use Rattle.std.specs.Prelude.{ℕ, ℤ, Bool, false, List, Option, Some, None, option_map}
+use Rattle.std.specs.Prelude.{if◌then◌else◌}
 use Rattle.std.specs.List.{filter_map}
 use Rattle.model.specs.declared.AnyOp.{AnyOp}
-use Rattle.model.specs.declared.AnyOp.TheVariants.{Write, Read, Cas, Clear, Create}
 use Rattle.model.specs.declared.AnyReply.{AnyReply}
-use Rattle.model.specs.declared.AnyReply.TheVariants.{Value, Swapped, Flag}
 use Rattle.model.specs.Orders.{Call}
+use Rattle.projection.specs.declared.kinds.Place.{Place}
+use Rattle.projection.specs.declared.kinds.Place.TheVariants.{OfRegister, OfKey}
+use Rattle.projection.specs.declared.touches.Need.{Need}
+use Rattle.projection.specs.declared.touches.Need.TheVariants.{Any, Is}
+use Rattle.projection.specs.declared.touches.Leave.{Leave}
+use Rattle.projection.specs.declared.touches.Leave.TheVariants.{AsItWas, Content}
+use Rattle.projection.specs.declared.touches.Touch.{Touch}
+use Rattle.projection.specs.Kinds.{keeps_none, own_call, touch_at}
+use Rattle.projection.specs.Kinds.Register.{setting, replacing, finding}
 use Rattle.projection.specs.Recasts.{recast}
 
-abbrev pub write_of : ℤ → AnyOp × AnyReply
-write_of v = (Write v, Value (Some v))
+-- whether the part keeps this content, where `none` says it of no value
+abbrev pub keeps_content : Bool → (ℤ → Bool) → Option ℤ → Bool
+keeps_content none keeps None = none
+keeps_content none keeps (Some v) = keeps v
 
--- What a swap becomes, where its new value and its expected value are kept or not.
-abbrev pub swap_done : Bool → Bool → Bool → ℤ → ℤ → ℤ → AnyReply → Option (AnyOp × AnyReply)
-swap_done true true kept other a b reply = Some (Cas a b, reply)
-swap_done true false kept other a b reply = Some (write_of b)
-swap_done false true true other a b reply = Some (Cas a other, Swapped a other)
-swap_done false false true other a b reply = Some (write_of other)
-swap_done false keeps false other a b reply = None
+-- What a touch becomes that leaves this content in the part. What the call found stays known only
+-- where it is kept. Where all that the call names is kept, and the call is one of a register, it
+-- stays as it is (`own`).
+abbrev pub change : (Option ℤ → Bool) → Option (AnyOp × AnyReply) → Need → Option ℤ
+    → AnyOp × AnyReply
+change keeps (Some own) Any c = own
+change keeps (Some own) (Is found) c = if keeps found then own else setting c
+change keeps None (Is found) c = if keeps found then replacing found c else setting c
+change keeps own need c = setting c
 
--- What an operation that returned becomes. One that leaves a kept value, or nothing, stays. Of the
--- others those stay that the part chooses (`kept`), and leave the other value, except a read of a
--- kept value or of nothing. A swap whose expected value is not kept becomes a write.
--- A swap or a creation that was refused is left out.
-abbrev pub cell_done : (ℤ → Bool) → ℤ → Bool → AnyOp → AnyReply → Option (AnyOp × AnyReply)
-cell_done keeps other kept (Write v) reply =
-    if keeps v then Some (Write v, reply) else (if kept then Some (write_of other) else None)
-cell_done keeps other kept Read (Value None) = if kept then Some (Read, Value None) else None
-cell_done keeps other kept Read (Value (Some v)) =
-    if kept then (if keeps v then Some (Read, Value (Some v)) else Some (write_of other)) else None
-cell_done keeps other kept (Cas a b) (Swapped c d) =
-    swap_done (keeps b) (keeps a) kept other a b (Swapped c d)
-cell_done keeps other kept Clear reply = Some (Clear, reply)
-cell_done keeps other kept (Create v) (Flag true) =
-    if keeps v then Some (Create v, Flag true) else (if kept then Some (write_of other) else None)
-cell_done keeps other kept op reply = None
+-- What a touch becomes, as a call of a register. One that leaves a kept content stays. Of the
+-- others those stay that the part chooses (`kept`). One that leaves another content leaves the
+-- other value. One that finds a content and leaves it stays as a read where the content is kept,
+-- and becomes a write of the other value where it is not.
+abbrev pub cut_touch : (Option ℤ → Bool) → ℤ → Bool → Option (AnyOp × AnyReply) → Need → Leave
+    → Option (AnyOp × AnyReply)
+cut_touch keeps other kept own need (Content c) =
+    if keeps c then Some (change keeps own need c)
+    else (if kept then Some (change keeps None need (Some other)) else None)
+cut_touch keeps other kept own (Is c) AsItWas =
+    if kept then (if keeps c then Some (finding c) else Some (setting (Some other))) else None
+cut_touch keeps other kept own need AsItWas = None
 
--- what a pending operation becomes; one that cannot leave a kept value, or nothing, is left out
-abbrev pub cell_open : (ℤ → Bool) → AnyOp → Option AnyOp
-cell_open keeps (Write v) = if keeps v then Some (Write v) else None
-cell_open keeps (Cas a b) =
-    if keeps b then (if keeps a then Some (Cas a b) else Some (Write b)) else None
-cell_open keeps Clear = Some Clear
-cell_open keeps (Create v) = if keeps v then Some (Create v) else None
-cell_open keeps op = None
+-- what an operation that returned becomes, by what it did to the cell
+abbrev pub touched_call : (Option ℤ → Bool) → ℤ → Bool → Option (AnyOp × AnyReply) → Option Touch
+    → Option (AnyOp × AnyReply)
+touched_call keeps other kept own None = None
+touched_call keeps other kept own (Some t) = cut_touch keeps other kept own t.need t.leave
 
-abbrev pub cell_call : (ℤ → Bool) → ℤ → (ℕ → Bool) → Call → Option Call
-cell_call keeps other kept e = recast (cell_done keeps other (kept e.number)) (cell_open keeps)
-    e.number e.op e.returned
+-- what a pending operation becomes: it stays only where it can leave a kept content
+abbrev pub touched_op : (Option ℤ → Bool) → ℤ → Option Touch → Option AnyOp
+touched_op keeps other t =
+    option_map (λ (f : AnyOp × AnyReply). f.0) (touched_call keeps other false None t)
 
+-- ---- calls
+
+-- what an operation that returned becomes
+abbrev pub done_at : Place → (ℤ → Bool) → ℤ → Bool → AnyOp → AnyReply → Option (AnyOp × AnyReply)
+done_at place keeps other kept op reply =
+    touched_call (keeps_content (keeps_none place) keeps) other kept (own_call place op reply)
+    (touch_at place op (Some reply))
+
+-- what a pending operation becomes
+abbrev pub open_at : Place → (ℤ → Bool) → ℤ → AnyOp → Option AnyOp
+open_at place keeps other op =
+    touched_op (keeps_content (keeps_none place) keeps) other (touch_at place op None)
+
+abbrev pub call_at : Place → (ℤ → Bool) → ℤ → (ℕ → Bool) → Call → Option Call
+call_at place keeps other kept e = recast (done_at place keeps other (kept e.number))
+    (open_at place keeps other) e.number e.op e.returned
+
+abbrev pub calls_at : Place → (ℤ → Bool) → ℤ → (ℕ → Bool) → List Call → List Call
+calls_at place keeps other kept calls = filter_map (call_at place keeps other kept) calls
+
+-- A register of which the part keeps some values, and no value.
 abbrev pub cell_calls : (ℤ → Bool) → ℤ → (ℕ → Bool) → List Call → List Call
-cell_calls keeps other kept calls = filter_map (cell_call keeps other kept) calls
+cell_calls keeps other kept calls = calls_at OfRegister keeps other kept calls
+
+-- One key of a map, as a register of which the part keeps some values. No value, and all values
+-- that are not kept, are the other value.
+abbrev pub entry_calls : ℤ → (ℤ → Bool) → ℤ → (ℕ → Bool) → List Call → List Call
+entry_calls key keeps other kept calls = calls_at (OfKey key) keeps other kept calls

@@ -15,8 +15,8 @@ use Rattle.events.specs.declared.operations.Invocation.{Invocation}
 use Rattle.projection.specs.declared.counting.Counted.{Counted}
 use Rattle.projection.specs.Ahead.{found_in}
 use Rattle.projection.specs.Counts.{sets, takes}
-use Rattle.projection.specs.Cells.{cell_done, cell_open}
-use Rattle.projection.specs.Entries.{entry_done, entry_open}
+use Rattle.projection.specs.declared.kinds.Place.{Place}
+use Rattle.projection.specs.Cells.{done_at, open_at}
 use Rattle.projection.specs.Parts.{fits, puts_in, is_removal, takes_out, key_of, written_before}
 
 abbrev pub has_failed : End → Bool
@@ -205,7 +205,7 @@ pub record IsRemoval (ops : List Invocation) (number : ℕ) (op : AnyOp) (at : �
   pub same : operation.op ≡ op
   pub told : found_end op operation.«end» ≡ Some (at, found)
 
--- ---- cells, and entries of a map
+-- ---- cells
 
 abbrev pub recast_end : (AnyOp → AnyReply → Option (AnyOp × AnyReply)) → (AnyOp → Option AnyOp)
     → ℕ → AnyOp → End → Option Invocation
@@ -214,10 +214,6 @@ recast_end done pending number op (Returned at reply) =
 recast_end done pending number op Pending = option_map (as_pending number) (pending op)
 recast_end done pending number op Failed = None
 
-abbrev pub cell_operation : (ℤ → Bool) → ℤ → (ℕ → Bool) → Invocation → Option Invocation
-cell_operation keeps other kept o = recast_end (cell_done keeps other (kept o.number))
-    (cell_open keeps) o.number o.op o.«end»
-
-abbrev pub entry_operation : ℤ → (ℤ → Bool) → ℤ → (ℕ → Bool) → Invocation → Option Invocation
-entry_operation key keeps other kept o = recast_end (entry_done key keeps other (kept o.number))
-    (entry_open key keeps) o.number o.op o.«end»
+abbrev pub operation_at : Place → (ℤ → Bool) → ℤ → (ℕ → Bool) → Invocation → Option Invocation
+operation_at place keeps other kept o = recast_end (done_at place keeps other (kept o.number))
+    (open_at place keeps other) o.number o.op o.«end»

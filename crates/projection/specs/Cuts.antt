@@ -12,8 +12,7 @@ use Rattle.events.specs.declared.operations.Invocation.{Invocation}
 use Rattle.events.specs.Operations.{ObjectCalls, calls_of}
 use Rattle.search.specs.Outcomes.{IsNoneValid}
 use Rattle.projection.specs.Absent.{IsRest}
-use Rattle.projection.specs.Cells.{cell_calls}
-use Rattle.projection.specs.Entries.{entry_calls}
+use Rattle.projection.specs.Cells.{cell_calls, entry_calls}
 use Rattle.projection.specs.Parts.{IsClosed, kept_calls, calls_before, IsStart, calls_from}
 use Rattle.projection.specs.declared.keeping.Values.{Values}
 use Rattle.projection.specs.declared.keeping.Values.TheVariants as which

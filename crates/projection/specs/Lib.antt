@@ -1,7 +1,8 @@
 pub mod Parts
 pub mod Recasts
+pub mod Kinds
+pub mod Touches
 pub mod Cells
-pub mod Entries
 pub mod Absent
 pub mod Cuts
 pub mod Listed

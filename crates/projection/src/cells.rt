@@ -1,123 +1,132 @@
-//! Cells: a register of which some values are kept, and all others are one other value.
+//! Cells: one cell of an object, a register or a key of a map, as a register of which some contents
+//! are kept, and all others are one other value.
 
 ghost use Rattle.std.specs.Prelude.{◌≡◌, IfOk};
 ghost use Rattle.std.specs.List.{filter_map};
 ghost use Rattle.events.specs.Operations.{calls_of};
 ghost use Rattle.projection.specs.Cells as spec;
 ghost use Rattle.projection.specs.Cuts.{keeps_value, keeps_number, IsPart};
-ghost use Rattle.projection.specs.CutOperations.{cell_operation};
+ghost use Rattle.projection.specs.CutOperations.{operation_at};
+ghost use Rattle.projection.specs.Kinds as kinds;
 
 use crate::keeping::Values;
+use crate::kinds::Place;
+use crate::kinds::register::{finding, replacing, setting};
+use crate::touches::{Leave, Need, Touch};
 use events::{End, Invocation, ObjectHistory};
-use seq_objects::{AnyOp, AnyReply};
+use seq_objects::{AnyOp, AnyReply, Kind};
 use std::alloc::{AllocError, Global};
 use std::collections::BTreeSet;
 
-/// The value in place of each value that is not kept.
+/// A cell, and the value in place of each content that is not kept.
 #[derive(Clone, Copy)]
-struct Other {
-    value: i64,
-}
-
-/// A write, with its reply.
-pub(crate) fn write_of(value: i64) -> (AnyOp, AnyReply)
-    ensures { result ≡ spec.write_of value }
-{
-    (AnyOp::Write(value), AnyReply::Value(Some(value)))
-}
-
-/// What a swap becomes, where these are kept: its new value, its expected value, and the operation.
-pub(crate) fn swap_done(
-    keeps: (bool, bool, bool),
+struct CellCut {
+    place: Place,
     other: i64,
-    expected: i64,
-    new: i64,
-    reply: AnyReply,
-) -> Option<(AnyOp, AnyReply)>
-    ensures { result ≡ spec.swap_done keeps.0 keeps.1 keeps.2 other expected new reply }
+}
+
+/// Whether this content is kept, where `none` says it of no value.
+fn keeps(none: bool, values: &Values, content: Option<i64>) -> bool
+    ensures { result ≡ spec.keeps_content none (keeps_value values.now) content }
 {
-    match keeps {
-        (true, true, _) => Some((AnyOp::Cas(expected, new), reply)),
-        (true, false, _) => Some(write_of(new)),
-        (false, true, true) => Some((
-            AnyOp::Cas(expected, other),
-            AnyReply::Swapped(expected, other),
-        )),
-        (false, false, true) => Some(write_of(other)),
-        (false, _, false) => None,
+    match content {
+        Some(value) => values.has(value),
+        None => none,
     }
 }
 
-/// What an operation with this reply becomes, which the part may choose; `None`: it is left out.
-fn returned_op(
+/// What a touch becomes that leaves this content in the part, where `own` is the call itself if it
+/// is one of a register.
+fn change(
+    none: bool,
+    values: &Values,
+    own: Option<(AnyOp, AnyReply)>,
+    need: Need,
+    content: Option<i64>,
+) -> (AnyOp, AnyReply)
+    ensures { result ≡ spec.change (spec.keeps_content none (keeps_value values.now)) own need
+        content }
+{
+    match (need, own) {
+        (Need::Any, Some(call)) => call,
+        (Need::Is(found), Some(call)) if keeps(none, values, found) => call,
+        (Need::Is(found), None) if keeps(none, values, found) => replacing(found, content),
+        _ => setting(content),
+    }
+}
+
+/// What a touch becomes, as a call of a register, which the part may choose; `None`: it is left
+/// out.
+fn cut_touch(
+    keeps_none: bool,
     values: &Values,
     other: i64,
     kept: bool,
-    op: AnyOp,
-    reply: AnyReply,
+    own: Option<(AnyOp, AnyReply)>,
+    touch: Touch,
 ) -> Option<(AnyOp, AnyReply)>
-    ensures { result ≡ spec.cell_done (keeps_value values.now) other kept op reply }
+    ensures { result ≡ spec.cut_touch (spec.keeps_content keeps_none (keeps_value values.now)) other
+        kept own touch.need touch.leave }
 {
-    match op {
-        AnyOp::Write(value) if values.has(value) => Some((op, reply)),
-        AnyOp::Write(_) if kept => Some(write_of(other)),
-        AnyOp::Read if kept => match reply {
-            AnyReply::Value(None) => Some((op, reply)),
-            AnyReply::Value(Some(value)) if values.has(value) => Some((op, reply)),
-            AnyReply::Value(Some(_)) => Some(write_of(other)),
-            _ => None,
-        },
-        AnyOp::Cas(expected, new) => match reply {
-            AnyReply::Swapped(..) => {
-                let keeps = (values.has(new), values.has(expected), kept);
-                swap_done(keeps, other, expected, new, reply)
-            }
-            _ => None,
-        },
-        AnyOp::Clear => Some((op, reply)),
-        AnyOp::Create(value) => match reply {
-            AnyReply::Flag(true) if values.has(value) => Some((op, reply)),
-            AnyReply::Flag(true) if kept => Some(write_of(other)),
-            _ => None,
-        },
-        _ => None,
-    }
-}
-
-/// What a pending operation becomes; `None`: it is left out.
-fn pending_op(values: &Values, op: AnyOp) -> Option<AnyOp>
-    ensures { result ≡ spec.cell_open (keeps_value values.now) op }
-{
-    match op {
-        AnyOp::Clear => Some(op),
-        AnyOp::Write(value) if values.has(value) => Some(op),
-        AnyOp::Create(value) if values.has(value) => Some(op),
-        AnyOp::Cas(expected, new) if values.has(new) => {
-            if values.has(expected) {
-                Some(op)
+    match (touch.leave, touch.need) {
+        (Leave::Content(content), need) if keeps(keeps_none, values, content) => {
+            Some(change(keeps_none, values, own, need, content))
+        }
+        (Leave::Content(_), need) if kept => {
+            Some(change(keeps_none, values, None, need, Some(other)))
+        }
+        (Leave::AsItWas, Need::Is(found)) if kept => {
+            if keeps(keeps_none, values, found) {
+                Some(finding(found))
             } else {
-                Some(AnyOp::Write(new))
+                Some(setting(Some(other)))
             }
         }
         _ => None,
     }
 }
 
+/// What an operation with this reply becomes, which the part may choose; `None`: it is left out.
+fn returned_op(
+    cell: CellCut,
+    values: &Values,
+    kept: bool,
+    op: AnyOp,
+    reply: AnyReply,
+) -> Option<(AnyOp, AnyReply)>
+    ensures { result ≡ spec.done_at cell.place (keeps_value values.now) cell.other kept op reply }
+{
+    let CellCut { place, other } = cell;
+    let touch = place.touch(op, Some(reply))?;
+    let own = place.own_call(op, reply);
+    cut_touch(place.keeps_none(), values, other, kept, own, touch)
+}
+
+/// What a pending operation becomes; `None`: it is left out.
+fn pending_op(cell: CellCut, values: &Values, op: AnyOp) -> Option<AnyOp>
+    ensures { result ≡ spec.open_at cell.place (keeps_value values.now) cell.other op }
+{
+    let CellCut { place, other } = cell;
+    let touch = place.touch(op, None)?;
+    let (op, _) = cut_touch(place.keeps_none(), values, other, false, None, touch)?;
+    Some(op)
+}
+
 /// What an operation becomes; `None`: it is left out.
 fn cut_operation(
+    cell: CellCut,
     values: &Values,
-    other: Other,
     numbers: &BTreeSet<u32>,
     operation: &Invocation,
 ) -> Option<Invocation>
-    ensures { result ≡ cell_operation (keeps_value values.now) other.value
+    ensures { result ≡ operation_at cell.place (keeps_value values.now) cell.other
         (keeps_number numbers.now) operation.now }
 {
     let number = operation.number;
     match operation.end {
         End::Returned { at, reply } => {
             let kept = numbers.contains(&number);
-            let (op, reply) = returned_op(values, other.value, kept, operation.op, reply)?;
+            let (op, reply) = returned_op(cell, values, kept, operation.op, reply)?;
             Some(Invocation {
                 number,
                 op,
@@ -125,7 +134,7 @@ fn cut_operation(
             })
         }
         End::Pending => {
-            let op = pending_op(values, operation.op)?;
+            let op = pending_op(cell, values, operation.op)?;
             Some(Invocation {
                 number,
                 op,
@@ -136,21 +145,41 @@ fn cut_operation(
     }
 }
 
-/// The operations of the cell.
+/// The operations of the part.
 fn cut_operations(
     alloc: Global,
     operations: &[Invocation],
+    cell: CellCut,
     values: &Values,
-    other: Other,
     numbers: &BTreeSet<u32>,
 ) -> Result<Vec<Invocation>, AllocError>
-    ensures { IfOk result (λ v. v.items ≡ filter_map (cell_operation (keeps_value values.now)
-        other.value (keeps_number numbers.now)) operations.now) }
+    ensures { IfOk result (λ v. v.items ≡ filter_map (operation_at cell.place
+        (keeps_value values.now) cell.other (keeps_number numbers.now)) operations.now) }
 {
     operations
         .iter()
-        .filter_map(|o| cut_operation(values, other, numbers, o))
+        .filter_map(|o| cut_operation(cell, values, numbers, o))
         .collect(alloc)
+}
+
+/// The part of an object's operations at one of its cells.
+fn part_at(
+    alloc: Global,
+    history: &ObjectHistory,
+    cell: CellCut,
+    values: &Values,
+    numbers: &BTreeSet<u32>,
+) -> Result<ObjectHistory, AllocError>
+    ensures part { IfOk result (λ p. IsPart history.now p) }
+    ensures kind { IfOk result (λ p.
+        p.kind ≡ kinds.kind_of_part cell.place history.now.kind) }
+    ensures calls { IfOk result (λ p. calls_of p.ops ≡ spec.calls_at cell.place
+        (keeps_value values.now) cell.other (keeps_number numbers.now)
+        (calls_of history.now.ops)) }
+{
+    let ops = cut_operations(alloc, history.ops(), cell, values, numbers)?;
+    let kind = cell.place.kind_of_part(history.kind());
+    Ok(ObjectHistory::new(history.object(), kind, ops))
 }
 
 /// The part of a register's operations that can leave one of these values, or nothing, and of the
@@ -172,7 +201,30 @@ pub fn cell(
         ≡ spec.cell_calls (keeps_value values.now) other (keeps_number numbers.now)
         (calls_of history.now.ops)) }
 {
-    let place = Other { value: other };
-    let ops = cut_operations(alloc, history.ops(), values, place, numbers)?;
-    Ok(ObjectHistory::new(history.object(), history.kind(), ops))
+    let place = Place::OfRegister;
+    part_at(alloc, history, CellCut { place, other }, values, numbers)
+}
+
+/// The part of a map's operations on one key, as the operations of a register: those that can leave
+/// one of these values, and of the others those with these numbers. No value, and a value that is
+/// not kept, are one other value in the part: what shows or leaves one becomes a write of it, or a
+/// swap to it from a kept value. Of another kind of object nothing stays.
+///
+/// An error: an allocation failed.
+pub fn entry(
+    alloc: Global,
+    history: &ObjectHistory,
+    key: i64,
+    values: &Values,
+    other: i64,
+    numbers: &BTreeSet<u32>,
+) -> Result<ObjectHistory, AllocError>
+    ensures part { IfOk result (λ p. IsPart history.now p) }
+    ensures kind { IfOk result (λ p. p.kind ≡ Kind.Register) }
+    ensures calls { IfOk result (λ p. calls_of p.ops
+        ≡ spec.entry_calls key (keeps_value values.now) other (keeps_number numbers.now)
+        (calls_of history.now.ops)) }
+{
+    let place = Place::OfKey(key);
+    part_at(alloc, history, CellCut { place, other }, values, numbers)
 }

@@ -7,8 +7,7 @@ ghost use Rattle.projection.specs.Cuts.{IsPart, Names, NamesPart, kind_cut, part
 ghost use Rattle.projection.specs.CutOperations.{has_failed};
 
 use crate::absent::without;
-use crate::cells::cell;
-use crate::entries::entry;
+use crate::cells::{cell, entry};
 use crate::keeping::{Values, keep};
 use crate::prefix::until;
 use crate::suffix::from;

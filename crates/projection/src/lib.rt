@@ -7,18 +7,18 @@ mod blocking;
 mod cells;
 mod counting;
 mod cutting;
-mod entries;
 mod keeping;
+mod kinds;
 mod laws;
 mod prefix;
 mod suffix;
+mod touches;
 
 pub use absent::without;
 pub use blocking::is_blocked;
-pub use cells::cell;
+pub use cells::{cell, entry};
 pub use counting::{Count, Counted, is_overdrawn};
 pub use cutting::{Cut, part_by};
-pub use entries::entry;
 pub use keeping::{Values, keep};
 pub use laws::{
     ahead_is_bounded, cell_is_valid, count_is_bounded, entry_is_valid, listed_is_valid, one_part,

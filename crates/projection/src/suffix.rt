@@ -13,7 +13,7 @@ ghost use Rattle.projection.specs.Cuts.{IsSuffix, IsPart};
 ghost use Rattle.projection.specs.CutOperations.{has_failed, is_over, overlapping_operation, operation_later};
 ghost use Rattle.projection.specs.CutOperations.{operation_from, IsOnKey};
 
-use crate::cells::write_of;
+use crate::kinds::register::setting;
 use events::{End, Invocation, ObjectHistory};
 use seq_objects::{AnyOp, AnyReply};
 use std::alloc::{AllocError, Global};
@@ -84,11 +84,11 @@ fn first_of(op: AnyOp, reply: AnyReply) -> Option<Option<First>>
 {
     match (op, reply) {
         (AnyOp::Dequeue | AnyOp::Pop | AnyOp::ExtractMin, AnyReply::Value(None)) => Some(None),
-        (AnyOp::Write(value), _) => Some(Some(write_of(value))),
+        (AnyOp::Write(value), _) => Some(Some(setting(Some(value)))),
         (AnyOp::Read, AnyReply::Value(None)) => Some(None),
-        (AnyOp::Read, AnyReply::Value(Some(value))) => Some(Some(write_of(value))),
-        (AnyOp::Cas(_, new), AnyReply::Swapped(..)) => Some(Some(write_of(new))),
-        (AnyOp::Create(value), AnyReply::Flag(true)) => Some(Some(write_of(value))),
+        (AnyOp::Read, AnyReply::Value(Some(value))) => Some(Some(setting(Some(value)))),
+        (AnyOp::Cas(_, new), AnyReply::Swapped(..)) => Some(Some(setting(Some(new)))),
+        (AnyOp::Create(value), AnyReply::Flag(true)) => Some(Some(setting(Some(value)))),
         (AnyOp::Put(key, value), _) => Some(Some(put_of(key, value))),
         (AnyOp::Get(_), AnyReply::Value(None)) => Some(None),
         (AnyOp::Get(key), AnyReply::Value(Some(value))) => Some(Some(put_of(key, value))),

@@ -584,6 +584,8 @@ CHANGES = (
     (CREATED_TWICE, "{:keep [2], :numbers [0 2]}", IMPOSSIBLE),
     (CREATED_TWICE, "{:cell [2], :other 0}", POSSIBLE),
     (CREATED_TWICE, "{:cell [2], :other 0, :numbers [0]}", IMPOSSIBLE),
+    (CREATED_TWICE, "{:cell [], :other 0, :numbers [0]}", POSSIBLE),
+    (CREATED_TWICE, "{:cell [], :other 0, :numbers [0 2]}", IMPOSSIBLE),
     (CREATED_TWICE, "{:from 0}", IMPOSSIBLE),
     (CLEARED, "{:from 2}", IMPOSSIBLE),
     (CLEARED, "{:keep [1], :numbers [0 2 4]}", IMPOSSIBLE),

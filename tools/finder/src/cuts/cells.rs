@@ -13,74 +13,58 @@ struct Cell<'a> {
 }
 
 impl Cell<'_> {
-    /// The content, where it is a value that is kept.
-    fn kept(&self, content: Option<i64>) -> Option<i64> {
-        content.filter(|value| self.values.has(*value))
+    /// Whether the content is kept: a value that is, or, of an object which is one cell, nothing.
+    fn is_kept(&self, content: Option<i64>) -> bool {
+        content.map_or(self.key.is_none(), |value| self.values.has(value))
     }
 
-    /// What replaced one content by another becomes. Where it leaves no kept value the part may
-    /// choose whether it stays.
-    fn replaced(&self, stays: bool, old: Option<i64>, new: Option<i64>) -> Option<(Op, Reply)> {
-        match (self.kept(new), self.kept(old)) {
-            (Some(new), Some(old)) => Some(lone_cell::replacing(old, new)),
-            (Some(new), None) => Some(lone_cell::setting(new)),
-            (None, _) if !stays => None,
-            (None, Some(old)) => Some(lone_cell::replacing(old, self.other)),
-            (None, None) => Some(lone_cell::setting(self.other)),
+    /// What leaves this content in the part. What it found stays known only where that is kept.
+    /// Where all is kept, an operation of an object which is one cell stays as it is (`own`).
+    fn changed(
+        &self,
+        own: Option<(Op, Reply)>,
+        need: Need<Option<i64>>,
+        content: Option<i64>,
+    ) -> (Op, Reply) {
+        match need {
+            Need::Any => own.unwrap_or_else(|| lone_cell::leaving(content)),
+            Need::Is(found) if self.is_kept(found) => {
+                own.unwrap_or_else(|| lone_cell::replacing(found, content))
+            }
+            Need::Is(_) | Need::IsNot(_) => lone_cell::leaving(content),
         }
     }
 
-    /// What found a content becomes. That an object which is one cell was empty is kept.
-    fn found(&self, stays: bool, content: Option<i64>) -> Option<(Op, Reply)> {
-        stays.then(|| match self.is_kept(content) {
-            true => lone_cell::finding(content),
-            false => lone_cell::setting(self.other),
-        })
-    }
-
-    /// Whether the content is kept: a value that is, or, of an object which is one cell, nothing.
-    fn is_kept(&self, content: Option<i64>) -> bool {
-        self.kept(content).is_some() || content.is_none() && self.key.is_none()
-    }
-
-    /// Whether the operation is one of an object which is one cell, and each content that it names
-    /// is kept.
-    fn is_whole(&self, need: Need<Option<i64>>, new: Option<i64>) -> bool {
-        let is_needed = match need {
-            Need::Any => true,
-            Need::Is(old) | Need::IsNot(old) => self.is_kept(old),
-        };
-        self.key.is_none() && is_needed && self.is_kept(new)
+    /// What an operation with this effect becomes. Where it leaves no kept content the part may
+    /// choose whether it stays.
+    fn touched(
+        &self,
+        stays: bool,
+        own: Option<(Op, Reply)>,
+        effect: Effect,
+    ) -> Option<(Op, Reply)> {
+        match (effect.sets, effect.need) {
+            (Some(content), need) if self.is_kept(content) => {
+                Some(self.changed(own, need, content))
+            }
+            (Some(_), need) => stays.then(|| self.changed(None, need, Some(self.other))),
+            (None, Need::Is(content)) => stays.then(|| match self.is_kept(content) {
+                true => lone_cell::finding(content),
+                false => lone_cell::setting(self.other),
+            }),
+            (None, Need::Any | Need::IsNot(_)) => None,
+        }
     }
 
     /// What an operation with this reply becomes.
     fn returned(&self, stays: bool, op: Op, reply: Reply) -> Option<(Op, Reply)> {
-        let Effect { need, sets } = op.effect(Some(reply))?;
-        match (need, sets) {
-            (_, Some(new)) if self.is_whole(need, new) => Some((op, reply)),
-            (Need::Is(old), Some(new)) => self.replaced(stays, old, new),
-            (Need::Any, Some(new)) => self.replaced(stays, None, new),
-            (Need::Is(content), None) => self.found(stays, content),
-            (Need::IsNot(_), _) | (Need::Any, None) => None,
-        }
+        let own = self.key.is_none().then_some((op, reply));
+        self.touched(stays, own, op.effect(Some(reply))?)
     }
 
     /// What a pending operation becomes.
     fn pending(&self, op: Op) -> Option<Op> {
-        let Effect { need, sets } = op.effect(None)?;
-        if self.is_whole(need, sets?) {
-            return Some(op);
-        }
-        let new = self.kept(sets?)?;
-        let old = match need {
-            Need::Is(old) => self.kept(old),
-            Need::Any | Need::IsNot(_) => None,
-        };
-        let (op, _) = match old {
-            Some(old) => lone_cell::replacing(old, new),
-            None => lone_cell::setting(new),
-        };
-        Some(op)
+        self.touched(false, None, op.effect(None)?).map(|(op, _)| op)
     }
 
     /// What an operation becomes. `None`: it is left out.

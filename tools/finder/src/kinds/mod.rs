@@ -30,7 +30,7 @@ pub use room::{Does, Family, Function, Kind, OfNothing, Room, Shape, Token, Word
 pub(crate) use containers::ContainerOrders;
 /// A cell by itself, as which a part of an object that has cells is judged.
 pub(crate) mod lone_cell {
-    pub use super::register::{KIND, finding, replacing, setting};
+    pub use super::register::{KIND, finding, leaving, replacing, setting};
 }
 
 /// The kinds, in the order in which messages list their functions.

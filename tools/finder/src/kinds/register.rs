@@ -77,12 +77,28 @@ pub fn setting(value: i64) -> (Op, Reply) {
     (Op { function: &WRITE, argument: Value::Int(value) }, Reply::Value(Some(value)))
 }
 
+/// The one that leaves a content.
+pub fn leaving(content: Option<i64>) -> (Op, Reply) {
+    match content {
+        Some(value) => setting(value),
+        None => (Op { function: &CLEAR, argument: Value::Nil }, Reply::Value(None)),
+    }
+}
+
 /// The one that finds a content.
 pub fn finding(content: Option<i64>) -> (Op, Reply) {
     (Op { function: &READ, argument: Value::Nil }, Reply::Value(content))
 }
 
-/// The one that replaces a value by another one.
-pub fn replacing(old: i64, new: i64) -> (Op, Reply) {
-    (Op { function: &CAS, argument: Value::Pair(old, new) }, Reply::Swapped(old, new))
+/// The one that replaces a content by another one, as far as there is one.
+pub fn replacing(old: Option<i64>, new: Option<i64>) -> (Op, Reply) {
+    match (old, new) {
+        (Some(old), Some(new)) => {
+            (Op { function: &CAS, argument: Value::Pair(old, new) }, Reply::Swapped(old, new))
+        }
+        (None, Some(new)) => {
+            (Op { function: &CREATE, argument: Value::Int(new) }, Reply::Flag(true))
+        }
+        (_, None) => leaving(None),
+    }
 }

@@ -1,5 +1,6 @@
-use Rattle.projection.proofs.Shadows.{cell_valid}
+use Rattle.projection.specs.declared.kinds.Place.TheVariants.{OfRegister}
+use Rattle.projection.proofs.Places.{part_valid}
 use Rattle.projection.proofs.laws.cell_is_valid.Goals as goal
 
 pub returns : goal.returns
-returns c = cell_valid
+returns c = part_valid OfRegister

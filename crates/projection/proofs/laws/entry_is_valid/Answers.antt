@@ -1,5 +1,6 @@
-use Rattle.projection.proofs.Keyed.{entry_valid}
+use Rattle.projection.specs.declared.kinds.Place.TheVariants.{OfKey}
+use Rattle.projection.proofs.Places.{part_valid}
 use Rattle.projection.proofs.laws.entry_is_valid.Goals as goal
 
 pub returns : goal.returns
-returns c = entry_valid
+returns c = λ kind calls key keeps. part_valid (OfKey key) kind calls keeps
