@@ -1,6 +1,6 @@
 -- A key that was changed gets back what it had.
 use Rattle.std.proofs.Common.{◌≡◌, ℤ, Bool, true, false, cond, Option, Some, None, Ordering, Less, Equal, Greater}
-use Rattle.std.proofs.Common.{refl, ap, sym, ◌∙◌}
+use Rattle.std.proofs.Common.{refl, ap, sym, subst, ◌∙◌}
 use Rattle.std.specs.Ordering.{int_cmp, is_eq, eq_by_cmp}
 use Rattle.std.specs.Cmp.{int_cmp_total}
 use Rattle.std.specs.FinMap.{get, insert, remove, get-insert, get-remove, same_map, int_cmp-IsAntisymmetric}
@@ -11,9 +11,11 @@ use Rattle.model.specs.Objects.{Content, Table, next, table, mutex, inserted_if,
 use Rattle.seq_objects.specs.declared.map_object.MapOp.{MapOp}
 use Rattle.seq_objects.specs.declared.map_object.MapOp.TheVariants.{Put, Get, Del, PutIfAbsent, Replace, Assoc, Dissoc}
 use Rattle.seq_objects.specs.Operations.{map_op}
+use Rattle.search.specs.declared.step.Step.{Step}
 use Rattle.search.specs.declared.step.Undo.{Undo}
 use Rattle.search.specs.declared.step.Undo.TheVariants.{SetKey}
-use Rattle.search.specs.Undoing.{undone, key_of, value_in, IsStep}
+use Rattle.search.specs.Undoing.{undone, IsStep}
+use Rattle.search.specs.Kinds.Map.{key_of, value_in}
 
 looked : (m : Table) (q k : ℤ) (x : Option ℤ) (r : Ordering) → r ≡ int_cmp q k
     → cond (is_eq r) (get m k) (cond (is_eq r) x (get m q)) ≡ get m q
@@ -129,6 +131,10 @@ pub del_step : (m n : Table) (k : ℤ) (o : Option ℤ) (any : AnyOp) (r : AnyRe
     → Leaves m (Del k) n r → o ≡ value_in r
     → IsStep (table m) any (table n) record { reply = Value o; undo = SetKey k o }
 del_step m n k o any r is e told = told_step m n (remove m k) k o any (Del k) r is refl refl e told
+
+pub same_step : (before after : Content) (op : AnyOp) (step other : Step) → step ≡ other
+    → IsStep before op after other → IsStep before op after step
+same_step before after op step other is s = subst (IsStep before op after) (sym is) s
 
 pub reply_step : (m n : Table) (op : AnyOp) (undo : Undo) (r t : AnyReply) → t ≡ r
     → IsStep (table m) op (table n) record { reply = r; undo = undo }

@@ -19,7 +19,7 @@ no_return = 4294967295
 abbrev pub as_call : Invocation → Call
 as_call o = record { number = o.number; op = o.op; returned = return_of o.«end» }
 
--- the call at a place
+-- the call at a place; past the end, a pending call of some operation
 abbrev pub call_at : List Invocation → ℕ → Call
 call_at items k = as_call (get_or items k (record { number = 0; op = Dequeue; «end» = Pending }))
 

@@ -5,6 +5,7 @@ pub mod Arranged
 pub mod Searching
 pub mod Outcomes
 pub mod Undoing
+pub mod Kinds
 pub mod Answers
 pub use Rattle.model.specs.Objects
 pub use Rattle.model.specs.Orders

@@ -1,16 +1,13 @@
 -- What objects contain that can go back, and what undoes an operation.
 use Rattle.std.specs.Prelude.{◌≡◌, ℤ, true, false, List, [], ◌∷◌, length, take, drop, ◌-◌}
-use Rattle.std.specs.Prelude.{Option, Some, None}
+use Rattle.std.specs.Prelude.{Some, None}
 use Rattle.std.specs.List.{remove}
 use Rattle.std.specs.FinMap as map
 use Rattle.std.specs.FinSet as set
 use Rattle.model.specs.declared.AnyOp.{AnyOp}
-use Rattle.model.specs.declared.AnyReply.{AnyReply}
 use Rattle.model.specs.declared.AnyReply.TheVariants.{Value}
 use Rattle.model.specs.Objects.{Content, queue, stack, heap, register, table, mutex, elements}
 use Rattle.model.specs.Objects.{count, owner, next}
-use Rattle.seq_objects.specs.declared.map_object.MapOp.{MapOp}
-use Rattle.seq_objects.specs.declared.map_object.MapOp.TheVariants as of_map
 use Rattle.search.specs.declared.reversible.Reversible.{Reversible}
 use Rattle.search.specs.declared.reversible.Reversible.TheVariants.{Queue, Stack, Heap, Register}
 use Rattle.search.specs.declared.reversible.Reversible.TheVariants.{Map, Mutex, Set, Counter}
@@ -74,18 +71,3 @@ abbrev pub IsTaken : List ℤ → List ℤ → Step → Type 0
 IsTaken [] after step = (after ≡ []) × (step ≡ record { reply = Value None; undo = Nothing })
 IsTaken (v ∷ vs) after step =
     (after ≡ vs) × (step ≡ record { reply = Value (Some v); undo = PutFirst v })
-
--- the value of a reply, where it is one
-abbrev pub value_in : AnyReply → Option ℤ
-value_in (Value v) = v
-value_in reply = None
-
--- the key of an operation of a map
-abbrev pub key_of : MapOp → ℤ
-key_of (of_map.Put k v) = k
-key_of (of_map.Get k) = k
-key_of (of_map.Del k) = k
-key_of (of_map.PutIfAbsent k v) = k
-key_of (of_map.Replace k a b) = k
-key_of (of_map.Assoc k v) = k
-key_of (of_map.Dissoc k) = k

@@ -6,11 +6,10 @@ ghost use Rattle.search.specs.Undoing.{content_of};
 ghost use Rattle.search.specs.Remembered.{HasPair, IsKept, IsRemembered};
 ghost use Rattle.search.specs.Remembered.{IsRememberedIfSome};
 
+use crate::Reversible;
 use crate::pairs::{Pair, Pairs};
 use crate::undone::Undone;
-use crate::{Kept, Reversible};
 use events::Invocation;
-use seq_objects::AnyOp;
 use std::alloc::{AllocError, Global};
 use std::collections::BTreeSet;
 
@@ -23,50 +22,19 @@ const BYTES_OF_A_PAIR: usize = 240;
 /// How many bytes a place that is not done takes, as a list may have room for twice as many.
 const BYTES_OF_A_PLACE: usize = 8;
 
-const BYTES_OF_A_SMALL_VALUE: usize = 4;
-
-const BYTES_OF_A_VALUE: usize = 16;
-
-/// How many bytes a key of a map takes with its value, in a tree whose nodes may be half full. An
-/// element of a set takes less.
-const BYTES_OF_A_KEY: usize = 64;
-
-/// The key of a map, or the element of a set, that the operation may add.
-fn key_added(op: &AnyOp) -> Option<i64> {
-    match *op {
-        AnyOp::Put(key, _) | AnyOp::PutIfAbsent(key, _) | AnyOp::Assoc(key, _) => Some(key),
-        AnyOp::Add(v) => Some(v),
-        _ => None,
-    }
-}
-
-/// How many keys a map that does these operations may have, or how many elements a set.
-fn key_count(alloc: Global, items: &[Invocation]) -> Result<usize, AllocError> {
+/// How many keys an object may have that does these operations.
+fn key_count(
+    alloc: Global,
+    object: &Reversible,
+    items: &[Invocation],
+) -> Result<usize, AllocError> {
     let mut keys = BTreeSet::new(alloc);
     for item in items {
-        if let Some(key) = key_added(&item.op) {
+        if let Some(key) = object.key_added(&item.op) {
             keys.insert(key)?;
         }
     }
     Ok(keys.len())
-}
-
-/// How many bytes this content takes at most, where a map has this many keys, or a set this many
-/// elements.
-fn bytes_of_content(content: &Kept, keys: usize) -> usize {
-    match content {
-        Kept::Queue(values) => values.len().saturating_mul(BYTES_OF_A_SMALL_VALUE),
-        Kept::Stack(values) => values.len().saturating_mul(BYTES_OF_A_SMALL_VALUE),
-        Kept::Heap(values) => values.len().saturating_mul(BYTES_OF_A_SMALL_VALUE),
-        Kept::Whole(object) => match object {
-            Reversible::Queue(values) => values.len().saturating_mul(BYTES_OF_A_VALUE),
-            Reversible::Stack(values) => values.len().saturating_mul(BYTES_OF_A_VALUE),
-            Reversible::Heap(values) => values.len().saturating_mul(BYTES_OF_A_VALUE),
-            Reversible::Map(_) | Reversible::Set(_) => keys.saturating_mul(BYTES_OF_A_KEY),
-            Reversible::Register(_) | Reversible::Mutex(_) => 0,
-            Reversible::Counter(_) | Reversible::Lock(_) => 0,
-        },
-    }
 }
 
 /// The pairs that are remembered. Once the younger ones take as much as they may, they become the
@@ -75,20 +43,20 @@ fn bytes_of_content(content: &Kept, keys: usize) -> usize {
 pub(crate) struct Dead {
     pub older: Pairs,
     pub younger: Pairs,
-    /// How many keys a map may have, or how many elements a set.
+    /// How many keys the object may have.
     pub keys: usize,
 }
 
 impl Dead {
-    /// None, in a search among these operations.
-    pub fn new(alloc: Global, items: &[Invocation]) -> Result<Dead, AllocError>
+    /// None, in a search among these operations of the object.
+    pub fn new(alloc: Global, object: &Reversible, items: &[Invocation]) -> Result<Dead, AllocError>
         ensures older { IfOk result (λ d. d.older.pairs.items ≡ []) }
         ensures younger { IfOk result (λ d. d.younger.pairs.items ≡ []) }
     {
         Ok(Dead {
             older: Pairs::new(alloc),
             younger: Pairs::new(alloc),
-            keys: key_count(alloc, items)?,
+            keys: key_count(alloc, object, items)?,
         })
     }
 
@@ -119,7 +87,7 @@ impl Dead {
         let places = pair.undone.len().saturating_mul(BYTES_OF_A_PLACE);
         let bytes = BYTES_OF_A_PAIR
             .saturating_add(places)
-            .saturating_add(bytes_of_content(&pair.content, self.keys));
+            .saturating_add(pair.content.bytes(self.keys));
         self.make_room(alloc, bytes);
         self.younger.remember(alloc, pair, bytes)?;
         Ok(())

@@ -7,6 +7,8 @@ use crate::reversible::Reversible;
 use std::alloc::{AllocError, Global};
 use std::collections::VecDeque;
 
+const BYTES_OF_A_SMALL_VALUE: usize = 4;
+
 /// What an object contained, with values of four bytes where all are small.
 #[derive(Drop)]
 pub enum Kept {
@@ -72,6 +74,15 @@ impl Kept {
             (Kept::Heap(narrow), Reversible::Heap(values)) => are_values(narrow, values),
             (Kept::Whole(kept), _) => kept.same(object),
             _ => false,
+        }
+    }
+    /// How many bytes this takes at most, where it has at most this many keys.
+    pub(crate) fn bytes(&self, keys: usize) -> usize {
+        match self {
+            Kept::Queue(values) | Kept::Stack(values) | Kept::Heap(values) => {
+                values.len().saturating_mul(BYTES_OF_A_SMALL_VALUE)
+            }
+            Kept::Whole(object) => object.bytes(keys),
         }
     }
 }

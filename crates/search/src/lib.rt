@@ -8,11 +8,10 @@
 mod all;
 mod dead;
 mod digest;
-mod elements;
-mod entries;
 mod finding;
 mod found;
 mod kept;
+mod kinds;
 mod level;
 mod object;
 mod pairs;
@@ -20,7 +19,6 @@ mod reversible;
 mod step;
 mod trials;
 mod undone;
-mod values;
 mod walk;
 
 pub use all::{search_all, search_all_by};

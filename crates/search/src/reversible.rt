@@ -1,16 +1,15 @@
-//! Objects whose operations can be undone.
+//! Objects whose operations can be undone, of all kinds in one type.
 
-ghost use Rattle.std.specs.Prelude.{◌≡◌, ℤ, Option, ◌↔◌, IsTrue, IsSome, IfOk, OnOk};
-ghost use Rattle.model.specs.declared.AnyOp.{AnyOp};
-ghost use Rattle.model.specs.Objects.{Table, empty, next};
-ghost use Rattle.model.specs.Objects as objects;
+ghost use Rattle.std.specs.Prelude.{◌≡◌, ◌↔◌, IsTrue, IsSome, IfOk, OnOk};
+ghost use Rattle.model.specs.Objects.{empty, next};
 ghost use Rattle.search.specs.Undoing.{content_of, undone, IsStep};
 
-use crate::elements::{set_element, step_set};
-use crate::entries::{set_key, step_map};
+use crate::digest::Digest;
+use crate::kinds::{
+    Counters, Heaps, Locks, Maps, Mutexes, Queues, Registers, ReversibleKind, Sets, Stacks,
+};
 use crate::step::{Step, Undo};
-use crate::values::{less_count, replying, take_first, undo_values};
-use model::{AnyOp, AnyReply, Kind};
+use model::{AnyOp, Kind};
 use seq_objects::{MapObject, SeqObject, Set};
 use std::alloc::{AllocError, Global};
 use std::collections::VecDeque;
@@ -31,159 +30,6 @@ pub enum Reversible {
     Counter(i64),
     /// The owner, if there is one.
     Lock(Option<i64>),
-}
-
-fn step_queue(values: &mut VecDeque<i64>, op: &AnyOp) -> Result<Step, AllocError>
-    requires { IsSome (next (objects.queue values.old.items) op.now) }
-    ensures { IfOk result
-        (IsStep (objects.queue values.old.items) op.now (objects.queue values.new.items)) }
-{
-    match *op {
-        AnyOp::Enqueue(v) => {
-            values.push_back(v)?;
-            Ok(replying(v, Undo::TakeLast))
-        }
-        AnyOp::Dequeue => Ok(take_first(values)),
-        _ => unreachable!(),
-    }
-}
-
-fn step_stack(values: &mut VecDeque<i64>, op: &AnyOp) -> Result<Step, AllocError>
-    requires { IsSome (next (objects.stack values.old.items) op.now) }
-    ensures { IfOk result
-        (IsStep (objects.stack values.old.items) op.now (objects.stack values.new.items)) }
-{
-    match *op {
-        AnyOp::Push(v) => {
-            values.push_front(v)?;
-            Ok(replying(v, Undo::TakeFirst))
-        }
-        AnyOp::Pop => Ok(take_first(values)),
-        _ => unreachable!(),
-    }
-}
-
-fn step_heap(values: &mut VecDeque<i64>, op: &AnyOp) -> Result<Step, AllocError>
-    requires { IsSome (next (objects.heap values.old.items) op.now) }
-    ensures { IfOk result
-        (IsStep (objects.heap values.old.items) op.now (objects.heap values.new.items)) }
-{
-    match *op {
-        AnyOp::Insert(v) => {
-            let place = less_count(values, v);
-            values.insert(place, v)?;
-            Ok(replying(v, Undo::TakeAt(place)))
-        }
-        AnyOp::ExtractMin => Ok(take_first(values)),
-        _ => unreachable!(),
-    }
-}
-
-fn step_register(value: &mut Option<i64>, op: &AnyOp) -> Step
-    requires { IsSome (next (objects.register value.old) op.now) }
-    ensures { IsStep (objects.register value.old) op.now (objects.register value.new) result }
-{
-    let before = *value;
-    match *op {
-        AnyOp::Write(v) => {
-            *value = Some(v);
-            replying(v, Undo::SetRegister(before))
-        }
-        AnyOp::Read => Step {
-            reply: AnyReply::Value(before),
-            undo: Undo::Nothing,
-        },
-        AnyOp::Cas(expected, new) if before == Some(expected) => {
-            *value = Some(new);
-            Step {
-                reply: AnyReply::Swapped(expected, new),
-                undo: Undo::SetRegister(before),
-            }
-        }
-        AnyOp::Cas(_, _) => Step {
-            reply: AnyReply::NotSwapped,
-            undo: Undo::Nothing,
-        },
-        AnyOp::Clear => {
-            *value = None;
-            Step {
-                reply: AnyReply::Value(None),
-                undo: Undo::SetRegister(before),
-            }
-        }
-        AnyOp::Create(v) => {
-            if before.is_none() {
-                *value = Some(v);
-            }
-            Step {
-                reply: AnyReply::Flag(before.is_none()),
-                undo: Undo::SetRegister(before),
-            }
-        }
-        _ => unreachable!(),
-    }
-}
-
-fn step_mutex(held: &mut bool, op: &AnyOp) -> Step
-    requires { IsSome (next (objects.mutex held.old) op.now) }
-    ensures { IsStep (objects.mutex held.old) op.now (objects.mutex held.new) result }
-{
-    let before = *held;
-    *held = !before;
-    Step {
-        reply: AnyReply::Value(None),
-        undo: Undo::SetHeld(before),
-    }
-}
-
-fn step_counter(count: &mut i64, op: &AnyOp) -> Step
-    requires { IsSome (next (objects.count count.old) op.now) }
-    ensures { IsStep (objects.count count.old) op.now (objects.count count.new) result }
-{
-    let before = *count;
-    match *op {
-        AnyOp::FetchAdd(n) => {
-            *count = before + n;
-            replying(before, Undo::SetCount(before))
-        }
-        _ => replying(before, Undo::Nothing),
-    }
-}
-
-fn step_lock(owner: &mut Option<i64>, op: &AnyOp) -> Step
-    requires { IsSome (next (objects.owner owner.old) op.now) }
-    ensures { IsStep (objects.owner owner.old) op.now (objects.owner owner.new) result }
-{
-    let before = *owner;
-    *owner = match *op {
-        AnyOp::LockBy(taker) => Some(taker),
-        _ => None,
-    };
-    Step {
-        reply: AnyReply::Value(None),
-        undo: Undo::SetOwner(before),
-    }
-}
-
-fn is_of_register(op: &AnyOp) -> bool
-    ensures { (v : Option ℤ) → IsTrue result ↔ IsSome (next (objects.register v) op.now) }
-{
-    match *op {
-        AnyOp::Write(_) | AnyOp::Read | AnyOp::Cas(_, _) => true,
-        AnyOp::Clear | AnyOp::Create(_) => true,
-        _ => false,
-    }
-}
-
-fn is_of_map(op: &AnyOp) -> bool
-    ensures { (m : Table) → IsTrue result ↔ IsSome (next (objects.table m) op.now) }
-{
-    match *op {
-        AnyOp::Put(_, _) | AnyOp::Get(_) | AnyOp::Del(_) => true,
-        AnyOp::PutIfAbsent(_, _) | AnyOp::Replace(_, _, _) => true,
-        AnyOp::Assoc(_, _) | AnyOp::Dissoc(_) => true,
-        _ => false,
-    }
 }
 
 impl Reversible {
@@ -209,27 +55,15 @@ impl Reversible {
         ensures { IsTrue result ↔ IsSome (next (content_of self.now) op.now) }
     {
         match self {
-            Reversible::Queue(_) => matches!(*op, AnyOp::Enqueue(_) | AnyOp::Dequeue),
-            Reversible::Stack(_) => matches!(*op, AnyOp::Push(_) | AnyOp::Pop),
-            Reversible::Heap(_) => matches!(*op, AnyOp::Insert(_) | AnyOp::ExtractMin),
-            Reversible::Register(_) => is_of_register(op),
-            Reversible::Map(_) => is_of_map(op),
-            Reversible::Mutex(held) => match *op {
-                AnyOp::Acquire => !*held,
-                AnyOp::Release => *held,
-                _ => false,
-            },
-            Reversible::Set(_) => matches!(*op, AnyOp::Add(_) | AnyOp::Remove(_) | AnyOp::Has(_)),
-            Reversible::Counter(count) => match *op {
-                AnyOp::FetchAdd(n) => count.checked_add(n).is_some(),
-                AnyOp::GetCount => true,
-                _ => false,
-            },
-            Reversible::Lock(owner) => match *op {
-                AnyOp::LockBy(_) => owner.is_none(),
-                AnyOp::UnlockBy(holder) => *owner == Some(holder),
-                _ => false,
-            },
+            Reversible::Queue(values) => Queues::is_possible(values, op),
+            Reversible::Stack(values) => Stacks::is_possible(values, op),
+            Reversible::Heap(values) => Heaps::is_possible(values, op),
+            Reversible::Register(value) => Registers::is_possible(value, op),
+            Reversible::Map(map) => Maps::is_possible(map, op),
+            Reversible::Mutex(held) => Mutexes::is_possible(held, op),
+            Reversible::Set(set) => Sets::is_possible(set, op),
+            Reversible::Counter(count) => Counters::is_possible(count, op),
+            Reversible::Lock(owner) => Locks::is_possible(owner, op),
         }
     }
 
@@ -239,15 +73,15 @@ impl Reversible {
         ensures { IfOk result (IsStep (content_of self.old) op.now (content_of self.new)) }
     {
         match self {
-            Reversible::Queue(values) => step_queue(values, op),
-            Reversible::Stack(values) => step_stack(values, op),
-            Reversible::Heap(values) => step_heap(values, op),
-            Reversible::Register(value) => Ok(step_register(value, op)),
-            Reversible::Map(map) => step_map(map, op),
-            Reversible::Mutex(held) => Ok(step_mutex(held, op)),
-            Reversible::Set(set) => step_set(set, op),
-            Reversible::Counter(count) => Ok(step_counter(count, op)),
-            Reversible::Lock(owner) => Ok(step_lock(owner, op)),
+            Reversible::Queue(values) => Queues::step(values, op),
+            Reversible::Stack(values) => Stacks::step(values, op),
+            Reversible::Heap(values) => Heaps::step(values, op),
+            Reversible::Register(value) => Registers::step(value, op),
+            Reversible::Map(map) => Maps::step(map, op),
+            Reversible::Mutex(held) => Mutexes::step(held, op),
+            Reversible::Set(set) => Sets::step(set, op),
+            Reversible::Counter(count) => Counters::step(count, op),
+            Reversible::Lock(owner) => Locks::step(owner, op),
         }
     }
 
@@ -255,29 +89,61 @@ impl Reversible {
     pub fn undo(&mut self, undo: Undo) -> Result<(), AllocError>
         ensures { OnOk result (content_of self.new ≡ undone undo (content_of self.old)) }
     {
-        match (self, undo) {
-            (Reversible::Queue(values), _) => undo_values(values, undo),
-            (Reversible::Stack(values), _) => undo_values(values, undo),
-            (Reversible::Heap(values), _) => undo_values(values, undo),
-            (Reversible::Register(value), Undo::SetRegister(before)) => {
-                *value = before;
-                Ok(())
-            }
-            (Reversible::Map(map), Undo::SetKey(key, value)) => set_key(map, key, value),
-            (Reversible::Mutex(held), Undo::SetHeld(before)) => {
-                *held = before;
-                Ok(())
-            }
-            (Reversible::Set(set), Undo::SetElement(v, is_in)) => set_element(set, v, is_in),
-            (Reversible::Counter(count), Undo::SetCount(before)) => {
-                *count = before;
-                Ok(())
-            }
-            (Reversible::Lock(owner), Undo::SetOwner(before)) => {
-                *owner = before;
-                Ok(())
-            }
-            _ => Ok(()),
+        match self {
+            Reversible::Queue(values) => Queues::undo(values, undo),
+            Reversible::Stack(values) => Stacks::undo(values, undo),
+            Reversible::Heap(values) => Heaps::undo(values, undo),
+            Reversible::Register(value) => Registers::undo(value, undo),
+            Reversible::Map(map) => Maps::undo(map, undo),
+            Reversible::Mutex(held) => Mutexes::undo(held, undo),
+            Reversible::Set(set) => Sets::undo(set, undo),
+            Reversible::Counter(count) => Counters::undo(count, undo),
+            Reversible::Lock(owner) => Locks::undo(owner, undo),
+        }
+    }
+
+    /// The digest after this step of the operation, which the object has just done.
+    pub(crate) fn digest(&self, digest: Digest, op: &AnyOp, step: &Step) -> Digest {
+        match self {
+            Reversible::Queue(values) => Queues::digest(values, digest, op, step),
+            Reversible::Stack(values) => Stacks::digest(values, digest, op, step),
+            Reversible::Heap(values) => Heaps::digest(values, digest, op, step),
+            Reversible::Register(value) => Registers::digest(value, digest, op, step),
+            Reversible::Map(map) => Maps::digest(map, digest, op, step),
+            Reversible::Mutex(held) => Mutexes::digest(held, digest, op, step),
+            Reversible::Set(set) => Sets::digest(set, digest, op, step),
+            Reversible::Counter(count) => Counters::digest(count, digest, op, step),
+            Reversible::Lock(owner) => Locks::digest(owner, digest, op, step),
+        }
+    }
+
+    /// How many bytes the content takes at most, where it has at most this many keys.
+    pub(crate) fn bytes(&self, keys: usize) -> usize {
+        match self {
+            Reversible::Queue(values) => Queues::bytes(values, keys),
+            Reversible::Stack(values) => Stacks::bytes(values, keys),
+            Reversible::Heap(values) => Heaps::bytes(values, keys),
+            Reversible::Register(value) => Registers::bytes(value, keys),
+            Reversible::Map(map) => Maps::bytes(map, keys),
+            Reversible::Mutex(held) => Mutexes::bytes(held, keys),
+            Reversible::Set(set) => Sets::bytes(set, keys),
+            Reversible::Counter(count) => Counters::bytes(count, keys),
+            Reversible::Lock(owner) => Locks::bytes(owner, keys),
+        }
+    }
+
+    /// The key that the operation may add.
+    pub(crate) fn key_added(&self, op: &AnyOp) -> Option<i64> {
+        match self {
+            Reversible::Queue(_) => Queues::key_added(op),
+            Reversible::Stack(_) => Stacks::key_added(op),
+            Reversible::Heap(_) => Heaps::key_added(op),
+            Reversible::Register(_) => Registers::key_added(op),
+            Reversible::Map(_) => Maps::key_added(op),
+            Reversible::Mutex(_) => Mutexes::key_added(op),
+            Reversible::Set(_) => Sets::key_added(op),
+            Reversible::Counter(_) => Counters::key_added(op),
+            Reversible::Lock(_) => Locks::key_added(op),
         }
     }
 

@@ -1,5 +1,7 @@
 //! What an operation replied, and what undoes it.
 
+ghost use Rattle.std.specs.Prelude.{◌≡◌};
+
 use model::AnyReply;
 
 /// What brings back the content before an operation.
@@ -26,4 +28,12 @@ pub enum Undo {
 pub struct Step {
     pub reply: AnyReply,
     pub undo: Undo,
+}
+
+impl Step {
+    pub(crate) fn new(reply: AnyReply, undo: Undo) -> Step
+        ensures { result ≡ record { reply = reply; undo = undo } }
+    {
+        Step { reply, undo }
+    }
 }

@@ -115,11 +115,13 @@ impl State {
         let least = least_return(trials, &undone);
         let pending = trials.pending;
         let at = undone.next[0];
+        let object = Reversible::empty(alloc, trials.kind);
+        let dead = Dead::new(alloc, &object, &trials.items)?;
         Ok(State {
             levels: Vec::new(alloc),
-            object: Reversible::empty(alloc, trials.kind),
+            object,
             undone,
-            dead: Dead::new(alloc, &trials.items)?,
+            dead,
             digest: Digest::new(),
             high: 0,
             at,
@@ -178,7 +180,8 @@ impl State {
     {
         let place = self.at;
         let item = &trials.items[place as usize];
-        let digest = self.digest.after(place, &item.op, &step);
+        let done = self.digest.with_done(place);
+        let digest = self.object.digest(done, &item.op, &step);
         let high = self.high.max(place + 1);
         let pending = self.undone.pending_after(self.window.pending, place);
         self.undone.take_out(place);

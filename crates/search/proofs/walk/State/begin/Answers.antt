@@ -22,11 +22,11 @@ returns-clause-search c =
       stop = record { within = c.requires.trials.within; left = λ m i. absurd i };
     } in
     record {
-      walk = begun (length items) (call_at items) (empty t.kind) _ c.new.result.items u.next.items u.before.items c.index-at.result.now
-          (record { least = c.least_return-least.result; pending = t.pending }) c.args.left c.new.ensures.items c.empty.ensures link
+      walk = begun (length items) (call_at items) (empty t.kind) _ c.new-2.result.items u.next.items u.before.items c.index-at.result.now
+          (record { least = c.least_return-least.result; pending = t.pending }) c.args.left c.new-2.ensures.items c.empty-object.ensures link
           (c.index-at.ensures ∙ get_or_default u.next.items 0 _ 0 (omega arith)) window c.requires.counts c.requires.owed;
       dead = record {
-        older = none_dead t c.in_ok-new.field-0.older.pairs.items c.in_ok-new.ensures.older;
-        younger = none_dead t c.in_ok-new.field-0.younger.pairs.items c.in_ok-new.ensures.younger;
+        older = none_dead t c.in_ok-dead.dead.older.pairs.items c.in_ok-dead.ensures.older;
+        younger = none_dead t c.in_ok-dead.dead.younger.pairs.items c.in_ok-dead.ensures.younger;
       };
     }

@@ -1,0 +1,2 @@
+-- What the contracts of one kind of objects alone need.
+pub mod Map

@@ -1,0 +1,50 @@
+//! Stacks, from the top on.
+
+use crate::digest::Digest;
+use crate::kinds::ReversibleKind;
+use crate::kinds::values::{bytes_of, take_first, undo_values};
+use crate::step::{Step, Undo};
+use model::{AnyOp, AnyReply};
+use std::alloc::AllocError;
+use std::collections::VecDeque;
+
+pub(crate) struct Stacks;
+
+impl ReversibleKind for Stacks {
+    ghost use Rattle.model.specs.Objects.{stack};
+
+    type State = VecDeque<i64>;
+
+    ghost content = { λ values. stack values.items };
+
+    fn is_possible(_values: &VecDeque<i64>, op: &AnyOp) -> bool {
+        matches!(*op, AnyOp::Push(_) | AnyOp::Pop)
+    }
+
+    fn step(values: &mut VecDeque<i64>, op: &AnyOp) -> Result<Step, AllocError> {
+        match *op {
+            AnyOp::Push(v) => {
+                values.push_front(v)?;
+                Ok(Step::new(AnyReply::Value(Some(v)), Undo::TakeFirst))
+            }
+            AnyOp::Pop => Ok(take_first(values)),
+            _ => unreachable!(),
+        }
+    }
+
+    fn undo(values: &mut VecDeque<i64>, undo: Undo) -> Result<(), AllocError> {
+        undo_values(values, undo)
+    }
+
+    fn digest(_values: &VecDeque<i64>, digest: Digest, op: &AnyOp, step: &Step) -> Digest {
+        match (*op, step.reply) {
+            (AnyOp::Push(v), _) => digest.in_at_back(v),
+            (AnyOp::Pop, AnyReply::Value(Some(v))) => digest.out_at_back(v),
+            _ => digest,
+        }
+    }
+
+    fn bytes(values: &VecDeque<i64>, _keys: usize) -> usize {
+        bytes_of(values)
+    }
+}
