@@ -1,17 +1,18 @@
 -- What definitely was ahead of what a removal found: these values must have been taken out before
 -- it.
-use Rattle.std.specs.Prelude.{◌≡◌, ◌==◌, ◌<◌, ℕ, ℤ, nat_lt, int_lt, min, Bool, true, false, not}
+use Rattle.std.specs.Prelude.{◌≡◌, ◌==◌, ◌<◌, ℕ, ℤ, nat_lt, min, Bool, true, not}
 use Rattle.std.specs.Prelude.{◌&&◌, ◌||◌, List, Contains, count_by, if◌then◌else◌}
 use Rattle.std.specs.Prelude.{Option, Some, None}
 use Rattle.std.specs.Option.{option_map_or}
 use Rattle.std.specs.List.{find, list_all}
 use Rattle.std.specs.Ordering.{int_eq}
 use Rattle.model.specs.declared.AnyOp.{AnyOp}
-use Rattle.model.specs.declared.AnyOp.TheVariants.{Dequeue, Pop, ExtractMin}
 use Rattle.model.specs.declared.AnyReply.{AnyReply}
 use Rattle.model.specs.declared.AnyReply.TheVariants.{Value}
 use Rattle.model.specs.Orders.{Call, Return}
 use Rattle.projection.specs.Parts.{reply_of, puts_in, is_removal, takes_out, ended_before}
+use Rattle.projection.specs.Kinds.Containers.{takes_first, takes_last}
+pub use Rattle.projection.specs.Kinds.Containers.{is_value_ahead}
 
 -- what a reply shows, with the number of its response
 abbrev pub found_in : ℕ → AnyReply → Option (ℕ × Option ℤ)
@@ -23,16 +24,6 @@ abbrev pub found_by : AnyOp → Option Return → Option (ℕ × Option ℤ)
 found_by op None = None
 found_by op (Some r) = if is_removal op then found_in r.at r.reply else None
 
--- Which values can be ahead of what a removal found. Of nothing: each value. Of a value in a heap:
--- each lesser one. In a queue or a stack: each value, but only by certain puts (`ahead_before`,
--- `is_settled`).
-abbrev pub is_value_ahead : Option ℤ → AnyOp → ℤ → Bool
-is_value_ahead None op v = true
-is_value_ahead (Some b) Dequeue v = true
-is_value_ahead (Some b) Pop v = true
-is_value_ahead (Some b) ExtractMin v = int_lt v b
-is_value_ahead (Some b) op v = false
-
 -- the number of the first call that puts in the value; 0: there is none
 abbrev pub first_put : ℤ → List Call → ℕ
 first_put v calls =
@@ -42,16 +33,17 @@ first_put v calls =
 -- removal that found a value in a queue, at most that of the first put of this value.
 abbrev pub ahead_before : Option ℤ → AnyOp → ℕ → List Call → ℕ
 ahead_before None op number calls = number
-ahead_before (Some b) Dequeue number calls = min number (first_put b calls)
-ahead_before (Some b) op number calls = number
+ahead_before (Some b) op number calls =
+    if takes_first op then min number (first_put b calls) else number
 
 -- Where a removal found a value in a stack, each put of this value returned before the number from
 -- which on puts count.
 abbrev pub is_settled : Option ℤ → AnyOp → ℕ → List Call → Bool
 is_settled None op from calls = true
-is_settled (Some b) Pop from calls =
-    list_all (λ e. not (puts_in (int_eq b) e.op) || ended_before from e.returned) calls
-is_settled (Some b) op from calls = true
+is_settled (Some b) op from calls =
+    if takes_last op
+    then list_all (λ e. not (puts_in (int_eq b) e.op) || ended_before from e.returned) calls
+    else true
 
 -- whether a call put in one of these values, was invoked at the first number or later, and returned
 -- before the second

@@ -6,9 +6,7 @@ use Rattle.std.specs.Option.{option_map_or}
 use Rattle.std.specs.List.{find, list_all}
 use Rattle.std.specs.Ordering.{int_eq}
 use Rattle.model.specs.declared.AnyOp.{AnyOp}
-use Rattle.model.specs.declared.AnyOp.TheVariants.{Write, Dequeue, Pop}
 use Rattle.model.specs.declared.AnyReply.{AnyReply}
-use Rattle.model.specs.declared.AnyReply.TheVariants.{Value}
 use Rattle.events.specs.declared.operations.End.{End}
 use Rattle.events.specs.declared.operations.End.TheVariants.{Returned, Pending, Failed}
 use Rattle.events.specs.declared.operations.Invocation.{Invocation}
@@ -17,6 +15,8 @@ use Rattle.projection.specs.Ahead.{found_in}
 use Rattle.projection.specs.Counts.{sets, takes}
 use Rattle.projection.specs.declared.kinds.Place.{Place}
 use Rattle.projection.specs.Cells.{done_at, open_at}
+use Rattle.projection.specs.Kinds.Containers.{takes_first, takes_last}
+use Rattle.projection.specs.Kinds.Register.{setting}
 use Rattle.projection.specs.Parts.{fits, puts_in, is_removal, takes_out, key_of, written_before}
 
 abbrev pub has_failed : End → Bool
@@ -113,7 +113,7 @@ is_over from Failed = false
 
 abbrev pub as_write : ℕ → ℕ → ℤ → Invocation
 as_write number at v =
-    record { number = number; op = Write v; «end» = Returned at (Value (Some v)) }
+    record { number = number; op = (setting (Some v)).0; «end» = Returned at (setting (Some v)).1 }
 
 abbrev pub as_pending : ℕ → AnyOp → Invocation
 as_pending number op = record { number = number; op = op; «end» = Pending }
@@ -169,8 +169,8 @@ first_put_end v ops = option_map_or (λ (o : Invocation). o.number)
 
 abbrev pub ahead_before_end : Option ℤ → AnyOp → ℕ → List Invocation → ℕ
 ahead_before_end None op number ops = number
-ahead_before_end (Some b) Dequeue number ops = min number (first_put_end b ops)
-ahead_before_end (Some b) op number ops = number
+ahead_before_end (Some b) op number ops =
+    if takes_first op then min number (first_put_end b ops) else number
 
 abbrev pub is_put_ahead_end : (ℤ → Bool) → ℕ → ℕ → ℕ → AnyOp → End → Bool
 is_put_ahead_end keeps from before number op (Returned at reply) =
@@ -184,8 +184,8 @@ is_settled_end b from o = not (is_put (int_eq b) o.op o.«end») || is_over from
 
 abbrev pub are_settled : Option ℤ → AnyOp → ℕ → List Invocation → Bool
 are_settled None op from ops = true
-are_settled (Some b) Pop from ops = list_all (is_settled_end b from) ops
-are_settled (Some b) op from ops = true
+are_settled (Some b) op from ops =
+    if takes_last op then list_all (is_settled_end b from) ops else true
 
 abbrev pub may_take_end : (ℤ → Bool) → AnyOp → End → Bool
 may_take_end keeps op (Returned at reply) = takes_out keeps op (Some reply)

@@ -3,7 +3,6 @@ use Rattle.std.specs.Prelude.{◌≡◌, ◌≢◌, ℕ, ℤ, Bool, true, false,
 use Rattle.std.specs.Ordering.{nat_cmp, int_cmp}
 use Rattle.std.specs.BTreeSet.{BTreeSet, contains}
 use Rattle.model.specs.declared.Kind.{Kind}
-use Rattle.model.specs.declared.Kind.TheVariants.{Register}
 use Rattle.model.specs.declared.AnyOp.{AnyOp}
 use Rattle.model.specs.declared.AnyReply.{AnyReply}
 use Rattle.model.specs.Orders.{Call}
@@ -13,6 +12,8 @@ use Rattle.events.specs.Operations.{ObjectCalls, calls_of}
 use Rattle.search.specs.Outcomes.{IsNoneValid}
 use Rattle.projection.specs.Absent.{IsRest}
 use Rattle.projection.specs.Cells.{cell_calls, entry_calls}
+use Rattle.projection.specs.Kinds.{kind_of_part}
+use Rattle.projection.specs.declared.kinds.Place.TheVariants.{OfKey}
 use Rattle.projection.specs.Parts.{IsClosed, kept_calls, calls_before, IsStart, calls_from}
 use Rattle.projection.specs.declared.keeping.Values.{Values}
 use Rattle.projection.specs.declared.keeping.Values.TheVariants as which
@@ -80,7 +81,7 @@ kind_cut (Until number) kind = kind
 kind_cut (Without value before) kind = kind
 kind_cut (Keep values numbers) kind = kind
 kind_cut (Cell values other numbers) kind = kind
-kind_cut (Entry key values other numbers) kind = Register
+kind_cut (Entry key values other numbers) kind = kind_of_part (OfKey key) kind
 
 -- the same, of cuts one after another
 abbrev pub part_kind : List Cut → Kind → Kind

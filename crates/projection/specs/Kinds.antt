@@ -1,5 +1,6 @@
--- The cells of objects, by kind. Each kind has a file of its own, which says what its calls do to a
--- cell. This file alone lists them.
+-- What parts need to know of the kinds. No definition outside of these files names a kind or an
+-- operation. Each kind that has cells has a file of its own, which says what its calls do to a cell,
+-- and this file lists them.
 use Rattle.std.specs.Prelude.{ℤ, Bool, true, false, Option, Some, None}
 use Rattle.model.specs.declared.Kind.{Kind}
 use Rattle.model.specs.declared.Kind.TheVariants as kind
@@ -12,6 +13,10 @@ use Rattle.projection.specs.Kinds.Register.{register_touch}
 use Rattle.projection.specs.Kinds.Map.{map_touch}
 pub mod Register
 pub mod Map
+pub mod Containers
+pub mod Keeping
+pub mod Starts
+pub mod Counting
 
 -- whether a part keeps "no value" of the cell
 abbrev pub keeps_none : Place → Bool

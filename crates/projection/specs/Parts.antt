@@ -1,129 +1,25 @@
 -- Parts of the calls of an object. Where the calls have a valid order, the part has one.
-use Rattle.std.specs.Prelude.{◌≡◌, ◌==◌, ◌≤◌, ◌+◌, ◌+ℤ◌, ℕ, ℤ, pos, nat_lt, Bool, true, false}
-use Rattle.std.specs.Prelude.{not, ◌||◌, ◌&&◌}
+use Rattle.std.specs.Prelude.{◌≡◌, ◌==◌, ◌≤◌, ◌+◌, ℕ, ℤ, nat_lt, Bool, true, false}
+use Rattle.std.specs.Prelude.{not, ◌&&◌}
 use Rattle.std.specs.Prelude.{List, All, Contains, map, filter, count_by, if◌then◌else◌}
 use Rattle.std.specs.Prelude.{Option, Some, None, is_some, option_map}
 use Rattle.std.specs.Option.{option_map_or}
 use Rattle.std.specs.List.{filter_map}
 use Rattle.model.specs.declared.AnyOp.{AnyOp}
-use Rattle.model.specs.declared.AnyOp.TheVariants.{Enqueue, Dequeue, Push, Pop, Insert}
-use Rattle.model.specs.declared.AnyOp.TheVariants.{ExtractMin, Write, Read, Cas, Clear, Create}
-use Rattle.model.specs.declared.AnyOp.TheVariants.{Put, Get, Del, PutIfAbsent, Replace, Assoc}
-use Rattle.model.specs.declared.AnyOp.TheVariants.{Dissoc, Acquire, Release, Add, Remove, Has}
-use Rattle.model.specs.declared.AnyOp.TheVariants.{FetchAdd, GetCount, LockBy, UnlockBy}
 use Rattle.model.specs.declared.AnyReply.{AnyReply}
-use Rattle.model.specs.declared.AnyReply.TheVariants.{Value, Swapped, NotSwapped, Flag}
-use Rattle.model.specs.Objects.{is_i64}
+use Rattle.model.specs.declared.AnyReply.TheVariants.{Value}
 use Rattle.model.specs.Orders.{Call, Return}
+use Rattle.projection.specs.Kinds.Register.{setting}
+pub use Rattle.projection.specs.Kinds.Keeping.{fits, fits_removal, fits_read, fits_cas, fits_create}
+pub use Rattle.projection.specs.Kinds.Keeping.{fits_del, fits_change, is_same, only_where}
+pub use Rattle.projection.specs.Kinds.Containers.{puts_in, is_removal}
+pub use Rattle.projection.specs.Kinds.Starts.{key_of, leaves_count, leaves, written}
 
--- ---- Projection: the part keeps some calls, chosen by their values, or by their keys. An element
--- of a set is its own key.
-
-abbrev pub is_same : Bool → Bool → Bool
-is_same a b = if a then b else not b
-
--- a call is kept only where its value is kept
-abbrev pub only_where : Bool → Bool → Bool
-only_where kept keeps = not kept || keeps
+-- ---- Projection: the part keeps some calls, chosen by their values, or by their keys.
 
 abbrev pub reply_of : Option Return → Option AnyReply
 reply_of None = None
 reply_of (Some r) = Some r.reply
-
--- A removal is kept exactly where the value that it took is kept. One that found nothing is kept or
--- left out. When a pending one may be left out is said of all of them (`IsClosed`).
-abbrev pub fits_removal : (ℤ → Bool) → Bool → Option AnyReply → Bool
-fits_removal keeps kept None = true
-fits_removal keeps kept (Some (Value (Some v))) = is_same kept (keeps v)
-fits_removal keeps kept (Some (Value None)) = true
-fits_removal keeps kept (Some (Swapped a b)) = true
-fits_removal keeps kept (Some NotSwapped) = true
-fits_removal keeps kept (Some (Flag b)) = true
-
--- A read is kept only where its value is kept. A pending one, or one that found nothing, is kept or
--- left out.
-abbrev pub fits_read : (ℤ → Bool) → Bool → Option AnyReply → Bool
-fits_read keeps kept None = true
-fits_read keeps kept (Some (Value (Some v))) = only_where kept (keeps v)
-fits_read keeps kept (Some (Value None)) = true
-fits_read keeps kept (Some (Swapped a b)) = true
-fits_read keeps kept (Some NotSwapped) = true
-fits_read keeps kept (Some (Flag b)) = true
-
--- A swap is left out only where its new value is left out, and kept only where its expected value
--- is kept. A pending one is also kept where both values are left out. A failed one is kept only
--- where all values are kept.
-abbrev pub fits_cas : Bool → (ℤ → Bool) → Bool → ℤ → ℤ → Option AnyReply → Bool
-fits_cas all keeps kept a b None = if kept then keeps a || not (keeps b) else not (keeps b)
-fits_cas all keeps kept a b (Some (Value v)) = true
-fits_cas all keeps kept a b (Some (Swapped c d)) = if kept then keeps a else not (keeps b)
-fits_cas all keeps kept a b (Some NotSwapped) = only_where kept all
-fits_cas all keeps kept a b (Some (Flag c)) = true
-
--- A creation is left out only where its value is left out. One that failed is kept only where all
--- values are kept.
-abbrev pub fits_create : Bool → (ℤ → Bool) → Bool → ℤ → Option AnyReply → Bool
-fits_create all keeps kept v (Some (Flag false)) = only_where kept all
-fits_create all keeps kept v reply = kept || not (keeps v)
-
--- A removal is kept exactly where its key is kept. One that found nothing may also be left out.
-abbrev pub fits_del : (ℤ → Bool) → Bool → ℤ → Option AnyReply → Bool
-fits_del keeps kept k None = is_same kept (keeps k)
-fits_del keeps kept k (Some (Value (Some v))) = is_same kept (keeps k)
-fits_del keeps kept k (Some (Value None)) = only_where kept (keeps k)
-fits_del keeps kept k (Some (Swapped c d)) = true
-fits_del keeps kept k (Some NotSwapped) = true
-fits_del keeps kept k (Some (Flag b)) = true
-
--- A change that replies whether it took place is kept exactly where its key is kept. One that
--- failed may also be left out.
-abbrev pub fits_change : (ℤ → Bool) → Bool → ℤ → Option AnyReply → Bool
-fits_change keeps kept k (Some (Flag false)) = only_where kept (keeps k)
-fits_change keeps kept k reply = is_same kept (keeps k)
-
--- Whether a part that keeps these values, or keys, may keep an operation with this reply (`kept`),
--- or leave it out. `all` says that all values are kept.
-abbrev pub fits : Bool → (ℤ → Bool) → Bool → AnyOp → Option AnyReply → Bool
-fits all keeps kept (Enqueue v) reply = is_same kept (keeps v)
-fits all keeps kept Dequeue reply = fits_removal keeps kept reply
-fits all keeps kept (Push v) reply = is_same kept (keeps v)
-fits all keeps kept Pop reply = fits_removal keeps kept reply
-fits all keeps kept (Insert v) reply = is_same kept (keeps v)
-fits all keeps kept ExtractMin reply = fits_removal keeps kept reply
-fits all keeps kept (Write v) reply = kept || not (keeps v)
-fits all keeps kept Read reply = fits_read keeps kept reply
-fits all keeps kept (Cas a b) reply = fits_cas all keeps kept a b reply
-fits all keeps kept Clear reply = kept
-fits all keeps kept (Create v) reply = fits_create all keeps kept v reply
-fits all keeps kept (Put k v) reply = is_same kept (keeps k)
-fits all keeps kept (Get k) reply = only_where kept (keeps k)
-fits all keeps kept (Del k) reply = fits_del keeps kept k reply
-fits all keeps kept (PutIfAbsent k v) reply = fits_change keeps kept k reply
-fits all keeps kept (Replace k a b) reply = fits_change keeps kept k reply
-fits all keeps kept (Assoc k v) reply = is_same kept (keeps k)
-fits all keeps kept (Dissoc k) reply = is_same kept (keeps k)
-fits all keeps kept Acquire reply = kept
-fits all keeps kept Release reply = kept
-fits all keeps kept (Add v) reply = fits_change keeps kept v reply
-fits all keeps kept (Remove v) reply = fits_change keeps kept v reply
-fits all keeps kept (Has v) reply = only_where kept (keeps v)
-fits all keeps kept (FetchAdd n) reply = kept
-fits all keeps kept GetCount reply = true
-fits all keeps kept (LockBy o) reply = kept
-fits all keeps kept (UnlockBy o) reply = kept
-
--- whether an operation puts in a kept value
-abbrev pub puts_in : (ℤ → Bool) → AnyOp → Bool
-puts_in keeps (Enqueue v) = keeps v
-puts_in keeps (Push v) = keeps v
-puts_in keeps (Insert v) = keeps v
-puts_in keeps op = false
-
-abbrev pub is_removal : AnyOp → Bool
-is_removal Dequeue = true
-is_removal Pop = true
-is_removal ExtractMin = true
-is_removal op = false
 
 abbrev pub is_kept_value : (ℤ → Bool) → Option AnyReply → Bool
 is_kept_value keeps (Some (Value (Some v))) = keeps v
@@ -178,57 +74,6 @@ calls_before until calls = map (call_before until) (filter (λ e. nat_lt e.numbe
 
 -- ---- A suffix: what can take effect from a call on that tells what the object then contains.
 
--- the key of an operation of a map, or the element of one of a set
-abbrev pub key_of : AnyOp → Option ℤ
-key_of (Put k v) = Some k
-key_of (Get k) = Some k
-key_of (Del k) = Some k
-key_of (PutIfAbsent k v) = Some k
-key_of (Replace k a b) = Some k
-key_of (Assoc k v) = Some k
-key_of (Dissoc k) = Some k
-key_of (Add v) = Some v
-key_of (Remove v) = Some v
-key_of (Has v) = Some v
-key_of op = None
-
--- what leaves this number in a counter at 0, where it is a number of 64 bits
-abbrev pub leaves_count : ℤ → Option (Option (AnyOp × AnyReply))
-leaves_count n = if is_i64 n then Some (Some (FetchAdd n, Value (Some (pos 0)))) else None
-
--- What an operation with this reply leaves in the object (of a map: under its key; of a set: of its
--- element), where the reply tells: nothing, or what this other operation leaves in an empty object,
--- with the reply that it then has.
-abbrev pub leaves : AnyOp → AnyReply → Option (Option (AnyOp × AnyReply))
-leaves Dequeue (Value None) = Some None
-leaves Pop (Value None) = Some None
-leaves ExtractMin (Value None) = Some None
-leaves (Write v) reply = Some (Some (Write v, Value (Some v)))
-leaves Read (Value None) = Some None
-leaves Read (Value (Some v)) = Some (Some (Write v, Value (Some v)))
-leaves (Cas a b) (Swapped c d) = Some (Some (Write b, Value (Some b)))
-leaves Clear reply = Some None
-leaves (Create v) (Flag true) = Some (Some (Write v, Value (Some v)))
-leaves (Put k v) reply = Some (Some (Put k v, Value None))
-leaves (Get k) (Value None) = Some None
-leaves (Get k) (Value (Some v)) = Some (Some (Put k v, Value None))
-leaves (Del k) reply = Some None
-leaves (PutIfAbsent k v) (Flag true) = Some (Some (Put k v, Value None))
-leaves (Replace k a b) (Flag true) = Some (Some (Put k b, Value None))
-leaves (Assoc k v) reply = Some (Some (Put k v, Value None))
-leaves (Dissoc k) reply = Some None
-leaves Acquire reply = Some (Some (Acquire, Value None))
-leaves Release reply = Some None
-leaves (Add v) reply = Some (Some (Add v, Flag true))
-leaves (Remove v) reply = Some None
-leaves (Has v) (Flag true) = Some (Some (Add v, Flag true))
-leaves (Has v) (Flag false) = Some None
-leaves (FetchAdd n) (Value (Some c)) = leaves_count (c +ℤ n)
-leaves GetCount (Value (Some c)) = leaves_count c
-leaves (LockBy o) reply = Some (Some (LockBy o, Value None))
-leaves (UnlockBy o) reply = Some None
-leaves op reply = None
-
 -- A suffix may begin with the call of this number. It returned at `at`, and leaves what `first`
 -- leaves. At a map each call is on its key, and at a set on its element.
 pub record IsStart (calls : List Call) (from at : ℕ)
@@ -245,13 +90,8 @@ abbrev pub ended_before : ℕ → Option Return → Bool
 ended_before from None = false
 ended_before from (Some r) = nat_lt r.at from
 
--- the value that a call left in a register, whatever the register contained
-abbrev pub written : AnyOp → AnyReply → Option ℤ
-written (Write v) reply = Some v
-written (Cas a b) (Swapped c d) = Some b
-written op reply = None
-
--- the same, where the suffix begins with an operation
+-- the value that a call left in a register, whatever the register contained, where the suffix
+-- begins with an operation
 abbrev pub written_before : Option (AnyOp × AnyReply) → AnyOp → AnyReply → Option ℤ
 written_before None op reply = None
 written_before (Some first) op reply = written op reply
@@ -259,8 +99,8 @@ written_before (Some first) op reply = written op reply
 abbrev pub write_call : ℕ → ℕ → ℤ → Call
 write_call number at v = record {
   number = number;
-  op = Write v;
-  returned = Some (record { at = at; reply = Value (Some v) });
+  op = (setting (Some v)).0;
+  returned = Some (record { at = at; reply = (setting (Some v)).1 });
 }
 
 abbrev pub pending_call : ℕ → AnyOp → Call

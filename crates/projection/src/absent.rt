@@ -7,8 +7,9 @@ ghost use Rattle.projection.specs.Absent.{IsAbsent, IsRest};
 ghost use Rattle.projection.specs.Cuts.{IsPart};
 ghost use Rattle.projection.specs.CutOperations.{is_late, is_put_before_end, is_taken_before_end};
 
+use crate::kinds::containers::{is_removal, put_value};
 use events::{End, Invocation, ObjectHistory};
-use seq_objects::{AnyOp, AnyReply};
+use seq_objects::AnyReply;
 use std::alloc::{AllocError, Global};
 
 /// Whether an operation that did not fail puts in this value, and was invoked before this number.
@@ -19,11 +20,9 @@ fn puts_before(value: i64, before: u32, operation: &Invocation) -> bool
     if operation.end == End::Failed {
         return false;
     }
-    match operation.op {
-        AnyOp::Enqueue(put) => value == put && operation.number < before,
-        AnyOp::Push(put) => value == put && operation.number < before,
-        AnyOp::Insert(put) => value == put && operation.number < before,
-        _ => false,
+    match put_value(operation.op) {
+        Some(put) => value == put && operation.number < before,
+        None => false,
     }
 }
 
@@ -31,14 +30,11 @@ fn puts_before(value: i64, before: u32, operation: &Invocation) -> bool
 fn takes_before(value: i64, before: u32, operation: &Invocation) -> bool
     ensures { result ≡ is_taken_before_end value before operation.now.op operation.now.«end» }
 {
-    match (operation.op, operation.end) {
-        (
-            AnyOp::Dequeue | AnyOp::Pop | AnyOp::ExtractMin,
-            End::Returned {
-                at,
-                reply: AnyReply::Value(Some(taken)),
-            },
-        ) => value == taken && at < before,
+    match operation.end {
+        End::Returned {
+            at,
+            reply: AnyReply::Value(Some(taken)),
+        } => is_removal(operation.op) && (value == taken && at < before),
         _ => false,
     }
 }

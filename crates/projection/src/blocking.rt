@@ -16,6 +16,7 @@ ghost use Rattle.projection.specs.CutOperations.{ahead_before_end, first_put_end
 ghost use Rattle.projection.specs.CutOperations.{is_put_ahead_end, is_settled_end, IsRemoval};
 ghost use Rattle.projection.specs.CutOperations.{may_precede_end, may_take_end};
 
+use crate::kinds::containers::{is_removal, is_value_ahead, put_value, takes_first, takes_last};
 use crate::suffix::{is_before, operation_at};
 use events::{End, Invocation, ObjectHistory};
 use seq_objects::{AnyOp, AnyReply};
@@ -36,11 +37,8 @@ fn found_by(op: AnyOp, end: End) -> Option<(u32, Option<i64>)>
     let End::Returned { at, reply } = end else {
         return None;
     };
-    match op {
-        AnyOp::Dequeue | AnyOp::Pop | AnyOp::ExtractMin => match reply {
-            AnyReply::Value(found) => Some((at, found)),
-            _ => None,
-        },
+    match reply {
+        AnyReply::Value(found) if is_removal(op) => Some((at, found)),
         _ => None,
     }
 }
@@ -65,29 +63,13 @@ fn removal_at(operations: &[Invocation], number: u32) -> Option<Removal>
     })
 }
 
-/// Whether a value can be ahead of what the removal found.
-fn is_value_ahead(removal: Removal, value: i64) -> bool
-    ensures { result ≡ ahead.is_value_ahead removal.found removal.op value }
-{
-    match removal.found {
-        None => true,
-        Some(found) => match removal.op {
-            AnyOp::Dequeue | AnyOp::Pop => true,
-            AnyOp::ExtractMin => value < found,
-            _ => false,
-        },
-    }
-}
-
 /// Whether an operation puts in such a value.
 fn puts_in(removal: Removal, op: AnyOp) -> bool
     ensures { result ≡ parts.puts_in (ahead.is_value_ahead removal.found removal.op) op }
 {
-    match op {
-        AnyOp::Enqueue(value) => is_value_ahead(removal, value),
-        AnyOp::Push(value) => is_value_ahead(removal, value),
-        AnyOp::Insert(value) => is_value_ahead(removal, value),
-        _ => false,
+    match put_value(op) {
+        Some(value) => is_value_ahead(removal.found, removal.op, value),
+        None => false,
     }
 }
 
@@ -98,11 +80,9 @@ fn puts_value(value: i64, operation: &Invocation) -> bool
     if operation.end == End::Failed {
         return false;
     }
-    match operation.op {
-        AnyOp::Enqueue(new) => value == new,
-        AnyOp::Push(new) => value == new,
-        AnyOp::Insert(new) => value == new,
-        _ => false,
+    match put_value(operation.op) {
+        Some(new) => value == new,
+        None => false,
     }
 }
 
@@ -134,10 +114,10 @@ fn ahead_before(operations: &[Invocation], removal: Removal) -> u32
 {
     match removal.found {
         None => removal.number,
-        Some(found) => match removal.op {
-            AnyOp::Dequeue => removal.number.min(first_put(operations, found)),
-            _ => removal.number,
-        },
+        Some(found) if takes_first(removal.op) => {
+            removal.number.min(first_put(operations, found))
+        }
+        Some(_) => removal.number,
     }
 }
 
@@ -161,10 +141,8 @@ fn are_settled(operations: &[Invocation], removal: Removal, from: u32) -> bool
 {
     match removal.found {
         None => true,
-        Some(found) => match removal.op {
-            AnyOp::Pop => all_settled(operations, found, from),
-            _ => true,
-        },
+        Some(found) if takes_last(removal.op) => all_settled(operations, found, from),
+        Some(_) => true,
     }
 }
 
@@ -185,13 +163,14 @@ fn is_ahead(removal: Removal, from: u32, before: u32, operation: &Invocation) ->
 fn may_take(removal: Removal, op: AnyOp, end: End) -> bool
     ensures { result ≡ may_take_end (ahead.is_value_ahead removal.found removal.op) op «end» }
 {
-    let is_removal = matches!(op, AnyOp::Dequeue | AnyOp::Pop | AnyOp::ExtractMin);
     match end {
         End::Returned { reply, .. } => match reply {
-            AnyReply::Value(Some(value)) => is_removal && is_value_ahead(removal, value),
+            AnyReply::Value(Some(value)) => {
+                is_removal(op) && is_value_ahead(removal.found, removal.op, value)
+            }
             _ => false,
         },
-        End::Pending => is_removal,
+        End::Pending => is_removal(op),
         End::Failed => false,
     }
 }

@@ -5,11 +5,12 @@ ghost use Rattle.std.specs.Prelude.{◌≡◌, true, MatchBool, Option, count_by
 ghost use Rattle.events.specs.Operations.{calls_of};
 ghost use Rattle.search.specs.Outcomes.{IsNoneValid};
 ghost use Rattle.projection.specs.Counts as counts;
-ghost use Rattle.projection.specs.Counts.{is_reply, IsOverdrawn};
+ghost use Rattle.projection.specs.Counts.{IsOverdrawn};
 ghost use Rattle.projection.specs.CutOperations.{is_set, is_gone};
 
+use crate::kinds::counting::{is_single, sets, takes};
 use events::{End, Invocation, ObjectHistory};
-use seq_objects::{AnyOp, AnyReply, Kind};
+use seq_objects::Kind;
 
 /// What is counted: a content, or a part of one.
 #[derive(Clone, Copy, Debug, PartialEq, Eq)]
@@ -31,95 +32,6 @@ pub enum Counted {
 pub struct Count {
     pub counted: Counted,
     pub from: u32,
-}
-
-/// Whether the reply is this value.
-fn is_value(value: i64, reply: Option<AnyReply>) -> bool
-    ensures { result ≡ is_reply value reply }
-{
-    match reply {
-        Some(AnyReply::Value(Some(taken))) => taken == value,
-        _ => false,
-    }
-}
-
-/// Whether the reply is that the operation did not take place.
-fn is_refused(reply: Option<AnyReply>) -> bool
-    ensures { result ≡ counts.is_refused reply }
-{
-    match reply {
-        Some(AnyReply::Flag(false)) => true,
-        _ => false,
-    }
-}
-
-/// Whether an operation with this reply sets the content; with no reply, whether it may.
-fn sets(counted: Counted, op: AnyOp, reply: Option<AnyReply>) -> bool
-    ensures { result ≡ counts.sets counted op reply }
-{
-    match (counted, op) {
-        (Counted::Value(value), AnyOp::Enqueue(new)) => new == value,
-        (Counted::Value(value), AnyOp::Push(new)) => new == value,
-        (Counted::Value(value), AnyOp::Insert(new)) => new == value,
-        (Counted::Value(value), AnyOp::Write(new)) => new == value,
-        (Counted::Value(value), AnyOp::Cas(_, new)) => match reply {
-            None | Some(AnyReply::Swapped(..)) => new == value,
-            _ => false,
-        },
-        (Counted::Value(value), AnyOp::Create(new)) => !is_refused(reply) && new == value,
-        (Counted::Entry { key, value }, AnyOp::Put(at, new)) => at == key && new == value,
-        (Counted::Entry { key, value }, AnyOp::PutIfAbsent(at, new)) => {
-            !is_refused(reply) && (at == key && new == value)
-        }
-        (Counted::Entry { key, value }, AnyOp::Replace(at, _, new)) => {
-            !is_refused(reply) && (at == key && new == value)
-        }
-        (Counted::Entry { key, value }, AnyOp::Assoc(at, new)) => at == key && new == value,
-        (Counted::NoEntry(key), AnyOp::Del(at)) => match reply {
-            None | Some(AnyReply::Value(Some(_))) => at == key,
-            _ => false,
-        },
-        (Counted::NoEntry(key), AnyOp::Dissoc(at)) => at == key,
-        (Counted::Held, AnyOp::Acquire) => true,
-        (Counted::Free, AnyOp::Release) => true,
-        _ => false,
-    }
-}
-
-/// Whether an operation with this reply took the content away.
-fn takes(counted: Counted, op: AnyOp, reply: AnyReply) -> bool
-    ensures { result ≡ counts.takes counted op (Option.Some reply) }
-{
-    match (counted, op) {
-        (Counted::Value(value), AnyOp::Dequeue | AnyOp::Pop | AnyOp::ExtractMin) => {
-            is_value(value, Some(reply))
-        }
-        (Counted::Value(value), AnyOp::Cas(expected, _)) => match reply {
-            AnyReply::Swapped(..) => expected == value,
-            _ => false,
-        },
-        (Counted::Entry { key, value }, AnyOp::Put(at, _)) => {
-            at == key && is_value(value, Some(reply))
-        }
-        (Counted::Entry { key, value }, AnyOp::Del(at)) => {
-            at == key && is_value(value, Some(reply))
-        }
-        (Counted::Entry { key, value }, AnyOp::Replace(at, old, _)) => match reply {
-            AnyReply::Flag(true) => at == key && old == value,
-            _ => false,
-        },
-        (Counted::NoEntry(key), AnyOp::Put(at, _)) => match reply {
-            AnyReply::Value(None) => at == key,
-            _ => false,
-        },
-        (Counted::NoEntry(key), AnyOp::PutIfAbsent(at, _)) => match reply {
-            AnyReply::Flag(true) => at == key,
-            _ => false,
-        },
-        (Counted::Free, AnyOp::Acquire) => true,
-        (Counted::Held, AnyOp::Release) => true,
-        _ => false,
-    }
 }
 
 /// Whether an operation that did not fail sets the content, and had not returned before the count
@@ -160,11 +72,7 @@ fn most_before(kind: Kind, count: Count) -> Option<usize>
             _ => Some(0),
         };
     }
-    match kind {
-        Kind::Register | Kind::Map | Kind::Mutex => Some(1),
-        Kind::Queue | Kind::Stack | Kind::Heap => None,
-        Kind::Set | Kind::Counter | Kind::Lock => None,
-    }
+    if is_single(kind) { Some(1) } else { None }
 }
 
 /// How many operations set it, and how many took it away.

@@ -4,14 +4,15 @@ ghost use Rattle.std.specs.Prelude.{◌≡◌, ◌<◌, ◌-◌, true, IfOk, IfS
 ghost use Rattle.std.specs.Prelude.{filter, count_by};
 ghost use Rattle.std.specs.List.{list_all};
 ghost use Rattle.events.specs.Operations.{calls_of};
-ghost use Rattle.projection.specs.Parts as parts;
-ghost use Rattle.projection.specs.Parts.{fits, fits_removal, kept_calls};
+ghost use Rattle.projection.specs.Parts.{kept_calls};
 ghost use Rattle.projection.specs.Cuts.{keeps_all, keeps_value, keeps_number, IsClosedPart, IsPart};
 ghost use Rattle.projection.specs.CutOperations.{fits_end, is_put, is_taken, is_open_removal, is_kept_call};
 ghost use Rattle.projection.specs.CutOperations.{keeps_first};
 
+use crate::kinds::containers::{is_removal, put_value};
+use crate::kinds::keeping::reply_fits;
 use events::{End, Invocation, ObjectHistory};
-use seq_objects::{AnyOp, AnyReply};
+use seq_objects::AnyReply;
 use std::alloc::{AllocError, Global};
 use std::collections::BTreeSet;
 
@@ -23,7 +24,7 @@ pub enum Values {
 }
 
 impl Values {
-    fn is_all(&self) -> bool
+    pub(crate) fn is_all(&self) -> bool
         ensures { result ≡ keeps_all self.now }
     {
         matches!(self, Values::All)
@@ -36,102 +37,6 @@ impl Values {
             Values::All => true,
             Values::Only(values) => values.contains(&value),
         }
-    }
-}
-
-/// Whether a removal with this reply may be kept, or left out. No reply: it is pending.
-fn removal_fits(values: &Values, kept: bool, reply: Option<AnyReply>) -> bool
-    ensures { result ≡ fits_removal (keeps_value values.now) kept reply }
-{
-    match reply {
-        Some(AnyReply::Value(Some(value))) => kept == values.has(value),
-        _ => true,
-    }
-}
-
-/// Whether a read with this reply may be kept, or left out.
-fn read_fits(values: &Values, kept: bool, reply: Option<AnyReply>) -> bool
-    ensures { result ≡ parts.fits_read (keeps_value values.now) kept reply }
-{
-    match reply {
-        Some(AnyReply::Value(Some(value))) => !kept || values.has(value),
-        _ => true,
-    }
-}
-
-/// Whether a swap with this reply may be kept, or left out.
-fn cas_fits(values: &Values, kept: bool, expected: i64, new: i64, reply: Option<AnyReply>) -> bool
-    ensures { result ≡ parts.fits_cas (keeps_all values.now) (keeps_value values.now) kept expected
-        new reply }
-{
-    match reply {
-        None if kept => values.has(expected) || !values.has(new),
-        Some(AnyReply::Swapped(..)) if kept => values.has(expected),
-        None | Some(AnyReply::Swapped(..)) => !values.has(new),
-        Some(AnyReply::NotSwapped) => !kept || values.is_all(),
-        Some(_) => true,
-    }
-}
-
-/// Whether a creation of this value with this reply may be kept, or left out.
-fn create_fits(values: &Values, kept: bool, value: i64, reply: Option<AnyReply>) -> bool
-    ensures { result ≡ parts.fits_create (keeps_all values.now) (keeps_value values.now) kept value
-        reply }
-{
-    match reply {
-        Some(AnyReply::Flag(false)) => !kept || values.is_all(),
-        _ => kept || !values.has(value),
-    }
-}
-
-/// Whether a removal of this key with this reply may be kept, or left out.
-fn del_fits(values: &Values, kept: bool, key: i64, reply: Option<AnyReply>) -> bool
-    ensures { result ≡ parts.fits_del (keeps_value values.now) kept key reply }
-{
-    match reply {
-        None | Some(AnyReply::Value(Some(_))) => kept == values.has(key),
-        Some(AnyReply::Value(None)) => !kept || values.has(key),
-        Some(_) => true,
-    }
-}
-
-/// Whether a change at this key, or of this element, may be kept, or left out, by its reply:
-/// whether it took place.
-fn change_fits(values: &Values, kept: bool, key: i64, reply: Option<AnyReply>) -> bool
-    ensures { result ≡ parts.fits_change (keeps_value values.now) kept key reply }
-{
-    match reply {
-        Some(AnyReply::Flag(false)) => !kept || values.has(key),
-        _ => kept == values.has(key),
-    }
-}
-
-/// Whether an operation with this reply may be kept, or left out. No reply: it is pending.
-fn reply_fits(values: &Values, kept: bool, op: AnyOp, reply: Option<AnyReply>) -> bool
-    ensures { result ≡ fits (keeps_all values.now) (keeps_value values.now) kept op reply }
-{
-    match op {
-        AnyOp::Enqueue(value) => kept == values.has(value),
-        AnyOp::Push(value) => kept == values.has(value),
-        AnyOp::Insert(value) => kept == values.has(value),
-        AnyOp::Dequeue | AnyOp::Pop | AnyOp::ExtractMin => removal_fits(values, kept, reply),
-        AnyOp::Write(value) => kept || !values.has(value),
-        AnyOp::Read => read_fits(values, kept, reply),
-        AnyOp::Cas(expected, new) => cas_fits(values, kept, expected, new, reply),
-        AnyOp::Create(value) => create_fits(values, kept, value, reply),
-        AnyOp::Put(key, _) => kept == values.has(key),
-        AnyOp::Get(key) => !kept || values.has(key),
-        AnyOp::Del(key) => del_fits(values, kept, key, reply),
-        AnyOp::PutIfAbsent(key, _) => change_fits(values, kept, key, reply),
-        AnyOp::Replace(key, ..) => change_fits(values, kept, key, reply),
-        AnyOp::Assoc(key, _) => kept == values.has(key),
-        AnyOp::Dissoc(key) => kept == values.has(key),
-        AnyOp::Add(value) => change_fits(values, kept, value, reply),
-        AnyOp::Remove(value) => change_fits(values, kept, value, reply),
-        AnyOp::Has(value) => !kept || values.has(value),
-        AnyOp::GetCount => true,
-        AnyOp::Clear | AnyOp::Acquire | AnyOp::Release => kept,
-        AnyOp::FetchAdd(_) | AnyOp::LockBy(_) | AnyOp::UnlockBy(_) => kept,
     }
 }
 
@@ -153,11 +58,9 @@ fn puts(values: &Values, operation: &Invocation) -> bool
 {
     match operation.end {
         End::Failed => false,
-        _ => match operation.op {
-            AnyOp::Enqueue(value) => values.has(value),
-            AnyOp::Push(value) => values.has(value),
-            AnyOp::Insert(value) => values.has(value),
-            _ => false,
+        _ => match put_value(operation.op) {
+            Some(value) => values.has(value),
+            None => false,
         },
     }
 }
@@ -166,14 +69,11 @@ fn puts(values: &Values, operation: &Invocation) -> bool
 fn takes(values: &Values, operation: &Invocation) -> bool
     ensures { result ≡ is_taken (keeps_value values.now) operation.now.op operation.now.«end» }
 {
-    match (operation.op, operation.end) {
-        (
-            AnyOp::Dequeue | AnyOp::Pop | AnyOp::ExtractMin,
-            End::Returned {
-                reply: AnyReply::Value(Some(value)),
-                ..
-            },
-        ) => values.has(value),
+    match operation.end {
+        End::Returned {
+            reply: AnyReply::Value(Some(value)),
+            ..
+        } => is_removal(operation.op) && values.has(value),
         _ => false,
     }
 }
@@ -192,10 +92,7 @@ fn left_over(values: &Values, operations: &[Invocation]) -> usize
 fn is_pending_removal(operation: &Invocation) -> bool
     ensures { result ≡ is_open_removal operation.now.op operation.now.«end» }
 {
-    match (operation.op, operation.end) {
-        (AnyOp::Dequeue | AnyOp::Pop | AnyOp::ExtractMin, End::Pending) => true,
-        _ => false,
-    }
+    is_removal(operation.op) && operation.end == End::Pending
 }
 
 /// Whether the first pending removals, this many, have these numbers.

@@ -1,10 +1,15 @@
-//! The kinds of objects that have cells, each in a file of its own. This file alone lists them.
+//! What parts need to know of the kinds. No code outside of these files names a kind or an
+//! operation. Each kind that has cells has a file of its own, and this file lists them.
 
 ghost use Rattle.std.specs.Prelude.{◌≡◌};
 ghost use Rattle.projection.specs.Kinds as spec;
 
+pub(crate) mod containers;
+pub(crate) mod counting;
+pub(crate) mod keeping;
 pub(crate) mod map;
 pub(crate) mod register;
+pub(crate) mod starts;
 
 use crate::touches::Touch;
 use map::map_touch;

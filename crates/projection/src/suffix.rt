@@ -1,6 +1,6 @@
 //! Suffixes: what can take effect from a call on that tells what the object then contains.
 
-ghost use Rattle.std.specs.Prelude.{◌≡◌, ◌≢◌, ◌<◌, ◌+ℤ◌, ℕ, List, IfOk, IfSome, All, AllPairs};
+ghost use Rattle.std.specs.Prelude.{◌≡◌, ◌≢◌, ◌<◌, ℕ, List, IfOk, IfSome, All, AllPairs};
 ghost use Rattle.std.specs.Prelude.{Contains, MatchBool, Option, None, true, false};
 ghost use Rattle.std.specs.List.{filter_map};
 ghost use Rattle.model.specs.declared.AnyOp.{AnyOp};
@@ -14,12 +14,10 @@ ghost use Rattle.projection.specs.CutOperations.{has_failed, is_over, overlappin
 ghost use Rattle.projection.specs.CutOperations.{operation_from, IsOnKey};
 
 use crate::kinds::register::setting;
+use crate::kinds::starts::{First, first_of, key_of, written};
 use events::{End, Invocation, ObjectHistory};
 use seq_objects::{AnyOp, AnyReply};
 use std::alloc::{AllocError, Global};
-
-/// An operation on an empty object, and its reply.
-type First = (AnyOp, AnyReply);
 
 /// Where a suffix begins: the number of the first call's response, and what leaves the object as
 /// the first call did; `None`: it left nothing.
@@ -29,100 +27,8 @@ struct Start {
     first: Option<First>,
 }
 
-/// The key of an operation of a map, or the element of one of a set.
-fn key_of(op: AnyOp) -> Option<i64>
-    ensures { result ≡ parts.key_of op }
-{
-    match op {
-        AnyOp::Put(key, _) => Some(key),
-        AnyOp::Get(key) => Some(key),
-        AnyOp::Del(key) => Some(key),
-        AnyOp::PutIfAbsent(key, _) => Some(key),
-        AnyOp::Replace(key, ..) => Some(key),
-        AnyOp::Assoc(key, _) => Some(key),
-        AnyOp::Dissoc(key) => Some(key),
-        AnyOp::Add(value) => Some(value),
-        AnyOp::Remove(value) => Some(value),
-        AnyOp::Has(value) => Some(value),
-        _ => None,
-    }
-}
-
-/// A put under a key that has no value, with its reply.
-fn put_of(key: i64, value: i64) -> First
-    ensures { result ≡ (AnyOp.Put key value, AnyReply.Value Option.None) }
-{
-    (AnyOp::Put(key, value), AnyReply::Value(None))
-}
-
-/// An addition of an element that is not in a set, with its reply.
-fn add_of(value: i64) -> First
-    ensures { result ≡ (AnyOp.Add value, AnyReply.Flag true) }
-{
-    (AnyOp::Add(value), AnyReply::Flag(true))
-}
-
-/// An addition to a counter at 0, with its reply.
-fn count_of(count: i64) -> Option<First>
-    ensures { Option.Some result ≡ parts.leaves_count count }
-{
-    Some((AnyOp::FetchAdd(count), AnyReply::Value(Some(0))))
-}
-
-/// What an addition to this number leaves in a counter.
-fn sum_of(before: i64, more: i64) -> Option<Option<First>>
-    ensures { result ≡ parts.leaves_count (before +ℤ more) }
-{
-    let count = before.checked_add(more)?;
-    Some(count_of(count))
-}
-
-/// What an operation with this reply left, if the reply tells: nothing, or what this operation
-/// leaves in an empty object.
-fn first_of(op: AnyOp, reply: AnyReply) -> Option<Option<First>>
-    ensures { result ≡ leaves op reply }
-{
-    match (op, reply) {
-        (AnyOp::Dequeue | AnyOp::Pop | AnyOp::ExtractMin, AnyReply::Value(None)) => Some(None),
-        (AnyOp::Write(value), _) => Some(Some(setting(Some(value)))),
-        (AnyOp::Read, AnyReply::Value(None)) => Some(None),
-        (AnyOp::Read, AnyReply::Value(Some(value))) => Some(Some(setting(Some(value)))),
-        (AnyOp::Cas(_, new), AnyReply::Swapped(..)) => Some(Some(setting(Some(new)))),
-        (AnyOp::Create(value), AnyReply::Flag(true)) => Some(Some(setting(Some(value)))),
-        (AnyOp::Put(key, value), _) => Some(Some(put_of(key, value))),
-        (AnyOp::Get(_), AnyReply::Value(None)) => Some(None),
-        (AnyOp::Get(key), AnyReply::Value(Some(value))) => Some(Some(put_of(key, value))),
-        (AnyOp::PutIfAbsent(key, value), AnyReply::Flag(true)) => Some(Some(put_of(key, value))),
-        (AnyOp::Replace(key, _, new), AnyReply::Flag(true)) => Some(Some(put_of(key, new))),
-        (AnyOp::Assoc(key, value), _) => Some(Some(put_of(key, value))),
-        (AnyOp::Add(value), _) => Some(Some(add_of(value))),
-        (AnyOp::Has(value), AnyReply::Flag(true)) => Some(Some(add_of(value))),
-        (AnyOp::Has(_), AnyReply::Flag(false)) => Some(None),
-        (AnyOp::FetchAdd(more), AnyReply::Value(Some(before))) => sum_of(before, more),
-        (AnyOp::GetCount, AnyReply::Value(Some(count))) => Some(count_of(count)),
-        (AnyOp::Acquire, _) => Some(Some((AnyOp::Acquire, AnyReply::Value(None)))),
-        (AnyOp::LockBy(owner), _) => Some(Some((AnyOp::LockBy(owner), AnyReply::Value(None)))),
-        (AnyOp::Clear | AnyOp::Del(_) | AnyOp::Dissoc(_) | AnyOp::Release, _) => Some(None),
-        (AnyOp::Remove(_) | AnyOp::UnlockBy(_), _) => Some(None),
-        _ => None,
-    }
-}
-
-/// The value that an operation with this reply left in a register, whatever it contained.
-fn written(op: AnyOp, reply: AnyReply) -> Option<i64>
-    ensures { result ≡ parts.written op reply }
-{
-    match op {
-        AnyOp::Write(value) => Some(value),
-        AnyOp::Cas(_, new) => match reply {
-            AnyReply::Swapped(..) => Some(new),
-            _ => None,
-        },
-        _ => None,
-    }
-}
-
-/// The same, where the suffix begins with an operation.
+/// The value that an operation with this reply left in a register, whatever it contained, where the
+/// suffix begins with an operation.
 fn written_before(first: Option<First>, op: AnyOp, reply: AnyReply) -> Option<i64>
     ensures { result ≡ parts.written_before first op reply }
 {
@@ -140,13 +46,11 @@ fn overlapping(first: Option<First>, operation: &Invocation) -> Invocation
 {
     if let End::Returned { at, reply } = operation.end {
         if let Some(value) = written_before(first, operation.op, reply) {
+            let (op, reply) = setting(Some(value));
             return Invocation {
                 number: operation.number,
-                op: AnyOp::Write(value),
-                end: End::Returned {
-                    at,
-                    reply: AnyReply::Value(Some(value)),
-                },
+                op,
+                end: End::Returned { at, reply },
             };
         }
     }
