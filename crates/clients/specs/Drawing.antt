@@ -4,31 +4,23 @@
 -- 2014). A number below another is drawn from one word, or two, by Canon's method, as `rand` does
 -- it.
 use Rattle.std.specs.Prelude.{ℕ, zero, suc, ◌%◌, ◌/◌, ◌^◌, ◌==◌, pos, List, [], ◌∷◌, if◌then◌else◌}
+use Rattle.std.specs.Prelude.{◌≡◌, Option, Some, None}
 use Rattle.rand_core.specs.Stream.{Stream, next_u32}
 use Rattle.rand_core.specs.Steps.{stream_of, steps_u32}
 use Rattle.rand_pcg.specs.Lcg.{Lcg, started, increment_of}
 use Rattle.rand_pcg.specs.Pcg.{multiplier_64, pcg32}
 use Rattle.rand.specs.Uniform.{canon}
 use Rattle.model.specs.declared.Kind.{Kind}
-use Rattle.model.specs.declared.Kind.TheVariants.{Queue, Stack, Heap, Register, Map, Mutex, Set}
-use Rattle.model.specs.declared.Kind.TheVariants.{Counter, Lock}
 use Rattle.model.specs.declared.AnyOp.{AnyOp}
-use Rattle.model.specs.declared.AnyOp.TheVariants.{Enqueue, Dequeue, Push, Pop, Insert, ExtractMin}
-use Rattle.model.specs.declared.AnyOp.TheVariants.{Write, Read, Cas, Put, Get, Del, Acquire}
-use Rattle.model.specs.declared.AnyOp.TheVariants.{Release, Add, Remove, Has, FetchAdd, GetCount}
-use Rattle.model.specs.declared.AnyOp.TheVariants.{LockBy, UnlockBy}
 use Rattle.seq_objects.specs.declared.kinds.Kinds.{Kinds}
 use Rattle.seq_objects.specs.declared.kinds.Kinds.TheVariants.{One}
 use Rattle.seq_objects.specs.Kinds.{kind_in}
+use Rattle.model.specs.Objects.{kind_of}
 use Rattle.clients.specs.declared.draws.Draws.{Draws}
+use Rattle.clients.specs.declared.kinds.Operations.{Operations}
+use Rattle.clients.specs.declared.kinds.Operations.TheVariants.{Two, Three, Pair}
+use Rattle.clients.specs.Kinds.{operations_of}
 use Rattle.clients.specs.Workloads.{Call}
-
--- the first of these places has the first, and so on; any further one the last
-abbrev pub one_of_two : {A : Type 0} → ℕ → A → A → A
-one_of_two place a b = if place == 0 then a else b
-
-abbrev pub one_of_three : {A : Type 0} → ℕ → A → A → A → A
-one_of_three place a b c = if place == 0 then a else if place == 1 then b else c
 
 -- the words that a generator will give from now on
 abbrev pub stream_at : Lcg → Stream
@@ -48,22 +40,22 @@ draws_from objects s =
     let second = number_below 100 first.1 in
     (record { object = object.0; choice = choice.0; first = first.0; second = second.0 }, second.1)
 
--- the operation that the numbers make on an object of this kind: the one at that place among those
--- of the kind
+-- the operations are of this kind
+abbrev pub AreOf : Kind → Operations → Type 0
+AreOf kind (Two a b) = (kind_of a ≡ kind) × (kind_of b ≡ kind)
+AreOf kind (Three a b c) = (kind_of a ≡ kind) × (kind_of b ≡ kind) × (kind_of c ≡ kind)
+AreOf kind (Pair take free) = (kind_of take ≡ kind) × (kind_of free ≡ kind)
+
+-- the operation at a place, counted around
+abbrev pub operation_at : Operations → ℕ → AnyOp
+operation_at (Two a b) place = if place % 2 == 0 then a else b
+operation_at (Three a b c) place =
+    if place % 3 == 0 then a else if place % 3 == 1 then b else c
+operation_at (Pair take free) place = if place % 2 == 0 then take else free
+
+-- the operation that the numbers make on an object of this kind
 abbrev pub op_for : Kind → Draws → AnyOp
-op_for Queue d = one_of_two (d.choice % 2) (Enqueue (pos d.first)) Dequeue
-op_for Stack d = one_of_two (d.choice % 2) (Push (pos d.first)) Pop
-op_for Heap d = one_of_two (d.choice % 2) (Insert (pos d.first)) ExtractMin
-op_for Register d =
-    one_of_three (d.choice % 3) (Write (pos d.first)) Read (Cas (pos d.first) (pos d.second))
-op_for Map d =
-    one_of_three (d.choice % 3) (Put (pos d.first) (pos d.second)) (Get (pos d.first))
-    (Del (pos d.first))
-op_for Mutex d = one_of_two (d.choice % 2) Acquire Release
-op_for Set d =
-    one_of_three (d.choice % 3) (Add (pos d.first)) (Remove (pos d.first)) (Has (pos d.first))
-op_for Counter d = one_of_two (d.choice % 2) (FetchAdd (pos d.first)) GetCount
-op_for Lock d = one_of_two (d.choice % 2) (LockBy (pos d.first)) (UnlockBy (pos d.first))
+op_for kind d = operation_at (operations_of kind (pos d.first) (pos d.second)) d.choice
 
 -- this many calls
 abbrev pub calls_from : Kinds → ℕ → ℕ → Stream → List Call
@@ -85,12 +77,22 @@ pairs_from take free objects (suc n) s =
 abbrev pub stream_for : ℕ → ℕ → Stream
 stream_for seed client = stream_at (started 64 multiplier_64 seed (increment_of 64 client))
 
--- the calls of a client; of mutexes and locks, whole pairs, where the owner of a lock is the client
+-- the operations in pairs, where these are a pair
+abbrev pub pair_in : Operations → Option (AnyOp × AnyOp)
+pair_in (Pair take free) = Some (take, free)
+pair_in operations = None
+
+-- the pair that a client calls on objects of one kind that has pairs: both values are its number
+abbrev pub pair_for : Kinds → ℕ → Option (AnyOp × AnyOp)
+pair_for (One kind) client = pair_in (operations_of kind (pos client) (pos client))
+pair_for kinds client = None
+
+-- this many calls from a stream, or whole pairs of calls where there is a pair
+abbrev pub calls_or_pairs : Option (AnyOp × AnyOp) → Kinds → ℕ → ℕ → Stream → List Call
+calls_or_pairs None kinds objects count s = calls_from kinds objects count s
+calls_or_pairs (Some pair) kinds objects count s = pairs_from pair.0 pair.1 objects (count / 2) s
+
+-- the calls of a client
 abbrev pub client_calls : Kinds → ℕ → ℕ → ℕ → ℕ → List Call
-client_calls (One Mutex) objects count seed client =
-    pairs_from Acquire Release objects (count / 2) (stream_for seed client)
-client_calls (One Lock) objects count seed client =
-    pairs_from (LockBy (pos client)) (UnlockBy (pos client)) objects (count / 2)
-    (stream_for seed client)
 client_calls kinds objects count seed client =
-    calls_from kinds objects count (stream_for seed client)
+    calls_or_pairs (pair_for kinds client) kinds objects count (stream_for seed client)

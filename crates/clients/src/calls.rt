@@ -1,13 +1,15 @@
 //! The calls of one client.
 
-ghost use Rattle.std.specs.Prelude.{◌≡◌, ◌<◌, ◌≤◌, ◌*◌, length, All, IfOk};
+ghost use Rattle.std.specs.Prelude.{◌≡◌, ◌<◌, ◌≤◌, ◌*◌, length, All, IfOk, IfSome};
 ghost use Rattle.seq_objects.specs.Kinds.{kinds_of};
 ghost use Rattle.model.specs.Objects.{kind_of};
 ghost use Rattle.clients.specs.Drawing.{calls_from, pairs_from, client_calls, stream_at};
+ghost use Rattle.clients.specs.Drawing as spec;
 ghost use Rattle.clients.specs.Workloads.{IsCall};
 
 use crate::draws::{draw, operation};
-use model::{AnyOp, Kind};
+use crate::kinds::{Operations, operations_of};
+use model::AnyOp;
 use rand_pcg::Lcg64Xsh32;
 use seq_objects::Kinds;
 use std::alloc::{AllocError, Global};
@@ -62,6 +64,22 @@ fn draw_pairs(
     Ok(calls)
 }
 
+/// The operations that the client calls in pairs, where all objects are of a kind that has a pair.
+fn pair_for(kinds: Kinds, client: u32) -> Option<(AnyOp, AnyOp)>
+    ensures pair { result ≡ spec.pair_for kinds client }
+    ensures kind { IfSome result (λ pair. (kinds ≡ Kinds.One (kind_of pair.0))
+        × (kind_of pair.1 ≡ kind_of pair.0)) }
+{
+    let Kinds::One(kind) = kinds else {
+        return None;
+    };
+    let owner = i64::from(client);
+    match operations_of(kind, owner, owner) {
+        Operations::Pair(take, free) => Some((take, free)),
+        Operations::Two(_, _) | Operations::Three(_, _, _) => None,
+    }
+}
+
 /// The calls of one client.
 pub(crate) fn calls_of(
     alloc: Global,
@@ -77,16 +95,8 @@ pub(crate) fn calls_of(
     ensures fit { IfOk result (λ v. All (IsCall (kinds_of kinds objects)) v.items) }
 {
     let mut generator = Lcg64Xsh32::new(seed, u64::from(client));
-    match kinds {
-        Kinds::One(Kind::Mutex) => {
-            let (take, free) = (AnyOp::Acquire, AnyOp::Release);
-            draw_pairs(alloc, take, free, objects, count / 2, &mut generator)
-        }
-        Kinds::One(Kind::Lock) => {
-            let owner = i64::from(client);
-            let (take, free) = (AnyOp::LockBy(owner), AnyOp::UnlockBy(owner));
-            draw_pairs(alloc, take, free, objects, count / 2, &mut generator)
-        }
-        _ => draw_calls(alloc, kinds, objects, count, &mut generator),
+    match pair_for(kinds, client) {
+        Some((take, free)) => draw_pairs(alloc, take, free, objects, count / 2, &mut generator),
+        None => draw_calls(alloc, kinds, objects, count, &mut generator),
     }
 }

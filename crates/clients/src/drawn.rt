@@ -27,8 +27,9 @@ fn kinds_for(alloc: Global, kinds: Kinds, objects: u32) -> Result<Vec<Kind>, All
 /// number.
 ///
 /// For each call four numbers are drawn: the object, the choice of an operation, and two values
-/// below 100. The calls of a mutex come in pairs, acquire and release, and those of a lock, whose
-/// owner is the number of the client; an odd one at the end is left out.
+/// below 100. Where all objects are of one kind whose operations take an object and free it, the
+/// calls come in such pairs, whose owner is the number of the client; an odd one at the end is left
+/// out.
 pub fn workload(
     alloc: Global,
     kinds: Kinds,

@@ -1,9 +1,10 @@
 //! What is drawn for one call.
 
-ghost use Rattle.std.specs.Prelude.{◌≡◌, ◌<◌, ◌≤◌};
+ghost use Rattle.std.specs.Prelude.{◌≡◌, ◌<◌};
 ghost use Rattle.model.specs.Objects.{kind_of};
 ghost use Rattle.clients.specs.Drawing.{number_below, draws_from, op_for, stream_at};
 
+use crate::kinds::{Operations, operations_of};
 use model::{AnyOp, Kind};
 use rand::RngExt;
 use rand_pcg::Lcg64Xsh32;
@@ -50,34 +51,13 @@ pub(crate) fn operation(kind: Kind, draws: Draws) -> AnyOp
     ensures kind { kind_of result ≡ kind }
 {
     let (first, second) = (i64::from(draws.first), i64::from(draws.second));
-    let of_two = draws.choice % 2 == 0;
-    match kind {
-        Kind::Queue if of_two => AnyOp::Enqueue(first),
-        Kind::Queue => AnyOp::Dequeue,
-        Kind::Stack if of_two => AnyOp::Push(first),
-        Kind::Stack => AnyOp::Pop,
-        Kind::Heap if of_two => AnyOp::Insert(first),
-        Kind::Heap => AnyOp::ExtractMin,
-        Kind::Register => match draws.choice % 3 {
-            0 => AnyOp::Write(first),
-            1 => AnyOp::Read,
-            _ => AnyOp::Cas(first, second),
+    match operations_of(kind, first, second) {
+        Operations::Two(a, _) | Operations::Pair(a, _) if draws.choice % 2 == 0 => a,
+        Operations::Two(_, b) | Operations::Pair(_, b) => b,
+        Operations::Three(a, b, c) => match draws.choice % 3 {
+            0 => a,
+            1 => b,
+            _ => c,
         },
-        Kind::Map => match draws.choice % 3 {
-            0 => AnyOp::Put(first, second),
-            1 => AnyOp::Get(first),
-            _ => AnyOp::Del(first),
-        },
-        Kind::Mutex if of_two => AnyOp::Acquire,
-        Kind::Mutex => AnyOp::Release,
-        Kind::Set => match draws.choice % 3 {
-            0 => AnyOp::Add(first),
-            1 => AnyOp::Remove(first),
-            _ => AnyOp::Has(first),
-        },
-        Kind::Counter if of_two => AnyOp::FetchAdd(first),
-        Kind::Counter => AnyOp::GetCount,
-        Kind::Lock if of_two => AnyOp::LockBy(first),
-        Kind::Lock => AnyOp::UnlockBy(first),
     }
 }

@@ -5,6 +5,7 @@
 mod calls;
 mod drawn;
 mod draws;
+mod kinds;
 mod meeting;
 mod room;
 mod run;

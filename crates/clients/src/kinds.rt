@@ -1,0 +1,35 @@
+//! The operations that clients call on objects of each kind.
+
+ghost use Rattle.std.specs.Prelude.{◌≡◌};
+ghost use Rattle.clients.specs.Kinds as spec;
+ghost use Rattle.clients.specs.Drawing.{AreOf};
+
+use model::{AnyOp, Kind};
+
+/// The operations of which one is drawn for a call.
+#[derive(Clone, Copy, Debug)]
+pub(crate) enum Operations {
+    Two(AnyOp, AnyOp),
+    Three(AnyOp, AnyOp, AnyOp),
+    /// The first one takes an object, and the second one frees it. Where all objects are of the
+    /// kind, a client calls one after the other.
+    Pair(AnyOp, AnyOp),
+}
+
+/// The operations of the kind with two values.
+pub(crate) fn operations_of(kind: Kind, v: i64, w: i64) -> Operations
+    ensures operations { result ≡ spec.operations_of kind v w }
+    ensures kind { AreOf kind result }
+{
+    match kind {
+        Kind::Queue => Operations::Two(AnyOp::Enqueue(v), AnyOp::Dequeue),
+        Kind::Stack => Operations::Two(AnyOp::Push(v), AnyOp::Pop),
+        Kind::Heap => Operations::Two(AnyOp::Insert(v), AnyOp::ExtractMin),
+        Kind::Register => Operations::Three(AnyOp::Write(v), AnyOp::Read, AnyOp::Cas(v, w)),
+        Kind::Map => Operations::Three(AnyOp::Put(v, w), AnyOp::Get(v), AnyOp::Del(v)),
+        Kind::Mutex => Operations::Pair(AnyOp::Acquire, AnyOp::Release),
+        Kind::Set => Operations::Three(AnyOp::Add(v), AnyOp::Remove(v), AnyOp::Has(v)),
+        Kind::Counter => Operations::Two(AnyOp::FetchAdd(v), AnyOp::GetCount),
+        Kind::Lock => Operations::Pair(AnyOp::LockBy(v), AnyOp::UnlockBy(v)),
+    }
+}
