@@ -132,6 +132,7 @@ pub del_step : (m n : Table) (k : ℤ) (o : Option ℤ) (any : AnyOp) (r : AnyRe
     → IsStep (table m) any (table n) record { reply = Value o; undo = SetKey k o }
 del_step m n k o any r is e told = told_step m n (remove m k) k o any (Del k) r is refl refl e told
 
+-- what holds of a step holds of one that equals it
 pub same_step : (before after : Content) (op : AnyOp) (step other : Step) → step ≡ other
     → IsStep before op after other → IsStep before op after step
 same_step before after op step other is s = subst (IsStep before op after) (sym is) s
