@@ -13,12 +13,10 @@ use Rattle.clap.specs.declared.error.kind.ErrorKind.TheVariants.{DisplayHelp, Di
 use Rattle.clap.specs.declared.error.kind.ErrorKind.TheVariants.{OutOfMemory}
 use Rattle.std.specs.String.{string_bytes}
 use Rattle.std.specs.Str.Parse.{IsNumeral, digits_value, without_leading_plus}
-use Rattle.model.specs.declared.Kind.TheVariants.{Queue}
 use Rattle.search.specs.declared.trials.TryFirst.{TryFirst}
 use Rattle.search.specs.declared.trials.TryFirst.TheVariants.{LeastNumber, LeastReturn}
 use Rattle.seq_objects.specs.declared.kinds.Kinds.{Kinds}
-use Rattle.seq_objects.specs.declared.kinds.Kinds.TheVariants.{One}
-use Rattle.seq_objects.specs.Kinds.{kinds_named}
+use Rattle.seq_objects.specs.Kinds.{default_kinds, kinds_named}
 use Rattle.command_line.specs.Command.{command}
 use Rattle.command_line.specs.declared.asking.Line.{Line}
 use Rattle.command_line.specs.declared.asking.Line.TheVariants.{Check, Search, Refute, Verify}
@@ -48,9 +46,9 @@ IsFirst None first = first ≡ LeastNumber
 IsFirst (Some t) first =
     ((t ≡ codes "number") × (first ≡ LeastNumber)) ⊎ ((t ≡ codes "return") × (first ≡ LeastReturn))
 
--- these kinds are named; where no name is given, all objects are queues
+-- these kinds are named; where no name is given, they are the default
 abbrev pub IsKinds : Option Text → Kinds → Type 0
-IsKinds None kinds = kinds ≡ One Queue
+IsKinds None kinds = kinds ≡ default_kinds
 IsKinds (Some t) kinds = kinds_named t ≡ Some kinds
 
 -- what a run is asked to be of

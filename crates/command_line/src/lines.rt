@@ -16,7 +16,6 @@ use crate::table::{
     Bounds, CALLS, CLIENTS, OBJECTS, SEED, SHARDS, STEPS, Takes, Verb, WORKERS, verb_named,
 };
 use clap::ArgMatches;
-use model::Kind;
 use search::TryFirst;
 use seq_objects::{Kinds, kinds_named};
 use std::alloc::{AllocError, Global};
@@ -84,7 +83,7 @@ fn kinds_of(found: &ArgMatches<'_>) -> Result<Kinds, NoLine>
         spec.IsKinds (first_of (codes "kind") (rows_in found.now)) kinds → ⊥) }
 {
     match value_of(found, "kind") {
-        None => Ok(Kinds::One(Kind::Queue)),
+        None => Ok(Kinds::default()),
         Some(name) => match kinds_named(name.as_bytes()) {
             Some(kinds) => Ok(kinds),
             None => Err(NoLine::Value("kind", Takes::Kind)),

@@ -6,10 +6,9 @@
 use Rattle.std.specs.Prelude.{◌≡◌, ℕ, ◌+◌, ◌==◌, Bool, false, List, [], ◌∷◌, ◌++◌, map, length}
 use Rattle.std.specs.Prelude.{slice_index_or, Option, Some, None, if◌then◌else◌}
 use Rattle.model.specs.declared.Kind.{Kind}
-use Rattle.model.specs.declared.Kind.TheVariants.{Queue}
 use Rattle.model.specs.declared.AnyOp.{AnyOp}
 use Rattle.model.specs.declared.AnyReply.{AnyReply}
-use Rattle.model.specs.Objects.{Content, empty, next}
+use Rattle.model.specs.Objects.{Content, empty, next, some_kind}
 use Rattle.desk_model.specs.declared.LogEntry.{LogEntry}
 use Rattle.desk_model.specs.declared.Request.{Request}
 use Rattle.desk_model.specs.declared.Answer.{Answer}
@@ -78,7 +77,7 @@ initial_world =
 
 -- the kind of an object
 abbrev pub kind_at : List Kind → ℕ → Kind
-kind_at kinds x = slice_index_or kinds x Queue
+kind_at kinds x = slice_index_or kinds x some_kind
 
 -- what an answer to a request of this client puts into the log of the request's object
 abbrev pub logged : ℕ → AnyRequest → AnyAnswer → List AnyEntry

@@ -3,10 +3,9 @@ use Rattle.std.specs.Prelude.{◌≡◌, ℕ, ◌==◌, ◌<◌, ⊤, Bool, true
 use Rattle.std.specs.Prelude.{Some, None, AllPairs, Contains, find, reverse, if◌then◌else◌}
 use Rattle.std.specs.Option.{option_map_or}
 use Rattle.model.specs.declared.Kind.{Kind}
-use Rattle.model.specs.declared.Kind.TheVariants.{Queue}
 use Rattle.model.specs.declared.AnyOp.{AnyOp}
 use Rattle.model.specs.declared.AnyReply.{AnyReply}
-use Rattle.model.specs.Objects.{kind_of}
+use Rattle.model.specs.Objects.{kind_of, some_kind}
 use Rattle.model.specs.Histories.{Inv, Res}
 use Rattle.model.specs.Orders.{Numbered}
 use Rattle.seq_objects.specs.Values.{function_in, reply_with, reply_value}
@@ -112,6 +111,6 @@ kind_in Info other = other
 
 -- the kind of an object: that of the first invocation that names it
 abbrev pub kind_at : List Event → ℕ → Kind
-kind_at [] x = Queue
+kind_at [] x = some_kind
 kind_at (e ∷ later) x =
     if e.object == x then kind_in e.action (kind_at later x) else kind_at later x

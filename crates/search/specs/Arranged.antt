@@ -3,7 +3,7 @@ use Rattle.std.specs.Prelude.{◌≡◌, ℕ, zero, suc, ◌<◌, ◌≤◌, ◌
 use Rattle.std.specs.Prelude.{Some, IsSome, List, length, is_some, get_or, if◌then◌else◌}
 use Rattle.std.specs.List.{list_any}
 use Rattle.model.specs.declared.Kind.{Kind}
-use Rattle.model.specs.declared.AnyOp.TheVariants.{Dequeue}
+use Rattle.model.specs.Objects.{some_op}
 use Rattle.model.specs.Objects.{kind_of}
 use Rattle.model.specs.Orders.{Call, Return}
 use Rattle.events.specs.declared.operations.Invocation.{Invocation}
@@ -21,7 +21,7 @@ as_call o = record { number = o.number; op = o.op; returned = return_of o.«end�
 
 -- the call at a place; past the end, a pending call of some operation
 abbrev pub call_at : List Invocation → ℕ → Call
-call_at items k = as_call (get_or items k (record { number = 0; op = Dequeue; «end» = Pending }))
+call_at items k = as_call (get_or items k (record { number = 0; op = some_op; «end» = Pending }))
 
 -- whether the call at a place returned and is left
 abbrev pub owes : (ℕ → Call) → List ℕ → ℕ → Bool

@@ -20,6 +20,10 @@ place_of Set = 6
 place_of Counter = 7
 place_of Lock = 8
 
+-- the kinds of the objects of a run for which none are named
+abbrev pub default_kinds : Kinds
+default_kinds = One Queue
+
 -- the kind at a place of the mixed ones: queue, stack, heap, register and map in turn
 abbrev pub mixed_kind : ℕ → Kind
 mixed_kind x =

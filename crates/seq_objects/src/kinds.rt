@@ -16,6 +16,13 @@ pub enum Kinds {
 }
 
 impl Kinds {
+    /// The kinds of the objects of a run for which none are named: queues.
+    pub fn default() -> Kinds
+        ensures { result ≡ spec.default_kinds }
+    {
+        Kinds::One(Kind::Queue)
+    }
+
     /// The kind of the object with this number.
     pub fn kind(self, object: u32) -> Kind
         ensures { result ≡ kind_in self object }
