@@ -17,7 +17,7 @@ use crate::table::{
 };
 use clap::ArgMatches;
 use search::TryFirst;
-use seq_objects::{Kinds, kinds_named};
+use seq_objects::{Kinds, default_kinds, kinds_named};
 use std::alloc::{AllocError, Global};
 
 /// Why the words give no command.
@@ -83,7 +83,7 @@ fn kinds_of(found: &ArgMatches<'_>) -> Result<Kinds, NoLine>
         spec.IsKinds (first_of (codes "kind") (rows_in found.now)) kinds → ⊥) }
 {
     match value_of(found, "kind") {
-        None => Ok(Kinds::default()),
+        None => Ok(default_kinds()),
         Some(name) => match kinds_named(name.as_bytes()) {
             Some(kinds) => Ok(kinds),
             None => Err(NoLine::Value("kind", Takes::Kind)),

@@ -16,13 +16,6 @@ pub enum Kinds {
 }
 
 impl Kinds {
-    /// The kinds of the objects of a run for which none are named: queues.
-    pub fn default() -> Kinds
-        ensures { result ≡ spec.default_kinds }
-    {
-        Kinds::One(Kind::Queue)
-    }
-
     /// The kind of the object with this number.
     pub fn kind(self, object: u32) -> Kind
         ensures { result ≡ kind_in self object }
@@ -38,6 +31,13 @@ impl Kinds {
             },
         }
     }
+}
+
+/// The kinds of the objects of a run for which none are named: queues.
+pub fn default_kinds() -> Kinds
+    ensures { result ≡ spec.default_kinds }
+{
+    Kinds::One(Kind::Queue)
 }
 
 /// The kinds with this name: that of a kind, or `mixed`.

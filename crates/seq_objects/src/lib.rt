@@ -23,7 +23,7 @@ pub use counter::{Counter, CounterOp};
 pub use function::{Function, kind_name};
 pub use gate::{Gate, Open};
 pub use heap::{Heap, HeapOp};
-pub use kinds::{Kinds, kinds_named};
+pub use kinds::{Kinds, default_kinds, kinds_named};
 pub use lock::{Lock, LockOp};
 pub use map_object::{MapObject, MapOp, MapReply};
 pub use model::{AnyOp, AnyReply, Kind};
