@@ -1,6 +1,6 @@
 -- What parts need to know of the kinds. No definition outside of these files names a kind or an
--- operation. Each kind that has cells has a file of its own, which says what its calls do to a cell,
--- and this file lists them.
+-- operation. Each kind that has cells has a file of its own, which says what its calls do to a
+-- cell, and this file lists them.
 use Rattle.std.specs.Prelude.{ℤ, Bool, true, false, Option, Some, None}
 use Rattle.model.specs.declared.Kind.{Kind}
 use Rattle.model.specs.declared.Kind.TheVariants as kind

@@ -9,8 +9,8 @@ use Rattle.projection.specs.declared.touches.Leave.TheVariants.{AsItWas, Content
 use Rattle.projection.specs.declared.touches.Touch.{Touch}
 use Rattle.projection.specs.Touches.{touch}
 
--- What an operation with this reply did to the cell. With no reply: what it does if it takes effect.
--- A swap or a creation whose condition does not hold leaves the cell as it was.
+-- What an operation with this reply did to the cell. With no reply: what it does if it takes
+-- effect. A swap or a creation whose condition does not hold leaves the cell as it was.
 abbrev pub register_touch : AnyOp → Option AnyReply → Option Touch
 register_touch (Write v) reply = Some (touch Any (Content (Some v)))
 register_touch Read (Some (Value c)) = Some (touch (Is c) AsItWas)
