@@ -4,6 +4,8 @@ ghost use Rattle.std.specs.Prelude.{◌≡◌, ◌+◌, ◌<◌, length, IfOk, I
 ghost use Rattle.publication.specs.Handles.{AllBegun};
 ghost use Rattle.publication.specs.Making.{AreEmpty};
 ghost use Rattle.combiner_tests.specs.Seats.{AreSeated};
+ghost use Rattle.model.specs.Objects.{empty, kind_with};
+ghost use Rattle.seq_objects.specs.AnyContent.{content_of};
 
 use crate::refusing::Refusing;
 use number_map::NumberMap;
@@ -53,6 +55,16 @@ impl Model for Bench {
     ghost invariant = { λ b. AreSeated b.desk.id b.seats };
 }
 
+/// An empty object of this kind, which refuses the call after `left` others, or none.
+fn object_of(alloc: Global, kind: Kind, left: Option<u32>) -> Refusing
+    ensures { content_of result.inside ≡ empty (kind_with (content_of result.inside)) }
+{
+    Refusing {
+        inside: AnyObject::empty(alloc, kind),
+        left,
+    }
+}
+
 /// Empty objects of these kinds. Object 0 refuses the call after `left` others, or none.
 fn objects_of(
     alloc: Global,
@@ -64,17 +76,11 @@ fn objects_of(
 {
     let (first, second) = kinds;
     let mut objects = Vec::with_capacity(alloc, 2)?;
-    objects.push_reserved(Refusing {
-        inside: AnyObject::empty(alloc, first),
-        left,
-    });
+    objects.push_reserved(object_of(alloc, first, left));
     let Some(kind) = second else {
         return Ok(objects);
     };
-    objects.push_reserved(Refusing {
-        inside: AnyObject::empty(alloc, kind),
-        left: None,
-    });
+    objects.push_reserved(object_of(alloc, kind, None));
     Ok(objects)
 }
 
