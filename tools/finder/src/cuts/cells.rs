@@ -27,11 +27,11 @@ impl Cell<'_> {
         content: Option<i64>,
     ) -> (Op, Reply) {
         match need {
-            Need::Any => own.unwrap_or_else(|| lone_cell::leaving(content)),
+            Need::Any => own.unwrap_or_else(|| lone_cell::setting(content)),
             Need::Is(found) if self.is_kept(found) => {
                 own.unwrap_or_else(|| lone_cell::replacing(found, content))
             }
-            Need::Is(_) | Need::IsNot(_) => lone_cell::leaving(content),
+            Need::Is(_) | Need::IsNot(_) => lone_cell::setting(content),
         }
     }
 
@@ -50,7 +50,7 @@ impl Cell<'_> {
             (Some(_), need) => stays.then(|| self.changed(None, need, Some(self.other))),
             (None, Need::Is(content)) => stays.then(|| match self.is_kept(content) {
                 true => lone_cell::finding(content),
-                false => lone_cell::setting(self.other),
+                false => lone_cell::setting(Some(self.other)),
             }),
             (None, Need::Any | Need::IsNot(_)) => None,
         }

@@ -33,7 +33,7 @@ fn overlapping(first: Option<First>, operation: &Invocation) -> Invocation {
     let written = effect.and_then(|effect| effect.sets.flatten());
     match (first, written, operation.end) {
         (Some(_), Some(value), End::Returned { at, .. }) => {
-            let (op, reply) = lone_cell::setting(value);
+            let (op, reply) = lone_cell::setting(Some(value));
             Invocation { op, end: End::Returned { at, reply }, ..*operation }
         }
         _ => Invocation { end: End::Pending, ..*operation },

@@ -30,7 +30,7 @@ pub use room::{Does, Family, Function, Kind, OfNothing, Room, Shape, Token, Word
 pub(crate) use containers::ContainerOrders;
 /// A cell by itself, as which a part of an object that has cells is judged.
 pub(crate) mod lone_cell {
-    pub use super::register::{KIND, finding, leaving, replacing, setting};
+    pub use super::register::{KIND, finding, replacing, setting};
 }
 
 /// The kinds, in the order in which messages list their functions.
@@ -56,7 +56,7 @@ pub fn functions() -> impl Iterator<Item = &'static Function> {
 
 /// The function that sets an object which is one cell, whatever it contains.
 pub fn setting() -> &'static Function {
-    lone_cell::setting(0).0.function
+    lone_cell::setting(Some(0)).0.function
 }
 
 /// The names of the functions of all kinds, as a message lists them.

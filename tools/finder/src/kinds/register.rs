@@ -57,7 +57,7 @@ pub static REGISTER: Room = Room {
     family: Family::Cells(Cells {
         has_keys: false,
         has_values: true,
-        fill: |_, value| setting(value),
+        fill: |_, value| setting(Some(value)),
     }),
     words: Words {
         put: "written",
@@ -72,17 +72,13 @@ pub static REGISTER: Room = Room {
 /// The kind of an object that is one cell.
 pub static KIND: &Room = &REGISTER;
 
-/// The operation that sets the cell, with its reply.
-pub fn setting(value: i64) -> (Op, Reply) {
-    (Op { function: &WRITE, argument: Value::Int(value) }, Reply::Value(Some(value)))
-}
-
-/// The one that leaves a content.
-pub fn leaving(content: Option<i64>) -> (Op, Reply) {
-    match content {
-        Some(value) => setting(value),
-        None => (Op { function: &CLEAR, argument: Value::Nil }, Reply::Value(None)),
-    }
+/// The operation that leaves a content, whatever the cell contains, with its reply.
+pub fn setting(content: Option<i64>) -> (Op, Reply) {
+    let op = match content {
+        Some(value) => Op { function: &WRITE, argument: Value::Int(value) },
+        None => Op { function: &CLEAR, argument: Value::Nil },
+    };
+    (op, Reply::Value(content))
 }
 
 /// The one that finds a content.
@@ -99,6 +95,6 @@ pub fn replacing(old: Option<i64>, new: Option<i64>) -> (Op, Reply) {
         (None, Some(new)) => {
             (Op { function: &CREATE, argument: Value::Int(new) }, Reply::Flag(true))
         }
-        (_, None) => leaving(None),
+        (_, None) => setting(None),
     }
 }
