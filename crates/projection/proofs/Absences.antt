@@ -20,7 +20,8 @@ use Rattle.model.specs.Objects.{inserted_if, is_absent, has_value}
 use Rattle.model.specs.Orders.{Call, Return, ReturnsBefore, RepliesAlong, IsValidOrder}
 use Rattle.model.proofs.Lists.{In, Pairs, in_filter, in_filter_passes, in_filter_from, filter_all, pairs_filter, in_from_contains, contains_from_in, all_from_in, all_at}
 use Rattle.model.proofs.Lists.{all_from_pairs, pairs_from_all, pairs_map, pairs_from_map, pairs_weaker}
-use Rattle.projection.specs.Parts.{reply_of, puts_in, takes_out, ended_before}
+use Rattle.projection.specs.Parts.{reply_of, takes_out, ended_before}
+use Rattle.projection.specs.Kinds.Containers.{puts_in}
 use Rattle.projection.specs.Absent.{is_put_before, is_taken_before, IsAbsent, calls_without}
 use Rattle.projection.proofs.Conserved.{one, tally, count_tally, kept_size, size_empty, size_cons, turn, Turn, count_among}
 use Rattle.projection.proofs.Contents.{IsRising, filter_in, filter_out, after_in, after_out, with_value_in, with_value_out, rising_with_value}

@@ -21,8 +21,10 @@ use Rattle.model.specs.Objects.{queue, stack, kind_of, empty}
 use Rattle.model.specs.Orders.{Call, Return, ReturnsBefore, RepliesAlong, IsValidOrder}
 use Rattle.model.proofs.Lists.{In, Pairs, in_append, in_left, in_split, in_from_contains, all_at}
 use Rattle.model.proofs.Lists.{pairs_from_all, pairs_weaker, pairs_from_map}
-use Rattle.projection.specs.Parts.{puts_in, is_removal, ended_before}
-use Rattle.projection.specs.Ahead.{found_in, found_by, is_value_ahead, first_put, ahead_before}
+use Rattle.projection.specs.Parts.{ended_before}
+use Rattle.projection.specs.Kinds.Containers.{puts_in, is_removal}
+use Rattle.projection.specs.Ahead.{found_in, found_by, first_put, ahead_before}
+use Rattle.projection.specs.Kinds.Containers.{is_value_ahead}
 use Rattle.projection.specs.Ahead.{is_settled, is_put_ahead, may_precede}
 use Rattle.projection.proofs.Conserved.{tally, count_tally, count_among}
 use Rattle.projection.proofs.Emptied.{joined, tally_le, pairs_front, pairs_to}

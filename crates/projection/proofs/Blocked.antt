@@ -15,7 +15,8 @@ use Rattle.model.specs.declared.AnyOp.TheVariants.{LockBy, UnlockBy}
 use Rattle.model.specs.Objects.{kind_of}
 use Rattle.model.specs.Orders.{Call}
 use Rattle.model.proofs.Lists.{in_from_contains, contains_from_in, all_at, all_from_in, pairs_from_all}
-use Rattle.projection.specs.Parts.{puts_in, ended_before}
+use Rattle.projection.specs.Parts.{ended_before}
+use Rattle.projection.specs.Kinds.Containers.{puts_in}
 use Rattle.events.specs.declared.operations.End.{End}
 use Rattle.events.specs.declared.operations.End.TheVariants.{Returned, Pending, Failed}
 use Rattle.events.specs.declared.operations.Invocation.{Invocation}
@@ -27,7 +28,8 @@ use Rattle.projection.specs.CutOperations.{may_precede_end, IsRemoval}
 use Rattle.projection.proofs.CutOperations.{rising_calls, calls_end, call_cases}
 use Rattle.projection.proofs.Sequences.{in_filter_map, in_filter_map_from, one_number}
 use Rattle.projection.proofs.Bounds.{passes, count_calls}
-use Rattle.projection.specs.Ahead.{found_by, is_value_ahead, first_put, ahead_before, is_settled}
+use Rattle.projection.specs.Ahead.{found_by, first_put, ahead_before, is_settled}
+use Rattle.projection.specs.Kinds.Containers.{is_value_ahead}
 use Rattle.projection.specs.Ahead.{is_put_ahead, may_precede, IsBlocked}
 use Rattle.projection.proofs.Conserved.{and_false}
 use Rattle.projection.proofs.Ahead.{pair_first, ahead_bounded}

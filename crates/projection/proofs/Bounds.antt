@@ -29,7 +29,8 @@ use Rattle.projection.specs.declared.counting.Counted.TheVariants.{Value, Entry,
 use Rattle.projection.specs.Parts.{reply_of, ended_before}
 use Rattle.projection.specs.declared.counting.Count.{Count}
 use Rattle.projection.specs.CutOperations.{is_set, is_gone}
-use Rattle.projection.specs.Counts.{IsOverdrawn, is_reply, sets, takes, times_at_first, is_single, most_before, set_since, taken_since}
+use Rattle.projection.specs.Counts.{IsOverdrawn, times_at_first, most_before, set_since, taken_since}
+use Rattle.projection.specs.Kinds.Counting.{is_reply, sets, takes, is_single}
 use Rattle.std.specs.List.{cons_option}
 use Rattle.events.specs.declared.operations.End.{End}
 use Rattle.events.specs.declared.operations.End.TheVariants.{Returned, Pending, Failed}

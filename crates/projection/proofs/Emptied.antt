@@ -18,8 +18,10 @@ use Rattle.model.specs.Objects.{Content, queue, stack, heap, register, table, mu
 use Rattle.model.specs.Objects.{empty, contains_value, next}
 use Rattle.model.specs.Orders.{Call, Return, RepliesAlong}
 use Rattle.model.proofs.Lists.{In, Pairs, in_left, in_middle}
-use Rattle.projection.specs.Parts.{reply_of, puts_in, is_kept_value, is_removal, takes_out}
-use Rattle.projection.specs.Ahead.{is_value_ahead, may_take}
+use Rattle.projection.specs.Parts.{reply_of, is_kept_value, takes_out}
+use Rattle.projection.specs.Kinds.Containers.{puts_in, is_removal}
+use Rattle.projection.specs.Ahead.{may_take}
+use Rattle.projection.specs.Kinds.Containers.{is_value_ahead}
 use Rattle.projection.proofs.Contents.{IsRising, rising_with_value}
 use Rattle.projection.proofs.Conserved.{one, tally, kept_size, size_empty, turn}
 use Rattle.projection.proofs.Booleans.{false_is_not_true, both_true}

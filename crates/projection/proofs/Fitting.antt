@@ -4,7 +4,8 @@ use Rattle.model.specs.declared.AnyReply.{AnyReply}
 use Rattle.model.specs.Objects.{Content}
 use Rattle.model.specs.Orders.{Call, Return, RepliesAlong}
 use Rattle.model.proofs.Lists.{In}
-use Rattle.projection.specs.Parts.{reply_of, fits}
+use Rattle.projection.specs.Parts.{reply_of}
+use Rattle.projection.specs.Kinds.Keeping.{fits}
 use Rattle.projection.proofs.Simulation.{Stepped, Replied, Simulates}
 use Rattle.projection.proofs.Contents.{IsShadow, TookNone, shown, step_at}
 use Rattle.projection.proofs.Booleans.{false_is_not_true}

@@ -17,7 +17,8 @@ use Rattle.model.specs.declared.AnyReply.TheVariants.{Value, Swapped, NotSwapped
 use Rattle.model.specs.Objects.{kind_of, Content, queue, stack, heap, register, table, mutex, elements, count, owner}
 use Rattle.model.specs.Objects.{empty, contains_value, next}
 use Rattle.model.specs.Objects.{inserted_if, is_absent, has_value, is_i64, stepped}
-use Rattle.projection.specs.Parts.{fits, key_of, leaves, leaves_count}
+use Rattle.projection.specs.Kinds.Keeping.{fits}
+use Rattle.projection.specs.Kinds.Starts.{key_of, leaves, leaves_count}
 use Rattle.projection.proofs.Contents.{IsShadow}
 use Rattle.projection.proofs.Booleans.{false_is_not_true, same_by_test}
 use Rattle.projection.proofs.Steps.{adds, frees}

@@ -14,7 +14,8 @@ use Rattle.model.specs.declared.AnyReply.TheVariants.{Value}
 use Rattle.model.specs.Objects.{Content, queue, stack, next}
 use Rattle.model.specs.Orders.{Call, ReturnsBefore, RepliesAlong}
 use Rattle.model.proofs.Lists.{In, Pairs}
-use Rattle.projection.specs.Parts.{puts_in, takes_out}
+use Rattle.projection.specs.Parts.{takes_out}
+use Rattle.projection.specs.Kinds.Containers.{puts_in}
 use Rattle.projection.specs.Ahead.{first_put}
 use Rattle.projection.proofs.Conserved.{one, tally}
 use Rattle.projection.proofs.Emptied.{put_by, may_by, may_le, same_value}

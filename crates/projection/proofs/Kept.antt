@@ -13,7 +13,9 @@ use Rattle.events.specs.declared.operations.End.{End}
 use Rattle.events.specs.declared.operations.End.TheVariants.{Returned, Pending, Failed}
 use Rattle.events.specs.declared.operations.Invocation.{Invocation}
 use Rattle.events.specs.Operations.{call_with, call_of, calls_of, return_of, ObjectCalls, IsObjectHistory}
-use Rattle.projection.specs.Parts.{fits, reply_of, puts_in, is_removal, takes_out, is_pending_removal, put_count, taken_count, pending_before, kept_calls, IsClosed}
+use Rattle.projection.specs.Parts.{reply_of, takes_out, is_pending_removal, put_count, taken_count, pending_before, kept_calls, IsClosed}
+use Rattle.projection.specs.Kinds.Keeping.{fits}
+use Rattle.projection.specs.Kinds.Containers.{puts_in, is_removal}
 use Rattle.projection.specs.declared.keeping.Values.{Values}
 use Rattle.projection.specs.declared.keeping.Values.TheVariants as values
 use Rattle.projection.specs.Cuts.{keeps_all, keeps_value, IsPart, NoneFailed}

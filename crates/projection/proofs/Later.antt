@@ -20,7 +20,8 @@ use Rattle.events.specs.declared.operations.End.{End}
 use Rattle.events.specs.declared.operations.End.TheVariants.{Returned, Pending, Failed}
 use Rattle.events.specs.declared.operations.Invocation.{Invocation}
 use Rattle.events.specs.Operations.{call_with, call_of, calls_of, return_of, ObjectCalls, IsObjectHistory}
-use Rattle.projection.specs.Parts.{leaves, leaves_count, IsStart, key_of, ended_before, written_before, write_call}
+use Rattle.projection.specs.Parts.{IsStart, ended_before, written_before, write_call}
+use Rattle.projection.specs.Kinds.Starts.{leaves, leaves_count, key_of}
 use Rattle.projection.specs.Parts.{pending_call, overlapping, call_later, returned_call, call_from, calls_from}
 use Rattle.projection.specs.Cuts.{IsPart, IsSuffix}
 use Rattle.projection.specs.CutOperations.{has_failed, IsOnKey, is_over, as_returned, as_write, as_pending, overlapping_operation, operation_later, operation_from}

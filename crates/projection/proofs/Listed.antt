@@ -20,7 +20,8 @@ use Rattle.model.proofs.Lists.{in_from_contains, contains_from_in, all_from_in, 
 use Rattle.model.proofs.Lists.{pairs_from_all, pairs_map, pairs_weaker}
 use Rattle.projection.specs.declared.cutting.Cut.{Cut}
 use Rattle.projection.specs.declared.cutting.Cut.TheVariants.{From, Until, Without, Keep, Cell, Entry}
-use Rattle.projection.specs.Parts.{IsStart, key_of, written_before, write_call, pending_call, overlapping, call_later}
+use Rattle.projection.specs.Parts.{IsStart, written_before, write_call, pending_call, overlapping, call_later}
+use Rattle.projection.specs.Kinds.Starts.{key_of}
 use Rattle.projection.specs.Parts.{returned_call, call_from, call_before, calls_before, kept_calls}
 use Rattle.projection.specs.Recasts.{recast}
 use Rattle.projection.specs.declared.kinds.Place.{Place}

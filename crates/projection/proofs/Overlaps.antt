@@ -15,7 +15,8 @@ use Rattle.model.specs.Objects.{Content, queue, stack, heap, register, table, mu
 use Rattle.model.specs.Objects.{contains_value, next, kind_of}
 use Rattle.model.specs.Orders.{Call, Return, ReturnsBefore, RepliesAlong}
 use Rattle.model.proofs.Lists.{In}
-use Rattle.projection.specs.Parts.{key_of, leaves, ended_before, written, written_before, write_call, pending_call, overlapping, call_later, returned_call}
+use Rattle.projection.specs.Parts.{ended_before, written_before, write_call, pending_call, overlapping, call_later, returned_call}
+use Rattle.projection.specs.Kinds.Starts.{key_of, leaves, written}
 use Rattle.projection.proofs.Booleans.{less_by_test}
 use Rattle.projection.proofs.Steps.{adds, frees}
 

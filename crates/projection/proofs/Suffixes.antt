@@ -16,7 +16,8 @@ use Rattle.model.specs.Objects.{Content, empty, next, kind_of}
 use Rattle.model.specs.Orders.{Call, Return, ReturnsBefore, RepliesAlong, IsValidOrder}
 use Rattle.model.proofs.Lists.{In, Pairs, in_append, in_left, in_right, in_split, in_map, in_map_from, in_from_contains, contains_from_in}
 use Rattle.model.proofs.Lists.{all_from_in, all_at, all_from_pairs, pairs_from_all, pairs_weaker, pairs_map, pairs_from_map, pairs_append}
-use Rattle.projection.specs.Parts.{reply_of, key_of, leaves, IsStart, ended_before, call_later, returned_call, call_from, calls_from}
+use Rattle.projection.specs.Parts.{reply_of, IsStart, ended_before, call_later, returned_call, call_from, calls_from}
+use Rattle.projection.specs.Kinds.Starts.{key_of, leaves}
 use Rattle.projection.proofs.Simulation.{pick, in_pick, pairs_pick, Replied, Choice, choose}
 use Rattle.projection.proofs.Contents.{IsShadow}
 use Rattle.projection.proofs.Fitting.{MayStep, all_step, closed_simulates}

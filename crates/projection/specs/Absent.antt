@@ -4,7 +4,8 @@
 use Rattle.std.specs.Prelude.{◌≡◌, ◌≤◌, ℕ, ℤ, nat_lt, Bool, not, ◌&&◌, ◌||◌, List, count_by, filter}
 use Rattle.std.specs.Ordering.{int_eq}
 use Rattle.model.specs.Orders.{Call}
-use Rattle.projection.specs.Parts.{reply_of, puts_in, takes_out, ended_before}
+use Rattle.projection.specs.Parts.{reply_of, takes_out, ended_before}
+use Rattle.projection.specs.Kinds.Containers.{puts_in}
 
 -- whether a call puts in the value, and was invoked before this number
 abbrev pub is_put_before : ℤ → ℕ → Call → Bool

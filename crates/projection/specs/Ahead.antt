@@ -10,9 +10,9 @@ use Rattle.model.specs.declared.AnyOp.{AnyOp}
 use Rattle.model.specs.declared.AnyReply.{AnyReply}
 use Rattle.model.specs.declared.AnyReply.TheVariants.{Value}
 use Rattle.model.specs.Orders.{Call, Return}
-use Rattle.projection.specs.Parts.{reply_of, puts_in, is_removal, takes_out, ended_before}
+use Rattle.projection.specs.Parts.{reply_of, takes_out, ended_before}
+use Rattle.projection.specs.Kinds.Containers.{puts_in, is_removal, is_value_ahead}
 use Rattle.projection.specs.Kinds.Containers.{takes_first, takes_last}
-pub use Rattle.projection.specs.Kinds.Containers.{is_value_ahead}
 
 -- what a reply shows, with the number of its response
 abbrev pub found_in : ℕ → AnyReply → Option (ℕ × Option ℤ)

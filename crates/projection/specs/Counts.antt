@@ -8,7 +8,7 @@ use Rattle.projection.specs.declared.counting.Counted.TheVariants.{Value, Entry,
 use Rattle.projection.specs.declared.counting.Counted.TheVariants.{Held, Free}
 use Rattle.projection.specs.declared.counting.Count.{Count}
 use Rattle.projection.specs.Parts.{reply_of, ended_before}
-pub use Rattle.projection.specs.Kinds.Counting.{sets, takes, is_single, is_reply, is_refused}
+use Rattle.projection.specs.Kinds.Counting.{sets, takes, is_single}
 
 -- how many calls that had not returned before this number set the content
 abbrev pub set_since : Counted → ℕ → List Call → ℕ

@@ -12,12 +12,14 @@ use Rattle.events.specs.declared.operations.End.TheVariants.{Returned, Pending, 
 use Rattle.events.specs.declared.operations.Invocation.{Invocation}
 use Rattle.projection.specs.declared.counting.Counted.{Counted}
 use Rattle.projection.specs.Ahead.{found_in}
-use Rattle.projection.specs.Counts.{sets, takes}
+use Rattle.projection.specs.Kinds.Counting.{sets, takes}
 use Rattle.projection.specs.declared.kinds.Place.{Place}
 use Rattle.projection.specs.Cells.{done_at, open_at}
-use Rattle.projection.specs.Kinds.Containers.{takes_first, takes_last}
 use Rattle.projection.specs.Kinds.Register.{setting}
-use Rattle.projection.specs.Parts.{fits, puts_in, is_removal, takes_out, key_of, written_before}
+use Rattle.projection.specs.Parts.{takes_out, written_before}
+use Rattle.projection.specs.Kinds.Keeping.{fits}
+use Rattle.projection.specs.Kinds.Containers.{puts_in, is_removal, takes_first, takes_last}
+use Rattle.projection.specs.Kinds.Starts.{key_of}
 
 abbrev pub has_failed : End → Bool
 has_failed (Returned at reply) = false

@@ -10,10 +10,9 @@ use Rattle.model.specs.declared.AnyReply.{AnyReply}
 use Rattle.model.specs.declared.AnyReply.TheVariants.{Value}
 use Rattle.model.specs.Orders.{Call, Return}
 use Rattle.projection.specs.Kinds.Register.{setting}
-pub use Rattle.projection.specs.Kinds.Keeping.{fits, fits_removal, fits_read, fits_cas, fits_create}
-pub use Rattle.projection.specs.Kinds.Keeping.{fits_del, fits_change, is_same, only_where}
-pub use Rattle.projection.specs.Kinds.Containers.{puts_in, is_removal}
-pub use Rattle.projection.specs.Kinds.Starts.{key_of, leaves_count, leaves, written}
+use Rattle.projection.specs.Kinds.Keeping.{fits}
+use Rattle.projection.specs.Kinds.Containers.{puts_in, is_removal}
+use Rattle.projection.specs.Kinds.Starts.{key_of, leaves, written}
 
 -- ---- Projection: the part keeps some calls, chosen by their values, or by their keys.
 

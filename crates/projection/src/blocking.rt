@@ -8,9 +8,8 @@ ghost use Rattle.std.specs.Ordering.{int_eq};
 ghost use Rattle.model.specs.declared.AnyOp.{AnyOp};
 ghost use Rattle.events.specs.Operations.{calls_of};
 ghost use Rattle.search.specs.Outcomes.{IsNoneValid};
-ghost use Rattle.projection.specs.Ahead as ahead;
 ghost use Rattle.projection.specs.Ahead.{IsBlocked};
-ghost use Rattle.projection.specs.Parts as parts;
+ghost use Rattle.projection.specs.Kinds.Containers as containers;
 ghost use Rattle.projection.specs.CutOperations as cut_operations;
 ghost use Rattle.projection.specs.CutOperations.{ahead_before_end, first_put_end, found_end, is_put};
 ghost use Rattle.projection.specs.CutOperations.{is_put_ahead_end, is_settled_end, IsRemoval};
@@ -65,7 +64,7 @@ fn removal_at(operations: &[Invocation], number: u32) -> Option<Removal>
 
 /// Whether an operation puts in such a value.
 fn puts_in(removal: Removal, op: AnyOp) -> bool
-    ensures { result ≡ parts.puts_in (ahead.is_value_ahead removal.found removal.op) op }
+    ensures { result ≡ containers.puts_in (containers.is_value_ahead removal.found removal.op) op }
 {
     match put_value(op) {
         Some(value) => is_value_ahead(removal.found, removal.op, value),
@@ -148,7 +147,7 @@ fn are_settled(operations: &[Invocation], removal: Removal, from: u32) -> bool
 
 /// Whether an operation put in what definitely was ahead.
 fn is_ahead(removal: Removal, from: u32, before: u32, operation: &Invocation) -> bool
-    ensures { result ≡ is_put_ahead_end (ahead.is_value_ahead removal.found removal.op) from before
+    ensures { result ≡ is_put_ahead_end (containers.is_value_ahead removal.found removal.op) from before
         operation.now.number operation.now.op operation.now.«end» }
 {
     match operation.end {
@@ -161,7 +160,7 @@ fn is_ahead(removal: Removal, from: u32, before: u32, operation: &Invocation) ->
 
 /// Whether an operation took out a value that can be ahead, or may have.
 fn may_take(removal: Removal, op: AnyOp, end: End) -> bool
-    ensures { result ≡ may_take_end (ahead.is_value_ahead removal.found removal.op) op «end» }
+    ensures { result ≡ may_take_end (containers.is_value_ahead removal.found removal.op) op «end» }
 {
     match end {
         End::Returned { reply, .. } => match reply {
@@ -177,7 +176,7 @@ fn may_take(removal: Removal, op: AnyOp, end: End) -> bool
 
 /// Whether an operation may have taken out such a value before the removal.
 fn may_precede(removal: Removal, operation: &Invocation) -> bool
-    ensures { result ≡ may_precede_end (ahead.is_value_ahead removal.found removal.op) removal.number
+    ensures { result ≡ may_precede_end (containers.is_value_ahead removal.found removal.op) removal.number
         removal.at operation.now }
 {
     may_take(removal, operation.op, operation.end)
@@ -188,11 +187,11 @@ fn may_precede(removal: Removal, operation: &Invocation) -> bool
 /// out before the removal.
 fn times(operations: &[Invocation], removal: Removal, from: u32) -> (usize, usize)
     ensures ahead { result.0 ≡ count_by (λ o. is_put_ahead_end
-        (ahead.is_value_ahead removal.found removal.op) from
+        (containers.is_value_ahead removal.found removal.op) from
         (ahead_before_end removal.found removal.op removal.number operations.now) o.number o.op o.«end»)
         operations.now }
     ensures takes { result.1 ≡ count_by (may_precede_end
-        (ahead.is_value_ahead removal.found removal.op) removal.number removal.at) operations.now }
+        (containers.is_value_ahead removal.found removal.op) removal.number removal.at) operations.now }
 {
     let before = ahead_before(operations, removal);
     let ahead = operations

@@ -8,7 +8,9 @@ ghost use Rattle.model.specs.declared.AnyReply.{AnyReply};
 ghost use Rattle.model.specs.Orders.{Call};
 ghost use Rattle.events.specs.Operations.{calls_of};
 ghost use Rattle.projection.specs.Parts as parts;
-ghost use Rattle.projection.specs.Parts.{IsStart, leaves};
+ghost use Rattle.projection.specs.Parts.{IsStart};
+ghost use Rattle.projection.specs.Kinds.Starts.{leaves};
+ghost use Rattle.projection.specs.Kinds.Starts as starts;
 ghost use Rattle.projection.specs.Cuts.{IsSuffix, IsPart};
 ghost use Rattle.projection.specs.CutOperations.{has_failed, is_over, overlapping_operation, operation_later};
 ghost use Rattle.projection.specs.CutOperations.{operation_from, IsOnKey};
@@ -152,7 +154,7 @@ fn start_by(operations: &[Invocation], operation: Invocation) -> Option<Start>
     ensures none { result ≡ None → (at : ℕ) (reply : AnyReply)
         → (first : Option (AnyOp × AnyReply)) → operation.«end» ≡ End.Returned at reply
         → leaves operation.op reply ≡ Some first
-        → All (IsOnKey (parts.key_of operation.op)) operations.now → ⊥ }
+        → All (IsOnKey (starts.key_of operation.op)) operations.now → ⊥ }
 {
     let End::Returned { at, reply } = operation.end else {
         return None;

@@ -1,7 +1,7 @@
 use Rattle.std.proofs.Common.{◌≡◌, ◌<◌, ◌≢◌, All, refl, ap, sym, ◌∙◌, subst}
 use Rattle.model.proofs.Lists.{in_from_contains, all_at, pairs_from_all}
 use Rattle.events.specs.declared.operations.Invocation.{Invocation}
-use Rattle.projection.specs.Parts.{key_of, leaves}
+use Rattle.projection.specs.Kinds.Starts.{key_of, leaves}
 use Rattle.projection.specs.CutOperations.{IsOnKey}
 use Rattle.projection.proofs.Later.{start_operation}
 use Rattle.projection.proofs.Sequences.{one_number}
