@@ -190,10 +190,10 @@ class Planter:
     def late_reply(self, broken):
         """What `gen.py --break` does."""
         ended = sorted((c for c in self.calls if c.end is not None), key=lambda c: c.end)
-        change = gen.changed_reply(broken, 0.9, [(c.end, 0, c.f, c.reply) for c in ended])
+        change = gen.changed_reply(broken, 0.9, [(c.end, 0, c.reply) for c in ended if gen.is_take(c.f, c.reply)])
         if change is None:
             return False
-        next(c for c in ended if c.end == change[0]).reply = str(change[2])
+        next(c for c in ended if c.end == change[0]).reply = str(change[3])
         return True
 
     def break_dup(self):
@@ -243,7 +243,7 @@ def base(o, seed):
     words = SimpleNamespace(
         dir=o.dir, kind=o.kind, objects=1, processes=o.concurrency, concurrency=o.concurrency,
         maps=None, calls=o.calls, fail=0.0, info=0.0, nemesis=0.0, values=o.values or 100,
-        keys=o.keys, unique=o.values is None, fill=0.5, time=False, index=False, broken=None, seed=seed)
+        keys=o.keys, unique=o.values is None, fill=0.5, time=False, index=False, broken=None, side_by_side=None, seed=seed)
     gen.history(words)
     path = os.path.join(o.dir, "history.edn")
     lines, calls = read(path)

@@ -20,6 +20,7 @@ FILES = {
     "three.edn": worked_rows.THREE_VALUES,
     REASONS: worked_rows.TWO_OF_THREE,
     "waits.edn": worked_rows.lines(worked_rows.ONE_CLIENT),
+    "wide.edn": worked_rows.lines(worked_rows.invoke(0, "read", None, 65_536)),
     "names.edn": "{:value 1, :is :a} {:value 2, :is :a}",
 }
 
@@ -34,6 +35,8 @@ FILES.update(shard("valid", worked_rows.OVERLAPPING, worked_rows.order(1, 0, 4))
 FILES.update(shard("refuted", worked_rows.THREE_VALUES, worked_rows.TWO_OF_THREE))
 FILES.update(shard("faulty", worked_rows.AFTER_INFO, ""))
 FILES.update(shard("open", worked_rows.OVERLAPPING, ""))
+# A folder for each status that a worker may have: the fast form of a merge believes it.
+FILES.update({f"believed.{it}/{name}": text for it in range(4) for name, text in (("shards", "1\n"), ("0.status", f"{it}\n"))})
 FULL = "/dev/full"
 NO_VERIFIER = {"env": {"FCBENCH": "/not/there"}}
 NO_MEMORY = {"faults": {"REFUSE_AT": 1}}
@@ -94,6 +97,7 @@ EXAMPLES = {
         (0, ("split", HISTORY, "made")),
         (2, ("split", "malformed.edn", "made.2")),
         (3, ("split", HISTORY, "made.3"), NO_MEMORY),
+        (3, ("split", "wide.edn", "made.7", "--shards", "1")),
         (4, ("split", HISTORY, "made")),
         (4, ("split", "missing.edn", "made.4")),
         (4, ("split", HISTORY, "made.5"), {"stdout": FULL}),
@@ -110,6 +114,14 @@ EXAMPLES = {
         (4, ("merge", "valid"), {"stdout": FULL}),
         (64, ("merge",)),
         (64, ("merge", "valid", "--no-such-option")),
+    ],
+    "merge --trust-statuses": [
+        *((it, ("merge", f"believed.{it}", "--trust-statuses")) for it in range(4)),
+        (3, ("merge", "valid", "--trust-statuses")),
+        (3, ("merge", "believed.0", "--trust-statuses"), NO_MEMORY),
+        (4, ("merge", "missing", "--trust-statuses")),
+        (4, ("merge", "believed.0", "--trust-statuses"), {"stdout": FULL}),
+        (64, ("merge", "--trust-statuses")),
     ],
     "draw": [
         (0, ("draw", HISTORY)),

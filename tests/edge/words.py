@@ -118,6 +118,15 @@ REFUSED_LINES = """
     merge folder --steps 1 --steps 2
     merge folder --shards 2
     merge folder --workers 2
+    merge --trust-statuses
+    merge folder --trust-statuses 3
+    merge folder --trust-statuses=true
+    merge folder --trust-statuses --trust-statuses
+    merge folder --trust-statuses --steps 1000000001
+    merge folder --trust
+    split h.edn folder --trust-statuses
+    verify h.edn e.edn --trust-statuses
+    judge h.edn --trust-statuses
     draw
     draw h.edn c.edn d.edn
     draw --object -1 h.edn
@@ -213,6 +222,9 @@ def out_of_steps(steps):
     return (worked_rows.FIRST_WRITE_LAST,), f"; object 0: out of steps after {steps}\n", 3
 
 
+# What merge believes of one shard without a status.
+BELIEVED_OF_ONE = "; not checked: the exit statuses of 1 shards are believed\n; shard 0: no status\n"
+
 # Command lines with the texts of their files in order, the output and the status. An option is anywhere before `--`, and its
 # value may be after `=`.
 ACCEPTED = (
@@ -264,6 +276,8 @@ ACCEPTED = (
     ("merge into.64", (), "; object 0: open\n", 3),
     ("merge into.1 --steps 7", (), "; object 0: open\n", 3),
     ("merge --steps=1000000000 -- into.1", (), "; object 0: open\n", 3),
+    ("merge into.1 --trust-statuses", (), BELIEVED_OF_ONE, 3),
+    ("merge --trust-statuses --steps +7 -- into.1", (), BELIEVED_OF_ONE, 3),
     ("run --kind=mutex --objects 1 --clients 1 --calls 0 --seed 0", (), "; yes: 0 operations, 0 objects\n", 0),
     ("simulate s.edn", *SIMULATED),
     ("simulate -- -s.edn", *SIMULATED),
@@ -283,7 +297,7 @@ def help_texts(program, report):
     options.update(
         verify=("--steps", "--workers"),
         split=("--shards",),
-        merge=("--steps",),
+        merge=("--steps", "--trust-statuses"),
         find=("--seconds", "--steps", "--workers", "--summary"),
         draw=("--object", "--from", "--to", "--steps"),
     )

@@ -2,10 +2,12 @@
 use Rattle.std.specs.Prelude.{◌∷◌, [], List, true, codes, Option, Some, None, map}
 use Rattle.clap.specs.Simple.{App, new_app, new_rule, on_top, with_rule, with_subcommand}
 use Rattle.clap.specs.Walk.{Rule, Text}
+use Rattle.clap.specs.declared.builder.action.ArgAction.{ArgAction}
+use Rattle.clap.specs.declared.builder.action.ArgAction.TheVariants.{SetTrue}
 use Rattle.clap.specs.declared.builder.value_parser.ValueParser.{ValueParser}
 use Rattle.clap.specs.declared.builder.value_parser.ValueParser.TheVariants.{Unsigned}
 use Rattle.command_line.specs.declared.table.Takes.{Takes}
-use Rattle.command_line.specs.declared.table.Takes.TheVariants.{Number, Kind, First}
+use Rattle.command_line.specs.declared.table.Takes.TheVariants.{Number, Kind, First, Nothing}
 use Rattle.command_line.specs.declared.table.TheConstants.{COMMANDS}
 
 -- a file is a required argument
@@ -17,10 +19,22 @@ abbrev pub parser_of : Takes → Option ValueParser
 parser_of (Number bounds) = Some (Unsigned bounds.least bounds.most)
 parser_of Kind = None
 parser_of First = None
+parser_of Nothing = None
 
--- `--name` with a value
+-- a flag takes no value; other options have one, as is the default
+abbrev pub action_of : Takes → Option ArgAction
+action_of (Number bounds) = None
+action_of Kind = None
+action_of First = None
+action_of Nothing = Some SetTrue
+
+-- `--name`, with a value or as a flag
 abbrev pub option_rule : Text × Takes → Rule
-option_rule o = record (new_rule o.0) { long = Some o.0; parser = parser_of o.1 }
+option_rule o = record (new_rule o.0) {
+  long = Some o.0;
+  parser = parser_of o.1;
+  action = action_of o.1;
+}
 
 abbrev pub with_rules : App → List Rule → App
 with_rules a [] = a

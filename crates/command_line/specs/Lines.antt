@@ -1,6 +1,6 @@
 -- Which words ask for which line.
-use Rattle.std.specs.Prelude.{◌≡◌, ◌≢◌, ◌⊎◌, ◌≤◌, [], ⊤, ℕ, List, codes, Option, Some, None, find}
-use Rattle.std.specs.Prelude.{option_map, map, Result, MatchResult}
+use Rattle.std.specs.Prelude.{◌≡◌, ◌≢◌, ◌⊎◌, ◌≤◌, [], ⊤, ℕ, Bool, false, List, codes, Option, Some}
+use Rattle.std.specs.Prelude.{None, find, option_map, map, Result, MatchResult}
 use Rattle.std.specs.Str.{bytes_eq}
 use Rattle.clap.specs.Faults.{fault_of}
 use Rattle.clap.specs.Kinds.{IsAmong}
@@ -39,6 +39,11 @@ IsNumber b None n = n ≡ b.default
 IsNumber b (Some t) n =
     IsNumeral 10 (without_leading_plus t) × (n ≡ digits_value 10 (without_leading_plus t))
     × (b.least ≤ n) × (n ≤ b.most)
+
+-- whether a flag is given: then clap has the text true for it, and else the text false
+abbrev pub is_given : Option Text → Bool
+is_given None = false
+is_given (Some t) = bytes_eq t (codes "true")
 
 -- which operation is tried first, by a name; where none is given, that with the least number
 abbrev pub IsFirst : Option Text → TryFirst → Type 0
@@ -90,9 +95,10 @@ IsLine v rows (Split history folder shards) =
     (v ≡ is.Split) × IsFile (codes "HISTORY") rows (string_bytes history)
     × IsFile (codes "FOLDER") rows (string_bytes folder)
     × IsNumber SHARDS (first_of (codes "shards") rows) shards
-IsLine v rows (Merge folder steps) =
+IsLine v rows (Merge folder steps trust_statuses) =
     (v ≡ is.Merge) × IsFile (codes "FOLDER") rows (string_bytes folder)
     × IsNumber STEPS (first_of (codes "steps") rows) steps
+    × (trust_statuses ≡ is_given (first_of (codes "trust-statuses") rows))
 
 -- the rows of what clap found
 abbrev pub rows_in : ArgMatches → List Row

@@ -72,10 +72,11 @@ pub enum Line {
         shards: u32,
     },
     /// To verify the shards in a folder, each by its evidence, with at most this number of steps
-    /// for a search of which the evidence names no number.
+    /// for a search of which the evidence names no number; or to believe the exit status of each.
     Merge {
         folder: String,
         steps: u32,
+        trust_statuses: bool,
     },
 }
 

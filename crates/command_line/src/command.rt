@@ -7,7 +7,7 @@ ghost use Rattle.command_line.specs.Command as spec;
 
 use crate::table::{COMMANDS, CommandRow, FileRow, OptionRow, Takes};
 use clap::builder::ValueParser;
-use clap::{Arg, Command};
+use clap::{Arg, ArgAction, Command};
 use std::alloc::{AllocError, Global};
 
 /// A required argument that is the name of a file.
@@ -19,15 +19,19 @@ fn file_argument<'a>(alloc: Global, name: &'a str, help: &'a str) -> Arg<'a>
 }
 
 /// The option, which takes these values.
-fn with_parser<'a>(option: Arg<'a>, takes: Takes) -> Arg<'a>
-    requires { option.value_parser ≡ None }
-    ensures { result ≡ record option.entry { value_parser = spec.parser_of takes } }
+fn with_values<'a>(option: Arg<'a>, takes: Takes) -> Arg<'a>
+    requires { (option.value_parser ≡ None) × (option.action ≡ None) }
+    ensures { result ≡ record option.entry {
+      value_parser = spec.parser_of takes;
+      action = spec.action_of takes;
+    } }
 {
     match takes {
         Takes::Number(bounds) => {
             option.value_parser(ValueParser::unsigned(bounds.least, bounds.most))
         }
         Takes::Kind | Takes::First => option,
+        Takes::Nothing => option.action(ArgAction::SetTrue),
     }
 }
 
@@ -35,7 +39,7 @@ fn option_argument<'a>(alloc: Global, name: &'a str, help: &'a str, takes: Takes
     ensures rule { rule_of result ≡ spec.option_rule (name.entry.now, takes) }
     ensures local { result.global ≡ false }
 {
-    with_parser(Arg::new(alloc, name).long(name).help(help), takes)
+    with_values(Arg::new(alloc, name).long(name).help(help), takes)
 }
 
 /// A command with these files.

@@ -43,6 +43,7 @@ fn reason_of(alloc: Global, unread: &NoLine) -> Result<String, AllocError> {
             "error: --{name} takes a number from {} to {}\n",
             bounds.least, bounds.most
         ),
+        Takes::Nothing => format!(in alloc; "error: --{name} takes no value\n"),
     }
 }
 

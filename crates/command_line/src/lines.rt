@@ -45,6 +45,16 @@ fn value_of<'a>(found: &ArgMatches<'a>, name: &str) -> Option<&'a str>
     found.get_str(name)
 }
 
+/// Whether the flag with this name is given.
+fn is_given(found: &ArgMatches<'_>, name: &str) -> bool
+    ensures { result ≡ spec.is_given (first_of name.now (rows_in found.now)) }
+{
+    match value_of(found, name) {
+        Some(text) => text == "true",
+        None => false,
+    }
+}
+
 /// The number of the option with this name and these bounds.
 fn number_of(found: &ArgMatches<'_>, name: &'static str, bounds: Bounds) -> Result<u64, NoLine>
     requires { (bounds.least ≤ bounds.default) × (bounds.default ≤ bounds.most) }
@@ -218,7 +228,12 @@ fn merge_of(alloc: Global, found: &ArgMatches<'_>) -> Result<Line, NoLine>
 {
     let folder = file_of(alloc, found, "FOLDER")?;
     let steps = number_of(found, "steps", STEPS)? as u32;
-    Ok(Line::Merge { folder, steps })
+    let trust_statuses = is_given(found, "trust-statuses");
+    Ok(Line::Merge {
+        folder,
+        steps,
+        trust_statuses,
+    })
 }
 
 /// The line of this command with what is given.

@@ -33,6 +33,8 @@ pub enum Takes {
     Kind,
     /// The name of what is tried first.
     First,
+    /// It is a flag.
+    Nothing,
 }
 
 /// A file: its name, and its help.
@@ -243,11 +245,18 @@ pub const COMMANDS: [CommandRow; 8] = [
             "FOLDER",
             "the folder with the shards, and the evidence of each",
         )],
-        &[(
-            "steps",
-            "the most steps of a search where the evidence names none, 0 to 1000000000 (default 1000000)",
-            Takes::Number(STEPS),
-        )],
+        &[
+            (
+                "steps",
+                "the most steps of a search where the evidence names none, 0 to 1000000000 (default 1000000)",
+                Takes::Number(STEPS),
+            ),
+            (
+                "trust-statuses",
+                "believes the exit statuses of judge in the files N.status, and checks nothing; --steps has no effect then",
+                Takes::Nothing,
+            ),
+        ],
     ),
 ];
 

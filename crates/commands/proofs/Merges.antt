@@ -6,17 +6,18 @@ use Rattle.std.specs.Prelude.{Any}
 use Rattle.std.proofs.lemmas.Bool.{cases_lt}
 use Rattle.std.proofs.lemmas.List.{get_or_append_left, get_or_push, length-append}
 use Rattle.judging.specs.Texts.{IsLinearizableText, IsNotLinearizableText}
-use Rattle.shards.specs.Dividing.{Files, shard_among}
+use Rattle.shards.specs.Dividing.{Files, name_in_shard, shard_among}
 use Rattle.shards.specs.ShardTexts.{IsLinearizableAtAnyLength}
 use Rattle.shards.proofs.DecidingTexts.{linearizable_where_judged, refuted_by_shard}
 use Rattle.shards.proofs.NumberedShards.{empty_past}
 use Rattle.history_commands.specs.Merged.{Shard}
 use Rattle.shards.specs.Folders.{WasDivided}
+use Rattle.shards.specs.declared.division.Division.{Division}
 use Rattle.history_commands.specs.Outputs.{number_of}
 use Rattle.history_commands.specs.declared.status.Status.{Status}
 use Rattle.history_commands.specs.declared.status.Status.TheVariants.{Yes, No, Malformed, Undecided, Failed}
 use Rattle.commands.specs.Leaves.{Leaves}
-use Rattle.commands.specs.Sharded.{AreRead, HoldSplit, Holding, IsMergeOfFolder, IsReadAs, IsSplitOutput}
+use Rattle.commands.specs.Sharded.{AreRead, HoldSplit, Holding, IsMergeOfFolder, IsSplitOutput}
 use Rattle.commands.proofs.StatusMeanings.{is_no, is_yes, memory_not_no, memory_not_yes, no_not_failed}
 use Rattle.commands.proofs.StatusMeanings.{yes_not_failed}
 
@@ -30,34 +31,35 @@ not_failed (inl e) f = let n = sym e ∙ f in cc
 not_failed (inr e) f = let n = sym e ∙ f in cc
 
 no_shard : Shard
-no_shard = record { number = 0; text = []; table = []; evidence = []; limit = 0 }
+no_shard = record { number = 0; count = 0; text = []; table = []; evidence = []; limit = 0 }
 
-module _ (holds : Holding) (limit : ℕ) where
-  pub none_read : AreRead holds limit []
+-- what was read is in the order of its numbers: nothing so far, and one more
+module _ {X : Type 0} (IsAt : ℕ → X → Type 0) where
+  pub none_read : (k : ℕ) (d : X) → k < 0 → IsAt k (get_or [] k d)
   none_read k d below = absurd (omega (arith, below))
 
-  pub read_more : (shards : List Shard) (s : Shard) → AreRead holds limit shards
-      → IsReadAs holds limit (length shards) s → AreRead holds limit (shards ++ s ∷ [])
-  read_more shards s read own k d below = elim (cases_lt k (length shards)) [
-    | inl less ↦ subst (IsReadAs holds limit k) (sym (get_or_append_left shards (s ∷ []) d k less)) (read k d less)
+  pub read_more : (xs : List X) (x : X) → ((k : ℕ) (d : X) → k < length xs → IsAt k (get_or xs k d))
+      → IsAt (length xs) x → (k : ℕ) (d : X) → k < length (xs ++ x ∷ []) → IsAt k (get_or (xs ++ x ∷ []) k d)
+  read_more xs x read own k d below = elim (cases_lt k (length xs)) [
+    | inl less ↦ subst (IsAt k) (sym (get_or_append_left xs (x ∷ []) d k less)) (read k d less)
     | inr past ↦
-        let last : length shards ≡ k = omega (arith, below, past, length-append shards (s ∷ [])) in
-        subst (IsReadAs holds limit k) (sym (get_or_push shards s d k last))
-        (subst (λ n. IsReadAs holds limit n s) last own)
+        let last : length xs ≡ k = omega (arith, below, past, length-append xs (x ∷ [])) in
+        subst (IsAt k) (sym (get_or_push xs x d k last)) (subst (λ n. IsAt n x) last own)
   ]
 
+module _ (holds : Holding) (limit : ℕ) where
   module _ (count : ℕ) (some : 0 < count) (shards : List Shard) (each : length shards ≡ count)
-      (read : AreRead holds limit shards) (whole : List ℕ) (split : HoldSplit holds count whole) where
+      (read : AreRead holds count limit shards) (whole : List ℕ) (split : HoldSplit holds count whole) where
     abbrev files : Files
     files = split.0
 
     own_text : (s : ℕ) (d : Shard) → s < length shards → (get_or shards s d).text ≡ files.texts s
     own_text s d below =
         let shard = get_or shards s d in
-        split.2 s shard.text shard.table shard.evidence (subst (λ n. s < n) each below) (read s d below).2
+        split.2 s shard.text shard.table shard.evidence (subst (λ n. s < n) each below) (read s d below).3
 
     pub whole_linearizable : All (λ s. IsLinearizableText s.text) shards → IsLinearizableAtAnyLength whole
-    whole_linearizable all = linearizable_where_judged (shard_among count) whole files.texts split.1.split
+    whole_linearizable all = linearizable_where_judged (shard_among count) name_in_shard whole files.texts split.1.split
         (λ s. elim (cases_lt s (length shards)) [
           | inl below ↦ inr (subst IsLinearizableText (own_text s no_shard below) (all s no_shard below))
           | inr past ↦ inl (empty_past count some s (subst (λ n. n ≤ s) each past) whole files split.1)
@@ -65,7 +67,7 @@ module _ (holds : Holding) (limit : ℕ) where
 
     pub whole_refuted : Any (λ s. IsNotLinearizableText s.text) shards → IsLinearizableAtAnyLength whole → ⊥
     whole_refuted (k, s, below, is, not) =
-        refuted_by_shard (shard_among count) whole files.texts split.1.split k
+        refuted_by_shard (shard_among count) name_in_shard whole files.texts split.1.split k
         (subst IsNotLinearizableText (own_text k s below) (subst (λ x. IsNotLinearizableText x.text) (sym is) not))
 
 -- ---- what the exit status says
@@ -73,14 +75,14 @@ module _ (holds : Holding) (limit : ℕ) where
 module _ (count : ℕ) (left left_after : Option (List ℕ)) (files files_after : Option Files) where
   by_status : (status : Status) (out : List ℕ) → IsSplitOutput count left left_after files files_after status out
       → (number_of status ≡ number_of Yes) ⊎ (number_of status ≡ number_of Undecided)
-      → (counts : List ℕ) × WasDivided count counts left left_after files files_after
+      → (told : Division) × WasDivided count told left left_after files files_after
   by_status status out (inl divided) e = (divided.0, divided.1)
   by_status status out (inr malformed) e = absurd (not_malformed status malformed.2.0 e)
 
   pub shows_divided : {before after : Option (List ℕ)} {number : ℕ} {broken : Bool}
       → Leaves (IsSplitOutput count left left_after files files_after) before number after broken
       → (number ≡ number_of Yes) ⊎ (number ≡ number_of Undecided)
-      → (counts : List ℕ) × WasDivided count counts left left_after files files_after
+      → (told : Division) × WasDivided count told left left_after files files_after
   shows_divided h e =
       let w = h.written (not_failed e) in
       by_status w.0 w.1 w.2 (subst (λ n. (n ≡ number_of Yes) ⊎ (n ≡ number_of Undecided)) w.3 e)

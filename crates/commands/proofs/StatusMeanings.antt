@@ -60,7 +60,7 @@ module _ (one one_after other other_after : Option (List ℕ)) where
   said_yes (Run o) status out (inl done) s y = absurd cc
   said_yes (Simulate h) status out (inl done) s y = absurd cc
   said_yes (Split h f n) status out (inl done) s y = absurd cc
-  said_yes (Merge f n) status out (inl done) s y = absurd cc
+  said_yes (Merge f n t) status out (inl done) s y = absurd cc
 
   said_no : (line : Line) (status : Status) (out : List ℕ)
       → IsPerformedOn line one one_after other other_after status out → says_no line ≡ true → status ≡ No
@@ -76,7 +76,7 @@ module _ (one one_after other other_after : Option (List ℕ)) where
   said_no (Run o) status out (inl done) s n = absurd cc
   said_no (Simulate h) status out (inl done) s n = absurd cc
   said_no (Split h f k) status out (inl done) s n = absurd cc
-  said_no (Merge f k) status out (inl done) s n = absurd cc
+  said_no (Merge f k t) status out (inl done) s n = absurd cc
 
   module _ (line : Line) {before after : Option (List ℕ)} {number : ℕ} {broken : Bool}
       (left : Leaves (IsPerformedOn line one one_after other other_after) before number after broken) where

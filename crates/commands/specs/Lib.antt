@@ -4,3 +4,4 @@ pub mod Runs
 pub mod Simulated
 pub mod Performed
 pub mod Sharded
+pub mod Believed

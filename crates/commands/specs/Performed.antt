@@ -39,7 +39,7 @@ IsPerformed (Run options) first second status out =
 IsPerformed (Simulate schedule) first second status out =
     IsSimulation first status out ⊎ IsOutOfMemory status out
 IsPerformed (Split history folder shards) first second status out = IsExactly Usage [] status out
-IsPerformed (Merge folder steps) first second status out = IsExactly Usage [] status out
+IsPerformed (Merge folder steps trust_statuses) first second status out = IsExactly Usage [] status out
 
 -- ---- what the exit status says of the history in the first file
 
@@ -52,7 +52,7 @@ says_yes (Verify history evidence steps workers) = true
 says_yes (Run options) = false
 says_yes (Simulate schedule) = false
 says_yes (Split history folder shards) = false
-says_yes (Merge folder steps) = false
+says_yes (Merge folder steps trust_statuses) = false
 
 -- whether 1 says that it is not
 abbrev pub says_no : Line → Bool
@@ -63,7 +63,7 @@ says_no (Verify history evidence steps workers) = true
 says_no (Run options) = false
 says_no (Simulate schedule) = false
 says_no (Split history folder shards) = false
-says_no (Merge folder steps) = false
+says_no (Merge folder steps trust_statuses) = false
 
 -- ---- on files
 
@@ -76,7 +76,7 @@ has_first (Verify history evidence steps workers) = true
 has_first (Run options) = false
 has_first (Simulate schedule) = true
 has_first (Split history folder shards) = false
-has_first (Merge folder steps) = false
+has_first (Merge folder steps trust_statuses) = false
 
 abbrev pub has_second : Line → Bool
 has_second (Check history certs workers) = true
@@ -86,7 +86,7 @@ has_second (Verify history evidence steps workers) = true
 has_second (Run options) = false
 has_second (Simulate schedule) = false
 has_second (Split history folder shards) = false
-has_second (Merge folder steps) = false
+has_second (Merge folder steps trust_statuses) = false
 
 -- The text of a file that the command has is what was read of its source. What the source has left
 -- is given as it was before and after. Of a file that it does not have nothing was read.

@@ -1,6 +1,6 @@
 -- What the commands on a folder of shards put out.
 use Rattle.std.specs.Prelude.{◌≡◌, ◌<◌, ◌⊎◌, ℕ, false, List, Option, get_or, length, nat_lt}
-use Rattle.std.specs.Prelude.{if◌then◌else◌}
+use Rattle.std.specs.Prelude.{⊤, if◌then◌else◌}
 use Rattle.std.specs.List.{list_any}
 use Rattle.history.specs.Faults.{max_maps}
 use Rattle.history.specs.declared.fault.TextFault.{TextFault}
@@ -9,10 +9,13 @@ use Rattle.report.specs.Lines.{verdict_text}
 use Rattle.report.specs.declared.verdict.Fault.{Fault}
 use Rattle.report.specs.declared.verdict.Fault.TheVariants.{HistoryText, HistoryMaps}
 use Rattle.report.specs.declared.verdict.Verdict.TheVariants as verdict
-use Rattle.shards.specs.Dividing.{Files, IsDivided, shard_among}
+use Rattle.shards.specs.Dividing.{Files, IsDivided, name_in_shard, shard_among}
 use Rattle.shards.specs.Folders.{WasDivided}
 use Rattle.shards.specs.SplitFaults.{IsSplitFault}
+use Rattle.shards.specs.declared.division.Division.{Division}
 use Rattle.shards.specs.declared.fault.SplitFault.TheVariants as split
+use Rattle.commands.specs.declared.folders.FolderFault.{FolderFault}
+use Rattle.commands.specs.declared.folders.FolderFault.TheVariants as fault
 use Rattle.history_commands.specs.Merged.{IsMerge, Shard}
 use Rattle.history_commands.specs.Outputs.{IsExactly, IsOutOfMemory}
 use Rattle.history_commands.specs.declared.status.Status.{Status}
@@ -39,10 +42,20 @@ status_by_counts counts =
 abbrev pub IsSplitOutput : ℕ → Option (List ℕ) → Option (List ℕ) → Option Files → Option Files
     → Status → List ℕ → Type 0
 IsSplitOutput count left left_after files files_after status out =
-    ((counts : List ℕ) × WasDivided count counts left left_after files files_after
-    × (status ≡ status_by_counts counts))
-    ⊎ ((f : TextFault) × IsSplitFault (split.Malformed f) left left_after
+    ((told : Division) × WasDivided count told left left_after files files_after
+    × (status ≡ status_by_counts told.counts.items))
+    ⊎ ((f : TextFault) × IsSplitFault count (split.Malformed f) left left_after
     × IsExactly ends.Malformed (fault_line f) status out)
+
+-- Where a split says that an object needs more shards, this is so: what was read of the source has a
+-- map on it.
+abbrev pub IsWhereFewShards : ℕ → FolderFault → Option (List ℕ) → Option (List ℕ) → Type 0
+IsWhereFewShards count (fault.FewShards x) left left_after =
+    IsSplitFault count (split.FewShards x) left left_after
+IsWhereFewShards count (fault.Shard s file) left left_after = ⊤
+IsWhereFewShards count fault.History left left_after = ⊤
+IsWhereFewShards count fault.Shards left left_after = ⊤
+IsWhereFewShards count fault.NoMemory left left_after = ⊤
 
 -- ---- a merge
 
@@ -50,20 +63,21 @@ IsSplitOutput count left left_after files files_after status out =
 abbrev pub Holding : Type 1
 Holding = ℕ → List ℕ → List ℕ → List ℕ → Type 0
 
--- this was read as the shard with this number, where a search has this limit
-abbrev pub IsReadAs : Holding → ℕ → ℕ → Shard → Type 0
-IsReadAs holds limit number s =
-    (s.number ≡ number) × (s.limit ≡ limit) × holds number s.text s.table s.evidence
+-- this was read as the shard with this number, of this many, where a search has this limit
+abbrev pub IsReadAs : Holding → ℕ → ℕ → ℕ → Shard → Type 0
+IsReadAs holds count limit number s =
+    (s.number ≡ number) × (s.count ≡ count) × (s.limit ≡ limit)
+    × holds number s.text s.table s.evidence
 
 -- these were read as the shards, in the order of their numbers
-abbrev pub AreRead : Holding → ℕ → List Shard → Type 0
-AreRead holds limit shards =
-    (k : ℕ) (d : Shard) → k < length shards → IsReadAs holds limit k (get_or shards k d)
+abbrev pub AreRead : Holding → ℕ → ℕ → List Shard → Type 0
+AreRead holds count limit shards =
+    (k : ℕ) (d : Shard) → k < length shards → IsReadAs holds count limit k (get_or shards k d)
 
 -- the output of a merge of this many shards, which were read
 abbrev pub IsMergeOf : Holding → ℕ → ℕ → Status → List ℕ → Type 0
 IsMergeOf holds count limit status out =
-    (shards : List Shard) × (length shards ≡ count) × AreRead holds limit shards
+    (shards : List Shard) × (length shards ≡ count) × AreRead holds count limit shards
     × IsMerge shards status out
 
 -- the same, or one line says that an allocation failed
@@ -71,9 +85,13 @@ abbrev pub IsMergeOfFolder : Holding → ℕ → ℕ → Status → List ℕ →
 IsMergeOfFolder holds count limit status out =
     IsMergeOf holds count limit status out ⊎ IsOutOfMemory status out
 
--- The files hold the texts of the shards of a whole, as a split of it makes them.
+-- these files are the shards of a whole, as a split of it makes them
+abbrev pub AreShardsOf : ℕ → List ℕ → Files → Type 0
+AreShardsOf count whole files = IsDivided (shard_among count) name_in_shard whole files
+
+-- The files hold the texts of the shards of a whole.
 abbrev pub HoldSplit : Holding → ℕ → List ℕ → Type 0
 HoldSplit holds count whole =
-    (files : Files) × IsDivided (shard_among count) whole files
+    (files : Files) × AreShardsOf count whole files
     × ((s : ℕ) (text table evidence : List ℕ) → s < count → holds s text table evidence
     → text ≡ files.texts s)

@@ -2,24 +2,25 @@
 //! judged.
 
 ghost use Rattle.std.specs.Prelude.{◌≡◌, ◌<◌, ◌⊎◌, ℕ, List, false, length, nat_lt};
-ghost use Rattle.std.specs.Prelude.{IfOk, IfSome, OnErr};
+ghost use Rattle.std.specs.Prelude.{IfErr, IfOk, IfSome, OnErr};
 ghost use Rattle.history_commands.specs.Merged.{AreMerged, Shard};
 ghost use Rattle.history_commands.specs.Outputs.{IsExactly, number_of};
 ghost use Rattle.commands.specs.Leaves.{Leaves};
 ghost use Rattle.commands.specs.Sharded as spec;
 ghost use Rattle.commands.specs.Sharded.{AreRead, HoldSplit, IsMergeOf, IsMergeOfFolder};
-ghost use Rattle.commands.specs.Sharded.{IsSplitOutput, fault_line};
+ghost use Rattle.commands.specs.Sharded.{IsSplitOutput, IsWhereFewShards, fault_line};
 ghost use Rattle.history.specs.Faults.{max_maps};
 ghost use Rattle.std.specs.List.{list_any};
 ghost use Rattle.shards.specs.Folders.{WasDivided};
+ghost use Rattle.shards.specs.declared.division.Division.{Division};
 ghost use Rattle.shards.specs.ShardTexts.{IsLinearizableAtAnyLength};
 
 use crate::write_output::write_output;
 use edn::{Sink, Source, push_natural};
 use history::{MAX_MAPS, TextFault};
-use history_commands::{Merging, Output, Status, verdict_output};
+use history_commands::{Merging, Output, ShardNumber, Status, verdict_output};
 use report::{Fault, Verdict};
-use shards::{Folder, SplitFault, split_over};
+use shards::{Division, Folder, LargeObject, SplitFault, split_over};
 use std::alloc::{AllocError, Global};
 
 /// Which file of a shard it is.
@@ -28,9 +29,11 @@ pub enum ShardFile {
     Text,
     Table,
     Evidence,
+    /// The exit status that a worker left.
+    Status,
 }
 
-/// What a command on a folder could not read or write.
+/// What a command on a folder could not read or write, or why a history was not divided.
 #[derive(Clone, Copy, Debug, PartialEq, Eq)]
 pub enum FolderFault {
     /// The history.
@@ -38,7 +41,9 @@ pub enum FolderFault {
     /// The files of the shards.
     Shards,
     /// A file of this shard.
-    Shard(u32, ShardFile),
+    Shard(u16, ShardFile),
+    /// Nothing: the history has a map on this object, which needs more shards.
+    FewShards(u32),
     /// An allocation failed while a history was divided.
     NoMemory,
 }
@@ -75,7 +80,7 @@ pub trait ShardFiles {
     /// What the files of a shard may hold: its text, its table, and its evidence.
     ghost holds: { Self → ℕ → List ℕ → List ℕ → List ℕ → Type 0 };
 
-    fn read(&self, alloc: Global, shard: u32) -> Result<ShardFileTexts, ShardFault>
+    fn read(&self, alloc: Global, shard: u16) -> Result<ShardFileTexts, ShardFault>
         ensures { IfOk result (λ t.
             holds self.now shard t.text.items t.table.items t.evidence.items) };
 }
@@ -136,10 +141,10 @@ fn status_by_counts(counts: &[u32]) -> Status
     }
 }
 
-/// Appends the line of a shard that has too many maps.
-fn push_large_shard(text: &mut Vec<u8>, shard: usize, maps: u32) -> Result<(), AllocError> {
-    text.extend_from_slice(b"shard ")?;
-    push_natural(text, shard as u64)?;
+/// Appends the line of a shard or an object that has too many maps.
+fn push_large(text: &mut Vec<u8>, what: &[u8], number: u64, maps: u32) -> Result<(), AllocError> {
+    text.extend_from_slice(what)?;
+    push_natural(text, number)?;
     text.extend_from_slice(b": ")?;
     push_natural(text, u64::from(maps))?;
     text.extend_from_slice(b" maps, too many for one text\n")
@@ -149,20 +154,28 @@ fn push_large_shard(text: &mut Vec<u8>, shard: usize, maps: u32) -> Result<(), A
 fn push_large_shards(text: &mut Vec<u8>, counts: &[u32]) -> Result<(), AllocError> {
     for shard in 0..counts.len() {
         if is_too_large(counts[shard]) {
-            push_large_shard(text, shard, counts[shard])?;
+            push_large(text, b"shard ", shard as u64, counts[shard])?;
         }
     }
     Ok(())
 }
 
-/// The output where the whole was divided into shards with these numbers of maps: yes, unless one
-/// is too large for a text.
-fn counts_output(alloc: Global, counts: &[u32]) -> Result<Output, AllocError>
-    ensures { IfOk result (λ o. o.status ≡ spec.status_by_counts counts.now) }
+/// Appends the lines of the objects that have too many maps.
+fn push_large_objects(text: &mut Vec<u8>, objects: &[LargeObject]) -> Result<(), AllocError> {
+    for large in objects {
+        push_large(text, b"object ", u64::from(large.object), large.maps)?;
+    }
+    Ok(())
+}
+
+/// The output where the whole was divided so: yes, unless a shard is too large for a text.
+fn division_output(alloc: Global, division: &Division) -> Result<Output, AllocError>
+    ensures { IfOk result (λ o. o.status ≡ spec.status_by_counts division.now.counts.items) }
 {
-    let mut text = count_line(alloc, counts)?;
-    push_large_shards(&mut text, counts)?;
-    let status = status_by_counts(counts);
+    let mut text = count_line(alloc, &division.counts)?;
+    push_large_shards(&mut text, &division.counts)?;
+    push_large_objects(&mut text, &division.large)?;
+    let status = status_by_counts(&division.counts);
     Ok(Output { status, text })
 }
 
@@ -171,18 +184,21 @@ fn split_output<F: Source, D: Folder>(
     alloc: Global,
     history: &mut F,
     folder: &mut D,
-    shards: u32,
+    shards: u16,
 ) -> Result<Output, FolderFault>
     requires history { F.broken history.old ≡ false }
     requires folder { D.broken folder.old ≡ false }
     requires some { 0 < shards }
-    ensures { IfOk result (λ o. IsSplitOutput shards
+    ensures made { IfOk result (λ o. IsSplitOutput shards
         (F.remaining history.old) (F.remaining history.new)
         (D.files folder.old) (D.files folder.new) o.status o.text.items) }
+    ensures few_shards { IfErr result (λ e. IsWhereFewShards shards e
+        (F.remaining history.old) (F.remaining history.new)) }
 {
     match split_over(alloc, history, folder, shards) {
-        Ok(counts) => Ok(counts_output(alloc, &counts)?),
+        Ok(division) => Ok(division_output(alloc, &division)?),
         Err(SplitFault::Malformed(fault)) => Ok(malformed_output(alloc, fault)?),
+        Err(SplitFault::FewShards(object)) => Err(FolderFault::FewShards(object)),
         Err(SplitFault::NoMemory) => Err(FolderFault::NoMemory),
         Err(SplitFault::Read) => Err(FolderFault::History),
         Err(SplitFault::Write) => Err(FolderFault::Shards),
@@ -197,7 +213,7 @@ pub fn split_history<F: Source, D: Folder, S: Sink>(
     alloc: Global,
     history: &mut F,
     folder: &mut D,
-    shards: u32,
+    shards: u16,
     sink: &mut S,
 ) -> Result<u8, FolderFault>
     requires history { F.broken history.old ≡ false }
@@ -206,9 +222,11 @@ pub fn split_history<F: Source, D: Folder, S: Sink>(
     requires some { 0 < shards }
     ensures divided { IfOk result (λ number.
         (number ≡ number_of Status.Yes) ⊎ (number ≡ number_of Status.Undecided) →
-        (counts : List ℕ) × WasDivided shards counts
+        (told : Division) × WasDivided shards told
         (F.remaining history.old) (F.remaining history.new)
         (D.files folder.old) (D.files folder.new)) }
+    ensures few_shards { IfErr result (λ e. IsWhereFewShards shards e
+        (F.remaining history.old) (F.remaining history.new)) }
     ensures leaves { IfOk result (λ number. Leaves (IsSplitOutput shards
         (F.remaining history.old) (F.remaining history.new)
         (D.files folder.old) (D.files folder.new))
@@ -223,11 +241,11 @@ pub fn split_history<F: Source, D: Folder, S: Sink>(
 fn merge_all<F: ShardFiles>(
     alloc: Global,
     files: &F,
-    shards: u32,
+    shards: u16,
     steps: u32,
 ) -> Result<Option<Merging>, FolderFault>
     ensures { IfOk result (λ made. IfSome made (λ m. (all : List Shard)
-        × (length all ≡ shards) × AreRead (F.holds files.now) steps all
+        × (length all ≡ shards) × AreRead (F.holds files.now) shards steps all
         × AreMerged m all)) }
 {
     let mut merging = Merging::new(alloc);
@@ -242,7 +260,11 @@ fn merge_all<F: ShardFiles>(
             table,
             evidence,
         } = texts;
-        let Ok(()) = merging.take(alloc, shard, &text, &table, &evidence, steps) else {
+        let number = ShardNumber {
+            number: shard,
+            count: shards,
+        };
+        let Ok(()) = merging.take(alloc, number, &text, &table, &evidence, steps) else {
             return Ok(None);
         };
     }
@@ -253,7 +275,7 @@ fn merge_all<F: ShardFiles>(
 fn merge_output<F: ShardFiles>(
     alloc: Global,
     files: &F,
-    shards: u32,
+    shards: u16,
     steps: u32,
 ) -> Result<Result<Output, AllocError>, FolderFault>
     ensures { IfOk result (λ made. IfOk made (λ o.
@@ -271,7 +293,7 @@ fn merge_output<F: ShardFiles>(
 pub fn merge_shards<F: ShardFiles, S: Sink>(
     alloc: Global,
     files: &F,
-    shards: u32,
+    shards: u16,
     steps: u32,
     sink: &mut S,
 ) -> Result<u8, FolderFault>

@@ -1,6 +1,7 @@
 //! The program's logic: it does what a command line asks for.
 #![tactic(auto)]
 
+mod believing;
 mod checking;
 mod folders;
 mod program;
@@ -11,6 +12,7 @@ mod statuses;
 mod verification;
 mod write_output;
 
+pub use believing::{StatusFiles, merge_statuses};
 pub use command_line::{Line, LineFault, RunOptions, line};
 pub use folders::{
     FolderFault, ShardFault, ShardFile, ShardFileTexts, ShardFiles, merge_shards, split_history,
@@ -18,6 +20,6 @@ pub use folders::{
 pub use history_commands::Status;
 pub use judging::{In, NamedFile, ReadFault, read_text};
 pub use program::{perform, perform_over};
-pub use shards::Folder;
+pub use shards::{Folder, shards_needed};
 pub use sources::Unread;
 pub use statuses::status_of_fault;

@@ -6,7 +6,7 @@ mod shard_folder;
 use crate::shard_folder::{ShardFolder, ending_of};
 use commands::{
     FolderFault, In, Line, LineFault, NamedFile, ReadFault, Status, Unread, line, merge_shards,
-    perform_over, split_history, status_of_fault,
+    merge_statuses, perform_over, shards_needed, split_history, status_of_fault,
 };
 use edn::Out;
 use std::fs::File;
@@ -20,7 +20,7 @@ use std::thread::{Threads, join, sleep};
 use std::time::{Clock, Duration};
 
 /// The version of the program, and the logic that proves it.
-const VERSION: &str = "fcbench 5.0.0, proved by Rattle logic dac8208d650f15bf";
+const VERSION: &str = "fcbench 6.0.0, proved by Rattle logic dac8208d650f15bf";
 
 /// How many times `watch` checks whether the command is done.
 const LOOKS: u32 = 200;
@@ -91,6 +91,13 @@ fn report_unwritten<R: Print + Eprint>(rt: &R, name: &str, lacks_memory: bool) -
     Ok(Status::Failed.number())
 }
 
+/// Says how many shards an object needs.
+fn report_few_shards<R: Print>(rt: &R, object: u32) -> io::Result<u8> {
+    let shards = shards_needed(object);
+    rt.println(format_args!("object {object}: {shards} shards or more are needed"))?;
+    Ok(Status::Undecided.number())
+}
+
 /// Whether a split with this status has divided the whole.
 fn is_divided(status: u8) -> bool {
     status == Status::Yes.number() || status == Status::Undecided.number()
@@ -99,10 +106,11 @@ fn is_divided(status: u8) -> bool {
 /// Divides a history into shards in a folder that has none. Where it is not divided, nothing of it
 /// is left there.
 fn run_split<R: Host>(rt: &R, history: &str, name: &str, shards: u32) -> io::Result<u8> {
-    // The command line lets no other number pass.
-    if shards == 0 {
-        return Ok(Status::Usage.number());
-    }
+    let shards = match u16::try_from(shards) {
+        Ok(shards) if shards > 0 => shards,
+        // The command line lets no such number pass.
+        _ => return Ok(Status::Usage.number()),
+    };
     let mut folder = ShardFolder::new(rt, rt.alloc(), name);
     if let Err(error) = folder.make(shards) {
         return report_unwritten(rt, name, error.kind() == io::ErrorKind::OutOfMemory);
@@ -122,12 +130,13 @@ fn run_split<R: Host>(rt: &R, history: &str, name: &str, shards: u32) -> io::Res
         Ok(status) => Ok(status),
         Err(FolderFault::History) => report_unreadable(rt, history, source.lacks_memory()),
         Err(FolderFault::NoMemory) => no_memory(rt),
+        Err(FolderFault::FewShards(object)) => report_few_shards(rt, object),
         Err(_) => report_unwritten(rt, name, folder.lacks_memory()),
     }
 }
 
-/// Verifies the shards in a folder.
-fn run_merge<R: Host>(rt: &R, name: &str, steps: u32) -> io::Result<u8> {
+/// Verifies the shards in a folder, or believes the exit status of each.
+fn run_merge<R: Host>(rt: &R, name: &str, steps: u32, trust_statuses: bool) -> io::Result<u8> {
     let folder = ShardFolder::new(rt, rt.alloc(), name);
     let shards = match folder.count() {
         Ok(shards) => shards,
@@ -138,7 +147,12 @@ fn run_merge<R: Host>(rt: &R, name: &str, steps: u32) -> io::Result<u8> {
         }
     };
     let mut output = Out::new(io::writer(rt));
-    match merge_shards(rt.alloc(), &folder, shards, steps, &mut output) {
+    let merged = if trust_statuses {
+        merge_statuses(rt.alloc(), &folder, shards, &mut output)
+    } else {
+        merge_shards(rt.alloc(), &folder, shards, steps, &mut output)
+    };
+    match merged {
         Ok(status) => Ok(status),
         Err(FolderFault::Shard(shard, file)) => {
             let ending = ending_of(file);
@@ -157,7 +171,11 @@ fn run_command<R: Host>(rt: &R, line: &Line) -> io::Result<u8> {
             folder,
             shards,
         } => run_split(rt, history, folder, *shards),
-        Line::Merge { folder, steps } => run_merge(rt, folder, *steps),
+        Line::Merge {
+            folder,
+            steps,
+            trust_statuses,
+        } => run_merge(rt, folder, *steps, *trust_statuses),
         _ => run_line(rt, line),
     }
 }

@@ -1,11 +1,13 @@
 //! The files of shards in a folder. Of shard 3, `3.edn` has the maps, `3.places` their places in
-//! the whole, and `3.evidence`, which others write, what was found of it. The file `shards` has the
-//! number of the shards. It is made last, so a folder without it has no whole history.
+//! the whole, and `3.evidence` and `3.status`, which others write, what was found of it. The file
+//! `shards` has the number of the shards. It is made last, so a folder without it has no whole
+//! history.
 
 ghost use Rattle.std.specs.Prelude.{⊤, ◌≡◌, ◌<◌, IfOk, None, false, is_some};
 
 use commands::{
-    Folder, In, NamedFile, ReadFault, ShardFault, ShardFile, ShardFileTexts, ShardFiles, read_text,
+    Folder, In, NamedFile, ReadFault, ShardFault, ShardFile, ShardFileTexts, ShardFiles,
+    StatusFiles, read_text,
 };
 use edn::Failed;
 use std::alloc::{AllocError, Global};
@@ -19,6 +21,7 @@ pub fn ending_of(file: ShardFile) -> &'static str {
         ShardFile::Text => "edn",
         ShardFile::Table => "places",
         ShardFile::Evidence => "evidence",
+        ShardFile::Status => "status",
     }
 }
 
@@ -57,14 +60,14 @@ impl<'a, R: Files> ShardFolder<'a, R> {
     }
 
     /// The name of a file of a shard.
-    fn path(&self, shard: u32, file: ShardFile) -> Result<String, AllocError> {
+    fn path(&self, shard: u16, file: ShardFile) -> Result<String, AllocError> {
         let ending = ending_of(file);
         format!(in self.alloc; "{}/{shard}.{ending}", self.name)
     }
 
     /// Makes the files of this many shards, which are empty. None of them may be there, so that of
     /// two that make them at once one fails.
-    pub fn make(&self, shards: u32) -> io::Result<()> {
+    pub fn make(&self, shards: u16) -> io::Result<()> {
         make_folder(self.files, self.name)?;
         for shard in 0..shards {
             File::create_new(self.files, self.path(shard, ShardFile::Text)?)?;
@@ -74,7 +77,7 @@ impl<'a, R: Files> ShardFolder<'a, R> {
     }
 
     /// Says that the files that were made have a whole history.
-    pub fn complete(&self, shards: u32) -> io::Result<()> {
+    pub fn complete(&self, shards: u16) -> io::Result<()> {
         let text = format!(in self.alloc; "{shards}\n")?;
         let mut file = File::create_new(self.files, self.count_path()?)?;
         file.write_all(text.as_bytes())
@@ -86,7 +89,7 @@ impl<'a, R: Files> ShardFolder<'a, R> {
     }
 
     /// Removes the files that were made, as far as that is possible.
-    pub fn remove(&self, shards: u32) {
+    pub fn remove(&self, shards: u16) {
         for shard in 0..shards {
             for file in [ShardFile::Text, ShardFile::Table] {
                 if let Ok(path) = self.path(shard, file) {
@@ -97,13 +100,13 @@ impl<'a, R: Files> ShardFolder<'a, R> {
     }
 
     /// Adds bytes to a file of a shard.
-    fn append(&self, shard: u32, file: ShardFile, bytes: &[u8]) -> io::Result<()> {
+    fn append(&self, shard: u16, file: ShardFile, bytes: &[u8]) -> io::Result<()> {
         let path = self.path(shard, file)?;
         let mut file = OpenOptions::new().append(true).open(self.files, path)?;
         file.write_all(bytes)
     }
 
-    fn append_lines(&self, shard: u32, maps: &[u8], places: &[u8]) -> io::Result<()> {
+    fn append_lines(&self, shard: u16, maps: &[u8], places: &[u8]) -> io::Result<()> {
         self.append(shard, ShardFile::Text, maps)?;
         self.append(shard, ShardFile::Table, places)
     }
@@ -115,7 +118,7 @@ impl<'a, R: Files> Folder for ShardFolder<'a, R> {
 
     ghost broken = { λ s. is_some s.failure };
 
-    fn add(&mut self, shard: u32, maps: &[u8], places: &[u8]) -> Result<(), Failed> {
+    fn add(&mut self, shard: u16, maps: &[u8], places: &[u8]) -> Result<(), Failed> {
         match self.append_lines(shard, maps, places) {
             Ok(()) => Ok(()),
             Err(error) => {
@@ -128,7 +131,7 @@ impl<'a, R: Files> Folder for ShardFolder<'a, R> {
 
 impl<'a, R: Files> ShardFolder<'a, R> {
     /// The text of a file of a shard, to one byte more than the longest that is judged.
-    fn text(&self, alloc: Global, shard: u32, file: ShardFile) -> Result<Vec<u8>, ShardFault> {
+    fn text(&self, alloc: Global, shard: u16, file: ShardFile) -> Result<Vec<u8>, ShardFault> {
         let Ok(path) = self.path(shard, file) else {
             return Err(ShardFault::NoMemory);
         };
@@ -139,19 +142,32 @@ impl<'a, R: Files> ShardFolder<'a, R> {
         }
     }
 
-    /// The evidence of a shard, or nothing where there is no such file.
-    fn evidence(&self, alloc: Global, shard: u32) -> Result<Vec<u8>, ShardFault> {
-        let Ok(path) = self.path(shard, ShardFile::Evidence) else {
+    /// The text of a file of a shard, if there is such a file.
+    fn text_if_there(
+        &self,
+        alloc: Global,
+        shard: u16,
+        file: ShardFile,
+    ) -> Result<Option<Vec<u8>>, ShardFault> {
+        let Ok(path) = self.path(shard, file) else {
             return Err(ShardFault::NoMemory);
         };
         match fs::open(self.files, &path) {
-            Err(error) if error.kind() == ErrorKind::NotFound => Ok(Vec::new(alloc)),
-            _ => self.text(alloc, shard, ShardFile::Evidence),
+            Err(error) if error.kind() == ErrorKind::NotFound => Ok(None),
+            _ => Ok(Some(self.text(alloc, shard, file)?)),
+        }
+    }
+
+    /// The evidence of a shard, or nothing where there is no such file.
+    fn evidence(&self, alloc: Global, shard: u16) -> Result<Vec<u8>, ShardFault> {
+        match self.text_if_there(alloc, shard, ShardFile::Evidence)? {
+            Some(evidence) => Ok(evidence),
+            None => Ok(Vec::new(alloc)),
         }
     }
 
     /// The number of shards that the folder has.
-    pub fn count(&self) -> Result<u32, ReadFault>
+    pub fn count(&self) -> Result<u16, ReadFault>
         ensures { IfOk result (λ count. 0 < count) }
     {
         let path = self.count_path()?;
@@ -164,7 +180,7 @@ impl<'a, R: Files> ShardFolder<'a, R> {
 }
 
 /// The number on the one line of a text.
-fn count_in(text: &[u8]) -> Option<u32> {
+fn count_in(text: &[u8]) -> Option<u16> {
     let line = str::from_utf8(text).ok()?;
     line.strip_suffix('\n')?.parse().ok()
 }
@@ -173,11 +189,20 @@ fn count_in(text: &[u8]) -> Option<u32> {
 impl<'a, R: Files> ShardFiles for ShardFolder<'a, R> {
     ghost holds = { λ _ _ _ _ _. ⊤ };
 
-    fn read(&self, alloc: Global, shard: u32) -> Result<ShardFileTexts, ShardFault> {
+    fn read(&self, alloc: Global, shard: u16) -> Result<ShardFileTexts, ShardFault> {
         Ok(ShardFileTexts {
             text: self.text(alloc, shard, ShardFile::Text)?,
             table: self.text(alloc, shard, ShardFile::Table)?,
             evidence: self.evidence(alloc, shard)?,
         })
+    }
+}
+
+// Of files it is not known what they hold.
+impl<'a, R: Files> StatusFiles for ShardFolder<'a, R> {
+    ghost holds = { λ _ _ _. ⊤ };
+
+    fn read_status(&self, alloc: Global, shard: u16) -> Result<Option<Vec<u8>>, ShardFault> {
+        self.text_if_there(alloc, shard, ShardFile::Status)
     }
 }

@@ -1,24 +1,35 @@
--- The limit of a history's maps: a fault of a form is one at any length, or the limit, which is the last of its faults.
--- So forms without a fault at any length have none where they are not too many, and no other forms have none.
-use Rattle.std.proofs.Common.{◌≡◌, ℕ, ◌<◌, ◌≤◌, ◌⊎◌, ◌↔◌, inl, inr, zero, suc, List, [], ◌∷◌, ◌++◌, length, refl, ap, sym, subst, arith, length-append}
+-- The limits of a history in one text: a fault of a form is one at any length, or that of a great object, which is the
+-- first of its faults, or that of too many maps, which is the last. So forms without a fault at any length have none
+-- where they are not too many and name no great object, and no other forms have none.
+use Rattle.std.proofs.Common.{◌≡◌, ℕ, ◌<◌, ◌≤◌, ◌⊎◌, ◌↔◌, inl, inr, zero, suc, List, [], ◌∷◌, ◌++◌, length, All}
+use Rattle.std.proofs.Common.{refl, ap, sym, subst, arith, length-append}
+use Rattle.model.proofs.Lists.{In, all_from_in, all_at, in_middle, in_split}
 use Rattle.edn_reader.specs.Datum.{Datum}
 use Rattle.events.specs.declared.event.Event.{Event}
 use Rattle.history.specs.declared.fault.HistoryFaultKind.{HistoryFaultKind}
-use Rattle.history.specs.declared.fault.HistoryFaultKind.TheVariants.{TooMany, NoMemory}
-use Rattle.history.specs.Faults.{max_maps, IsMapFault, IsFault, IsFaultless, IsFaultlessAtAnyLength, number_of}
+use Rattle.history.specs.declared.fault.HistoryFaultKind.TheVariants.{NotAnOperation, TooMany, NoMemory}
+use Rattle.history.specs.Faults.{max_maps, HasGreatObject, IsMapFault, IsFault, IsFaultless, IsFaultlessAtAnyLength}
+use Rattle.history.specs.Faults.{number_of}
 use Rattle.history.specs.Denotes.{Denotes, DenotesAtAnyLength}
 use Rattle.history.specs.Seen.{HasFirst, HasNoFault}
 
 -- ---- of one form
 
 fault_within : (ds : List Datum) (d : Datum) (k : HistoryFaultKind) → IsMapFault ds d k → IsFault ds d k
+fault_within ds d NotAnOperation h = inl h
 fault_within ds d TooMany h = absurd h.2
 fault_within ds d kind h = h
 
-fault_or_limit : (ds : List Datum) (d : Datum) (k : HistoryFaultKind) → IsFault ds d k
+-- a form on no great object
+abbrev pub IsSmall : Datum → Type 0
+IsSmall d = HasGreatObject d → ⊥
+
+fault_or_limit : (ds : List Datum) (d : Datum) (k : HistoryFaultKind) → IsSmall d → IsFault ds d k
     → IsMapFault ds d k ⊎ ((k ≡ TooMany) × (max_maps ≤ length ds))
-fault_or_limit ds d TooMany h = inr (refl, h)
-fault_or_limit ds d kind h = inl h
+fault_or_limit ds d NotAnOperation small (inl h) = inl h
+fault_or_limit ds d NotAnOperation small (inr h) = absurd (small h)
+fault_or_limit ds d TooMany small h = inr (refl, h)
+fault_or_limit ds d kind small h = inl h
 
 before_limit : (ds : List Datum) (d : Datum) (k : HistoryFaultKind) → IsMapFault ds d k
     → number_of k < number_of TooMany
@@ -30,26 +41,36 @@ before_limit ds d kind h = omega arith
 pub not_memory : (ds : List Datum) (d : Datum) (k : HistoryFaultKind) → IsMapFault ds d k → k ≡ NoMemory → ⊥
 not_memory ds d k h q = let g : IsMapFault ds d NoMemory = subst (IsMapFault ds d) q h in g.2
 
-pub first_within : (ds : List Datum) (d : Datum) (k : HistoryFaultKind) → HasFirst IsMapFault ds d k
+pub great_first : (ds : List Datum) (d : Datum) → HasGreatObject d → HasFirst IsFault ds d NotAnOperation
+great_first ds d great = record { stands = inr great; first = λ j f. least j }
+  where
+    least : (j : HistoryFaultKind) → 1 ≤ number_of j
+    least NotAnOperation = omega arith
+    least kind = omega arith
+
+pub first_within : (ds : List Datum) (d : Datum) (k : HistoryFaultKind) → IsSmall d → HasFirst IsMapFault ds d k
     → HasFirst IsFault ds d k
-first_within ds d k h = record {
+first_within ds d k small h = record {
   stands = fault_within ds d k h.stands;
-  first = λ j f. elim (fault_or_limit ds d j f) [
+  first = λ j f. elim (fault_or_limit ds d j small f) [
     | inl g ↦ h.first j g
     | inr t ↦ let l = before_limit ds d k h.stands in
         subst (λ (x : HistoryFaultKind). number_of k ≤ number_of x) (sym t.0) (omega arith)
   ];
 }
 
-pub none_within : (ds : List Datum) (d : Datum) → HasNoFault IsMapFault ds d → length ds < max_maps
+pub none_within : (ds : List Datum) (d : Datum) → IsSmall d → HasNoFault IsMapFault ds d → length ds < max_maps
     → HasNoFault IsFault ds d
-none_within ds d none few k f = elim (fault_or_limit ds d k f) [ inl g ↦ none k g | inr t ↦ let l = t.1 in omega arith ]
+none_within ds d small none few k f = elim (fault_or_limit ds d k small f) [
+  | inl g ↦ none k g
+  | inr t ↦ let l = t.1 in omega arith
+]
 
-pub too_many_first : (ds : List Datum) (d : Datum) → HasNoFault IsMapFault ds d → max_maps ≤ length ds
+pub too_many_first : (ds : List Datum) (d : Datum) → IsSmall d → HasNoFault IsMapFault ds d → max_maps ≤ length ds
     → HasFirst IsFault ds d TooMany
-too_many_first ds d none many = record {
+too_many_first ds d small none many = record {
   stands = many;
-  first = λ j f. elim (fault_or_limit ds d j f) [
+  first = λ j f. elim (fault_or_limit ds d j small f) [
     | inl g ↦ absurd (none j g)
     | inr t ↦ subst (λ (x : HistoryFaultKind). number_of TooMany ≤ number_of x) (sym t.0) (omega arith)
   ];
@@ -60,12 +81,19 @@ too_many_first ds d none many = record {
 pub at_any_length : (ds : List Datum) → IsFaultless ds → IsFaultlessAtAnyLength ds
 at_any_length ds h earlier later d k q f = h earlier later d k q (fault_within earlier d k f)
 
-pub faultless_within : (ds : List Datum) → IsFaultlessAtAnyLength ds → length ds ≤ max_maps → IsFaultless ds
-faultless_within ds h few earlier later d k q f = elim (fault_or_limit earlier d k f) [
-  | inl g ↦ h earlier later d k q g
-  | inr t ↦ let long = ap length q in let split = length-append earlier (d ∷ later) in let l = t.1 in absurd
-      (omega arith)
-]
+-- and none is on a great object
+pub small_objects : (ds : List Datum) → IsFaultless ds → All IsSmall ds
+small_objects ds h = all_from_in IsSmall ds
+    (λ d i great. let r = in_split d ds i in h r.0 r.1 d NotAnOperation r.2 (inr great))
+
+pub faultless_within : (ds : List Datum) → IsFaultlessAtAnyLength ds → length ds ≤ max_maps → All IsSmall ds
+    → IsFaultless ds
+faultless_within ds h few small earlier later d k q f =
+    elim (fault_or_limit earlier d k (all_at IsSmall ds small d (subst (In d) (sym q) (in_middle d earlier later))) f) [
+      | inl g ↦ h earlier later d k q g
+      | inr t ↦ let long = ap length q in let split = length-append earlier (d ∷ later) in let l = t.1 in absurd
+          (omega arith)
+    ]
 
 -- where no form has that many before it, there are no more forms than that
 few : (n : ℕ) (ds : List Datum) → ((earlier later : List Datum) (d : Datum) → ds ≡ earlier ++ d ∷ later
@@ -78,11 +106,13 @@ few (suc n) (d ∷ ds) h =
     (omega arith)) in
     omega arith
 
-pub only_limit : (ds : List Datum) (es : List Event) → Denotes ds es ↔ (DenotesAtAnyLength ds es × length ds ≤ max_maps)
-only_limit ds es = (
+pub only_limits : (ds : List Datum) (es : List Event)
+    → Denotes ds es ↔ (DenotesAtAnyLength ds es × (length ds ≤ max_maps) × All IsSmall ds)
+only_limits ds es = (
   λ h. (
     record { faultless = at_any_length ds h.faultless; events = h.events },
     few max_maps ds (λ earlier later d q l. h.faultless earlier later d TooMany q l),
+    small_objects ds h.faultless,
   ),
-  λ h. record { faultless = faultless_within ds h.0.faultless h.1; events = h.0.events },
+  λ h. record { faultless = faultless_within ds h.0.faultless h.1 h.2; events = h.0.events },
 )

@@ -1,5 +1,5 @@
 -- One more map of a piece.
-use Rattle.std.proofs.Common.{◌≡◌, ◌≢◌, ℕ, ◌+◌, inl, inr, true, List, [], ◌∷◌, ◌++◌}
+use Rattle.std.proofs.Common.{◌≡◌, ◌≢◌, ℕ, ◌+◌, ◌≤◌, inl, inr, true, List, [], ◌∷◌, ◌++◌}
 use Rattle.std.proofs.Common.{map, length, Option, Some, None, All, refl, ap, sym, ◌∙◌, subst}
 use Rattle.std.proofs.Common.{append_assoc, zero-add, arith}
 use Rattle.std.specs.Prelude.{Result, Ok, Err, is_ok, Contains, if◌then◌else◌}
@@ -7,9 +7,12 @@ use Rattle.std.specs.Option.{option_or}
 use Rattle.std.specs.Result.{result_ok}
 use Rattle.std.proofs.lemmas.Bool.{cases_eq}
 use Rattle.std.proofs.lemmas.List.{append-nil, length-append, map-append}
+use Rattle.std.proofs.lemmas.List.Elements.{All-append}
+use Rattle.std.proofs.lemmas.Option.{same_Some}
 use Rattle.number_map.specs.Lookup.{value_of}
 use Rattle.model.specs.declared.Kind.{Kind}
 use Rattle.model.proofs.Lists.{all_from_in, all_at, contains_from_in, in_from_contains, in_left, in_right}
+use Rattle.edn_fields.specs.Fields.{max_object}
 use Rattle.edn_reader.specs.Datum.{Datum}
 use Rattle.edn_reader.proofs.Following.{Along}
 use Rattle.seq_objects.specs.declared.function.Function.{Function}
@@ -32,6 +35,7 @@ use Rattle.history.specs.Views.{map_type, client_map}
 use Rattle.history.proofs.Noting.{does_so, kept_more_of, kept_skip}
 use Rattle.history.proofs.FirstFaults.{PassesShape, PassesAll, passes_kind, process_allows, none_of_all}
 use Rattle.history.proofs.OneMore.{no_fault_of, ignored_faultless}
+use Rattle.history.proofs.MapLimit.{IsSmall}
 use Rattle.history.proofs.Reading.{events_push, faultless_push}
 
 -- ---- after any forms
@@ -180,6 +184,20 @@ firsts_more old new was now m h listed p = elim (cases_eq p m.process) [
         (in_left p (map (λ x. x.process) was) (m.process ∷ []) (in_from_contains (map (λ x. x.process) was) p k))))
     other (Some v) c l = subst (λ ms. IsListed (old p) (map (λ x. x.process) ms) p) (sym c.0) l
 
+-- no form so far is on a great object, nor is one more
+small_more : (ds : List Datum) (d : Datum) → All IsSmall ds → IsSmall d → All IsSmall (ds ++ d ∷ [])
+small_more ds d h own = All-append IsSmall ds (d ∷ []) h (all_from_in IsSmall (d ∷ [])
+    (λ x j. elim j [ inl e ↦ subst IsSmall (sym e) own | inr k ↦ absurd k ]))
+
+small_client : (d : Datum) (m : ClientMap) → client_of d ≡ Some m → m.object ≤ max_object → IsSmall d
+small_client d m is few great =
+    let own : great.0.object ≡ m.object = ap (λ (x : ClientMap). x.object) (same_Some great.0 m (sym great.1 ∙ is)) in
+    let l = great.2 in
+    absurd (omega (arith, own, few, l))
+
+small_other : (d : Datum) → client_of d ≡ None → IsSmall d
+small_other d none great = let is = great.1 in absurd (cc (none, is))
+
 -- one map more of a client
 pub part_more : (old new : ReadPiece) (ds : List Datum) (d : Datum) (c : code.ClientMap) (w : Datum) (f : Function)
     (a : Action) → IsOfForms old ds
@@ -189,8 +207,8 @@ pub part_more : (old new : ReadPiece) (ds : List Datum) (d : Datum) (c : code.Cl
     (noted_map c f)
     → NotesObject (value_of old.seen.kinds) (value_of new.seen.kinds) old.objects.items new.objects.items c.object f
     → new.maps ≡ old.maps + 1 → new.events.items ≡ old.events.items ++ noted_event c old.maps a ∷ []
-    → IsOfForms new (ds ++ d ∷ [])
-part_more old new ds d c w f a h is known action process object count events = record {
+    → c.object ≤ max_object → IsOfForms new (ds ++ d ∷ [])
+part_more old new ds d c w f a h is known action process object count events few = record {
   count = count ∙ (ap (λ k. k + 1) h.count ∙ sym (length-append ds (d ∷ [])));
   events = events ∙ (ap (λ es. es ++ noted_event c old.maps a ∷ []) h.events
       ∙ sym (event_added ds d c w old.maps a h.count is action));
@@ -198,6 +216,7 @@ part_more old new ds d c w f a h is known action process object count events = r
       (value_of new.seen.processes) old.firsts.items new.firsts.items (noted_map c f) process h.processes;
   objects = λ x. object.listed x (h.objects x);
   continues = continues_more old new ds d c w f a h.continues is known action process object;
+  small = small_more ds d h.small (small_client d (client_map c w) is few);
 }
 
 -- ---- a map that is no client's
@@ -235,6 +254,7 @@ part_skip old new ds d h none ignored same =
       events = h.events ∙ sym events;
       processes = h.processes;
       objects = h.objects;
+      small = small_more ds d h.small (small_other d none);
       continues = λ before s k seen faultless fits. continues_skip old ds d none ignored h.continues before s k
           seen faultless (record { allowed = fits.allowed; of_kind = fits.of_kind });
     })
@@ -269,6 +289,7 @@ no_maps read seen count events =
       events = events;
       processes = λ p. inl (processes p);
       objects = λ x. inl (kinds x);
+      small = all_from_in IsSmall [] (λ d i. absurd i);
       continues = λ before s k kept faultless fits. (
         subst IsFaultlessAtAnyLength (sym (append-nil before)) faultless,
         subst (IsSeenBy (kept_after s (value_of read.seen.processes)) (kept_after k (value_of read.seen.kinds)))

@@ -14,7 +14,7 @@ use Rattle.history.specs.Faults.{max_maps, IsFault, IsFaultless, IsFirstFault}
 use Rattle.history.specs.Denotes.{event_of, events_from, Denotes}
 use Rattle.history.specs.Seen.{IsSeen, HasNoFault, HasFirst, IsRead}
 use Rattle.history.specs.Texts.{AreRead}
-use Rattle.history.proofs.MapLimit.{none_within}
+use Rattle.history.proofs.MapLimit.{IsSmall, none_within}
 
 pub events_push : (n : ℕ) (ds : List Datum) (d : Datum) → events_from n (ds ++ d ∷ []) ≡ events_from n ds ++ event_of (n + length ds) (client_of d)
 events_push n [] d = append-nil (event_of n (client_of d)) ∙ ap (λ k. event_of k (client_of d)) (let e : n ≡ n + 0 = omega arith in e)
@@ -63,12 +63,12 @@ nothing_read seen es h e = record { kept = h; faultless = nothing_faulty IsFault
 
 -- one map more
 pub one_more : (old new : Seen) (number : ℕ) (ds : List Datum) (d : Datum) (es more : List Event)
-    → AreRead old number ds es → number < max_maps
+    → AreRead old number ds es → number < max_maps → IsSmall d
     → IsRead new ds d more → AreRead new (number + 1) (ds ++ d ∷ []) (es ++ more)
-one_more old new number ds d es more h few r =
+one_more old new number ds d es more h few small r =
     record {
       kept = r.seen;
-      faultless = faultless_push IsFault ds d h.faultless (none_within ds d r.no_fault
+      faultless = faultless_push IsFault ds d h.faultless (none_within ds d small r.no_fault
           (subst (λ (n : ℕ). n < max_maps) (sym h.count) few));
       events = ap (λ (x : List Event). x ++ more) h.events
           ∙ (ap (λ (x : List Event). events_from 0 ds ++ x) r.events ∙ sym
@@ -95,12 +95,12 @@ faultless_more seen fs i f es l is h none =
 
 -- one form more
 pub one_read : (old new : Seen) (fs : List Form) (i : ℕ) (f : Form) (es more : List Event) → i < length fs
-    → f ≡ get_or fs i f → i < max_maps
+    → f ≡ get_or fs i f → i < max_maps → IsSmall (view f)
     → AreRead old i (views (take i fs)) es → IsRead new (views (take i fs)) (view f) more → AreRead new (i + 1)
     (views (take (i + 1) fs)) (es ++ more)
-one_read old new fs i f es more l is few h r =
+one_read old new fs i f es more l is few small h r =
     subst (λ xs. AreRead new (i + 1) xs (es ++ more)) (sym (one_form fs i f l is))
-    (one_more old new i (views (take i fs)) (view f) es more h few r)
+    (one_more old new i (views (take i fs)) (view f) es more h few small r)
 
 pub first_fault : (seen : Seen) (fs : List Form) (i : ℕ) (f : Form) (es : List Event) (k : HistoryFaultKind) → i < length fs → f ≡ get_or fs i f
     → AreRead seen i (views (take i fs)) es → HasFirst IsFault (views (take i fs)) (view f) k → IsFirstFault

@@ -7,13 +7,13 @@ use Rattle.edn_reader.specs.Token.{Token, close_vector, leaf, tokens_of, items_t
 use Rattle.edn_reader.specs.Pieces.{token_buffer_tokens}
 use Rattle.edn_reader.specs.declared.Piece.{Piece}
 use Rattle.seq_objects.specs.declared.value.Value.{Value}
-use Rattle.edn_fields.specs.Fields.{value_at, natural_in, keyword_in, object_in, value_in}
+use Rattle.edn_fields.specs.Fields.{value_at, natural_in, keyword_in, value_in}
 use Rattle.edn_fields.specs.Values.{IsValue, natural_first, keyword_first}
 use Rattle.edn_fields.specs.Operations.{HasValues, IsMapWith}
 use Rattle.edn_fields.specs.declared.operation.OperationValues.{OperationValues}
 use Rattle.edn_fields.proofs.Shapes.{natural_is, keyword_is}
 use Rattle.history.specs.Maps as spec
-use Rattle.history.specs.Maps.{type_named, object_at, tuple_in, plain_value, client_with, client_in}
+use Rattle.history.specs.Maps.{type_named, short_in, object_at, tuple_in, plain_value, client_with, client_in}
 use Rattle.history.specs.Views.{client_map, IsClient, Says, tuple_first, plain_first}
 use Rattle.history.specs.declared.client_map.ClientMap.{ClientMap}
 use Rattle.history.specs.declared.client_map.OperationMap.TheVariants.{Neither}
@@ -91,9 +91,9 @@ plain_is ps (Some d) h = ap plain_first h.1 ∙ plain_by d h.0
 
 -- ---- the object
 
-pub object_there : (ps : List Piece) (o : Option Datum) → false ≡ (length ps == 0) → IsValue ps o → object_in (natural_first (token_buffer_tokens ps)) ≡ object_at o
+pub object_there : (ps : List Piece) (o : Option Datum) → false ≡ (length ps == 0) → IsValue ps o → short_in (natural_first (token_buffer_tokens ps)) ≡ object_at o
 object_there ps None e h = let z : (length ps == 0) ≡ true = ap (λ (x : List Piece). length x == 0) h in absurd cc
-object_there ps (Some d) e h = ap object_in (natural_is ps (Some d) h)
+object_there ps (Some d) e h = ap short_in (natural_is ps (Some d) h)
 
 -- ---- the map
 

@@ -23,7 +23,7 @@ use Rattle.history.specs.Seen.{IsProcessFault}
 use Rattle.history.specs.Views.{map_type}
 use Rattle.history.specs.Noting.{TakesOver, IsOneKind, shift_event}
 use Rattle.history.specs.ReadPieces.{kept_after, IsAllowed, FitsAfter, IsOfForms, AreJoined}
-use Rattle.history.proofs.MapLimit.{at_any_length, faultless_within}
+use Rattle.history.proofs.MapLimit.{IsSmall, at_any_length, faultless_within, small_objects}
 use Rattle.history.proofs.PieceMore.{seen_same}
 use Rattle.history.proofs.PartEvents.{events_after}
 
@@ -103,7 +103,8 @@ joined_more old new read ds es h p allowed one few processes kinds events maps =
           (value_of new.seen.processes)
           (kept_after (value_of old.seen.kinds) (value_of read.seen.kinds)) (value_of new.seen.kinds) (ds ++ es) whole.1
           (λ k. processes k (p.processes k)) (λ x. kinds x (p.objects x));
-      faultless = faultless_within (ds ++ es) whole.0 (omega (arith, length-append ds es, few, counted, own));
+      faultless = faultless_within (ds ++ es) whole.0 (omega (arith, length-append ds es, few, counted, own))
+          (All-append IsSmall ds es (small_objects ds h.faultless) p.small);
       events = events ∙ (ap (λ xs. xs ++ map (shift_event old.maps) read.events.items) h.events
           ∙ (ap (λ xs. events_from 0 ds ++ map (shift_event old.maps) xs) p.events
           ∙ (ap (λ n. events_from 0 ds ++ map (shift_event n) (events_from 0 es)) (sym counted)

@@ -19,10 +19,10 @@ use Rattle.seq_objects.specs.declared.function.Function.TheVariants.{FetchAdd, G
 use Rattle.seq_objects.specs.declared.value.Value.{Value}
 use Rattle.seq_objects.specs.declared.value.Value.TheVariants.{Nil, False, True, Int, Pair}
 use Rattle.seq_objects.specs.Functions.{name_of}
-use Rattle.edn_fields.specs.Fields.{same_bytes, value_at, object_in}
+use Rattle.edn_fields.specs.Fields.{same_bytes, value_at}
 use Rattle.edn_fields.proofs.Finding.{same_bytes_is}
 use Rattle.history.specs.Maps as spec
-use Rattle.history.specs.Maps.{type_named, object_at, client_with}
+use Rattle.history.specs.Maps.{type_named, short_in, object_at, client_with}
 use Rattle.history.specs.Views.{map_type, client_map}
 use Rattle.history.specs.UsualForms.{ReadsUsual, type_name, ReadsValue, LackEach, operation_keys, keys_to_object, keys_to_index, IsNoneOf, ReadsLast}
 use Rattle.history.specs.declared.client_map.MapType.{MapType}
@@ -149,7 +149,7 @@ other_pair k ks z text mid after rest n s o q b r =
     }
 
 -- the pair of the object
-pub object_pair : (n x : ℕ) (text mid after rest : List ℕ) → Some x ≡ object_in (Some n) → text ≡ codes ", :object " ++ mid → BeginWith (leaf (atom (integer (pos n))) ∷ []) mid after
+pub object_pair : (n x : ℕ) (text mid after rest : List ℕ) → Some x ≡ short_in (Some n) → text ≡ codes ", :object " ++ mid → BeginWith (leaf (atom (integer (pos n))) ∷ []) mid after
     → ReadsLast keys_to_object after 0 rest → ReadsLast operation_keys text x rest
 unfolding is_name
 object_pair n x text mid after rest e q b r =

@@ -9,7 +9,7 @@ use Rattle.history.specs.declared.seen.Process.{Process}
 use Rattle.history.specs.declared.piece.FirstMap.{FirstMap}
 use Rattle.history.specs.declared.piece.ReadPiece.{ReadPiece}
 use Rattle.history.specs.declared.seams.Seams.{Seams}
-use Rattle.history.specs.Faults.{IsFaultlessAtAnyLength}
+use Rattle.history.specs.Faults.{HasGreatObject, IsFaultlessAtAnyLength}
 use Rattle.history.specs.Denotes.{events_from}
 use Rattle.history.specs.Seen.{IsProcessFault, IsNoOther, IsSeenBy}
 use Rattle.history.specs.Texts.{AreRead}
@@ -56,6 +56,8 @@ pub record IsOfForms (read : ReadPiece) (ds : List Datum) : Type 0 where
       IsListed (value_of read.seen.processes p) (map (λ m. m.process) read.firsts.items) p
   pub objects : (x : ℕ) → IsListed (value_of read.seen.kinds x) read.objects.items x
   pub continues : ContinuesWhereItFits read ds
+  -- one text may name each object
+  pub small : All (λ d. HasGreatObject d → ⊥) ds
 
 -- ---- pieces that are joined
 

@@ -21,7 +21,7 @@ mod usual_map;
 pub use client_map::{ClientMap, MapType, OperationMap, function, plain_value};
 pub use events::{Action, End, Event, History, Invocation, ObjectHistory, split};
 pub use fault::{HistoryFault, HistoryFaultKind, TextFault};
-pub use limit::length_is_the_only_limit;
+pub use limit::limits_of_one_text;
 pub use long_reader::LongReader;
 pub use map_texts::{MapText, maps_of};
 pub use piece::ReadPiece;

@@ -11,7 +11,7 @@ ghost use Rattle.history.specs.Views.{Says};
 use crate::client_map::{ClientMap, MapType, OperationMap, action_of};
 use crate::map_faults::{is_of_other_kind, process_fault};
 use crate::map_reader::MapReader;
-use crate::seen::{MAX_MAPS, Process, Seen, process_after};
+use crate::seen::{MAX_MAPS, Process, Seen, is_great, process_after};
 use events::Event;
 use number_map::NumberMap;
 use seq_objects::{Function, Kind};
@@ -117,6 +117,9 @@ impl ReadPiece {
     {
         let function = m.function?;
         let action = action_of(m, function)?;
+        if is_great(m.object) {
+            return None;
+        }
         let event = Event {
             number: self.maps as u32,
             process: m.process,

@@ -5,10 +5,9 @@ ghost use Rattle.std.specs.Str.{IsUtf8};
 ghost use Rattle.history.specs.UsualForms.{ReadsUsual, ReadsLast, operation_keys, keys_to_object};
 ghost use Rattle.history.specs.UsualForms.{keys_to_time, keys_to_index, IsNoneOf, ReadsAtom};
 
-use crate::client_map::ClientMap;
+use crate::client_map::{ClientMap, short};
 use crate::usual::{function_at, type_at, value_at};
 use edn::{Piece, after, after_line_feed, integer_at, natural_at};
-use edn_fields::object;
 
 /// Whether the key has a meaning in a map.
 fn has_meaning(key: &str) -> bool
@@ -99,7 +98,7 @@ fn object_at(text: &[u8]) -> Option<(u32, &[u8])>
         return Some((0, after_time(text)?));
     };
     let (number, rest) = natural_at(rest)?;
-    let object = object(Some(number))?;
+    let object = short(Some(number))?;
     Some((object, after_time(rest)?))
 }
 

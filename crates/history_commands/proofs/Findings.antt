@@ -44,47 +44,46 @@ one_of_two Malformed Undecided = inl refl
 one_of_two Malformed Refuted = inl refl
 one_of_two Malformed Malformed = inl refl
 
--- ---- the findings of answers
-
-abbrev pub findings : List Answer → List Finding
-findings answers = map (λ a. a.finding) answers
-
-each_certified : (f : Finding) (answers : List Answer) → fold worse f (findings answers) ≡ Certified
-    → (f ≡ Certified) × ((a : Answer) → In a answers → a.finding ≡ Certified)
-each_certified f [] e = (e, λ a i. absurd i)
-each_certified f (b ∷ answers) e =
-    let later = each_certified (worse f b.finding) answers e in
-    let two = both_certified f b.finding later.0 in
-    (two.0, λ a i. elim i [ inl q ↦ ap (λ (x : Answer). x.finding) q ∙ two.1 | inr j ↦ later.1 a j ])
-
-pub all_certified : (answers : List Answer) → worst (findings answers) ≡ Certified → (a : Answer) → In a answers
-    → a.finding ≡ Certified
-all_certified answers e = (each_certified Certified answers e).1
-
--- what is found together is found of one
-found_of_one : (f g : Finding) (answers : List Answer) → fold worse f (findings answers) ≡ g
-    → (f ≡ g) ⊎ ((a : Answer) × In a answers × (a.finding ≡ g))
-found_of_one f g [] e = inl e
-found_of_one f g (b ∷ answers) e = elim (found_of_one (worse f b.finding) g answers e) [
-  | inl q ↦ elim (one_of_two f b.finding) [
-    | inl s ↦ inl (sym s ∙ q)
-    | inr s ↦ inr (b, inl refl, sym s ∙ q)
-  ]
-  | inr r ↦ inr (r.0, inr r.1, r.2)
-]
-
-pub some_refuted : (answers : List Answer) → worst (findings answers) ≡ Refuted
-    → (a : Answer) × In a answers × (a.finding ≡ Refuted)
-some_refuted answers e = elim (found_of_one Certified Refuted answers e) [ inl q ↦ absurd cc | inr r ↦ r ]
+-- ---- the findings of a list
 
 fold_push : (f g : Finding) (fs : List Finding) → fold worse f (fs ++ g ∷ []) ≡ worse (fold worse f fs) g
 fold_push f g [] = refl
 fold_push f g (x ∷ fs) = fold_push (worse f x) g fs
 
-pub worst_push : (answers : List Answer) (a : Answer)
-    → worst (findings (answers ++ a ∷ [])) ≡ worse (worst (findings answers)) a.finding
-worst_push answers a =
-    ap worst (map_push (λ (x : Answer). x.finding) answers a) ∙ fold_push Certified a.finding (findings answers)
+-- what is found of each element
+module _ {X : Type 0} (of : X → Finding) where
+  each_certified : (f : Finding) (xs : List X) → fold worse f (map of xs) ≡ Certified
+      → (f ≡ Certified) × ((x : X) → In x xs → of x ≡ Certified)
+  each_certified f [] e = (e, λ x i. absurd i)
+  each_certified f (y ∷ xs) e =
+      let later = each_certified (worse f (of y)) xs e in
+      let two = both_certified f (of y) later.0 in
+      (two.0, λ x i. elim i [ inl q ↦ ap of q ∙ two.1 | inr j ↦ later.1 x j ])
+
+  pub all_certified : (xs : List X) → worst (map of xs) ≡ Certified → (x : X) → In x xs → of x ≡ Certified
+  all_certified xs e = (each_certified Certified xs e).1
+
+  -- what is found together is found of one
+  found_of_one : (f g : Finding) (xs : List X) → fold worse f (map of xs) ≡ g
+      → (f ≡ g) ⊎ ((x : X) × In x xs × (of x ≡ g))
+  found_of_one f g [] e = inl e
+  found_of_one f g (y ∷ xs) e = elim (found_of_one (worse f (of y)) g xs e) [
+    | inl q ↦ elim (one_of_two f (of y)) [
+      | inl s ↦ inl (sym s ∙ q)
+      | inr s ↦ inr (y, inl refl, sym s ∙ q)
+    ]
+    | inr r ↦ inr (r.0, inr r.1, r.2)
+  ]
+
+  pub some_refuted : (xs : List X) → worst (map of xs) ≡ Refuted → (x : X) × In x xs × (of x ≡ Refuted)
+  some_refuted xs e = elim (found_of_one Certified Refuted xs e) [ inl q ↦ absurd cc | inr r ↦ r ]
+
+  pub worst_push : (xs : List X) (x : X) → worst (map of (xs ++ x ∷ [])) ≡ worse (worst (map of xs)) (of x)
+  worst_push xs x = ap worst (map_push of xs x) ∙ fold_push Certified (of x) (map of xs)
+
+-- what an answer finds
+abbrev pub own_finding : Answer → Finding
+own_finding a = a.finding
 
 -- ---- how a merge ends
 

@@ -23,7 +23,7 @@ use Rattle.verifying.specs.Decisions.{AreDecisionsOn, IsDecisionOn, IsShownReaso
 use Rattle.verifying.specs.Decisions.{is_impossible, is_order}
 use Rattle.history_commands.specs.Merged.{Answer, AnswersClaims, AnswersShard, AreInOrder, AreLinesWith, AreMerged}
 use Rattle.history_commands.specs.Merged.{IsExplainedShard, IsMerge, IsMergeOutput, Shard, finding_on, lines_by}
-use Rattle.history_commands.specs.Merged.{seen_lines, worse, worst}
+use Rattle.history_commands.specs.Merged.{seen_lines, shown_on, whole_name, worse, worst}
 use Rattle.history_commands.specs.ShardCounts.{AreAdded, Counted, counted, seen_counts}
 use Rattle.history_commands.specs.Verified.{decision_lines, impossible_lines}
 use Rattle.history_commands.specs.declared.finding.Finding.{Finding}
@@ -32,7 +32,7 @@ use Rattle.history_commands.specs.declared.merging.Merging.{Merging}
 use Rattle.history_commands.specs.declared.status.Status.{Status}
 use Rattle.history_commands.specs.declared.status.Status.TheVariants as ends
 use Rattle.history_commands.proofs.AllFound.{both}
-use Rattle.history_commands.proofs.Findings.{findings, all_certified, no_refuted, some_refuted, worst_push}
+use Rattle.history_commands.proofs.Findings.{all_certified, no_refuted, own_finding, some_refuted, worst_push}
 use Rattle.history_commands.proofs.Findings.{yes_certified}
 
 -- ---- one shard more
@@ -57,7 +57,7 @@ pub merged_push : (m n : Merging) (shards : List Shard) (s : Shard) (a : Answer)
 merged_push m n shards s a h own finding notes lines add = record {
   answers = h.answers ++ a ∷ [];
   each = zip_push AnswersShard shards h.answers s a h.each own;
-  finding_is = finding ∙ (ap (λ f. worse f a.finding) h.finding_is ∙ sym (worst_push h.answers a));
+  finding_is = finding ∙ (ap (λ f. worse f a.finding) h.finding_is ∙ sym (worst_push own_finding h.answers a));
   notes_are = notes ∙ (ap (λ t. t ++ a.note) h.notes_are ∙ flat_push (λ (x : Answer). x.note) h.answers a);
   lines_are = lines ∙ (ap (λ ls. ls ++ a.lines) h.lines_are ∙ flat_push (λ (x : Answer). x.lines) h.answers a);
   counts_are = subst (AreAdded (seen_counts n.counts)) (sym (map_push (λ (x : Answer). x.counts) h.answers a))
@@ -101,11 +101,11 @@ certificates (b ∷ ds) e d i =
       | inr j ↦ certificates ds parts.1 d j
     ]
 
-pub answers_claims : (es : List Event) (claims : List Claim) (limit : ℕ) (ds : List (ℕ × Decision)) (a : Answer)
-    → AreDecisionsOn es claims limit ds → (AreValid es (certificates_in ds) → DenoteLinearizable es)
-    → a.finding ≡ finding_on ds → a.note ≡ [] → a.lines ≡ flat_map (λ d. lines_by es d.0 d.1) ds
-    → a.counts ≡ counted es → AnswersClaims es claims limit a
-answers_claims es claims limit ds a decided suffices finding note lines counts = record {
+pub answers_claims : (name : ℕ → ℕ) (es : List Event) (claims : List Claim) (limit : ℕ) (ds : List (ℕ × Decision))
+    (a : Answer) → AreDecisionsOn es claims limit ds → (AreValid es (certificates_in ds) → DenoteLinearizable es)
+    → a.finding ≡ finding_on ds → a.note ≡ [] → a.lines ≡ flat_map (λ d. lines_by es (name d.0) d.1) ds
+    → a.counts ≡ counted es → AnswersClaims name es claims limit a
+answers_claims name es claims limit ds a decided suffices finding note lines counts = record {
   decisions = ds;
   decided = decided;
   finding_is = finding;
@@ -155,38 +155,41 @@ record ShowsNo (s : Shard) (lines : List (ℕ × List ℕ)) : Type 0 where
   explained : (out before after : List ℕ) → out ≡ before ++ (text ++ after) → IsExplainedShard s out
 
 -- the lines on an object that is impossible
-record IsImpossibleIn (es : List Event) (lines : List (ℕ × List ℕ)) : Type 0 where
+record IsImpossibleIn (name : ℕ → ℕ) (es : List Event) (lines : List (ℕ × List ℕ)) : Type 0 where
   object : ℕ
   refuted : ShownReason
   holds : IsShownReason object (kind_at es object) (calls_on object (denoted es)) refuted
-  stands : In (object, impossible_lines es object refuted) lines
+  stands : In (name object, impossible_lines es (name object) (shown_on (name object) refuted)) lines
 
-impossible_in : (es : List Event) (claims : List Claim) (limit : ℕ) (ds : List (ℕ × Decision))
+impossible_in : (name : ℕ → ℕ) (es : List Event) (claims : List Claim) (limit : ℕ) (ds : List (ℕ × Decision))
     → ((d : ℕ × Decision) → In d ds → IsDecisionOn es claims limit d.0 d.1)
-    → list_any (λ d. is_impossible d.1) ds ≡ true → IsImpossibleIn es (flat_map (λ d. lines_by es d.0 d.1) ds)
-impossible_in es claims limit [] each e = absurd cc
-impossible_in es claims limit (d ∷ rest) each e =
-    go d.1 (each d (inl refl)) e (impossible_in es claims limit rest (λ c i. each c (inr i)))
+    → list_any (λ d. is_impossible d.1) ds ≡ true
+    → IsImpossibleIn name es (flat_map (λ d. lines_by es (name d.0) d.1) ds)
+impossible_in name es claims limit [] each e = absurd cc
+impossible_in name es claims limit (d ∷ rest) each e =
+    go d.1 (each d (inl refl)) e (impossible_in name es claims limit rest (λ c i. each c (inr i)))
   where
-    later : (l : ℕ × List ℕ) → IsImpossibleIn es (flat_map (λ c. lines_by es c.0 c.1) rest)
-        → IsImpossibleIn es (l ∷ flat_map (λ c. lines_by es c.0 c.1) rest)
+    later : (l : ℕ × List ℕ) → IsImpossibleIn name es (flat_map (λ c. lines_by es (name c.0) c.1) rest)
+        → IsImpossibleIn name es (l ∷ flat_map (λ c. lines_by es (name c.0) c.1) rest)
     later l k = record { object = k.object; refuted = k.refuted; holds = k.holds; stands = inr k.stands }
 
     go : (o : Decision) → IsDecisionOn es claims limit d.0 o
         → (is_impossible o || list_any (λ c. is_impossible c.1) rest) ≡ true
-        → (list_any (λ c. is_impossible c.1) rest ≡ true → IsImpossibleIn es (flat_map (λ c. lines_by es c.0 c.1) rest))
-        → IsImpossibleIn es (lines_by es d.0 o ++ flat_map (λ c. lines_by es c.0 c.1) rest)
+        → (list_any (λ c. is_impossible c.1) rest ≡ true
+        → IsImpossibleIn name es (flat_map (λ c. lines_by es (name c.0) c.1) rest))
+        → IsImpossibleIn name es (lines_by es (name d.0) o ++ flat_map (λ c. lines_by es (name c.0) c.1) rest)
     go (Order c) h t again = again t
     go (Impossible f) h t again =
         record { object = d.0; refuted = f; holds = h.impossible.0; stands = inl refl }
-    go (OutOfSteps n) h t again = later (d.0, decision_lines es d.0 (OutOfSteps n)) (again t)
-    go NoMemory h t again = later (d.0, decision_lines es d.0 NoMemory) (again t)
-    go Open h t again = later (d.0, decision_lines es d.0 Open) (again t)
+    go (OutOfSteps n) h t again = later (name d.0, decision_lines es (name d.0) (OutOfSteps n)) (again t)
+    go NoMemory h t again = later (name d.0, decision_lines es (name d.0) NoMemory) (again t)
+    go Open h t again = later (name d.0, decision_lines es (name d.0) Open) (again t)
 
 shows_no : (s : Shard) (a : Answer) → AnswersShard s a → a.finding ≡ Refuted → ShowsNo s a.lines
 shows_no s a (inl (es, denotes, inl (ns, fit, inl (claims, claimed, k)))) e =
     let own = with_numbers ns es in
-    let shown = impossible_in own claims s.limit k.decisions
+    let name = whole_name s in
+    let shown = impossible_in name own claims s.limit k.decisions
     (λ d i. all_at (λ (c : ℕ × Decision). IsDecisionOn own claims s.limit c.0 c.1) k.decisions k.decided.decisions d i)
     (some_impossible k.decisions (sym k.finding_is ∙ e)) in
     record {
@@ -195,10 +198,13 @@ shows_no s a (inl (es, denotes, inl (ns, fit, inl (claims, claimed, k)))) e =
         history_text = denotes;
         not_linearizable = λ l. k.refuted e (with_numbers_of_whole es own fit.renumbered l);
       };
-      object = shown.object;
-      text = impossible_lines own shown.object shown.refuted;
-      stands = subst (In (shown.object, impossible_lines own shown.object shown.refuted)) (sym k.lines_are)
-          shown.stands;
+      object = name shown.object;
+      text = impossible_lines own (name shown.object) (shown_on (name shown.object) shown.refuted);
+      stands = subst (In (
+        name shown.object,
+        impossible_lines own (name shown.object)
+            (shown_on (name shown.object) shown.refuted),
+      )) (sym k.lines_are) shown.stands;
       explained = λ out before after q. record {
         events = es;
         denoted = denotes;
@@ -307,8 +313,8 @@ record IsNoOf (shards : List Shard) (out : List ℕ) : Type 0 where
 no_of : (shards : List Shard) (status : Status) (out : List ℕ) → IsMergeOutput shards status out → status ≡ ends.No
     → IsNoOf shards out
 no_of shards status out h is =
-    let found = no_refuted (worst (findings h.answers)) (sym h.status_is ∙ is) in
-    let a = some_refuted h.answers found in
+    let found = no_refuted (worst (map own_finding h.answers)) (sym h.status_is ∙ is) in
+    let a = some_refuted own_finding h.answers found in
     let s = one_zipped AnswersShard shards h.answers a.0 h.each a.1 in
     let shown = shows_no s.0 a.0 s.2 a.2 in
     let lines = subst (λ (f : Finding). AreLinesWith f h.answers out) found h.lines in
@@ -325,10 +331,10 @@ pub is_merge : (shards : List Shard) (status : Status) (out : List ℕ) → IsMe
 is_merge shards status out h = record {
   output = h;
   linearizable = λ is.
-      let found = yes_certified (worst (findings h.answers)) (sym h.status_is ∙ is) in
+      let found = yes_certified (worst (map own_finding h.answers)) (sym h.status_is ∙ is) in
       all_from_in (λ (s : Shard). IsLinearizableText s.text) shards
       (each_zipped AnswersShard (λ s. IsLinearizableText s.text) shards h.answers h.each
-      (λ s a i own. shows_linearizable s a own (all_certified h.answers found a i)));
+      (λ s a i own. shows_linearizable s a own (all_certified own_finding h.answers found a i)));
   refuted = λ is.
       let n = no_of shards status out h is in
       any_at (λ (s : Shard). IsNotLinearizableText s.text) shards n.shard n.among n.refuted;

@@ -11,24 +11,27 @@ use Rattle.judging.specs.declared.texts.TextFailure.TheVariants.{Faulty}
 use Rattle.judging.specs.Texts.{DenotesHistory, IsHistoryFault, IsLinearizableText}
 use Rattle.judging.specs.Texts.{IsNotLinearizableText}
 use Rattle.model.specs.Linearizable.{IsLinearizable}
-use Rattle.model.specs.Orders.{events}
+use Rattle.model.specs.Orders.{calls_on, events}
 use Rattle.report.specs.declared.verdict.Fault.{Fault}
 use Rattle.report.specs.declared.verdict.Fault.TheVariants.{HistoryText, HistoryMaps}
 use Rattle.report.specs.declared.verdict.Fault.TheVariants.{CertificateText, CertificateForms}
 use Rattle.report.specs.declared.verdict.Summary.{Summary}
 use Rattle.report.specs.declared.verdict.Verdict.TheVariants as verdict
 use Rattle.report.specs.Lines.{fault_line, verdict_text}
-use Rattle.shards.specs.Dividing.{with_numbers}
+use Rattle.shards.specs.Dividing.{object_named, with_numbers}
 use Rattle.shards.specs.Tables.{FitsTable}
 use Rattle.verifying.specs.declared.claim.Claim.{Claim}
 use Rattle.verifying.specs.declared.decision.Decision.{Decision}
+use Rattle.verifying.specs.declared.decision.Decision.TheVariants.{Order, Impossible, OutOfSteps}
+use Rattle.verifying.specs.declared.decision.Decision.TheVariants.{NoMemory, Open}
+use Rattle.verifying.specs.declared.decision.ShownReason.{ShownReason}
 use Rattle.verifying.specs.declared.fault.ClaimTextFault.{ClaimTextFault}
-use Rattle.verifying.specs.Decisions.{AreDecisionsOn, is_impossible, is_order}
+use Rattle.verifying.specs.Decisions.{AreDecisionsOn, IsShownReason, is_impossible, is_order}
 use Rattle.verifying.specs.Texts.{IsTextFault}
 use Rattle.history_commands.specs.ShardCounts.{AreAdded, AreSums, Counted, counted}
 use Rattle.history_commands.specs.ShardCounts.{nothing_counted, seen_counts}
-use Rattle.history_commands.specs.Verified.{DenotesClaims, IsExplained, IsOfText}
-use Rattle.history_commands.specs.Verified.{decision_lines, evidence_fault_line}
+use Rattle.history_commands.specs.Verified.{DenotesClaims, IsOfText, decision_lines}
+use Rattle.history_commands.specs.Verified.{evidence_fault_line, impossible_lines}
 use Rattle.history_commands.specs.declared.finding.Finding.{Finding}
 use Rattle.history_commands.specs.declared.finding.Finding.TheVariants.{Certified, Undecided}
 use Rattle.history_commands.specs.declared.finding.Finding.TheVariants.{Refuted, Malformed}
@@ -38,10 +41,11 @@ use Rattle.history_commands.specs.declared.shard_answer.ShardAnswer.{ShardAnswer
 use Rattle.history_commands.specs.declared.status.Status.{Status}
 use Rattle.history_commands.specs.declared.status.Status.TheVariants as ends
 
--- what a merge takes of a shard: its number, its text and its table, the evidence on it, and how
--- many steps a search takes at most for which a claim names no number
+-- what a merge takes of a shard: its number, and how many shards there are; its text and its table,
+-- the evidence on it, and how many steps a search takes at most for which a claim names no number
 pub record Shard : Type 0 where
   pub number : ℕ
+  pub count : ℕ
   pub text : List ℕ
   pub table : List ℕ
   pub evidence : List ℕ
@@ -110,43 +114,61 @@ finding_on decisions =
     if list_any (λ d. is_impossible d.1) decisions then Refuted
     else if list_all (λ d. is_order d.1) decisions then Certified else Undecided
 
--- the object and its lines, unless it has an order
-abbrev pub lines_by : List Event → ℕ → Decision → List (ℕ × List ℕ)
-lines_by es x d = if is_order d then [] else (x, decision_lines es x d) ∷ []
+-- the reason names the object by this number
+abbrev pub shown_on : ℕ → ShownReason → ShownReason
+shown_on x f = record f { reason = record f.reason { object = x } }
 
--- what is answered by claims on the history that events denote, and what that shows
-pub record AnswersClaims (es : List Event) (claims : List Claim) (limit : ℕ) (a : Answer)
-    : Type 0 where
+-- the same of a decision, where a reason shows it
+abbrev pub decided_on : ℕ → Decision → Decision
+decided_on x (Order c) = Order c
+decided_on x (Impossible f) = Impossible (shown_on x f)
+decided_on x (OutOfSteps n) = OutOfSteps n
+decided_on x NoMemory = NoMemory
+decided_on x Open = Open
+
+-- the object with this number and its lines, in which a reason names it so; unless it has an order
+abbrev pub lines_by : List Event → ℕ → Decision → List (ℕ × List ℕ)
+lines_by es x d = if is_order d then [] else (x, decision_lines es x (decided_on x d)) ∷ []
+
+-- What is answered by claims on the history that events denote, and what that shows. The history
+-- and the claims have the names of a shard, the lines those of the whole, which are given.
+pub record AnswersClaims (whole_name : ℕ → ℕ) (es : List Event) (claims : List Claim) (limit : ℕ)
+    (a : Answer) : Type 0 where
   pub decisions : List (ℕ × Decision)
   pub decided : AreDecisionsOn es claims limit decisions
   pub finding_is : a.finding ≡ finding_on decisions
   pub note_is : a.note ≡ []
-  pub lines_are : a.lines ≡ flat_map (λ d. lines_by es d.0 d.1) decisions
+  pub lines_are : a.lines ≡ flat_map (λ d. lines_by es (whole_name d.0) d.1) decisions
   pub counts_are : a.counts ≡ counted es
   pub certified : a.finding ≡ Certified → IsLinearizable (kind_at es) (events (denoted es))
   pub refuted : a.finding ≡ Refuted → IsLinearizable (kind_at es) (events (denoted es)) → ⊥
 
 -- the same by evidence, which denotes claims, or is malformed
-abbrev pub AnswersEvidence : ℕ → List Event → List ℕ → ℕ → Answer → Type 0
-AnswersEvidence number es evidence limit a =
-    ((claims : List Claim) × DenotesClaims evidence claims × AnswersClaims es claims limit a)
+abbrev pub AnswersEvidence : ℕ → (ℕ → ℕ) → List Event → List ℕ → ℕ → Answer → Type 0
+AnswersEvidence number whole_name es evidence limit a =
+    ((claims : List Claim) × DenotesClaims evidence claims
+    × AnswersClaims whole_name es claims limit a)
     ⊎ ((f : ClaimTextFault) × IsTextFault evidence f × IsOfText f
     × IsNoted number Undecided (evidence_fault_line f) a)
 
 -- What is answered of the events of a shard, whose table gives them the numbers of the whole, or
 -- does not fit. The evidence is in these numbers.
-abbrev pub AnswersTable : ℕ → List Event → List ℕ → List ℕ → ℕ → Answer → Type 0
-AnswersTable number es table evidence limit a =
+abbrev pub AnswersTable : ℕ → (ℕ → ℕ) → List Event → List ℕ → List ℕ → ℕ → Answer → Type 0
+AnswersTable number whole_name es table evidence limit a =
     ((ns : List ℕ) × FitsTable ns table es
-    × AnswersEvidence number (with_numbers ns es) evidence limit a)
+    × AnswersEvidence number whole_name (with_numbers ns es) evidence limit a)
     ⊎ (((ns : List ℕ) → FitsTable ns table es → ⊥)
     × IsNoted number Malformed (codes "its table does not fit\n") a)
+
+-- the number that an object has in the whole, by its name in the shard
+abbrev pub whole_name : Shard → ℕ → ℕ
+whole_name s = object_named s.count s.number
 
 -- What is answered of a shard, whose text denotes a history, or has a fault.
 abbrev pub AnswersShard : Shard → Answer → Type 0
 AnswersShard s a =
     ((es : List Event) × DenotesHistory s.text es
-    × AnswersTable s.number es s.table s.evidence s.limit a)
+    × AnswersTable s.number (whole_name s) es s.table s.evidence s.limit a)
     ⊎ ((f : Fault) × IsHistoryFault s.text (Faulty f) × AnswersFault s.number f a)
 
 -- ---- what is kept
@@ -198,13 +220,24 @@ pub record IsMergeOutput (shards : List Shard) (status : Status) (out : List ℕ
   pub status_is : status ≡ status_with (worst (map (λ a. a.finding) answers))
   pub lines : AreLinesWith (worst (map (λ a. a.finding) answers)) answers out
 
+-- No order of the calls of an object is valid, as is shown, and the lines that say so, by the name
+-- of the object in the whole, are in the text.
+pub record IsExplainedBy (whole_name : ℕ → ℕ) (es : List Event) (text : List ℕ) : Type 0 where
+  pub object : ℕ
+  pub refuted : ShownReason
+  pub holds : IsShownReason object (kind_at es object) (calls_on object (denoted es)) refuted
+  pub before : List ℕ
+  pub after : List ℕ
+  pub lines : text ≡ before
+      ++ (impossible_lines es (whole_name object) (shown_on (whole_name object) refuted) ++ after)
+
 -- The lines show that an object of the shard, in the numbers of the whole, has no valid order.
 pub record IsExplainedShard (s : Shard) (out : List ℕ) : Type 0 where
   pub events : List Event
   pub denoted : DenotesHistory s.text events
   pub numbers : List ℕ
   pub fits : FitsTable numbers s.table events
-  pub explained : IsExplained (with_numbers numbers events) out
+  pub explained : IsExplainedBy (whole_name s) (with_numbers numbers events) out
 
 -- The result of a merge: if it is a yes the history of each shard is linearizable. If it is a no
 -- that of one is not, and the lines show it.

@@ -7,7 +7,7 @@ use crate::status::Status;
 
 /// What is found of a shard, or of several together: the worst of what is found of each.
 #[derive(Clone, Copy, Debug, PartialEq, Eq)]
-pub(crate) enum Finding {
+pub enum Finding {
     /// Each object has an order.
     Certified,
     /// None of the other three is found.
@@ -32,7 +32,7 @@ impl Finding {
     }
 
     /// The worse of two.
-    pub(crate) fn worse(self, other: Finding) -> Finding
+    pub fn worse(self, other: Finding) -> Finding
         ensures { result ≡ spec.worse self other }
     {
         if self.rank() < other.rank() {
@@ -43,7 +43,7 @@ impl Finding {
     }
 
     /// How a merge ends that finds this.
-    pub(crate) fn status(self) -> Status
+    pub fn status(self) -> Status
         ensures is { result ≡ spec.status_with self }
         ensures not_failed { result ≢ Status.Failed }
     {

@@ -20,10 +20,12 @@ mod texts;
 mod verification;
 
 pub use comments::comments_text;
+pub use finding::Finding;
 pub use lines::{line_with_place, text_with_number};
 pub use merging::Merging;
 pub use output::{Output, verdict_output, with_verdict};
 pub use refuting::refute;
 pub use searching::search;
+pub use shard_answer::ShardNumber;
 pub use status::{Status, status_of};
 pub use verification::{verify, verify_history};

@@ -7,7 +7,7 @@ ghost use Rattle.history_commands.specs.Merged.{AnswersShard, AreMerged, IsMerge
 use crate::finding::Finding;
 use crate::object_lines::{ObjectLines, with_lines};
 use crate::output::{Output, verdict_output};
-use crate::shard_answer::{ShardAnswer, answer_shard};
+use crate::shard_answer::{ShardAnswer, ShardNumber, answer_shard};
 use crate::shard_counts::Counts;
 use report::Verdict;
 use std::alloc::{AllocError, Global};
@@ -51,15 +51,16 @@ impl Merging {
         self.counts.add(&counts)
     }
 
-    /// Takes one more shard, with this number: its text, its table, and evidence on it in the
-    /// numbers of the whole, which may be any bytes. A search for which a claim names no number of
+    /// Takes one more shard: its number, its text, its table, and evidence on it, which may be any
+    /// bytes. The evidence has the numbers of events in the whole, and the names of objects in the
+    /// shard; the lines have those of the whole. A search for which a claim names no number of
     /// steps has the limit `steps`. No evidence is the empty text, which claims nothing.
     ///
     /// An error: an allocation failed, and no clause says what is known afterwards.
     pub fn take(
         &mut self,
         alloc: Global,
-        shard: u32,
+        shard: ShardNumber,
         text: &[u8],
         table: &[u8],
         evidence: &[u8],
@@ -67,7 +68,8 @@ impl Merging {
     ) -> Result<(), AllocError>
         ensures { OnOk result ((shards : List Shard) → AreMerged self.old shards
             → AreMerged self.new (shards ++ (record {
-              number = shard;
+              number = shard.number;
+              count = shard.count;
               text = text.now;
               table = table.now;
               evidence = evidence.now;

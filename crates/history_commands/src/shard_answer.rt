@@ -6,6 +6,7 @@ ghost use Rattle.history_commands.specs.Merged as spec;
 ghost use Rattle.history_commands.specs.Merged.{AnswersClaims, AnswersEvidence, AnswersFault};
 ghost use Rattle.history_commands.specs.Merged.{AnswersShard, AnswersTable, IsNoted, IsTooLarge};
 ghost use Rattle.history_commands.specs.Merged.{finding_on, seen};
+ghost use Rattle.shards.specs.Dividing.{object_named};
 
 use crate::answers::{are_all_found, is_any_impossible};
 use crate::finding::Finding;
@@ -23,6 +24,13 @@ use shards::{TableFault, with_table};
 use std::alloc::{AllocError, Global};
 use verifying::{Claim, Decision, decide_by_claims, read_claims_text};
 
+/// Which shard it is: its number, and how many there are.
+#[derive(Clone, Copy, Debug, PartialEq, Eq)]
+pub struct ShardNumber {
+    pub number: u16,
+    pub count: u16,
+}
+
 /// What is answered of a shard.
 #[derive(Drop)]
 pub(crate) struct ShardAnswer {
@@ -36,7 +44,7 @@ pub(crate) struct ShardAnswer {
 }
 
 /// A line on a shard.
-fn shard_line(alloc: Global, shard: u32, said: &[u8]) -> Result<Vec<u8>, AllocError>
+fn shard_line(alloc: Global, shard: u16, said: &[u8]) -> Result<Vec<u8>, AllocError>
     ensures { IfOk result (λ v. v.items ≡ spec.shard_line shard said.now) }
 {
     let mut line = text_with_number(alloc, b"shard ", u64::from(shard), b": ")?;
@@ -47,7 +55,7 @@ fn shard_line(alloc: Global, shard: u32, said: &[u8]) -> Result<Vec<u8>, AllocEr
 /// What is answered where nothing is decided, but this is said of the shard.
 fn noted(
     alloc: Global,
-    shard: u32,
+    shard: u16,
     finding: Finding,
     said: &[u8],
 ) -> Result<ShardAnswer, AllocError>
@@ -73,7 +81,7 @@ fn is_too_large(fault: &Fault) -> bool
 }
 
 /// What is answered of a shard whose text has this fault.
-fn answer_fault(alloc: Global, shard: u32, fault: Fault) -> Result<ShardAnswer, AllocError>
+fn answer_fault(alloc: Global, shard: u16, fault: Fault) -> Result<ShardAnswer, AllocError>
     ensures { IfOk result (λ a. AnswersFault shard fault (seen a)) }
 {
     if is_too_large(&fault) {
@@ -99,11 +107,13 @@ fn finding_of(decisions: &[(u32, Decision)]) -> Finding
 /// What is answered by claims on the history of a shard.
 fn answer_claims(
     alloc: Global,
+    shard: ShardNumber,
     history: &History,
     claims: Vec<Claim>,
     steps: u32,
 ) -> Result<ShardAnswer, AllocError>
-    ensures { IfOk result (λ a. AnswersClaims history.now claims.items steps (seen a)) }
+    ensures { IfOk result (λ a. AnswersClaims (object_named shard.count shard.number) history.now
+        claims.items steps (seen a)) }
 {
     // These two do nothing: they say that valid certificates suffice.
     history.events();
@@ -112,7 +122,7 @@ fn answer_claims(
     Ok(ShardAnswer {
         finding: finding_of(&decisions),
         note: Vec::new(alloc),
-        lines: lines_of(alloc, history, &decisions)?,
+        lines: lines_of(alloc, shard, history, decisions)?,
         counts: Counts::of(alloc, history)?,
     })
 }
@@ -120,18 +130,19 @@ fn answer_claims(
 /// What is answered by evidence on the history of a shard.
 fn answer_evidence(
     alloc: Global,
-    shard: u32,
+    shard: ShardNumber,
     history: &History,
     evidence: &[u8],
     steps: u32,
 ) -> Result<ShardAnswer, AllocError>
-    ensures { IfOk result (λ a. AnswersEvidence shard history.now evidence.now steps (seen a)) }
+    ensures { IfOk result (λ a. AnswersEvidence shard.number
+        (object_named shard.count shard.number) history.now evidence.now steps (seen a)) }
 {
     match read_claims_text(alloc, evidence) {
-        Ok(claims) => answer_claims(alloc, history, claims, steps),
+        Ok(claims) => answer_claims(alloc, shard, history, claims, steps),
         Err(fault) => {
             let output = refuse_evidence(alloc, fault)?;
-            noted(alloc, shard, Finding::Undecided, &output.text)
+            noted(alloc, shard.number, Finding::Undecided, &output.text)
         }
     }
 }
@@ -139,21 +150,22 @@ fn answer_evidence(
 /// What is answered by evidence in the numbers of the whole, which the table has.
 fn answer_history(
     alloc: Global,
-    shard: u32,
+    shard: ShardNumber,
     history: History,
     table: &[u8],
     evidence: &[u8],
     steps: u32,
 ) -> Result<ShardAnswer, AllocError>
     ensures { IfOk result (λ a.
-        AnswersTable shard history table.now evidence.now steps (seen a)) }
+        AnswersTable shard.number (object_named shard.count shard.number) history table.now
+        evidence.now steps (seen a)) }
 {
     match with_table(alloc, history, table) {
         Ok(history) => answer_evidence(alloc, shard, &history, evidence, steps),
         Err(TableFault::Misfit) => {
             noted(
                 alloc,
-                shard,
+                shard.number,
                 Finding::Malformed,
                 b"its table does not fit\n",
             )
@@ -165,14 +177,15 @@ fn answer_history(
 /// What is answered of a shard by its text, its table, and the evidence on it.
 pub(crate) fn answer_shard(
     alloc: Global,
-    shard: u32,
+    shard: ShardNumber,
     text: &[u8],
     table: &[u8],
     evidence: &[u8],
     steps: u32,
 ) -> Result<ShardAnswer, AllocError>
     ensures { IfOk result (λ a. AnswersShard (record {
-      number = shard;
+      number = shard.number;
+      count = shard.count;
       text = text.now;
       table = table.now;
       evidence = evidence.now;
@@ -181,7 +194,7 @@ pub(crate) fn answer_shard(
 {
     match history_of_text(alloc, text) {
         Ok(history) => answer_history(alloc, shard, history, table, evidence, steps),
-        Err(TextFailure::Faulty(fault)) => answer_fault(alloc, shard, fault),
+        Err(TextFailure::Faulty(fault)) => answer_fault(alloc, shard.number, fault),
         Err(TextFailure::NoMemory) => Err(AllocError),
     }
 }

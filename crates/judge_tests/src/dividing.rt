@@ -3,7 +3,7 @@ ghost use Rattle.std.specs.Prelude.{◌≡◌, None, false, IfOk};
 use crate::from_sources::in_pieces;
 use edn::{EdnFault, Failed, FaultKind};
 use history::{HistoryFault, HistoryFaultKind, TextFault};
-use shards::{Folder, SplitFault, split_by_pieces, split_over};
+use shards::{Folder, SplitFault, object_named, split_by_pieces, split_over};
 use std::alloc::{AllocError, Global};
 use std::test::Fail;
 
@@ -16,7 +16,7 @@ struct Memory {
     failed: bool,
 }
 
-fn empty_folder(alloc: Global, shards: u32, calls: usize) -> Result<Memory, AllocError>
+fn empty_folder(alloc: Global, shards: u16, calls: usize) -> Result<Memory, AllocError>
     ensures { IfOk result (λ folder. folder.failed ≡ false) }
 {
     let mut texts = Vec::new(alloc);
@@ -51,8 +51,8 @@ impl Folder for Memory {
 
     ghost broken = { λ f. f.failed };
 
-    fn add(&mut self, shard: u32, maps: &[u8], places: &[u8]) -> Result<(), Failed> {
-        self.failed = self.keep(shard as usize, maps, places).is_none();
+    fn add(&mut self, shard: u16, maps: &[u8], places: &[u8]) -> Result<(), Failed> {
+        self.failed = self.keep(usize::from(shard), maps, places).is_none();
         if self.failed { Err(Failed) } else { Ok(()) }
     }
 }
@@ -69,9 +69,31 @@ const WHOLE: &[u8] = b"{:process 0, :type :invoke, :f :enqueue, :value 1, :objec
 {:process 2, :type :invoke, :f :acquire, :object 5}
 ";
 
-/// What the first shards have of it where there are this many: numbers of maps, texts and tables.
-const PARTS: [(u32, [u32; 2], [&[u8]; 2], [&[u8]; 2]); 3] = [
+/// Two objects are past the greatest that one text names, and one of them has the name 3 in its
+/// shard.
+const WIDE: &[u8] = b"{:process 0, :type :invoke, :f :dequeue, :object 3}
+{:object +65539 :process 1 :type :invoke :f :pop, :x {:object 9}}
+{:process 2, :type :invoke, :f :read, :object 70000}
+";
+
+/// What the first shards have of a whole where there are this many: numbers of maps, texts and
+/// tables.
+const PARTS: [(&[u8], u16, [u32; 2], [&[u8]; 2], [&[u8]; 2]); 4] = [
     (
+        WIDE,
+        2,
+        [1, 2],
+        [
+            b"{:object 3 :process 1 :type :invoke :f :pop, :x {:object 9}}
+",
+            b"{:process 0, :type :invoke, :f :dequeue, :object 3}
+{:process 2, :type :invoke, :f :read, :object 4464}
+",
+        ],
+        [b"1\n", b"0\n2\n"],
+    ),
+    (
+        WHOLE,
         1,
         [5, 0],
         [
@@ -87,6 +109,7 @@ const PARTS: [(u32, [u32; 2], [&[u8]; 2], [&[u8]; 2]); 3] = [
         [b"0\n1\n3\n4\n5\n", b""],
     ),
     (
+        WHOLE,
         2,
         [2, 3],
         [
@@ -102,6 +125,7 @@ const PARTS: [(u32, [u32; 2], [&[u8]; 2], [&[u8]; 2]); 3] = [
         [b"0\n3\n", b"1\n4\n5\n"],
     ),
     (
+        WHOLE,
         9,
         [2, 2],
         [
@@ -128,22 +152,30 @@ fn has(lines: &[Vec<u8>], shard: usize, expected: &[u8]) -> bool {
 /// However the text comes, and however short its pieces are, the shards are the same.
 #[test]
 fn each_map_is_in_the_shard_of_its_object(rt: HostRuntime) -> Result<(), Fail> {
-    for (shards, counts, texts, tables) in PARTS {
+    for (whole, shards, counts, texts, tables) in PARTS {
         for (size, length) in [(1, 1), (7, 1), (7, 100), (100, 0), (9, 9999)] {
             let alloc = rt.alloc();
             let mut folder = empty_folder(alloc, shards, 9999)?;
-            let mut history = in_pieces(WHOLE, size, false);
+            let mut history = in_pieces(whole, size, false);
             let Ok(given) = split_by_pieces(alloc, &mut history, &mut folder, shards, length) else {
                 return Err(Fail::new("a whole is not divided"));
             };
-            assert!(rt; given.len() == shards as usize);
+            assert!(rt; given.large.is_empty());
+            assert!(rt; given.counts.len() == usize::from(shards));
             for shard in 0..2 {
-                assert!(rt; given.get(shard).copied().unwrap_or(0) == counts[shard]);
+                assert!(rt; given.counts.get(shard).copied().unwrap_or(0) == counts[shard]);
                 assert!(rt; has(&folder.texts, shard, texts[shard]));
                 assert!(rt; has(&folder.tables, shard, tables[shard]));
             }
         }
     }
+    Ok(())
+}
+
+#[test]
+fn objects_are_found_by_their_names(rt: HostRuntime) -> Result<(), Fail> {
+    assert!(rt; object_named(2, 1, 3) == 3 && object_named(2, 0, 3) == 65_539);
+    assert!(rt; object_named(2, 1, 4464) == 70_000);
     Ok(())
 }
 
@@ -263,14 +295,24 @@ fn a_source_or_a_folder_that_fails_is_told(rt: HostRuntime) -> Result<(), Fail> 
 }
 
 #[test]
+fn an_object_that_needs_more_shards_is_told(rt: HostRuntime) -> Result<(), Fail> {
+    let fits = b"{:process 0, :type :invoke, :f :read, :object 196607}";
+    assert!(rt; fault_of(rt.alloc(), fits, 9999, false) == None);
+    let unfit = b"{:process 0, :type :invoke, :f :read, :object 196608}";
+    let fault = Some(SplitFault::FewShards(196_608));
+    assert!(rt; fault_of(rt.alloc(), unfit, 9999, false) == fault);
+    Ok(())
+}
+
+#[test]
 fn a_text_without_maps_has_shards_without_maps(rt: HostRuntime) -> Result<(), Fail> {
     for text in [b"".as_slice(), b"\n\n ; nothing".as_slice()] {
         let mut folder = empty_folder(rt.alloc(), 2, 9999)?;
         let mut history = in_pieces(text, 4, false);
-        let Ok(counts) = split_over(rt.alloc(), &mut history, &mut folder, 2) else {
+        let Ok(given) = split_over(rt.alloc(), &mut history, &mut folder, 2) else {
             return Err(Fail::new("a text without maps is not divided"));
         };
-        assert!(rt; counts.as_slice() == [0, 0].as_slice());
+        assert!(rt; given.counts.as_slice() == [0, 0].as_slice());
         assert!(rt; has(&folder.texts, 0, b"") && has(&folder.tables, 1, b""));
     }
     Ok(())

@@ -3,9 +3,9 @@ use seq_objects::{AnyOp, AnyReply};
 use std::alloc::Global;
 use std::test::Fail;
 
-const PIECE: &[u8] = b"{:process 3, :type :invoke, :f :enqueue, :value 7, :object 65535}
+const PIECE: &[u8] = b"{:process 3, :type :invoke, :f :enqueue, :value 7, :object 4294967295}
 {:process :nemesis, :type :info} ; a partition
-{:process 3, :type :ok, :f :enqueue, :value 7, :object 65535}
+{:process 3, :type :ok, :f :enqueue, :value 7, :object 4294967295}
 ";
 
 fn maps(alloc: Global, piece: &[u8]) -> Result<Vec<MapText>, Fail> {
@@ -16,7 +16,7 @@ fn maps(alloc: Global, piece: &[u8]) -> Result<Vec<MapText>, Fail> {
 fn each_map_of_a_piece_has_its_own_bytes(rt: HostRuntime) -> Result<(), Fail> {
     let maps = maps(rt.alloc(), PIECE)?;
     assert!(rt; maps.len() == 3);
-    let first = b"{:process 3, :type :invoke, :f :enqueue, :value 7, :object 65535}";
+    let first = b"{:process 3, :type :invoke, :f :enqueue, :value 7, :object 4294967295}";
     assert!(rt; maps[0].text == first.as_slice());
     assert!(rt; maps[1].text == b"\n{:process :nemesis, :type :info}".as_slice());
     Ok(())
@@ -30,7 +30,7 @@ fn maps_are_taken_one_by_one(rt: HostRuntime) -> Result<(), Fail> {
     let invoked = Event {
         number: 0,
         process: 3,
-        object: 65_535,
+        object: u32::MAX,
         action: Action::Invoke(AnyOp::Enqueue(7)),
     };
     assert!(rt; reader.take(maps[0].said) == Ok(Some(invoked)));

@@ -1,6 +1,6 @@
 //! What is found of shards, merged: the lines are those of the whole.
 
-use history_commands::{Merging, Output, Status, verify};
+use history_commands::{Merging, Output, ShardNumber, Status, verify};
 use std::alloc::{AllocError, Global};
 use std::test::Fail;
 
@@ -90,10 +90,13 @@ const MISFITS: [&[u8]; 13] = [
     b"1\n18446744073709551617\n",
 ];
 
+/// How many shards there are.
+const COUNT: u16 = 64;
+
 /// What a merge is given of a shard.
 #[derive(Clone, Copy)]
 struct ShardFiles {
-    number: u32,
+    number: u16,
     text: &'static [u8],
     table: &'static [u8],
     evidence: &'static [u8],
@@ -114,9 +117,13 @@ fn with_text(shard: ShardFiles, text: &'static [u8]) -> ShardFiles {
 fn merge(alloc: Global, shards: &[ShardFiles]) -> Result<Output, AllocError> {
     let mut merging = Merging::new(alloc);
     for shard in shards {
+        let number = ShardNumber {
+            number: shard.number,
+            count: COUNT,
+        };
         merging.take(
             alloc,
-            shard.number,
+            number,
             shard.text,
             shard.table,
             shard.evidence,
@@ -225,7 +232,11 @@ fn a_shard_of_too_many_maps_is_undecided(rt: HostRuntime) -> Result<(), Fail> {
         text.extend_from_slice(b"{:process :n}\n")?;
     }
     let mut merging = Merging::new(alloc);
-    merging.take(alloc, 7, &text, b"", b"", 0)?;
+    let number = ShardNumber {
+        number: 7,
+        count: COUNT,
+    };
+    merging.take(alloc, number, &text, b"", b"", 0)?;
     let output = merging.output(alloc)?;
     assert!(rt; output.status == Status::Undecided);
     assert_eq!(rt; output.text.as_slice(), b"shard 7: too large\n".as_slice());

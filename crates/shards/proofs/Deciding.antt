@@ -1,11 +1,9 @@
 -- A whole is linearizable exactly where each shard is: by locality and its converse, since an object has the same calls
--- and the same kind in its shard as in the whole, and so the same valid orders.
-use Rattle.std.proofs.Common.{◌≡◌, ◌↔◌, ℕ, ℤ, ◌==◌, Bool, true, false, cond, List, [], ◌∷◌, filter}
+-- and the same kind in its shard as in the whole, and so the same valid orders, whatever its name is there.
+use Rattle.std.proofs.Common.{◌≡◌, ◌↔◌, ℕ, ◌==◌, Bool, true, false, cond, List, [], ◌∷◌, filter}
 use Rattle.std.proofs.Common.{refl, ap, sym, ◌∙◌, subst}
 use Rattle.std.proofs.lemmas.Bool.{eq-eqb, ne_eqb}
-use Rattle.model.specs.declared.Kind.{Kind}
-use Rattle.model.specs.Objects.{any}
-use Rattle.model.specs.Orders.{Call, ProcessCall, calls_in, calls_on, IsValidOrderOf}
+use Rattle.model.specs.Orders.{ProcessCall, calls_in, calls_on}
 use Rattle.model.proofs.Lists.{In, in_filter_from, in_map_from, all_from_in}
 use Rattle.locality.specs.Locality.{HasValidOrder}
 use Rattle.locality.proofs.OneKind.{locality_of_kinds, named_kinds, orders_of_kinds}
@@ -16,8 +14,11 @@ use Rattle.events.proofs.ProcessRuns.{idle, runs_from_start}
 use Rattle.events.proofs.Calls.{proper_calls}
 use Rattle.events.proofs.Owned.{operations_owned, no_operations}
 use Rattle.events.proofs.WellFormed.{denoted_is_history}
-use Rattle.shards.specs.Shards.{events_on, AreShards, DenoteLinearizable}
+use Rattle.shards.specs.Shards.{events_on, renamed, AreApart, AreShards, DenoteLinearizable}
+use Rattle.shards.proofs.Naming.{named_on}
 use Rattle.shards.proofs.Proper.{proper_on}
+use Rattle.shards.proofs.RenamedObjects.{HaveOwnNames, OrderedAt, ordered_same, renamed_proper}
+use Rattle.shards.proofs.RenamedObjects.{renamed_linearizable, linearizable_renamed}
 use Rattle.shards.proofs.Renumbered.{same_from, proper_renumbered, linearizable_same}
 
 -- an object has the same calls among the events on objects with it
@@ -42,23 +43,15 @@ kind_kept has x (e ∷ es) own = go (has e.object) refl (kind_kept has x es own)
         later ∙ sym (ap (λ b. cond b (kind_in e.action (kind_at es x)) (kind_at es x)) ne)
 
 -- so it has a valid order among them where it has one among all
-abbrev Ordered : Kind → List Call → Type 0
-Ordered kind calls = (order : List ℤ) × IsValidOrderOf (any kind) calls order
-
-abbrev OrderedAt : List Event → ℕ → Type 0
-OrderedAt es x = Ordered (kind_at es x) (calls_on x (denoted es))
-
 order_kept : (has : ℕ → Bool) (x : ℕ) (es : List Event) → has x ≡ true → IsProper es → OrderedAt es x
     → OrderedAt (events_on has es) x
-order_kept has x es own proper o =
-    subst (λ k. Ordered k (calls_on x (denoted (events_on has es)))) (sym (kind_kept has x es own))
-    (subst (Ordered (kind_at es x)) (sym (calls_kept has x es own proper)) o)
+order_kept has x es own proper =
+    ordered_same es (events_on has es) x x (sym (kind_kept has x es own)) (sym (calls_kept has x es own proper))
 
 order_found : (has : ℕ → Bool) (x : ℕ) (es : List Event) → has x ≡ true → IsProper es → OrderedAt (events_on has es) x
     → OrderedAt es x
-order_found has x es own proper o =
-    subst (λ k. Ordered k (calls_on x (denoted es))) (kind_kept has x es own)
-    (subst (Ordered (kind_at (events_on has es) x)) (calls_kept has x es own proper) o)
+order_found has x es own proper =
+    ordered_same (events_on has es) es x x (kind_kept has x es own) (calls_kept has x es own proper)
 
 -- an object with a call among them is one of theirs
 called_is_own : (has : ℕ → Bool) (es : List Event) → IsProper es → (call : ProcessCall)
@@ -98,22 +91,37 @@ whole_linearizable has es proper own each = locality_of_kinds (kind_at es) (deno
 
 -- ---- shards
 
-pub proper_shards : (shard_of : ℕ → ℕ) (es : List Event) (shards : ℕ → List Event) → IsProper es
-    → AreShards shard_of es shards → (s : ℕ) → IsProper (shards s)
-proper_shards shard_of es shards proper are s =
-    let has = λ (x : ℕ). shard_of x == s in
-    proper_renumbered (events_on has es) (shards s) (proper_on has es proper) (are s)
+-- the objects of one shard have names of their own
+own_names : (shard_of name : ℕ → ℕ) (es : List Event) → AreApart shard_of name es → (s : ℕ)
+    → HaveOwnNames name (events_on (λ x. shard_of x == s) es)
+own_names shard_of name es apart s x y m n =
+    let there = named_on shard_of s x es m in
+    let here = named_on shard_of s y es n in
+    apart x y there.0 here.0 (there.1 ∙ sym here.1)
 
-pub decided_by_shards : (shard_of : ℕ → ℕ) (es : List Event) (shards : ℕ → List Event) → IsProper es
-    → AreShards shard_of es shards → (DenoteLinearizable es ↔ ((s : ℕ) → DenoteLinearizable (shards s)))
-decided_by_shards shard_of es shards proper are = (
+pub proper_shards : (shard_of name : ℕ → ℕ) (es : List Event) (shards : ℕ → List Event) → IsProper es
+    → AreApart shard_of name es → AreShards shard_of name es shards → (s : ℕ) → IsProper (shards s)
+proper_shards shard_of name es shards proper apart are s =
+    let part = events_on (λ x. shard_of x == s) es in
+    proper_renumbered (renamed name part) (shards s)
+    (renamed_proper name part (proper_on (λ x. shard_of x == s) es proper) (own_names shard_of name es apart s)) (are s)
+
+pub decided_by_shards : (shard_of name : ℕ → ℕ) (es : List Event) (shards : ℕ → List Event) → IsProper es
+    → AreApart shard_of name es → AreShards shard_of name es shards
+    → (DenoteLinearizable es ↔ ((s : ℕ) → DenoteLinearizable (shards s)))
+decided_by_shards shard_of name es shards proper apart are = (
   λ l s.
       let has = λ (x : ℕ). shard_of x == s in
-      linearizable_same (events_on has es) (shards s) (same_from (events_on has es) (shards s) (sym (are s).same))
-      (part_linearizable has es proper l),
+      let part = events_on has es in
+      linearizable_same (renamed name part) (shards s) (same_from (renamed name part) (shards s) (sym (are s).same))
+      (renamed_linearizable name part (proper_on has es proper) (own_names shard_of name es apart s)
+      (part_linearizable has es proper l)),
   λ each. whole_linearizable (λ x y. shard_of y == shard_of x) es proper (λ x. eq-eqb (shard_of x) (shard_of x) refl)
       (λ x.
       let s = shard_of x in
-      let part = events_on (λ y. shard_of y == s) es in
-      linearizable_same (shards s) part (same_from (shards s) part (are s).same) (each s)),
+      let has = λ (y : ℕ). shard_of y == s in
+      let part = events_on has es in
+      linearizable_renamed name part (proper_on has es proper) (own_names shard_of name es apart s)
+      (linearizable_same (shards s) (renamed name part) (same_from (shards s) (renamed name part) (are s).same)
+      (each s))),
 )

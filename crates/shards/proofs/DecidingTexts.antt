@@ -1,4 +1,4 @@
--- What a split denotes: each shard denotes the events on its objects, renumbered; so the shards decide
+-- What a split denotes: each shard denotes the events on its objects, renamed and renumbered; so the shards decide
 -- whether the whole is linearizable. A text denotes one list of forms only.
 use Rattle.std.proofs.Common.{◌≡◌, ℕ, ◌==◌, ◌⊎◌, inl, inr, Bool, List, [], ◌∷◌, ◌++◌, map, refl, sym, ◌∙◌, ap, subst}
 use Rattle.edn_reader.specs.Datum.{Datum}
@@ -6,7 +6,7 @@ use Rattle.edn_reader.specs.Spells.{Spells}
 use Rattle.edn_reader.proofs.Progress.{one_reading_of}
 use Rattle.events.specs.declared.event.Event.{Event}
 use Rattle.history.specs.Denotes.{events_from}
-use Rattle.shards.specs.Shards.{AreRenumbered, AreShards, DenoteLinearizable, events_on}
+use Rattle.shards.specs.Shards.{AreRenumbered, AreShards, DenoteLinearizable, events_on, renamed}
 use Rattle.shards.proofs.Deciding.{decided_by_shards}
 use Rattle.judging.specs.Texts.{IsLinearizableText, IsNotLinearizableText}
 use Rattle.history.proofs.MapLimit.{at_any_length}
@@ -19,37 +19,38 @@ use Rattle.model.proofs.Lists.{all_from_in}
 use Rattle.edn_reader.proofs.Joined.{nothing_spelled}
 use Rattle.history.specs.Faults.{IsFaultlessAtAnyLength}
 use Rattle.history.proofs.Proper.{proper_at_any_length}
-use Rattle.shards.specs.Forms.{forms_on}
 use Rattle.shards.specs.ShardTexts.{SpelledMap, IsSplit, IsLinearizableAtAnyLength, IsShardOf, TextDenotes}
-use Rattle.shards.proofs.FewerForms.{faultless_on}
-use Rattle.shards.proofs.FewerEvents.{said_on}
+use Rattle.shards.proofs.RenamedForms.{own_faultless, own_forms_on, own_said}
 use Rattle.shards.proofs.WrittenShards.{shard_spells}
 
 -- the objects of a shard
 abbrev objects_of : (ℕ → ℕ) → ℕ → ℕ → Bool
 objects_of shard_of s x = shard_of x == s
 
-abbrev forms_of : {shard_of : ℕ → ℕ} {whole : List ℕ} {shards : ℕ → List ℕ} → IsSplit shard_of whole shards → List Datum
+abbrev forms_of : {shard_of name : ℕ → ℕ} {whole : List ℕ} {shards : ℕ → List ℕ}
+    → IsSplit shard_of name whole shards → List Datum
 forms_of h = map (λ (m : SpelledMap). m.form) h.maps
 
-module _ {shard_of : ℕ → ℕ} {whole : List ℕ} {shards : ℕ → List ℕ} (h : IsSplit shard_of whole shards) where
+module _ {shard_of name : ℕ → ℕ} {whole : List ℕ} {shards : ℕ → List ℕ}
+    (h : IsSplit shard_of name whole shards) where
   abbrev own_forms : ℕ → List Datum
-  own_forms s = forms_on (objects_of shard_of s) (forms_of h)
+  own_forms s = own_forms_on (objects_of shard_of s) h.maps
 
   abbrev own_events : ℕ → List Event
   own_events s = events_from 0 (own_forms s)
 
-  own_faultless : (s : ℕ) → IsFaultlessAtAnyLength (own_forms s)
-  own_faultless s = faultless_on (objects_of shard_of s) (forms_of h) h.faultless
+  faultless_in : (s : ℕ) → IsFaultlessAtAnyLength (own_forms s)
+  faultless_in s = own_faultless shard_of name h.maps h.each h.faultless s h.apart
 
   own_spelled : (s : ℕ) → Spells (own_forms s) (shards s)
-  own_spelled s = subst (Spells (own_forms s)) (sym (h.texts s)) (shard_spells (objects_of shard_of s) h.maps h.each)
+  own_spelled s = subst (Spells (own_forms s)) (sym (h.texts s))
+      (shard_spells name (objects_of shard_of s) h.maps h.each)
 
   own_denoted : (s : ℕ) → TextDenotes (shards s) (own_events s)
   own_denoted s = record {
     forms = own_forms s;
     spelled = own_spelled s;
-    denoted = record { faultless = own_faultless s; events = refl };
+    denoted = record { faultless = faultless_in s; events = refl };
   }
 
   abbrev whole_events : List Event
@@ -62,10 +63,10 @@ module _ {shard_of : ℕ → ℕ} {whole : List ℕ} {shards : ℕ → List ℕ}
     denoted = record { faultless = h.faultless; events = refl };
   }
 
-  are_shards : AreShards shard_of whole_events own_events
+  are_shards : AreShards shard_of name whole_events own_events
   are_shards s = record {
-    same = said_on (objects_of shard_of s) (forms_of h) 0 0;
-    rising = (proper_at_any_length (own_forms s) (own_faultless s)).rising;
+    same = own_said name (objects_of shard_of s) h.maps h.each;
+    rising = (proper_at_any_length (own_forms s) (faultless_in s)).rising;
   }
 
   -- a text denotes what its one list of forms denotes
@@ -77,12 +78,12 @@ module _ {shard_of : ℕ → ℕ} {whole : List ℕ} {shards : ℕ → List ℕ}
       d.denoted.events ∙ ap (events_from 0) (one_reading_of d.forms (own_forms s) (shards s) d.spelled (own_spelled s))
 
   pub shard_is : (es : List Event) → TextDenotes whole es → (s : ℕ)
-      → IsShardOf (λ x. shard_of x == s) es (shards s)
+      → IsShardOf (λ x. shard_of x == s) name es (shards s)
   shard_is es d s = record {
     events = own_events s;
     denoted = own_denoted s;
-    renumbered = subst (λ xs. AreRenumbered (events_on (objects_of shard_of s) xs) (own_events s)) (sym (whole_is es d))
-        (are_shards s);
+    renumbered = subst (λ xs. AreRenumbered (renamed name (events_on (objects_of shard_of s) xs)) (own_events s))
+        (sym (whole_is es d)) (are_shards s);
   }
 
   pub shards_of_linearizable : IsLinearizableAtAnyLength whole
@@ -90,8 +91,8 @@ module _ {shard_of : ℕ → ℕ} {whole : List ℕ} {shards : ℕ → List ℕ}
   shards_of_linearizable l s = record {
     events = own_events s;
     denoted = own_denoted s;
-    linearizable = (decided_by_shards shard_of whole_events own_events
-        (proper_at_any_length (forms_of h) h.faultless) are_shards).0
+    linearizable = (decided_by_shards shard_of name whole_events own_events
+        (proper_at_any_length (forms_of h) h.faultless) h.apart are_shards).0
         (subst DenoteLinearizable (whole_is l.events l.denoted) l.linearizable) s;
   }
 
@@ -100,8 +101,8 @@ module _ {shard_of : ℕ → ℕ} {whole : List ℕ} {shards : ℕ → List ℕ}
   linearizable_by_shards l = record {
     events = whole_events;
     denoted = whole_denoted;
-    linearizable = (decided_by_shards shard_of whole_events own_events
-        (proper_at_any_length (forms_of h) h.faultless) are_shards).1
+    linearizable = (decided_by_shards shard_of name whole_events own_events
+        (proper_at_any_length (forms_of h) h.faultless) h.apart are_shards).1
         (λ s. subst DenoteLinearizable (own_is s (l s).events (l s).denoted) (l s).linearizable);
   }
 
@@ -145,10 +146,10 @@ judged : (text : List ℕ) → (text ≡ []) ⊎ IsLinearizableText text → IsL
 judged text (inl e) = subst IsLinearizableAtAnyLength (sym e) nothing_linearizable
 judged text (inr l) = at_length text l
 
-pub linearizable_where_judged : (shard_of : ℕ → ℕ) (whole : List ℕ) (shards : ℕ → List ℕ)
-    → IsSplit shard_of whole shards
+pub linearizable_where_judged : (shard_of name : ℕ → ℕ) (whole : List ℕ) (shards : ℕ → List ℕ)
+    → IsSplit shard_of name whole shards
     → ((s : ℕ) → (shards s ≡ []) ⊎ IsLinearizableText (shards s)) → IsLinearizableAtAnyLength whole
-linearizable_where_judged shard_of whole shards h each = linearizable_by_shards h (λ s. judged (shards s) (each s))
+linearizable_where_judged shard_of name whole shards h each = linearizable_by_shards h (λ s. judged (shards s) (each s))
 
 -- a text that denotes a history which is not linearizable denotes no other
 refuted : (text : List ℕ) → IsNotLinearizableText text → IsLinearizableAtAnyLength text → ⊥
@@ -158,6 +159,7 @@ refuted text n l =
     n.not_linearizable (subst DenoteLinearizable
     (l.denoted.denoted.events ∙ (ap (events_from 0) same ∙ sym n.history_text.denoted.events)) l.linearizable)
 
-pub refuted_by_shard : (shard_of : ℕ → ℕ) (whole : List ℕ) (shards : ℕ → List ℕ) → IsSplit shard_of whole shards
+pub refuted_by_shard : (shard_of name : ℕ → ℕ) (whole : List ℕ) (shards : ℕ → List ℕ)
+    → IsSplit shard_of name whole shards
     → (s : ℕ) → IsNotLinearizableText (shards s) → IsLinearizableAtAnyLength whole → ⊥
-refuted_by_shard shard_of whole shards h s n l = refuted (shards s) n (shards_of_linearizable h l s)
+refuted_by_shard shard_of name whole shards h s n l = refuted (shards s) n (shards_of_linearizable h l s)

@@ -8,6 +8,10 @@ use Rattle.edn_reader.specs.Datum.{Datum}
 use Rattle.events.specs.declared.event.Action.{Action}
 use Rattle.events.specs.declared.event.Event.{Event}
 use Rattle.history.specs.Maps.{ClientMap, client_of}
+use Rattle.history.specs.Views.{Says}
+use Rattle.history.specs.declared.client_map.ClientMap as client
+use Rattle.history.specs.declared.client_map.OperationMap.{OperationMap}
+use Rattle.history.specs.declared.client_map.OperationMap.TheVariants.{OfClient, Ignored, Neither}
 use Rattle.history.specs.Denotes.{action_of, event_with, event_of, events_from}
 use Rattle.history.specs.Faults.{IsFaultlessAtAnyLength}
 use Rattle.history.specs.declared.fault.HistoryFaultKind.TheVariants.{BadValue}
@@ -66,3 +70,12 @@ on_object has d m q = ap (λ o. option_map_or (λ (x : ClientMap). has x.object)
 
 pub on_none : (has : ℕ → Bool) (d : Datum) → client_of d ≡ None → is_on has d ≡ false
 on_none has d q = ap (λ o. option_map_or (λ (x : ClientMap). has x.object) o false) q
+
+-- ---- what is said of it
+
+-- a client's map is said to be one
+pub says_client : (said : OperationMap) (d : Datum) (m : ClientMap) → Says said d → client_of d ≡ Some m
+    → ((c : client.ClientMap) → said ≡ OfClient c → ⊥) → ⊥
+says_client (OfClient c) d m says q other = other c refl
+says_client Ignored d m says q other = let none = says.0 in cc (none, q)
+says_client Neither d m says q other = let none = says.0 in cc (none, q)

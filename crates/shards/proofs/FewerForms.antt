@@ -29,7 +29,7 @@ kept_clients has d m ds true q rest =
     ap (λ o. cons_option o (clients (forms_on has ds))) q ∙ ap (λ ms. m ∷ ms) rest
 kept_clients has d m ds false q rest = rest
 
-clients_on : (has : ℕ → Bool) (ds : List Datum) → clients (forms_on has ds) ≡ on has (clients ds)
+pub clients_on : (has : ℕ → Bool) (ds : List Datum) → clients (forms_on has ds) ≡ on has (clients ds)
 clients_on has [] = refl
 clients_on has (d ∷ ds) = go (client_of d) refl (clients_on has ds)
   where
@@ -102,7 +102,7 @@ fine_at earlier (x ∷ xs) ys m h =
     subst (λ ms. IsFine ms m) (append_assoc earlier (x ∷ []) xs) (fine_at (earlier ++ x ∷ []) xs ys m h.1)
 
 -- a form that was kept is the map of a client
-client_on : (has : ℕ → Bool) (d : Datum) → is_on has d ≡ true → (m : ClientMap) × (client_of d ≡ Some m)
+pub client_on : (has : ℕ → Bool) (d : Datum) → is_on has d ≡ true → (m : ClientMap) × (client_of d ≡ Some m)
 client_on has d h = go (client_of d) refl h
   where
     go : (o : Option ClientMap) → client_of d ≡ o → option_map_or (λ m. has m.object) o false ≡ true
@@ -110,15 +110,22 @@ client_on has d h = go (client_of d) refl h
     go None q k = absurd (cc k)
     go (Some m) q k = (m, q)
 
-pub faultless_on : (has : ℕ → Bool) (ds : List Datum) → IsFaultlessAtAnyLength ds
-    → IsFaultlessAtAnyLength (forms_on has ds)
-faultless_on has ds h earlier later d kind is fault =
-    let stands : In d (forms_on has ds) = subst (In d) (sym is) (in_middle d earlier later) in
-    let client = client_on has d (in_filter_passes (is_on has) d ds stands) in
-    let all : AreFine [] (on has (clients ds)) =
-    are_fine_on has [] (clients ds) (nothing_outstanding has) (maps_fine [] ds h) in
-    let split : on has (clients ds) ≡ clients earlier ++ client.0 ∷ clients later =
-    sym (clients_on has ds) ∙ (ap clients is ∙ (filter_map-append client_of earlier (d ∷ later)
-    ∙ ap (λ o. clients earlier ++ cons_option o (clients later)) client.1)) in
+-- forms that are maps of clients have no fault where these maps have none
+pub faultless_from : (ds : List Datum) → ((d : Datum) → In d ds → (m : ClientMap) × (client_of d ≡ Some m))
+    → AreFine [] (clients ds) → IsFaultlessAtAnyLength ds
+faultless_from ds each all earlier later d kind is fault =
+    let client = each d (subst (In d) (sym is) (in_middle d earlier later)) in
+    let split : clients ds ≡ clients earlier ++ client.0 ∷ clients later =
+    ap clients is ∙ (filter_map-append client_of earlier (d ∷ later)
+    ∙ ap (λ o. clients earlier ++ cons_option o (clients later)) client.1) in
     fine_at [] (clients earlier) (clients later) client.0 (subst (AreFine []) split all) kind
     (client_fault earlier d client.0 kind client.1 fault)
+
+pub fine_on_objects : (has : ℕ → Bool) (ds : List Datum) → IsFaultlessAtAnyLength ds → AreFine [] (on has (clients ds))
+fine_on_objects has ds h = are_fine_on has [] (clients ds) (nothing_outstanding has) (maps_fine [] ds h)
+
+pub faultless_on : (has : ℕ → Bool) (ds : List Datum) → IsFaultlessAtAnyLength ds
+    → IsFaultlessAtAnyLength (forms_on has ds)
+faultless_on has ds h = faultless_from (forms_on has ds)
+    (λ d i. client_on has d (in_filter_passes (is_on has) d ds i))
+    (subst (AreFine []) (sym (clients_on has ds)) (fine_on_objects has ds h))

@@ -9,9 +9,11 @@ use Rattle.shards.specs.declared.divider.Divider.{Divider}
 use Rattle.shards.specs.declared.waiting.Waiting.{Waiting}
 use Rattle.shards.specs.Dividing.{Files}
 use Rattle.shards.specs.Folders.{AddsFiles, lines_for}
+use Rattle.shards.specs.LargeObjects.{maps_on}
 use Rattle.shards.specs.ShardTexts.{SpelledMap}
 use Rattle.shards.specs.Taking.{AreTaken, AreTakenAfter, Flushes, no_lines, with_more, waiting_maps, waiting_places}
 use Rattle.shards.specs.Taking.{count_in, forms_of}
+use Rattle.shards.specs.Tallies.{IsTally}
 use Rattle.shards.proofs.WaitingLines.{at_written, at_others, at_read}
 
 -- ---- files
@@ -59,14 +61,17 @@ lines_stay a gone waited left b q new =
 pub taken_flushed : (count : ℕ) (old new : Divider) (maps : List SpelledMap) (written : Files)
     (files files_after : Option Files) (i : ℕ) (w v : Waiting) → i < length old.waiting.items
     → w ≡ get_or old.waiting.items i w → new.waiting.items ≡ set old.waiting.items i v → new.shards ≡ old.shards
-    → new.reader ≡ old.reader → (f : Flushes i w v files files_after) → AreTaken count old maps written
+    → new.reader ≡ old.reader → new.tally ≡ old.tally → (f : Flushes i w v files files_after)
+    → AreTaken count old maps written
     → AreTaken count new maps (with_more written (lines_for i f.maps f.places))
-taken_flushed count old new maps written files files_after i w v l is set_is shards reader f h =
+taken_flushed count old new maps written files files_after i w v l is set_is shards reader tally f h =
     let before : List Waiting = old.waiting.items in
     record {
       shards = shards ∙ h.shards;
       read = subst (λ r. AreReadAtAnyLength r (forms_of maps)) (sym reader) h.read;
       each = h.each;
+      fit = h.fit;
+      tally = subst (λ t. IsTally t (maps_on maps)) (sym tally) h.tally;
       texts = λ s. elim (cases_eq s i) [
         | inl q ↦
             lines_move (written.texts s) f.maps v.maps.items (waiting_maps before s) (waiting_maps new.waiting.items s)
@@ -107,14 +112,15 @@ taken_flushed count old new maps written files files_after i w v l is set_is sha
 pub flushed_more : (count : ℕ) (old new : Divider) (maps : List SpelledMap) (written : Files)
     (first files files_after : Option Files) (i : ℕ) (w v : Waiting) → i < length old.waiting.items
     → w ≡ get_or old.waiting.items i w → new.waiting.items ≡ set old.waiting.items i v → new.shards ≡ old.shards
-    → new.reader ≡ old.reader → Flushes i w v files files_after → AreTakenAfter count old maps written first files
+    → new.reader ≡ old.reader → new.tally ≡ old.tally → Flushes i w v files files_after
+    → AreTakenAfter count old maps written first files
     → AreTakenAfter count new maps written first files_after
-flushed_more count old new maps written first files files_after i w v l is set_is shards reader f h = record {
+flushed_more count old new maps written first files files_after i w v l is set_is shards reader tally f h = record {
   more = with_more h.more (lines_for i f.maps f.places);
   adds = adds_both first files files_after h.more (lines_for i f.maps f.places) h.adds f.adds;
   taken = regroup count new maps written h.more (lines_for i f.maps f.places)
-      (taken_flushed count old new maps (with_more written h.more) files files_after i w v l is set_is shards reader f
-      h.taken);
+      (taken_flushed count old new maps (with_more written h.more) files files_after i w v l is set_is shards reader
+      tally f h.taken);
 }
   where
     regroup : (count : ℕ) (d : Divider) (maps : List SpelledMap) (a b c : Files)
@@ -123,6 +129,8 @@ flushed_more count old new maps written first files files_after i w v l is set_i
       shards = t.shards;
       read = t.read;
       each = t.each;
+      fit = t.fit;
+      tally = t.tally;
       texts = λ s.
           ap (λ x. x ++ waiting_maps d.waiting.items s) (sym (append_assoc (a.texts s) (b.texts s) (c.texts s)))
           ∙ t.texts s;
@@ -141,6 +149,8 @@ none_flushed count d maps written files t = record {
     shards = t.shards;
     read = t.read;
     each = t.each;
+    fit = t.fit;
+    tally = t.tally;
     texts = λ s. ap (λ x. x ++ waiting_maps d.waiting.items s) (append-nil (written.texts s)) ∙ t.texts s;
     tables = λ s. ap (λ x. x ++ waiting_places d.waiting.items s) (append-nil (written.tables s)) ∙ t.tables s;
     counts = t.counts;

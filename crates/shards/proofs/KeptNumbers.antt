@@ -1,21 +1,31 @@
 -- The events of a shard with the numbers of its table are those of the whole. The table is that of the places of its
 -- maps, and has one list of numbers only.
-use Rattle.std.proofs.Common.{◌≡◌, ℕ, ◌==◌, ◌^◌, ◌≤◌, List, length, map, ap, sym, ◌∙◌, arith}
+use Rattle.std.proofs.Common.{◌≡◌, ℕ, ◌==◌, ◌^◌, ◌≤◌, List, [], ◌∷◌, length, map, refl, ap, sym, ◌∙◌, arith}
 use Rattle.std.proofs.lemmas.List.{length-map}
 use Rattle.events.specs.declared.event.Event.{Event}
-use Rattle.shards.specs.Dividing.{Files, IsDivided, places_from, table_text, with_numbers}
-use Rattle.shards.specs.Shards.{events_on}
+use Rattle.history.specs.Denotes.{events_from}
+use Rattle.shards.specs.Dividing.{Files, IsDivided, numbered_by, places_from, table_text, with_numbers}
+use Rattle.shards.specs.Forms.{forms_on}
+use Rattle.shards.specs.Shards.{events_on, renamed, renamed_event}
 use Rattle.shards.specs.ShardTexts.{SpelledMap, TextDenotes}
 use Rattle.shards.specs.Tables.{AreShort}
 use Rattle.shards.proofs.DecidingTexts.{own_is, whole_is}
+use Rattle.shards.proofs.RenamedForms.{own_events_are}
 use Rattle.shards.proofs.Tables.{numbers_kept, one_table, places_small}
 
-pub keeps_numbers : (shard_of : ℕ → ℕ) (whole : List ℕ) (files : Files) (es own : List Event)
-    → (d : IsDivided shard_of whole files) → length d.split.maps ≤ 2 ^ 32
+-- events are renumbered and renamed in any order
+renamed_numbers : (name : ℕ → ℕ) (ns : List ℕ) (es : List Event)
+    → with_numbers ns (renamed name es) ≡ renamed name (with_numbers ns es)
+renamed_numbers name ns [] = refl
+renamed_numbers name ns (e ∷ es) =
+    ap (λ fs. renamed_event name (numbered_by ns e) ∷ fs) (renamed_numbers name ns es)
+
+pub keeps_numbers : (shard_of name : ℕ → ℕ) (whole : List ℕ) (files : Files) (es own : List Event)
+    → (d : IsDivided shard_of name whole files) → length d.split.maps ≤ 2 ^ 32
     → TextDenotes whole es → (s : ℕ) → TextDenotes (files.texts s) own
     → (ns : List ℕ) → AreShort ns → table_text ns ≡ files.tables s
-    → with_numbers ns own ≡ events_on (λ x. shard_of x == s) es
-keeps_numbers shard_of whole files es own d few all s part ns small table =
+    → with_numbers ns own ≡ renamed name (events_on (λ x. shard_of x == s) es)
+keeps_numbers shard_of name whole files es own d few all s part ns small table =
     let has = λ (x : ℕ). shard_of x == s in
     let forms = map (λ (m : SpelledMap). m.form) d.split.maps in
     let same = length-map d.split.maps (λ (m : SpelledMap). m.form) in
@@ -23,5 +33,6 @@ keeps_numbers shard_of whole files es own d few all s part ns small table =
     let are : ns ≡ places = one_table ns places small (places_small 0 has forms (2 ^ 32) (omega (arith, few, same)))
     (table ∙ d.tables s) in
     ap (λ xs. with_numbers xs own) are
-    ∙ (ap (with_numbers places) (own_is d.split s own part)
-    ∙ (numbers_kept has forms ∙ ap (events_on has) (sym (whole_is d.split es all))))
+    ∙ (ap (with_numbers places) (own_is d.split s own part ∙ own_events_are name has d.split.maps d.split.each)
+    ∙ (renamed_numbers name places (events_from 0 (forms_on has forms))
+    ∙ ap (renamed name) (numbers_kept has forms ∙ ap (events_on has) (sym (whole_is d.split es all)))))

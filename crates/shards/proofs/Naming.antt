@@ -1,11 +1,12 @@
--- A shard names the objects that the whole names and that are in the shard. Each invocation in a shard is one of the
--- whole with another number, and each one of the whole on an object of the shard is in the shard.
-use Rattle.std.proofs.Common.{◌≡◌, ◌↔◌, ℕ, ◌==◌, List, ap, sym, ◌∙◌}
+-- A shard names the objects that the whole names and that are in the shard, by their names there. Each invocation in a
+-- shard is one of the whole with another number and name, and each one of the whole on an object of the shard is in it.
+use Rattle.std.proofs.Common.{◌≡◌, ◌↔◌, ℕ, ◌==◌, List, refl, ap, sym, ◌∙◌, subst}
 use Rattle.std.proofs.lemmas.Bool.{eqb-true, eq-eqb}
-use Rattle.model.proofs.Lists.{in_filter, in_filter_passes, in_filter_from, contains_from_in, in_from_contains}
+use Rattle.model.proofs.Lists.{in_filter, in_filter_passes, in_filter_from, in_map, in_map_from}
+use Rattle.model.proofs.Lists.{contains_from_in, in_from_contains}
 use Rattle.events.specs.declared.event.Event.{Event}
 use Rattle.events.specs.Events.{IsNamed}
-use Rattle.shards.specs.Shards.{events_on, AreShards}
+use Rattle.shards.specs.Shards.{events_on, renamed, renamed_event, AreShards}
 use Rattle.shards.proofs.Renumbered.{AreSame, same_from, in_same}
 
 named_same : (es fs : List Event) (x : ℕ) → AreSame es fs → IsNamed fs x → IsNamed es x
@@ -19,7 +20,7 @@ named_same es fs x same n =
       invokes = ap (λ t. t.2) e.2 ∙ n.invokes;
     }
 
-named_on : (shard_of : ℕ → ℕ) (s x : ℕ) (es : List Event) → IsNamed (events_on (λ y. shard_of y == s) es) x
+pub named_on : (shard_of : ℕ → ℕ) (s x : ℕ) (es : List Event) → IsNamed (events_on (λ y. shard_of y == s) es) x
     → IsNamed es x × (shard_of x ≡ s)
 named_on shard_of s x es n =
     let test = λ (e : Event). shard_of e.object == s in
@@ -49,10 +50,43 @@ named_there shard_of s x es both =
       invokes = n.invokes;
     }
 
-pub shards_name : (shard_of : ℕ → ℕ) (es : List Event) (shards : ℕ → List Event) → AreShards shard_of es shards
-    → (s x : ℕ) → (IsNamed (shards s) x ↔ (IsNamed es x × (shard_of x ≡ s)))
-shards_name shard_of es shards are s x =
-    let own = events_on (λ y. shard_of y == s) es in (
-      λ n. named_on shard_of s x es (named_same own (shards s) x (same_from own (shards s) (sym (are s).same)) n),
-      λ n. named_same (shards s) own x (same_from (shards s) own (are s).same) (named_there shard_of s x es n),
+-- the object that has this name among renamed events
+named_before : (name : ℕ → ℕ) (es : List Event) (y : ℕ) → IsNamed (renamed name es) y
+    → (x : ℕ) × IsNamed es x × (name x ≡ y)
+named_before name es y n =
+    let e = in_map (renamed_event name) n.event es (in_from_contains (renamed name es) n.event n.stands) in (
+      e.0.object,
+      record {
+        event = e.0;
+        op = n.op;
+        stands = contains_from_in es e.0 e.1;
+        on_object = refl;
+        invokes = sym (ap (λ (x : Event). x.action) e.2) ∙ n.invokes;
+      },
+      sym (ap (λ (x : Event). x.object) e.2) ∙ n.on_object,
+    )
+
+named_after : (name : ℕ → ℕ) (es : List Event) (x : ℕ) → IsNamed es x → IsNamed (renamed name es) (name x)
+named_after name es x n = record {
+  event = renamed_event name n.event;
+  op = n.op;
+  stands = contains_from_in (renamed name es) (renamed_event name n.event)
+      (in_map_from (renamed_event name) n.event es (in_from_contains es n.event n.stands));
+  on_object = ap name n.on_object;
+  invokes = n.invokes;
+}
+
+pub shards_name : (shard_of name : ℕ → ℕ) (es : List Event) (shards : ℕ → List Event)
+    → AreShards shard_of name es shards → (s y : ℕ)
+    → (IsNamed (shards s) y ↔ ((x : ℕ) × IsNamed es x × (shard_of x ≡ s) × (name x ≡ y)))
+shards_name shard_of name es shards are s y =
+    let part = events_on (λ x. shard_of x == s) es in
+    let own = renamed name part in (
+      λ n.
+          let m = named_same own (shards s) y (same_from own (shards s) (sym (are s).same)) n in
+          let before = named_before name part y m in
+          let there = named_on shard_of s before.0 es before.1 in
+          (before.0, there.0, there.1, before.2),
+      λ n. named_same (shards s) own y (same_from (shards s) own (are s).same)
+          (subst (IsNamed own) n.3 (named_after name part n.0 (named_there shard_of s n.0 es (n.1, n.2)))),
     )

@@ -1,19 +1,21 @@
 -- Where objects are divided by their numbers among some shards, no shard past the last has a map. The remainder of a
 -- number is less than the divisor, so each map is filtered out.
-use Rattle.std.proofs.Common.{◌≡◌, ℕ, ◌<◌, ◌≤◌, ◌==◌, Bool, false, cond, List, [], ◌∷◌, filter, Option, Some, None}
-use Rattle.std.proofs.Common.{refl, sym, subst, ap, ◌∙◌, arith}
+use Rattle.std.proofs.Common.{◌≡◌, ℕ, ◌+◌, ◌/◌, ◌%◌, ◌<◌, ◌≤◌, ◌==◌, Bool, false, cond, List, [], ◌∷◌, filter}
+use Rattle.std.proofs.Common.{Option, Some, None, refl, sym, subst, ap, ◌∙◌, arith}
 use Rattle.std.specs.Option.{option_map_or}
 use Rattle.std.proofs.lemmas.Bool.{ne_eqb}
 use Rattle.std.proofs.lemmas.Nat.{mod_below}
 use Rattle.history.specs.Maps.{ClientMap, client_of}
 use Rattle.shards.specs.Forms.{is_on}
 use Rattle.shards.specs.ShardTexts.{SpelledMap, lines_of}
-use Rattle.shards.specs.Dividing.{Files, IsDivided, shard_among}
+use Rattle.shards.specs.Dividing.{Files, IsDivided, most_names, name_in_shard, shard_among}
 
 module _ (count : ℕ) (some : 0 < count) (s : ℕ) (past : count ≤ s) where
   other_shard : (x : ℕ) → (shard_among count x == s) ≡ false
   other_shard x = ne_eqb (shard_among count x) s
-      (λ e. let below : shard_among count x < count = mod_below x count some in omega (arith, below, past, e))
+      (λ e.
+      let below : shard_among count x < count = mod_below (x / most_names + x % most_names) count some in
+      omega (arith, below, past, e))
 
   abbrev own : ℕ → Bool
   own x = shard_among count x == s
@@ -28,5 +30,6 @@ module _ (count : ℕ) (some : 0 < count) (s : ℕ) (past : count ≤ s) where
       (λ b. cond b (m ∷ filter (λ x. is_on own x.form) ms) (filter (λ x. is_on own x.form) ms) ≡ [])
       (sym (none_by (client_of m.form))) (none_of ms)
 
-  pub empty_past : (whole : List ℕ) (files : Files) → IsDivided (shard_among count) whole files → files.texts s ≡ []
+  pub empty_past : (whole : List ℕ) (files : Files)
+      → IsDivided (shard_among count) name_in_shard whole files → files.texts s ≡ []
   empty_past whole files h = h.split.texts s ∙ ap lines_of (none_of h.split.maps)

@@ -11,21 +11,27 @@ use Rattle.edn_reader.specs.Spells.{Spells}
 use Rattle.edn_reader.specs.declared.fault.EdnFault.{EdnFault}
 use Rattle.edn_reader.specs.declared.fault.FaultKind.TheVariants.{TooLong, Unfinished}
 use Rattle.edn_reader.proofs.Joined.{joined_spell}
-use Rattle.history.specs.declared.fault.TextFault.{TextFault}
 use Rattle.history.specs.declared.fault.TextFault.TheVariants.{Text, Maps}
 use Rattle.shards.specs.declared.divider.Divider.{Divider}
+use Rattle.shards.specs.declared.division.Division.{Division}
+use Rattle.shards.specs.declared.fault.PieceFault.{PieceFault}
+use Rattle.shards.specs.declared.fault.PieceFault.TheVariants as piece_fault
 use Rattle.shards.specs.declared.fault.SplitFault.{SplitFault}
 use Rattle.shards.specs.declared.fault.SplitFault.TheVariants as split_fault
 use Rattle.shards.specs.declared.pieces.Pieces.{Pieces}
 use Rattle.shards.specs.Dividing.{Files}
 use Rattle.shards.specs.Folders.{AddsFiles, AddsShards}
+use Rattle.shards.specs.LargeObjects.{AreLarge, maps_on}
 use Rattle.shards.specs.ShardTexts.{SpelledMap}
-use Rattle.shards.specs.SplitFaults.{EndsPiece, HasTextFault, IsSplitFault}
+use Rattle.shards.specs.SplitFaults.{BeginsWith, EndsPiece, HasTextFault, IsFoundAmong, IsSplitFault}
+use Rattle.shards.specs.SplitFaults.{NeedsMoreShards}
 use Rattle.shards.specs.Taking.{AreTaken, AreTakenOf, AreTakenAfter, IsPieceFault, NoneWait, forms_of}
 use Rattle.shards.specs.Taking.{with_more}
+use Rattle.shards.specs.Tallies.{IsTally}
 use Rattle.shards.specs.UnderWay.{AreUnderWay, EndsInsideForm, IsFaultFrom, IsFaultIn, PassesPiece, ReadsOn, StaysAs}
 use Rattle.shards.specs.UnderWay.{too_long_at}
 use Rattle.judging.proofs.Consuming.{one_more_consumed}
+use Rattle.shards.proofs.FittingObjects.{apart_where_fit}
 use Rattle.shards.proofs.Flushing.{adds_both}
 
 forms_both : (a b : List SpelledMap) → forms_of (a ++ b) ≡ forms_of a ++ forms_of b
@@ -152,29 +158,39 @@ text_fault count d p text piece rest written left e place h parts place_is unrea
   last = last;
 }
 
+-- what was found in the forms of a piece, after those before it
+found_in : (count : ℕ) (d : Divider) (p : Pieces) (text piece rest : List ℕ) (written : Files)
+    (left : Option (List ℕ)) (Found : List Datum → Type 0) → (h : AreUnderWay count d p text written)
+    → p.text.items ≡ piece ++ rest → EndsPiece rest left
+    → (es : List Datum) × Spells es piece × Found (forms_of h.maps ++ es) → BeginsWith text left Found
+found_in count d p text piece rest written left Found h parts ends found = record {
+  piece = h.front ++ piece;
+  rest = rest;
+  parts = h.parts ∙ (ap (λ xs. h.front ++ xs) parts ∙ sym (append_assoc h.front piece rest));
+  ends = ends;
+  forms = forms_of h.maps ++ found.0;
+  spelled = h.lines found.0 piece found.1;
+  found = found.2;
+}
+
 -- a fault of a piece, after which this rest of the text was read
 pub fault_in : (count : ℕ) (d : Divider) (p : Pieces) (text piece rest : List ℕ) (written : Files)
-    (left : Option (List ℕ)) (fault : TextFault) (f : SplitFault) → (h : AreUnderWay count d p text written)
-    → p.text.items ≡ piece ++ rest → EndsPiece rest left → IsPieceFault (forms_of h.maps) piece fault
-    → (EndsInsideForm fault → rest ≡ []) → IsFaultFrom p.start fault f → IsFaultIn text left f
+    (left : Option (List ℕ)) (fault : PieceFault) (f : SplitFault) → (h : AreUnderWay count d p text written)
+    → p.text.items ≡ piece ++ rest → EndsPiece rest left → IsPieceFault count (forms_of h.maps) piece fault
+    → (EndsInsideForm fault → rest ≡ []) → IsFaultFrom p.start fault f → IsFaultIn count text left f
 fault_in count d p text piece rest written left fault (split_fault.Malformed (Text e)) h parts ends is last from =
     let place : ℕ = from.0 in
     let own : EdnFault = record e { place = place } in
-    let piece_is : IsPieceFault (forms_of h.maps) piece (Text own) =
-    subst (IsPieceFault (forms_of h.maps) piece) from.2 is in
+    let piece_is : IsPieceFault count (forms_of h.maps) piece (piece_fault.Malformed (Text own)) =
+    subst (IsPieceFault count (forms_of h.maps) piece) from.2 is in
     text_fault count d p text piece rest written left e place h parts from.1 (piece_is from.3) (λ ne. ends)
     (subst (λ x. EndsInsideForm x → rest ≡ []) from.2 last)
 fault_in count d p text piece rest written left fault (split_fault.Malformed (Maps f)) h parts ends is last from =
-    let found = (subst (IsPieceFault (forms_of h.maps) piece) from.0 is) from.1 in
-    record {
-      piece = h.front ++ piece;
-      rest = rest;
-      parts = h.parts ∙ (ap (λ xs. h.front ++ xs) parts ∙ sym (append_assoc h.front piece rest));
-      ends = ends;
-      forms = forms_of h.maps ++ found.0;
-      spelled = h.lines found.0 piece found.1;
-      found = found.2;
-    }
+    found_in count d p text piece rest written left (λ ds. IsFoundAmong ds f) h parts ends
+    ((subst (IsPieceFault count (forms_of h.maps) piece) from.0 is) from.1)
+fault_in count d p text piece rest written left fault (split_fault.FewShards x) h parts ends is last from =
+    found_in count d p text piece rest written left (λ ds. NeedsMoreShards count ds x) h parts ends
+    (subst (IsPieceFault count (forms_of h.maps) piece) from is)
 fault_in count d p text piece rest written left fault split_fault.Read h parts ends is last from = tt
 fault_in count d p text piece rest written left fault split_fault.Write h parts ends is last from = tt
 fault_in count d p text piece rest written left fault split_fault.NoMemory h parts ends is last from = tt
@@ -188,7 +204,7 @@ ends_at_feed text n left l feed =
 -- what was read is longer than a text may be, and no piece of it can be read
 pub too_long_in : (count : ℕ) (d : Divider) (p : Pieces) (text : List ℕ) (written : Files) (left : Option (List ℕ))
     → AreUnderWay count d p text written → max_length < length p.text.items
-    → IsFaultIn text left (split_fault.Malformed (too_long_at p.start))
+    → IsFaultIn count text left (split_fault.Malformed (too_long_at p.start))
 too_long_in count d p text written left h long =
     let e : EdnFault = record { kind = TooLong; place = p.start } in
     let at_start : p.start ≡ p.start + 0 = omega arith in
@@ -198,23 +214,25 @@ too_long_in count d p text written left h long =
     (λ ne. absurd (ne refl)) (λ q. refl)
 
 -- a fault of the text that was read
-pub split_fault_of : (f : SplitFault) (left left_after : Option (List ℕ)) (text : List ℕ)
-    → Consumes left left_after text → IsFaultIn text left_after f → IsSplitFault f left left_after
-split_fault_of (split_fault.Malformed fault) left left_after text consumed h = (text, consumed, h)
-split_fault_of split_fault.Read left left_after text consumed h = tt
-split_fault_of split_fault.Write left left_after text consumed h = tt
-split_fault_of split_fault.NoMemory left left_after text consumed h = tt
+pub split_fault_of : (count : ℕ) (f : SplitFault) (left left_after : Option (List ℕ)) (text : List ℕ)
+    → Consumes left left_after text → IsFaultIn count text left_after f → IsSplitFault count f left left_after
+split_fault_of count (split_fault.Malformed fault) left left_after text consumed h = (text, consumed, h)
+split_fault_of count (split_fault.FewShards x) left left_after text consumed h = (text, consumed, h)
+split_fault_of count split_fault.Read left left_after text consumed h = tt
+split_fault_of count split_fault.Write left left_after text consumed h = tt
+split_fault_of count split_fault.NoMemory left left_after text consumed h = tt
 
 -- ---- the end
 
 pub adds_shards : (count : ℕ) (d e : Divider) (p : Pieces) (text : List ℕ) (written : Files)
-    (first files files_after : Option Files) (counts : List ℕ) (h : AreUnderWay count d p text written)
+    (first files files_after : Option Files) (told : Division) (h : AreUnderWay count d p text written)
     (t : AreTakenOf p.text.items count e h.maps written) (last : Divider)
     (f : AreTakenAfter count last (h.maps ++ t.more) written files files_after)
     → AddsFiles first files written → NoneWait last.waiting.items
-    → counts ≡ map (λ w. w.count) last.waiting.items → length last.waiting.items ≡ last.shards
-    → AddsShards count counts text first files_after
-adds_shards count d e p text written first files files_after counts h t last f adds none counted long =
+    → told.counts.items ≡ map (λ w. w.count) last.waiting.items
+    → ((counts : ℕ → ℕ) → IsTally last.tally counts → AreLarge counts told.large.items)
+    → length last.waiting.items ≡ last.shards → AddsShards count told text first files_after
+adds_shards count d e p text written first files files_after told h t last f adds none counted large long =
     let maps : List SpelledMap = h.maps ++ t.more in
     let spelled : Spells (forms_of maps) text =
     subst (λ ds. Spells ds text) (sym (forms_both h.maps t.more))
@@ -228,13 +246,16 @@ adds_shards count d e p text written first files files_after counts h t last f a
           spelled = spelled;
           each = f.taken.each;
           faultless = f.taken.read.faultless;
+          apart = apart_where_fit count maps f.taken.fit;
           texts = λ s. sym (append-nil (written.texts s ++ f.more.texts s))
               ∙ (ap (λ xs. (written.texts s ++ f.more.texts s) ++ xs) (sym (none.maps s)) ∙ f.taken.texts s);
         };
         tables = λ s. sym (append-nil (written.tables s ++ f.more.tables s))
             ∙ (ap (λ xs. (written.tables s ++ f.more.tables s) ++ xs) (sym (none.places s)) ∙ f.taken.tables s);
       };
+      fits = f.taken.fit;
       adds = adds_both first files files_after written f.more adds f.adds;
       each_counted = ap length counted ∙ (length-map last.waiting.items (λ w. w.count) ∙ (long ∙ f.taken.shards));
       counted = λ s l. ap (λ xs. get_or xs s 0) counted ∙ f.taken.counts s l;
+      large = large (maps_on maps) f.taken.tally;
     }

@@ -1,33 +1,42 @@
 -- One map more is taken: the lines of its shard grow by it, and the others stay. And what is found at a map is found
 -- among all maps of its piece, of which it is one.
-use Rattle.std.proofs.Common.{◌≡◌, ◌≢◌, ℕ, zero, suc, ◌+◌, ◌<◌, ◌≤◌, ◌==◌, All, decimal, inl, inr, Bool, true, false}
-use Rattle.std.proofs.Common.{List, [], ◌∷◌, ◌++◌, length}
-use Rattle.std.proofs.Common.{get_or, take, drop, None, refl, ap, sym, ◌∙◌, subst, append_assoc, arith}
+use Rattle.std.proofs.Common.{◌≡◌, ◌≢◌, ℕ, zero, suc, ◌+◌, ◌/◌, ◌<◌, ◌≤◌, ◌==◌, decimal, inl, inr, Bool, true, false}
+use Rattle.std.proofs.Common.{List, [], ◌∷◌, ◌++◌, All, filter, length}
+use Rattle.std.proofs.Common.{get_or, take, drop, Some, None, refl, ap, sym, ◌∙◌, subst, append_assoc, arith}
 use Rattle.std.proofs.lemmas.Bool.{cases_eq, eq-eqb, ne_eqb}
-use Rattle.std.proofs.lemmas.List.{map-append, length-append, take_more, take_all, take-append-drop, take-append-le}
+use Rattle.std.proofs.lemmas.List.{append-nil, map-append, length-append, take_more, take_all, take-append-drop}
+use Rattle.std.proofs.lemmas.List.{take-append-le}
 use Rattle.std.proofs.lemmas.List.Elements.{All-push}
+use Rattle.std.proofs.lemmas.Option.{same_Some}
+use Rattle.model.proofs.Lists.{all_at, all_from_in, in_map}
 use Rattle.edn_reader.specs.Datum.{Datum, atom, nil}
 use Rattle.edn_reader.specs.Reading.{skip}
 use Rattle.edn_reader.specs.Spells.{Spells}
-use Rattle.events.specs.declared.event.Event.{Event}
 use Rattle.history.specs.LongReading.{AreReadAtAnyLength}
-use Rattle.history.specs.Maps.{client_of}
+use Rattle.history.specs.Maps.{ClientMap, client_of}
 use Rattle.history.specs.MapTexts.{IsMapText, AreMapTexts}
 use Rattle.history.specs.Views.{Says}
 use Rattle.history.specs.declared.fault.HistoryFault.{HistoryFault}
+use Rattle.history.specs.declared.fault.TextFault.TheVariants.{Text, Maps}
 use Rattle.history.specs.declared.map_texts.MapText.{MapText}
 use Rattle.shards.specs.declared.divider.Divider.{Divider}
+use Rattle.shards.specs.declared.fault.PieceFault.{PieceFault}
+use Rattle.shards.specs.declared.fault.PieceFault.TheVariants.{Malformed, FewShards}
 use Rattle.shards.specs.declared.waiting.Waiting.{Waiting}
 use Rattle.shards.specs.Forms.{is_on}
-use Rattle.shards.specs.ShardTexts.{SpelledMap, lines_of, maps_of_shard}
-use Rattle.shards.specs.Dividing.{Files, places_from, shard_among, table_text}
+use Rattle.shards.specs.LargeObjects.{maps_on}
+use Rattle.shards.specs.ShardTexts.{IsSpelled, SaysRenamed, SpelledMap, lines_of, maps_of_shard}
+use Rattle.shards.specs.Dividing.{Files, Fits, FitsAmong, most_names, name_in_shard, places_from, shard_among, table_text}
 use Rattle.history.specs.Faults.{IsFaultlessAtAnyLength}
-use Rattle.shards.specs.SplitFaults.{IsFoundAmong, most_maps}
-use Rattle.shards.specs.Taking.{AddsLine, AreTaken, AreTakenOf, count_in, forms_of, spelled}
+use Rattle.shards.specs.SplitFaults.{IsFoundAmong, NeedsMoreShards, most_maps}
+use Rattle.shards.specs.Taking.{AddsLine, AddsMap, AreTaken, AreTakenOf, AreTakenWith, IsMapFoundAmong}
+use Rattle.shards.specs.Taking.{IsPieceFault, count_in, forms_of}
 use Rattle.shards.specs.Taking.{waiting_maps, waiting_places}
+use Rattle.shards.specs.Tallies.{CountsOne, IsTally}
 use Rattle.shards.proofs.BareMaps.{bare_spells}
 use Rattle.shards.proofs.LinesMore.{lines_push, table_push, filter_kept, filter_left, places_kept, places_left}
-use Rattle.shards.proofs.EventsOfMaps.{IsEventOf, on_object, on_none}
+use Rattle.shards.proofs.EventsOfMaps.{on_object, on_none}
+use Rattle.shards.proofs.Tallied.{tally_same}
 
 pub forms_push : (maps : List SpelledMap) (m : SpelledMap) → forms_of (maps ++ m ∷ []) ≡ forms_of maps ++ m.form ∷ []
 forms_push maps m = map-append (λ (x : SpelledMap). x.form) maps (m ∷ [])
@@ -75,200 +84,247 @@ module _ (count s : ℕ) (maps : List SpelledMap) (m : SpelledMap) where
       ≡ length (maps_of_shard (shard_among count) s maps)
   count_left q = ap length (filter_left on maps m q)
 
-each_more : (maps : List SpelledMap) (d : Datum) (text : List ℕ) (count : ℕ) (old : Divider) (written : Files)
-    → AreTaken count old maps written → Spells (d ∷ []) text
-    → All (λ (m : SpelledMap). Spells (m.form ∷ []) m.text) (maps ++ spelled d text ∷ [])
-each_more maps d text count old written h spells =
-    All-push (λ (m : SpelledMap). Spells (m.form ∷ []) m.text) maps (spelled d text) h.each spells
+-- ---- the maps on one object
 
-read_more : (maps : List SpelledMap) (d : Datum) (text : List ℕ) (new : Divider)
-    → AreReadAtAnyLength new.reader (forms_of maps ++ d ∷ [])
-    → AreReadAtAnyLength new.reader (forms_of (maps ++ spelled d text ∷ []))
-read_more maps d text new read =
-    subst (AreReadAtAnyLength new.reader) (sym (forms_push maps (spelled d text))) read
+on_one : (x : ℕ) (maps : List SpelledMap) (m : SpelledMap) (c : ClientMap) → client_of m.form ≡ Some c
+    → c.object ≡ x → maps_on (maps ++ m ∷ []) x ≡ maps_on maps x + 1
+on_one x maps m c client own =
+    let on = λ (k : SpelledMap). is_on (λ y. y == x) k.form in
+    ap length (filter_kept on maps m (on_object (λ y. y == x) m.form c client ∙ eq-eqb c.object x own))
+    ∙ length-append (filter on maps) (m ∷ [])
+
+on_another : (x y : ℕ) (maps : List SpelledMap) (m : SpelledMap) (c : ClientMap) → client_of m.form ≡ Some c
+    → c.object ≡ x → y ≢ x → maps_on (maps ++ m ∷ []) y ≡ maps_on maps y
+on_another x y maps m c client own ne = ap length (filter_left (λ k. is_on (λ z. z == y) k.form) maps m
+    (on_object (λ z. z == y) m.form c client ∙ ne_eqb c.object y (λ q. ne (sym q ∙ own))))
+
+read_more : (maps : List SpelledMap) (m : SpelledMap) (new : Divider)
+    → AreReadAtAnyLength new.reader (forms_of maps ++ m.form ∷ [])
+    → AreReadAtAnyLength new.reader (forms_of (maps ++ m ∷ []))
+read_more maps m new read = subst (AreReadAtAnyLength new.reader) (sym (forms_push maps m)) read
+
+-- a map whose object gets the name that it has in its shard
+pub says_by : (k x : ℕ) (d e : Datum) (c : ClientMap) → client_of d ≡ Some c → c.object ≡ x → k ≡ name_in_shard x
+    → SaysRenamed (λ y. k) d e → SaysRenamed name_in_shard d e
+says_by k x d e c client on_object name h =
+    let same = ap (λ (m : ClientMap). m.object) (same_Some h.0 c (sym h.2 ∙ client)) in (
+      h.0,
+      h.1,
+      h.2,
+      h.3,
+      record {
+        process = h.4.process;
+        type = h.4.type;
+        function = h.4.function;
+        object = h.4.object ∙ (name ∙ ap name_in_shard (sym (same ∙ on_object)));
+        value = h.4.value;
+      },
+    )
 
 -- the map of no client
 pub taken_unseen : (count : ℕ) (old new : Divider) (maps : List SpelledMap) (written : Files) (d : Datum)
-    (text : List ℕ) → AreTaken count old maps written → AreReadAtAnyLength new.reader (forms_of maps ++ d ∷ [])
-    → Spells (d ∷ []) text → client_of d ≡ None → new.shards ≡ old.shards → new.waiting.items ≡ old.waiting.items
-    → AreTaken count new (maps ++ spelled d text ∷ []) written
-taken_unseen count old new maps written d text h read spells none shards same = record {
-  shards = shards ∙ h.shards;
-  read = read_more maps d text new read;
-  each = each_more maps d text count old written h spells;
-  texts = λ s. ap (λ ws. written.texts s ++ waiting_maps ws s) same
-      ∙ (h.texts s ∙ sym (text_left count s maps (spelled d text) (off s)));
-  tables = λ s. ap (λ ws. written.tables s ++ waiting_places ws s) same
-      ∙ (h.tables s ∙ sym (table_left count s maps (spelled d text) (off s)));
-  counts = λ s l. ap (λ ws. count_in ws s) same
-      ∙ (h.counts s l ∙ sym (count_left count s maps (spelled d text) (off s)));
-}
+    → AreTaken count old maps written → AreReadAtAnyLength new.reader (forms_of maps ++ d ∷ [])
+    → client_of d ≡ None → new.shards ≡ old.shards → new.tally ≡ old.tally
+    → new.waiting.items ≡ old.waiting.items
+    → AreTakenWith d count new maps written
+taken_unseen count old new maps written d h read none shards tally same =
+    let m : SpelledMap = record { form = d; own = d; text = [] } in (
+      m,
+      refl,
+      record {
+        shards = shards ∙ h.shards;
+        read = read_more maps m new read;
+        each = All-push (IsSpelled name_in_shard) maps m h.each (λ c q. absurd (cc (q, none)));
+        fit = All-push (Fits count) maps m h.fit (λ c q. absurd (cc (q, none)));
+        tally = subst (λ t. IsTally t (maps_on (maps ++ m ∷ []))) (sym tally)
+            (tally_same old.tally (maps_on maps) (maps_on (maps ++ m ∷ [])) h.tally
+            (λ y. ap length (filter_left (λ k. is_on (λ z. z == y) k.form) maps m (on_none (λ z. z == y) d none))));
+        texts = λ s. ap (λ ws. written.texts s ++ waiting_maps ws s) same
+            ∙ (h.texts s ∙ sym (text_left count s maps m (off s)));
+        tables = λ s. ap (λ ws. written.tables s ++ waiting_places ws s) same
+            ∙ (h.tables s ∙ sym (table_left count s maps m (off s)));
+        counts = λ s l. ap (λ ws. count_in ws s) same ∙ (h.counts s l ∙ sym (count_left count s maps m (off s)));
+      },
+    )
   where
     off : (s : ℕ) → is_on (λ x. shard_among count x == s) d ≡ false
     off s = on_none (λ x. shard_among count x == s) d none
 
--- the map of a client
-module _ (count : ℕ) (old new : Divider) (maps : List SpelledMap) (written : Files) (d : Datum) (text : List ℕ)
-    (e : Event) where
-  abbrev i : ℕ
-  i = shard_among count e.object
+-- the map of a client on this object
+module _ (count : ℕ) (old new : Divider) (maps : List SpelledMap) (written : Files) (m : SpelledMap) (x place : ℕ)
+  where
+    abbrev i : ℕ
+    i = shard_among count x
 
-  abbrev m : SpelledMap
-  m = spelled d text
+    abbrev line : List ℕ
+    line = m.text ++ 10 ∷ []
 
-  abbrev line : List ℕ
-  line = text ++ 10 ∷ []
+    abbrev row : List ℕ
+    row = decimal place ++ 10 ∷ []
 
-  abbrev row : List ℕ
-  row = decimal e.number ++ 10 ∷ []
+    abbrev before : List Waiting
+    before = old.waiting.items
 
-  abbrev before : List Waiting
-  before = old.waiting.items
+    abbrev after : List Waiting
+    after = new.waiting.items
 
-  abbrev after : List Waiting
-  after = new.waiting.items
+    abbrev OnObject : Type 0
+    OnObject = (c : ClientMap) × (client_of m.form ≡ Some c) × (c.object ≡ x)
 
-  abbrev OwnEvent : Type 0
-  OwnEvent = IsEventOf d (length (forms_of maps)) e
+    seen : OnObject → (s : ℕ) → is_on (λ y. shard_among count y == s) m.form ≡ (i == s)
+    seen own s = on_object (λ y. shard_among count y == s) m.form own.0 own.1
+        ∙ ap (λ y. shard_among count y == s) own.2
 
-  seen : OwnEvent → (s : ℕ) → is_on (λ x. shard_among count x == s) d ≡ (i == s)
-  seen own s = on_object (λ x. shard_among count x == s) d own.map own.client
-      ∙ ap (λ x. shard_among count x == s) own.object
+    on_own : OnObject → (s : ℕ) → s ≡ i → is_on (λ y. shard_among count y == s) m.form ≡ true
+    on_own own s q = seen own s ∙ eq-eqb i s (sym q)
 
-  on_own : OwnEvent → (s : ℕ) → s ≡ i → is_on (λ x. shard_among count x == s) d ≡ true
-  on_own own s q = seen own s ∙ eq-eqb i s (sym q)
+    on_other : OnObject → (s : ℕ) → s ≢ i → is_on (λ y. shard_among count y == s) m.form ≡ false
+    on_other own s ne = seen own s ∙ ne_eqb i s (λ q. ne (sym q))
 
-  on_other : OwnEvent → (s : ℕ) → s ≢ i → is_on (λ x. shard_among count x == s) d ≡ false
-  on_other own s ne = seen own s ∙ ne_eqb i s (λ q. ne (sym q))
+    text_more : OnObject → AreTaken count old maps written → AddsLine i m.text place before after → (s : ℕ)
+        → written.texts s ++ waiting_maps after s ≡ lines_of (maps_of_shard (shard_among count) s (maps ++ m ∷ []))
+    text_more own h a s = elim (cases_eq s i) [
+      | inl q ↦
+          ap (λ t. written.texts s ++ t)
+          (subst (λ k. waiting_maps after k ≡ waiting_maps before k ++ line) (sym q) a.maps)
+          ∙ (sym (append_assoc (written.texts s) (waiting_maps before s) line)
+          ∙ (ap (λ t. t ++ line) (h.texts s) ∙ sym (text_kept count s maps m (on_own own s q))))
+      | inr ne ↦
+          ap (λ t. written.texts s ++ t) (a.other_maps s ne)
+          ∙ (h.texts s ∙ sym (text_left count s maps m (on_other own s ne)))
+    ]
 
-  text_more : OwnEvent → AreTaken count old maps written → AddsLine i text e.number before after → (s : ℕ)
-      → written.texts s ++ waiting_maps after s ≡ lines_of (maps_of_shard (shard_among count) s (maps ++ m ∷ []))
-  text_more own h a s = elim (cases_eq s i) [
-    | inl q ↦
-        ap (λ t. written.texts s ++ t)
-        (subst (λ k. waiting_maps after k ≡ waiting_maps before k ++ line) (sym q) a.maps)
-        ∙ (sym (append_assoc (written.texts s) (waiting_maps before s) line)
-        ∙ (ap (λ t. t ++ line) (h.texts s) ∙ sym (text_kept count s maps m (on_own own s q))))
-    | inr ne ↦
-        ap (λ t. written.texts s ++ t) (a.other_maps s ne)
-        ∙ (h.texts s ∙ sym (text_left count s maps m (on_other own s ne)))
-  ]
+    table_more : OnObject → AreTaken count old maps written → AddsLine i m.text place before after
+        → place ≡ length (forms_of maps) → (s : ℕ) → written.tables s ++ waiting_places after s
+        ≡ table_text (places_from 0 (λ y. shard_among count y == s) (forms_of (maps ++ m ∷ [])))
+    table_more own h a is s = elim (cases_eq s i) [
+      | inl q ↦
+          ap (λ t. written.tables s ++ t)
+          (subst (λ k. waiting_places after k ≡ waiting_places before k ++ row) (sym q) a.places)
+          ∙ (sym (append_assoc (written.tables s) (waiting_places before s) row)
+          ∙ (ap (λ t. t ++ row) (h.tables s) ∙ sym (table_kept count s maps m place is (on_own own s q))))
+      | inr ne ↦
+          ap (λ t. written.tables s ++ t) (a.other_places s ne)
+          ∙ (h.tables s ∙ sym (table_left count s maps m (on_other own s ne)))
+    ]
 
-  table_more : OwnEvent → AreTaken count old maps written → AddsLine i text e.number before after → (s : ℕ)
-      → written.tables s ++ waiting_places after s
-      ≡ table_text (places_from 0 (λ x. shard_among count x == s) (forms_of (maps ++ m ∷ [])))
-  table_more own h a s = elim (cases_eq s i) [
-    | inl q ↦
-        ap (λ t. written.tables s ++ t)
-        (subst (λ k. waiting_places after k ≡ waiting_places before k ++ row) (sym q) a.places)
-        ∙ (sym (append_assoc (written.tables s) (waiting_places before s) row)
-        ∙ (ap (λ t. t ++ row) (h.tables s) ∙ sym (table_kept count s maps m e.number own.number (on_own own s q))))
-    | inr ne ↦
-        ap (λ t. written.tables s ++ t) (a.other_places s ne)
-        ∙ (h.tables s ∙ sym (table_left count s maps m (on_other own s ne)))
-  ]
+    count_more : OnObject → AreTaken count old maps written → AddsLine i m.text place before after → (s : ℕ)
+        → s < count → count_in after s ≡ length (maps_of_shard (shard_among count) s (maps ++ m ∷ []))
+    count_more own h a s l = elim (cases_eq s i) [
+      | inl q ↦
+          subst (λ k. count_in after k ≡ count_in before k + 1) (sym q) a.count
+          ∙ (ap (λ n. n + 1) (h.counts s l) ∙ sym (count_kept count s maps m (on_own own s q)))
+      | inr ne ↦ a.other_counts s ne ∙ (h.counts s l ∙ sym (count_left count s maps m (on_other own s ne)))
+    ]
 
-  count_more : OwnEvent → AreTaken count old maps written → AddsLine i text e.number before after → (s : ℕ) → s < count
-      → count_in after s ≡ length (maps_of_shard (shard_among count) s (maps ++ m ∷ []))
-  count_more own h a s l = elim (cases_eq s i) [
-    | inl q ↦
-        subst (λ k. count_in after k ≡ count_in before k + 1) (sym q) a.count
-        ∙ (ap (λ n. n + 1) (h.counts s l) ∙ sym (count_kept count s maps m (on_own own s q)))
-    | inr ne ↦ a.other_counts s ne ∙ (h.counts s l ∙ sym (count_left count s maps m (on_other own s ne)))
-  ]
+    taken_line : AreTaken count old maps written → AreReadAtAnyLength new.reader (forms_of maps ++ m.form ∷ [])
+        → IsSpelled name_in_shard m → OnObject → x / most_names < count → place ≡ length (forms_of maps)
+        → new.shards ≡ old.shards → CountsOne x old.tally new.tally → AddsLine i m.text place before after
+        → AreTaken count new (maps ++ m ∷ []) written
+    taken_line h read spells own fits is shards counts a = record {
+      shards = shards ∙ h.shards;
+      read = read_more maps m new read;
+      each = All-push (IsSpelled name_in_shard) maps m h.each spells;
+      fit = All-push (Fits count) maps m h.fit
+          (λ c q. subst (λ y. y / most_names < count)
+          (sym (ap (λ (k : ClientMap). k.object) (same_Some c own.0 (sym q ∙ own.1)) ∙ own.2)) fits);
+      tally = counts (maps_on maps) (maps_on (maps ++ m ∷ [])) h.tally (on_one x maps m own.0 own.1 own.2)
+          (λ y ne. on_another x y maps m own.0 own.1 own.2 ne);
+      texts = text_more own h a;
+      tables = table_more own h a is;
+      counts = count_more own h a;
+    }
 
-  pub taken_line : AreTaken count old maps written → AreReadAtAnyLength new.reader (forms_of maps ++ d ∷ [])
-      → Spells (d ∷ []) text → OwnEvent → new.shards ≡ old.shards
-      → AddsLine (shard_among old.shards e.object) text e.number before after
-      → AreTaken count new (maps ++ m ∷ []) written
-  taken_line h read spells own shards adds =
-      let a : AddsLine i text e.number before after =
-      subst (λ k. AddsLine (shard_among k e.object) text e.number before after) h.shards adds in
-      record {
-        shards = shards ∙ h.shards;
-        read = read_more maps d text new read;
-        each = each_more maps d text count old written h spells;
-        texts = text_more own h a;
-        tables = table_more own h a;
-        counts = count_more own h a;
-      }
+pub taken_map : (count : ℕ) (old new : Divider) (maps : List SpelledMap) (written : Files) (d : Datum)
+    (c : ClientMap) (place : ℕ) → AreTaken count old maps written
+    → AreReadAtAnyLength new.reader (forms_of maps ++ d ∷ []) → client_of d ≡ Some c
+    → c.object / most_names < old.shards → place ≡ length (forms_of maps) → new.shards ≡ old.shards
+    → CountsOne c.object old.tally new.tally
+    → AddsMap old.shards d c.object place old.waiting.items new.waiting.items
+    → AreTakenWith d count new maps written
+taken_map count old new maps written d c place h read client fits is shards counts a =
+    let m : SpelledMap = record { form = d; own = a.own; text = a.text } in (
+      m,
+      refl,
+      taken_line count old new maps written m c.object place h read (λ k q. (a.says, a.spells)) (c, client, refl)
+          (subst (λ k. c.object / most_names < k) h.shards fits) is shards counts
+          (subst (λ k. AddsLine (shard_among k c.object) a.text place old.waiting.items new.waiting.items) h.shards
+          a.adds),
+    )
 
 -- ---- the maps of a piece
 
--- the maps with their forms, in order
-abbrev pub spelled_all : List MapText → List Datum → List SpelledMap
-spelled_all [] ds = []
-spelled_all (m ∷ ms) [] = []
-spelled_all (m ∷ ms) (d ∷ ds) = spelled d (skip m.text.now) ∷ spelled_all ms ds
-
-pub forms_all : (ms : List MapText) (ds : List Datum) → AreMapTexts ms ds → forms_of (spelled_all ms ds) ≡ ds
-forms_all [] [] h = refl
-forms_all [] (d ∷ ds) h = absurd h
-forms_all (m ∷ ms) [] h = absurd h
-forms_all (m ∷ ms) (d ∷ ds) h = ap (λ xs. d ∷ xs) (forms_all ms ds h.1)
-
-pub length_all : (ms : List MapText) (ds : List Datum) → AreMapTexts ms ds → length (spelled_all ms ds) ≡ length ms
+length_all : (ms : List MapText) (ds : List Datum) → AreMapTexts ms ds → length ds ≡ length ms
 length_all [] [] h = refl
 length_all [] (d ∷ ds) h = absurd h
 length_all (m ∷ ms) [] h = absurd h
 length_all (m ∷ ms) (d ∷ ds) h = ap suc (length_all ms ds h.1)
 
-at_all : (ms : List MapText) (ds : List Datum) (i : ℕ) (z : MapText) (x : SpelledMap) → AreMapTexts ms ds
-    → i < length ms → (d : Datum) × IsMapText (get_or ms i z) d
-    × (get_or (spelled_all ms ds) i x ≡ spelled d (skip (get_or ms i z).text.now))
+at_all : (ms : List MapText) (ds : List Datum) (i : ℕ) (z : MapText) (x : Datum) → AreMapTexts ms ds
+    → i < length ms → IsMapText (get_or ms i z) (get_or ds i x)
 at_all [] ds i z x h l = absurd (omega arith)
 at_all (m ∷ ms) [] i z x h l = absurd h
-at_all (m ∷ ms) (d ∷ ds) zero z x h l = (d, h.0, refl)
+at_all (m ∷ ms) (d ∷ ds) zero z x h l = h.0
 at_all (m ∷ ms) (d ∷ ds) (suc i) z x h l = at_all ms ds i z x h.1 (omega arith)
 
 -- the next map of a piece
 pub record IsNextMap (ms : List MapText) (ds : List Datum) (i : ℕ) (m : MapText) : Type 0 where
   pub form : Datum
   pub is : IsMapText m form
-  pub more : take (i + 1) (spelled_all ms ds) ≡ take i (spelled_all ms ds)
-      ++ spelled form (skip m.text.now) ∷ []
+  pub more : take (i + 1) ds ≡ take i ds ++ form ∷ []
 
 next_map : (ms : List MapText) (ds : List Datum) (i : ℕ) (z : MapText) → AreMapTexts ms ds → i < length ms
     → IsNextMap ms ds i (get_or ms i z)
 next_map ms ds i z h l =
-    let all : List SpelledMap = spelled_all ms ds in
-    let x : SpelledMap = spelled (atom nil) [] in
-    let a = at_all ms ds i z x h l in
-    let long : i < length all = omega (arith, length_all ms ds h) in
+    let long : i < length ds = omega (arith, l, length_all ms ds h) in
     record {
-      form = a.0;
-      is = a.1;
-      more = take_more all i x long ∙ ap (λ y. take i all ++ y ∷ []) a.2;
+      form = get_or ds i (atom nil);
+      is = at_all ms ds i z (atom nil) h l;
+      more = take_more ds i (atom nil) long;
     }
 
--- it was taken
+-- Of the maps of a piece, which are of these forms, this number was taken.
+pub record AreTakenUpTo (i : ℕ) (ds : List Datum) (count : ℕ) (d : Divider) (maps : List SpelledMap)
+    (written : Files) : Type 0 where
+  pub more : List SpelledMap
+  pub are : forms_of more ≡ take i ds
+  pub taken : AreTaken count d (maps ++ more) written
+
+pub none_taken : (ds : List Datum) (count : ℕ) (d : Divider) (maps : List SpelledMap) (written : Files)
+    → AreTaken count d maps written → AreTakenUpTo 0 ds count d maps written
+none_taken ds count d maps written h = record {
+  more = [];
+  are = refl;
+  taken = subst (λ xs. AreTaken count d xs written) (sym (append-nil maps)) h;
+}
+
+-- one more was taken
 pub map_taken : (count : ℕ) (mid new : Divider) (maps : List SpelledMap) (written : Files) (ms : List MapText)
     (ds : List Datum) (i : ℕ) (z : MapText) (text : List ℕ) → AreMapTexts ms ds → i < length ms
     → text ≡ skip (get_or ms i z).text.now
-    → ((d : Datum) → Says (get_or ms i z).said d → Spells (d ∷ []) text
-    → AreTaken count mid (maps ++ take i (spelled_all ms ds)) written
-    → AreTaken count new ((maps ++ take i (spelled_all ms ds)) ++ spelled d text ∷ []) written)
-    → AreTaken count mid (maps ++ take i (spelled_all ms ds)) written
-    → AreTaken count new (maps ++ take (i + 1) (spelled_all ms ds)) written
-map_taken count mid new maps written ms ds i z text h l bare take_one taken =
-    let all : List SpelledMap = spelled_all ms ds in
+    → ((more : List SpelledMap) (d : Datum) → Says (get_or ms i z).said d → Spells (d ∷ []) text
+    → AreTaken count mid more written → AreTakenWith d count new more written)
+    → AreTakenUpTo i ds count mid maps written → AreTakenUpTo (i + 1) ds count new maps written
+map_taken count mid new maps written ms ds i z text h l bare take_one t =
     let n = next_map ms ds i z h l in
     let spells : Spells (n.form ∷ []) text =
     subst (Spells (n.form ∷ [])) (sym bare) (bare_spells n.form (get_or ms i z).text.now n.is.spelled) in
-    let same : (maps ++ take i all) ++ spelled n.form text ∷ [] ≡ maps ++ take (i + 1) all =
-    append_assoc maps (take i all) (spelled n.form text ∷ [])
-    ∙ ap (λ xs. maps ++ xs) (ap (λ t. take i all ++ spelled n.form t ∷ []) bare ∙ sym n.more) in
-    subst (λ xs. AreTaken count new xs written) same (take_one n.form n.is.says spells taken)
+    let one = take_one (maps ++ t.more) n.form n.is.says spells t.taken in
+    record {
+      more = t.more ++ one.0 ∷ [];
+      are = forms_push t.more one.0 ∙ (ap (λ d. forms_of t.more ++ d ∷ []) one.1
+          ∙ (ap (λ xs. xs ++ n.form ∷ []) t.are ∙ sym n.more));
+      taken = subst (λ xs. AreTaken count new xs written) (append_assoc maps t.more (one.0 ∷ [])) one.2;
+    }
 
 -- all maps of the piece were taken
 pub all_taken : (count : ℕ) (d : Divider) (maps : List SpelledMap) (written : Files) (piece : List ℕ)
     (ms : List MapText) (ds : List Datum) (i : ℕ) → AreMapTexts ms ds → Spells ds piece → length ms ≤ i
-    → AreTaken count d (maps ++ take i (spelled_all ms ds)) written → AreTakenOf piece count d maps written
-all_taken count d maps written piece ms ds i h spells l taken = record {
-  more = spelled_all ms ds;
-  spells = subst (λ es. Spells es piece) (sym (forms_all ms ds h)) spells;
-  taken = subst (λ more. AreTaken count d (maps ++ more) written)
-      (take_all i (spelled_all ms ds) (omega (arith, length_all ms ds h))) taken;
+    → AreTakenUpTo i ds count d maps written → AreTakenOf piece count d maps written
+all_taken count d maps written piece ms ds i h spells l t = record {
+  more = t.more;
+  spells = subst (λ es. Spells es piece) (sym (t.are ∙ take_all i ds (omega (arith, l, length_all ms ds h)))) spells;
+  taken = t.taken;
 }
 
 -- ---- what is found at a map
@@ -299,25 +355,80 @@ found_more ds es f h = (
       (g.0, omega (arith, g.1, length-append ds es), subst IsFaultlessAtAnyLength (sym front) g.2),
 )
 
--- it is found among all maps of the piece
-pub found_in_all : (maps : List SpelledMap) (ms : List MapText) (ds : List Datum) (i : ℕ) (z : MapText)
-    (f : HistoryFault) → AreMapTexts ms ds → i < length ms
-    → ((d : Datum) → Says (get_or ms i z).said d
-    → IsFoundAmong (forms_of (maps ++ take i (spelled_all ms ds)) ++ d ∷ []) f)
-    → IsFoundAmong (forms_of maps ++ ds) f
-found_in_all maps ms ds i z f h l found =
-    let all : List SpelledMap = spelled_all ms ds in
+unfit_more : (count : ℕ) (ds es : List Datum) (x : ℕ) → NeedsMoreShards count ds x
+    → NeedsMoreShards count (ds ++ es) x
+unfit_more count ds es x h = record {
+  earlier = h.earlier;
+  form = h.form;
+  later = h.later ++ es;
+  split = ap (λ xs. xs ++ es) h.split ∙ append_assoc h.earlier (h.form ∷ h.later) es;
+  faultless = h.faultless;
+  map = h.map;
+  client = h.client;
+  on_object = h.on_object;
+  unfit = h.unfit;
+  first = h.first;
+}
+
+-- the object of the last map does not fit
+pub unfit_last : (count : ℕ) (ds : List Datum) (d : Datum) (c : ClientMap) → IsFaultlessAtAnyLength (ds ++ d ∷ [])
+    → client_of d ≡ Some c → count ≤ c.object / most_names → All (FitsAmong count) ds
+    → NeedsMoreShards count (ds ++ d ∷ []) c.object
+unfit_last count ds d c faultless client unfit fit = record {
+  earlier = ds;
+  form = d;
+  later = [];
+  split = refl;
+  faultless = faultless;
+  map = c;
+  client = client;
+  on_object = refl;
+  unfit = unfit;
+  first = fit;
+}
+
+-- the forms of maps fit where the maps do
+pub forms_fit : (count : ℕ) (maps : List SpelledMap) → All (Fits count) maps → All (FitsAmong count) (forms_of maps)
+forms_fit count maps fit = all_from_in (FitsAmong count) (forms_of maps) (λ d i.
+    let m = in_map (λ (x : SpelledMap). x.form) d maps i in
+    subst (FitsAmong count) (sym m.2) (all_at (Fits count) maps fit m.0 m.1))
+
+-- what is found at the next map is found among all maps of the piece
+found_in_all : (maps more : List SpelledMap) (ms : List MapText) (ds : List Datum) (i : ℕ) (z : MapText)
+    (Found : List Datum → Type 0) → ((xs es : List Datum) → Found xs → Found (xs ++ es)) → AreMapTexts ms ds
+    → i < length ms → forms_of more ≡ take i ds
+    → ((d : Datum) → Says (get_or ms i z).said d → Found (forms_of (maps ++ more) ++ d ∷ []))
+    → Found (forms_of maps ++ ds)
+found_in_all maps more ms ds i z Found longer h l are found =
     let n = next_map ms ds i z h l in
-    let rest : List Datum = forms_of (drop (i + 1) all) in
-    let own : SpelledMap = spelled n.form (skip (get_or ms i z).text.now) in
-    let front : forms_of (maps ++ take i all) ++ n.form ∷ [] ≡ forms_of maps ++ forms_of (take (i + 1) all) =
-    ap (λ xs. xs ++ n.form ∷ []) (map-append (λ (x : SpelledMap). x.form) maps (take i all))
-    ∙ (append_assoc (forms_of maps) (forms_of (take i all)) (n.form ∷ [])
-    ∙ ap (λ xs. forms_of maps ++ xs) (sym (forms_push (take i all) own) ∙ ap forms_of (sym n.more))) in
-    let whole : forms_of (take (i + 1) all) ++ rest ≡ ds =
-    sym (map-append (λ (x : SpelledMap). x.form) (take (i + 1) all) (drop (i + 1) all))
-    ∙ (ap forms_of (take-append-drop (i + 1) all) ∙ forms_all ms ds h) in
-    subst (λ xs. IsFoundAmong xs f)
+    let rest : List Datum = drop (i + 1) ds in
+    let front : forms_of (maps ++ more) ++ n.form ∷ [] ≡ forms_of maps ++ take (i + 1) ds =
+    ap (λ xs. xs ++ n.form ∷ []) (map-append (λ (x : SpelledMap). x.form) maps more)
+    ∙ (append_assoc (forms_of maps) (forms_of more) (n.form ∷ [])
+    ∙ ap (λ xs. forms_of maps ++ xs) (ap (λ xs. xs ++ n.form ∷ []) are ∙ sym n.more)) in
+    subst Found
     (ap (λ xs. xs ++ rest) front
-    ∙ (append_assoc (forms_of maps) (forms_of (take (i + 1) all)) rest ∙ ap (λ xs. forms_of maps ++ xs) whole))
-    (found_more (forms_of (maps ++ take i all) ++ n.form ∷ []) rest f (found n.form n.is.says))
+    ∙ (append_assoc (forms_of maps) (take (i + 1) ds) rest
+    ∙ ap (λ xs. forms_of maps ++ xs) (take-append-drop (i + 1) ds)))
+    (longer (forms_of (maps ++ more) ++ n.form ∷ []) rest (found n.form n.is.says))
+
+pub piece_fault : (count : ℕ) (d : Divider) (maps : List SpelledMap) (written : Files) (piece : List ℕ)
+    (ms : List MapText) (ds : List Datum) (i : ℕ) (z : MapText) (f : PieceFault) → AreMapTexts ms ds → Spells ds piece
+    → i < length ms → AreTakenUpTo i ds count d maps written
+    → ((more : List SpelledMap) (e : Datum) → Says (get_or ms i z).said e → AreTaken count d more written
+    → IsMapFoundAmong count (forms_of more ++ e ∷ []) f)
+    → IsPieceFault count (forms_of maps) piece f
+piece_fault count d maps written piece ms ds i z (Malformed (Text e)) h spells l t found =
+    let n = next_map ms ds i z h l in absurd (found (maps ++ t.more) n.form n.is.says t.taken)
+piece_fault count d maps written piece ms ds i z (Malformed (Maps f)) h spells l t found = λ few. (
+  ds,
+  spells,
+  found_in_all maps t.more ms ds i z (λ xs. IsFoundAmong xs f) (λ xs es. found_more xs es f) h l t.are
+      (λ e says. found (maps ++ t.more) e says t.taken few),
+)
+piece_fault count d maps written piece ms ds i z (FewShards x) h spells l t found = (
+  ds,
+  spells,
+  found_in_all maps t.more ms ds i z (λ xs. NeedsMoreShards count xs x) (λ xs es. unfit_more count xs es x) h l t.are
+      (λ e says. found (maps ++ t.more) e says t.taken),
+)

@@ -18,7 +18,7 @@ use Rattle.events.specs.declared.event.Event.{Event}
 use Rattle.events.specs.Events.{denoted, kind_at, IsProper}
 use Rattle.events.proofs.ProcessRuns.{idle, Runs}
 use Rattle.events.proofs.WellFormed.{denoted_is_history}
-use Rattle.shards.specs.Shards.{events_on, AreRenumbered, AreShards, DenoteLinearizable}
+use Rattle.shards.specs.Shards.{events_on, renamed, AreRenumbered, AreShards, DenoteLinearizable}
 use Rattle.shards.specs.WorkedShards.{own_shard, does, one_each, renumbered_shard, shards_of_one_each}
 use Rattle.shards.specs.WorkedShards.{two_at_once, shards_of_two_at_once}
 use Rattle.shards.proofs.Proper.{AreOfKinds, proper_from, proper_on}
@@ -107,6 +107,11 @@ nothing-good = (nothing-proper, nothing-linearizable)
 not_both : (s : ℕ) → (1 == s) ≡ true → (2 == s) ≡ true → ⊥
 not_both s q r = let one = eqb-true 1 s q in let two = eqb-true 2 s r in omega arith
 
+-- the same events, where each object keeps its number
+pub numbers_kept : (es : List Event) → renamed (λ x. x) es ≡ es
+numbers_kept [] = refl
+numbers_kept (e ∷ es) = ap (λ fs. e ∷ fs) (numbers_kept es)
+
 -- ---- a process that has two operations at once
 
 -- what a shard has of some events: those on object 1, or not, and those on object 2, or not
@@ -121,6 +126,12 @@ two_at_once-shard false false apart = nothing-good
 
 pub two_at_once-shards : (s : ℕ) → IsGood (shards_of_two_at_once s)
 two_at_once-shards s = two_at_once-shard (1 == s) (2 == s) (not_both s)
+
+pub two_at_once-divided : AreShards own_shard (λ x. x) two_at_once shards_of_two_at_once
+two_at_once-divided s =
+    let shard = shards_of_two_at_once s in
+    subst (λ es. AreRenumbered es shard) (sym (numbers_kept shard))
+    (record { same = refl; rising = (two_at_once-shards s).0.rising })
 
 pub two_at_once-refused : ¬ IsProper two_at_once
 two_at_once-refused proper = (proper.each (does 0 3 1 (Invoke (Enqueue (pos 7))) ∷ [])
@@ -186,8 +197,9 @@ one_each-shard false false apart = nothing-good
 one_each-good : (s : ℕ) → IsGood (shards_of_one_each s)
 one_each-good s = one_each-shard (1 == s) (2 == s) (not_both s)
 
-pub one_each-divided : AreShards own_shard one_each shards_of_one_each
-one_each-divided s = go (2 == s) refl
+pub one_each-divided : AreShards own_shard (λ x. x) one_each shards_of_one_each
+one_each-divided s = subst (λ es. AreRenumbered es (shards_of_one_each s))
+    (sym (numbers_kept (events_on (λ x. own_shard x == s) one_each))) (go (2 == s) refl)
   where
     go : (b : Bool) → (2 == s) ≡ b
         → AreRenumbered (events_on (λ x. x == s) one_each) (cond b renumbered_shard (events_on (λ x. x == s) one_each))
@@ -200,4 +212,5 @@ one_each-shards s = (one_each-good s).1
 
 pub one_each-linearizable : DenoteLinearizable one_each
 one_each-linearizable =
-    (decided_by_shards own_shard one_each shards_of_one_each one_each-proper one_each-divided).1 one_each-shards
+    (decided_by_shards own_shard (λ x. x) one_each shards_of_one_each one_each-proper (λ x y m n s q. q)
+    one_each-divided).1 one_each-shards

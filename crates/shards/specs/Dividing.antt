@@ -1,15 +1,43 @@
 -- A history of any length that is divided into a number of shards: the text of each, and a table of
 -- the numbers that its maps have in the whole.
-use Rattle.std.specs.Prelude.{◌≡◌, ℕ, ◌+◌, ◌%◌, ◌==◌, Bool, List, [], ◌∷◌, ◌++◌, decimal, map}
+use Rattle.std.specs.Prelude.{◌≡◌, ℕ, ◌+◌, ◌-◌, ◌*◌, ◌/◌, ◌%◌, ◌==◌, Bool, List, [], ◌∷◌, ◌++◌}
+use Rattle.std.specs.Prelude.{◌<◌, Some, decimal, map}
 use Rattle.std.specs.Prelude.{if◌then◌else◌, get_or}
 use Rattle.edn_reader.specs.Datum.{Datum}
 use Rattle.events.specs.declared.event.Event.{Event}
 use Rattle.shards.specs.Forms.{is_on}
-use Rattle.shards.specs.ShardTexts.{IsSplit}
+use Rattle.history.specs.Maps.{ClientMap, client_of}
+use Rattle.shards.specs.ShardTexts.{IsSplit, SpelledMap}
+
+-- how many objects a text may name: those from 0 to 65,535
+abbrev pub most_names : ℕ
+most_names = 65536
 
 -- of this many shards, the one with object x
 abbrev pub shard_among : ℕ → ℕ → ℕ
-shard_among count x = x % count
+shard_among count x = (x / most_names + x % most_names) % count
+
+-- the name of object x in its shard: its own number, if a text may name it
+abbrev pub name_in_shard : ℕ → ℕ
+name_in_shard x = x % most_names
+
+-- of this many shards, the object that has this name in this one
+abbrev pub object_named : ℕ → ℕ → ℕ → ℕ
+object_named count shard name =
+    ((shard + (count - name % most_names % count)) % count) * most_names + name % most_names
+
+-- this object fits, and has this shard and this name
+pub record IsObjectOf (count shard name x : ℕ) : Type 0 where
+  pub fits : x / most_names < count
+  pub in_shard : shard_among count x ≡ shard
+  pub by_name : name_in_shard x ≡ name
+
+-- the form is on no object that does not fit into this many shards
+abbrev pub FitsAmong : ℕ → Datum → Type 0
+FitsAmong count d = (c : ClientMap) → client_of d ≡ Some c → c.object / most_names < count
+
+abbrev pub Fits : ℕ → SpelledMap → Type 0
+Fits count m = FitsAmong count m.form
 
 -- the places of the maps of clients on some objects, where the first form is in this place
 abbrev pub places_from : ℕ → (ℕ → Bool) → List Datum → List ℕ
@@ -29,8 +57,8 @@ pub record Files : Type 0 where
 
 -- The texts are a split of the whole, and the table of each shard has the places that its maps have
 -- in the whole.
-pub record IsDivided (shard_of : ℕ → ℕ) (whole : List ℕ) (files : Files) : Type 0 where
-  pub split : IsSplit shard_of whole files.texts
+pub record IsDivided (shard_of name : ℕ → ℕ) (whole : List ℕ) (files : Files) : Type 0 where
+  pub split : IsSplit shard_of name whole files.texts
   pub tables : (s : ℕ) → files.tables s
       ≡ table_text (places_from 0 (λ x. shard_of x == s) (map (λ m. m.form) split.maps))
 

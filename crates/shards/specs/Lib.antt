@@ -4,6 +4,8 @@ pub mod Forms
 pub mod ShardTexts
 pub mod Dividing
 pub mod Tables
+pub mod LargeObjects
+pub mod Tallies
 pub mod Folders
 pub mod SplitFaults
 pub mod Taking

@@ -6,7 +6,7 @@ use Rattle.model.specs.Linearizable.{IsLinearizable}
 use Rattle.model.specs.Orders.{events}
 use Rattle.events.specs.declared.event.Action.{Action}
 use Rattle.events.specs.declared.event.Event.{Event}
-use Rattle.events.specs.Events.{denoted, kind_at}
+use Rattle.events.specs.Events.{denoted, kind_at, IsNamed}
 
 -- the events on the objects that pass the test, in order: as H|x of Herlihy and Wing, section 2,
 -- which has those on one object
@@ -23,11 +23,23 @@ pub record AreRenumbered (es others : List Event) : Type 0 where
   pub same : map said others ≡ map said es
   pub rising : AllPairs (λ a b. a.number < b.number) others
 
--- Each shard has the events on its own objects, and no others. `shard_of` says in which shard an
--- object is, so each object is in exactly one.
-abbrev pub AreShards : (ℕ → ℕ) → List Event → (ℕ → List Event) → Type 0
-AreShards shard_of es shards =
-    (s : ℕ) → AreRenumbered (events_on (λ x. shard_of x == s) es) (shards s)
+-- the same events, where each object has another name: a text names objects by small numbers
+abbrev pub renamed_event : (ℕ → ℕ) → Event → Event
+renamed_event name e = record e { object = name e.object }
+
+abbrev pub renamed : (ℕ → ℕ) → List Event → List Event
+renamed name es = map (renamed_event name) es
+
+-- No two objects of one shard that the events name have the same name there.
+abbrev pub AreApart : (ℕ → ℕ) → (ℕ → ℕ) → List Event → Type 0
+AreApart shard_of name es = (x y : ℕ) → IsNamed es x → IsNamed es y
+    → shard_of x ≡ shard_of y → name x ≡ name y → x ≡ y
+
+-- Each shard has the events on its own objects, by the names of these, and no others. `shard_of`
+-- says in which shard an object is, so each object is in exactly one.
+abbrev pub AreShards : (ℕ → ℕ) → (ℕ → ℕ) → List Event → (ℕ → List Event) → Type 0
+AreShards shard_of name es shards =
+    (s : ℕ) → AreRenumbered (renamed name (events_on (λ x. shard_of x == s) es)) (shards s)
 
 -- The history that the events denote is linearizable, where each object is of the kind that its
 -- operations have: the form in which a verdict on a text says it.

@@ -1,6 +1,6 @@
 -- What is wrong with a whole that was not divided.
-use Rattle.std.specs.Prelude.{⊤, ◌≡◌, ◌≢◌, ℕ, ◌+◌, ◌<◌, List, [], ◌∷◌, ◌++◌, length, take}
-use Rattle.std.specs.Prelude.{Bool, true, Option}
+use Rattle.std.specs.Prelude.{⊤, ◌≡◌, ◌≢◌, ℕ, ◌+◌, ◌/◌, ◌<◌, ◌≤◌, List, [], ◌∷◌, ◌++◌, length, take}
+use Rattle.std.specs.Prelude.{All, Bool, true, false, Option, Some}
 use Rattle.std.specs.Io.KnownBytes.{Consumes, IsAtEnd}
 use Rattle.edn_reader.specs.Datum.{Datum}
 use Rattle.edn_reader.specs.Laws.{SpellsBefore}
@@ -10,12 +10,15 @@ use Rattle.edn_reader.specs.declared.fault.EdnFault.{EdnFault}
 use Rattle.edn_reader.specs.declared.fault.FaultKind.TheVariants.{TooLong, Unfinished}
 use Rattle.edn_fields.specs.FirstFaults.{IsFirstFaultBy}
 use Rattle.history.specs.Faults.{IsFaultlessAtAnyLength, IsMapFault, number_of}
+use Rattle.history.specs.Maps.{ClientMap, client_of}
 use Rattle.history.specs.declared.fault.HistoryFault.{HistoryFault}
 use Rattle.history.specs.declared.fault.HistoryFaultKind.TheVariants.{TooMany}
 use Rattle.history.specs.declared.fault.TextFault.{TextFault}
 use Rattle.history.specs.declared.fault.TextFault.TheVariants.{Text, Maps}
 use Rattle.shards.specs.declared.fault.SplitFault.{SplitFault}
-use Rattle.shards.specs.declared.fault.SplitFault.TheVariants.{Read, Write, Malformed, NoMemory}
+use Rattle.shards.specs.declared.fault.SplitFault.TheVariants.{Read, Write, Malformed, FewShards}
+use Rattle.shards.specs.declared.fault.SplitFault.TheVariants.{NoMemory}
+use Rattle.shards.specs.Dividing.{FitsAmong, most_names}
 
 -- the most maps of a history that can be divided
 abbrev pub most_maps : ℕ
@@ -34,15 +37,33 @@ abbrev pub EndsPiece : List ℕ → Option (List ℕ) → Type 0
 EndsPiece [] left = IsAtEnd left
 EndsPiece (b ∷ bs) left = b ≡ 10
 
--- The text begins with a piece that spells forms, in which this was found.
-pub record HasMapFault (text : List ℕ) (left : Option (List ℕ)) (f : HistoryFault) : Type 0 where
+-- The text begins with a piece that spells forms, and this was found in them.
+pub record BeginsWith (text : List ℕ) (left : Option (List ℕ)) (Found : List Datum → Type 0)
+    : Type 0 where
   pub piece : List ℕ
   pub rest : List ℕ
   pub parts : text ≡ piece ++ rest
   pub ends : EndsPiece rest left
   pub forms : List Datum
   pub spelled : Spells forms piece
-  pub found : IsFoundAmong forms f
+  pub found : Found forms
+
+abbrev pub HasMapFault : List ℕ → Option (List ℕ) → HistoryFault → Type 0
+HasMapFault text left f = BeginsWith text left (λ ds. IsFoundAmong ds f)
+
+-- Among these forms is the map of a client on this object, which does not fit into this many
+-- shards. It is the first such map, and up to it no form has a fault.
+pub record NeedsMoreShards (count : ℕ) (ds : List Datum) (x : ℕ) : Type 0 where
+  pub earlier : List Datum
+  pub form : Datum
+  pub later : List Datum
+  pub split : ds ≡ earlier ++ form ∷ later
+  pub faultless : IsFaultlessAtAnyLength (earlier ++ form ∷ [])
+  pub map : ClientMap
+  pub client : client_of form ≡ Some map
+  pub on_object : map.object ≡ x
+  pub unfit : count ≤ x / most_names
+  pub first : All (FitsAmong count) earlier
 
 -- The text begins with lines of maps without a fault, and a piece after them is unreadable. The
 -- place is that in the text. A piece that ends inside a form is the last, and one that is too long
@@ -66,18 +87,23 @@ abbrev pub IsFaultOf : List ℕ → Option (List ℕ) → TextFault → Type 0
 IsFaultOf text left (Maps f) = HasMapFault text left f
 IsFaultOf text left (Text e) = HasTextFault text left e
 
--- what a fault says of the text that was read of a source, given what the source had left before
--- and after
-abbrev pub IsSplitFault : SplitFault → Option (List ℕ) → Option (List ℕ) → Type 0
-IsSplitFault (Malformed fault) left left_after =
+-- what a fault says of the text that was read of a source, given the number of the shards, and what
+-- the source had left before and after
+abbrev pub IsSplitFault : ℕ → SplitFault → Option (List ℕ) → Option (List ℕ) → Type 0
+IsSplitFault count (Malformed fault) left left_after =
     (text : List ℕ) × Consumes left left_after text × IsFaultOf text left_after fault
-IsSplitFault Read left left_after = ⊤
-IsSplitFault Write left left_after = ⊤
-IsSplitFault NoMemory left left_after = ⊤
+IsSplitFault count (FewShards x) left left_after =
+    (text : List ℕ) × Consumes left left_after text
+    × BeginsWith text left_after (λ ds. NeedsMoreShards count ds x)
+IsSplitFault count Read left left_after = ⊤
+IsSplitFault count Write left left_after = ⊤
+IsSplitFault count NoMemory left left_after = ⊤
 
--- where a fault says that its source failed, or its folder, this is so
+-- where a fault says that its source failed, or its folder, this is so; and neither failed where
+-- something is wrong with the text
 abbrev pub IsFailureOf : SplitFault → Bool → Bool → Type 0
 IsFailureOf Read source folder = source ≡ true
 IsFailureOf Write source folder = folder ≡ true
-IsFailureOf (Malformed fault) source folder = ⊤
+IsFailureOf (Malformed fault) source folder = (source ≡ false) × (folder ≡ false)
+IsFailureOf (FewShards x) source folder = (source ≡ false) × (folder ≡ false)
 IsFailureOf NoMemory source folder = ⊤

@@ -1,20 +1,24 @@
 -- What a history's text is while it is divided. No public clause names these.
-use Rattle.std.specs.Prelude.{⊤, ◌≡◌, ◌≢◌, ℕ, ◌+◌, ◌<◌, ◌==◌, List, [], ◌∷◌, ◌++◌, All, length}
-use Rattle.std.specs.Prelude.{decimal, get_or, map, Option}
+use Rattle.std.specs.Prelude.{⊤, ◌≡◌, ◌≢◌, ℕ, ◌+◌, ◌/◌, ◌<◌, ◌==◌, List, [], ◌∷◌, ◌++◌, All, length}
+use Rattle.std.specs.Prelude.{decimal, get_or, map, Option, Some}
 use Rattle.edn_reader.specs.Datum.{Datum}
 use Rattle.edn_reader.specs.Sound.{IsUnreadable}
 use Rattle.edn_reader.specs.Spells.{Spells}
 use Rattle.edn_reader.specs.declared.fault.FaultKind.TheVariants as edn_kind
 use Rattle.history.specs.LongReading.{AreReadAtAnyLength}
+use Rattle.history.specs.Maps.{ClientMap, client_of}
 use Rattle.history.specs.declared.fault.HistoryFaultKind.TheVariants as history_kind
-use Rattle.history.specs.declared.fault.TextFault.{TextFault}
 use Rattle.history.specs.declared.fault.TextFault.TheVariants.{Text, Maps}
 use Rattle.shards.specs.declared.divider.Divider.{Divider}
+use Rattle.shards.specs.declared.fault.PieceFault.{PieceFault}
+use Rattle.shards.specs.declared.fault.PieceFault.TheVariants.{Malformed, FewShards}
 use Rattle.shards.specs.declared.waiting.Waiting.{Waiting}
-use Rattle.shards.specs.Dividing.{Files, places_from, shard_among, table_text}
+use Rattle.shards.specs.Dividing.{Files, Fits, name_in_shard, places_from, shard_among, table_text}
 use Rattle.shards.specs.Folders.{AddsFiles, lines_for}
-use Rattle.shards.specs.ShardTexts.{SpelledMap, lines_of, maps_of_shard}
-use Rattle.shards.specs.SplitFaults.{IsFoundAmong}
+use Rattle.shards.specs.LargeObjects.{maps_on}
+use Rattle.shards.specs.ShardTexts.{IsSpelled, SaysRenamed, SpelledMap, lines_of, maps_of_shard}
+use Rattle.shards.specs.SplitFaults.{IsFoundAmong, NeedsMoreShards}
+use Rattle.shards.specs.Tallies.{IsTally}
 
 -- ---- what waits to be written of one shard
 
@@ -54,13 +58,20 @@ pub record AddsLine (shard : ℕ) (text : List ℕ) (place : ℕ) (old new : Lis
   pub other_places : (s : ℕ) → s ≢ shard → waiting_places new s ≡ waiting_places old s
   pub other_counts : (s : ℕ) → s ≢ shard → count_in new s ≡ count_in old s
 
+-- A map of a client on this object was added, with its place, to what waits of its shard: as it is
+-- written there.
+pub record AddsMap (count : ℕ) (d : Datum) (object place : ℕ) (old new : List Waiting) : Type 0
+  where
+    pub own : Datum
+    pub text : List ℕ
+    pub says : SaysRenamed name_in_shard d own
+    pub spells : Spells (own ∷ []) text
+    pub adds : AddsLine (shard_among count object) text place old new
+
 -- ---- the maps that were taken
 
 abbrev pub forms_of : List SpelledMap → List Datum
 forms_of maps = map (λ m. m.form) maps
-
-abbrev pub spelled : Datum → List ℕ → SpelledMap
-spelled d text = record { form = d; text = text }
 
 -- no files have anything
 abbrev pub no_lines : Files
@@ -79,13 +90,20 @@ pub record AreTaken (count : ℕ) (d : Divider) (maps : List SpelledMap) (writte
   where
     pub shards : d.shards ≡ count
     pub read : AreReadAtAnyLength d.reader (forms_of maps)
-    pub each : All (λ m. Spells (m.form ∷ []) m.text) maps
+    pub each : All (IsSpelled name_in_shard) maps
+    pub fit : All (Fits count) maps
+    pub tally : IsTally d.tally (maps_on maps)
     pub texts : (s : ℕ) → written.texts s ++ waiting_maps d.waiting.items s
         ≡ lines_of (maps_of_shard (shard_among count) s maps)
     pub tables : (s : ℕ) → written.tables s ++ waiting_places d.waiting.items s
         ≡ table_text (places_from 0 (λ x. shard_among count x == s) (forms_of maps))
     pub counts : (s : ℕ) → s < count → count_in d.waiting.items s
         ≡ length (maps_of_shard (shard_among count) s maps)
+
+-- One map more was taken, of this form.
+abbrev pub AreTakenWith : Datum → ℕ → Divider → List SpelledMap → Files → Type 0
+AreTakenWith d count new maps written =
+    (m : SpelledMap) × (m.form ≡ d) × AreTaken count new (maps ++ m ∷ []) written
 
 -- A piece spells more maps, and these were taken too.
 pub record AreTakenOf (piece : List ℕ) (count : ℕ) (d : Divider) (maps : List SpelledMap)
@@ -103,11 +121,21 @@ pub record AreTakenAfter (count : ℕ) (d : Divider) (maps : List SpelledMap) (w
 
 -- a fault of a piece after these forms: it is unreadable, or it spells more forms, in which this
 -- was found
-abbrev pub IsPieceFault : List Datum → List ℕ → TextFault → Type 0
-IsPieceFault ds piece (Text e) = e.kind ≢ edn_kind.NoMemory → IsUnreadable piece e
-IsPieceFault ds piece (Maps f) = f.kind ≢ history_kind.NoMemory
-    → (es : List Datum) × Spells es piece × IsFoundAmong (ds ++ es) f
+abbrev pub IsPieceFault : ℕ → List Datum → List ℕ → PieceFault → Type 0
+IsPieceFault count ds text (Malformed (Text e)) =
+    e.kind ≢ edn_kind.NoMemory → IsUnreadable text e
+IsPieceFault count ds text (Malformed (Maps f)) = f.kind ≢ history_kind.NoMemory
+    → (es : List Datum) × Spells es text × IsFoundAmong (ds ++ es) f
+IsPieceFault count ds text (FewShards x) =
+    (es : List Datum) × Spells es text × NeedsMoreShards count (ds ++ es) x
 
-abbrev pub IsOfText : TextFault → Type 0
-IsOfText (Text e) = ⊤
-IsOfText (Maps f) = ⊥
+-- what was found in forms, the last of which is the map that was taken last
+abbrev pub IsMapFoundAmong : ℕ → List Datum → PieceFault → Type 0
+IsMapFoundAmong count ds (Malformed (Text e)) = ⊥
+IsMapFoundAmong count ds (Malformed (Maps f)) = f.kind ≢ history_kind.NoMemory → IsFoundAmong ds f
+IsMapFoundAmong count ds (FewShards x) = NeedsMoreShards count ds x
+
+abbrev pub IsOfText : PieceFault → Type 0
+IsOfText (Malformed (Text e)) = ⊤
+IsOfText (Malformed (Maps f)) = ⊥
+IsOfText (FewShards x) = ⊥

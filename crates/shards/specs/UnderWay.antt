@@ -8,11 +8,14 @@ use Rattle.history.specs.declared.fault.TextFault.{TextFault}
 use Rattle.history.specs.declared.fault.TextFault.TheVariants.{Text, Maps}
 use Rattle.shards.specs.declared.divider.Divider.{Divider}
 use Rattle.shards.specs.declared.fault.SplitFault.{SplitFault}
-use Rattle.shards.specs.declared.fault.SplitFault.TheVariants.{Read, Write, Malformed, NoMemory}
+use Rattle.shards.specs.declared.fault.SplitFault.TheVariants.{Read, Write, Malformed, FewShards}
+use Rattle.shards.specs.declared.fault.SplitFault.TheVariants.{NoMemory}
+use Rattle.shards.specs.declared.fault.PieceFault.{PieceFault}
+use Rattle.shards.specs.declared.fault.PieceFault.TheVariants as piece
 use Rattle.shards.specs.declared.pieces.Pieces.{Pieces}
 use Rattle.shards.specs.Dividing.{Files}
 use Rattle.shards.specs.ShardTexts.{SpelledMap}
-use Rattle.shards.specs.SplitFaults.{IsFaultOf}
+use Rattle.shards.specs.SplitFaults.{BeginsWith, IsFaultOf, NeedsMoreShards}
 use Rattle.shards.specs.Taking.{AreTaken, forms_of}
 
 -- More was read of a source: what it had left before, and has left after.
@@ -46,34 +49,39 @@ pub record AreUnderWay (count : ℕ) (d : Divider) (p : Pieces) (text : List ℕ
   pub taken : AreTaken count d maps written
 
 -- the text ends inside a form
-abbrev pub EndsInsideForm : TextFault → Type 0
-EndsInsideForm (Text e) = e.kind ≡ edn_kind.Unfinished
-EndsInsideForm (Maps f) = ⊥
+abbrev pub EndsInsideForm : PieceFault → Type 0
+EndsInsideForm (piece.Malformed (Text e)) = e.kind ≡ edn_kind.Unfinished
+EndsInsideForm (piece.Malformed (Maps f)) = ⊥
+EndsInsideForm (piece.FewShards x) = ⊥
 
 -- what was read from this place on is too long
 abbrev pub too_long_at : ℕ → TextFault
 too_long_at start = Text (record { kind = edn_kind.TooLong; place = start })
 
 -- the fault of a piece that begins at this place, where the place of the fault is that in the text
-abbrev pub IsFaultFrom : ℕ → TextFault → SplitFault → Type 0
+abbrev pub IsFaultFrom : ℕ → PieceFault → SplitFault → Type 0
 IsFaultFrom start fault (Malformed (Text e)) = (place : ℕ) × (e.place ≡ start + place)
-    × (fault ≡ Text (record e { place = place })) × (e.kind ≢ edn_kind.NoMemory)
+    × (fault ≡ piece.Malformed (Text (record e { place = place }))) × (e.kind ≢ edn_kind.NoMemory)
 IsFaultFrom start fault (Malformed (Maps f)) =
-    (fault ≡ Maps f) × (f.kind ≢ history_kind.NoMemory)
+    (fault ≡ piece.Malformed (Maps f)) × (f.kind ≢ history_kind.NoMemory)
+IsFaultFrom start fault (FewShards x) = fault ≡ piece.FewShards x
 IsFaultFrom start fault Read = ⊥
 IsFaultFrom start fault Write = ⊥
 IsFaultFrom start fault NoMemory = ⊤
 
--- what a fault says of the text that was read, given what its source has left
-abbrev pub IsFaultIn : List ℕ → Option (List ℕ) → SplitFault → Type 0
-IsFaultIn text left (Malformed fault) = IsFaultOf text left fault
-IsFaultIn text left Read = ⊤
-IsFaultIn text left Write = ⊤
-IsFaultIn text left NoMemory = ⊤
+-- what a fault says of the text that was read, given the number of the shards, and what the source
+-- has left
+abbrev pub IsFaultIn : ℕ → List ℕ → Option (List ℕ) → SplitFault → Type 0
+IsFaultIn count text left (Malformed fault) = IsFaultOf text left fault
+IsFaultIn count text left (FewShards x) = BeginsWith text left (λ ds. NeedsMoreShards count ds x)
+IsFaultIn count text left Read = ⊤
+IsFaultIn count text left Write = ⊤
+IsFaultIn count text left NoMemory = ⊤
 
 -- nothing is wrong with the text
 abbrev pub IsOfHost : SplitFault → Type 0
 IsOfHost (Malformed fault) = ⊥
+IsOfHost (FewShards x) = ⊥
 IsOfHost Read = ⊤
 IsOfHost Write = ⊤
 IsOfHost NoMemory = ⊤

@@ -16,6 +16,9 @@ pub enum SplitFault {
     Write,
     /// Its text, as far as it was read, is malformed.
     Malformed(TextFault),
+    /// It has a map on this object, which needs more shards: there, two objects of a shard could
+    /// have the same name.
+    FewShards(u32),
     /// An allocation failed, or the text has more bytes than can be counted.
     NoMemory,
 }
@@ -30,12 +33,19 @@ impl From<AllocError> for SplitFault {
     }
 }
 
+/// Why a piece of a text was not divided.
+#[derive(Clone, Copy)]
+pub(crate) enum PieceFault {
+    Malformed(TextFault),
+    FewShards(u32),
+}
+
 /// Whether the text ends inside a form. More text may end the form, and mends no other fault.
-pub(crate) fn ends_inside_form(fault: TextFault) -> bool
+pub(crate) fn ends_inside_form(fault: PieceFault) -> bool
     ensures { IsTrue result ↔ EndsInsideForm fault }
 {
     match fault {
-        TextFault::Text(fault) => match fault.kind {
+        PieceFault::Malformed(TextFault::Text(fault)) => match fault.kind {
             FaultKind::Unfinished => true,
             FaultKind::BadUtf8
             | FaultKind::BadToken
@@ -48,28 +58,33 @@ pub(crate) fn ends_inside_form(fault: TextFault) -> bool
             | FaultKind::TooLong
             | FaultKind::NoMemory => false,
         },
-        TextFault::Maps(_) => false,
+        PieceFault::Malformed(TextFault::Maps(_)) | PieceFault::FewShards(_) => false,
     }
 }
 
 /// The fault of a piece that begins at this byte of the whole, as one of the whole.
-pub(crate) fn fault_from(start: usize, fault: TextFault) -> SplitFault
+pub(crate) fn fault_from(start: usize, fault: PieceFault) -> SplitFault
     ensures { IsFaultFrom start fault result }
 {
     match fault {
-        TextFault::Text(
-            EdnFault {
-                kind: FaultKind::NoMemory,
-                place: _,
-            },
+        PieceFault::Malformed(
+            TextFault::Text(
+                EdnFault {
+                    kind: FaultKind::NoMemory,
+                    place: _,
+                },
+            ),
         ) => SplitFault::NoMemory,
-        TextFault::Text(EdnFault { kind, place }) => match start.checked_add(place) {
-            Some(place) => SplitFault::Malformed(TextFault::Text(EdnFault { kind, place })),
-            None => SplitFault::NoMemory,
-        },
-        TextFault::Maps(fault) => match fault.kind {
+        PieceFault::Malformed(TextFault::Text(EdnFault { kind, place })) => {
+            match start.checked_add(place) {
+                Some(place) => SplitFault::Malformed(TextFault::Text(EdnFault { kind, place })),
+                None => SplitFault::NoMemory,
+            }
+        }
+        PieceFault::Malformed(TextFault::Maps(fault)) => match fault.kind {
             HistoryFaultKind::NoMemory => SplitFault::NoMemory,
             _ => SplitFault::Malformed(TextFault::Maps(fault)),
         },
+        PieceFault::FewShards(object) => SplitFault::FewShards(object),
     }
 }

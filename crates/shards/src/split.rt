@@ -8,6 +8,7 @@ ghost use Rattle.shards.specs.SplitFaults.{IsFailureOf, IsSplitFault};
 ghost use Rattle.shards.specs.UnderWay.{AreUnderWay, IsFaultIn};
 
 use crate::divider::Divider;
+use crate::division::Division;
 use crate::fault::{SplitFault, ends_inside_form, fault_from};
 use crate::folder::Folder;
 use crate::pieces::Pieces;
@@ -26,7 +27,7 @@ fn divide_piece(alloc: Global, divider: &mut Divider, pieces: &mut Pieces) -> Re
     ensures failed { IfErr result (λ e. IsFailureOf e false false) }
     ensures fault { IfErr result (λ e. (count : ℕ) (text : List ℕ) (written : Files)
         (left : Option (List ℕ)) → AreUnderWay count divider.old pieces.old text written
-        → IsFaultIn text left e) }
+        → IsFaultIn count text left e) }
 {
     let Some(length) = pieces.next_length() else {
         return pieces.ask_for_more();
@@ -43,24 +44,23 @@ fn divide_piece(alloc: Global, divider: &mut Divider, pieces: &mut Pieces) -> Re
     }
 }
 
-/// Divides the last piece, and gives to the folder all that waits. Gives how many maps each shard
-/// has.
+/// Divides the last piece, and gives to the folder all that waits.
 fn divide_last<D: Folder>(
     alloc: Global,
     divider: &mut Divider,
     pieces: &Pieces,
     folder: &mut D,
-) -> Result<Vec<u32>, SplitFault>
+) -> Result<Division, SplitFault>
     requires { D.broken folder.old ≡ false }
-    ensures divided { IfOk result (λ counts. (count : ℕ) (text : List ℕ) (written : Files)
+    ensures divided { IfOk result (λ told. (count : ℕ) (text : List ℕ) (written : Files)
         (files : Option Files) → AreUnderWay count divider.old pieces.now text written
         → AddsFiles files (D.files folder.old) written
-        → AddsShards count counts.items text files (D.files folder.new)) }
+        → AddsShards count told text files (D.files folder.new)) }
     ensures usable { OnOk result (D.broken folder.new ≡ false) }
     ensures failed { IfErr result (λ e. IsFailureOf e false (D.broken folder.new)) }
     ensures fault { IfErr result (λ e. (count : ℕ) (text : List ℕ) (written : Files)
         (left : Option (List ℕ)) → AreUnderWay count divider.old pieces.now text written
-        → IsAtEnd left → IsFaultIn text left e) }
+        → IsAtEnd left → IsFaultIn count text left e) }
 {
     match divider.take(alloc, pieces.text()) {
         Ok(()) => {}
@@ -69,7 +69,7 @@ fn divide_last<D: Folder>(
     let Ok(()) = divider.flush(folder, 0) else {
         return Err(SplitFault::Write);
     };
-    Ok(divider.counts(alloc)?)
+    Ok(divider.division(alloc)?)
 }
 
 /// Divides a history as `split_over` does, by pieces that are mostly a little longer than
@@ -79,20 +79,20 @@ pub fn split_by_pieces<F: Source, D: Folder>(
     alloc: Global,
     history: &mut F,
     folder: &mut D,
-    shards: u32,
+    shards: u16,
     piece_length: usize,
-) -> Result<Vec<u32>, SplitFault>
+) -> Result<Division, SplitFault>
     requires history { F.broken history.old ≡ false }
     requires folder { D.broken folder.old ≡ false }
     requires some { 0 < shards }
-    ensures divided { IfOk result (λ counts. WasDivided shards counts.items
+    ensures divided { IfOk result (λ told. WasDivided shards told
         (F.remaining history.old) (F.remaining history.new)
         (D.files folder.old) (D.files folder.new)) }
     ensures usable { OnOk result
         ((F.broken history.new ≡ false) × (D.broken folder.new ≡ false)) }
     ensures failed { IfErr result (λ e.
         IsFailureOf e (F.broken history.new) (D.broken folder.new)) }
-    ensures malformed { IfErr result (λ e. IsSplitFault e
+    ensures malformed { IfErr result (λ e. IsSplitFault shards e
         (F.remaining history.old) (F.remaining history.new)) }
 {
     let mut divider = Divider::new(alloc, shards)?;
@@ -111,11 +111,13 @@ pub fn split_by_pieces<F: Source, D: Folder>(
     Err(SplitFault::NoMemory)
 }
 
-/// Divides a history of any length among this many shards: object x is in shard x mod `shards`. The
-/// source is read once, to its end. The folder is given each map of a client, by a text that spells
-/// it and nothing else, and its place in the whole. That this text is the one in the whole, without
-/// the separators and comments before it, is tested. Gives how many maps each shard has. After a
-/// fault the folder has some of the maps.
+/// Divides a history of any length among this many shards: object x is in shard
+/// (x / 65536 + x % 65536) mod `shards`, and has the name x % 65536 there. The source is read once,
+/// to its end. The folder is given each map of a client, by a text that spells it with the name of
+/// its object and nothing else, and its place in the whole. That this text is the one in the whole
+/// except for the name, without the separators and comments before it, is tested. Gives how many
+/// maps each shard has, and the objects with more maps than a text may have. After a fault the
+/// folder has some of the maps.
 ///
 /// The memory depends on the shards, on the processes and objects that are named, and on the
 /// longest piece of the text without a line feed between two maps. A piece of more than 268,435,456
@@ -124,12 +126,12 @@ pub fn split_over<F: Source, D: Folder>(
     alloc: Global,
     history: &mut F,
     folder: &mut D,
-    shards: u32,
-) -> Result<Vec<u32>, SplitFault>
+    shards: u16,
+) -> Result<Division, SplitFault>
     requires history { F.broken history.old ≡ false }
     requires folder { D.broken folder.old ≡ false }
     requires some { 0 < shards }
-    ensures divided { IfOk result (λ counts. WasDivided shards counts.items
+    ensures divided { IfOk result (λ told. WasDivided shards told
         (F.remaining history.old) (F.remaining history.new)
         (D.files folder.old) (D.files folder.new)) }
     ensures usable { OnOk result
@@ -138,7 +140,7 @@ pub fn split_over<F: Source, D: Folder>(
         IsFailureOf e (F.broken history.new) (D.broken folder.new)) }
     // The fault of a map is the first of the maps that were read, the last of which is in the piece
     // of the text that has it.
-    ensures malformed { IfErr result (λ e. IsSplitFault e
+    ensures malformed { IfErr result (λ e. IsSplitFault shards e
         (F.remaining history.old) (F.remaining history.new)) }
 {
     split_by_pieces(alloc, history, folder, shards, PIECE_LENGTH)

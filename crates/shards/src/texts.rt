@@ -9,7 +9,7 @@ ghost use Rattle.history.specs.Faults.{IsFaultlessAtAnyLength};
 ghost use Rattle.judging.specs.Texts.{IsLinearizableText, IsNotLinearizableText};
 ghost use Rattle.shards.specs.Dividing.{Files, IsDivided, table_text, with_numbers};
 ghost use Rattle.shards.specs.Forms.{forms_on};
-ghost use Rattle.shards.specs.Shards.{events_on};
+ghost use Rattle.shards.specs.Shards.{events_on, renamed};
 ghost use Rattle.shards.specs.ShardTexts.{IsSplit, IsShardOf, IsLinearizableAtAnyLength};
 ghost use Rattle.shards.specs.ShardTexts.{TextDenotes};
 ghost use Rattle.shards.specs.Tables.{AreShort};
@@ -20,28 +20,29 @@ pub fn shards_have_no_fault()
         → IsFaultlessAtAnyLength (forms_on has ds) }
 {}
 
-/// Each shard denotes the events of the whole on its objects, under numbers of its own.
+/// Each shard denotes the events of the whole on its objects, by their names there, under numbers
+/// of its own.
 pub fn shards_denote()
-    ensures { (shard_of : ℕ → ℕ) (whole : List ℕ) (shards : ℕ → List ℕ) (es : List Event)
-        → IsSplit shard_of whole shards
+    ensures { (shard_of name : ℕ → ℕ) (whole : List ℕ) (shards : ℕ → List ℕ) (es : List Event)
+        → IsSplit shard_of name whole shards
         → TextDenotes whole es
-        → (s : ℕ) → IsShardOf (λ x. shard_of x == s) es (shards s) }
+        → (s : ℕ) → IsShardOf (λ x. shard_of x == s) name es (shards s) }
 {}
 
 /// Each shard has the numbers of the whole in its table, where these have 32 bits: with them its
-/// events are those of the whole on its objects.
+/// events are those of the whole on its objects, by their names in the shard.
 pub fn shards_keep_their_numbers()
-    ensures { (shard_of : ℕ → ℕ) (whole : List ℕ) (files : Files) (es own : List Event)
-        → (d : IsDivided shard_of whole files) → length d.split.maps ≤ 2 ^ 32
+    ensures { (shard_of name : ℕ → ℕ) (whole : List ℕ) (files : Files) (es own : List Event)
+        → (d : IsDivided shard_of name whole files) → length d.split.maps ≤ 2 ^ 32
         → TextDenotes whole es → (s : ℕ) → TextDenotes (files.texts s) own
         → (ns : List ℕ) → AreShort ns → table_text ns ≡ files.tables s
-        → with_numbers ns own ≡ events_on (λ x. shard_of x == s) es }
+        → with_numbers ns own ≡ renamed name (events_on (λ x. shard_of x == s) es) }
 {}
 
 /// The history of the whole is linearizable exactly where that of each shard is.
 pub fn texts_of_shards_decide()
-    ensures { (shard_of : ℕ → ℕ) (whole : List ℕ) (shards : ℕ → List ℕ)
-        → IsSplit shard_of whole shards
+    ensures { (shard_of name : ℕ → ℕ) (whole : List ℕ) (shards : ℕ → List ℕ)
+        → IsSplit shard_of name whole shards
         → (IsLinearizableAtAnyLength whole ↔ ((s : ℕ) → IsLinearizableAtAnyLength (shards s))) }
 {}
 
@@ -49,12 +50,12 @@ pub fn texts_of_shards_decide()
 /// each shard that is not empty, and not linearizable where a no of `verify` or of `refute` says so
 /// of one.
 pub fn judged_shards_decide()
-    ensures yes { (shard_of : ℕ → ℕ) (whole : List ℕ) (shards : ℕ → List ℕ)
-        → IsSplit shard_of whole shards
+    ensures yes { (shard_of name : ℕ → ℕ) (whole : List ℕ) (shards : ℕ → List ℕ)
+        → IsSplit shard_of name whole shards
         → ((s : ℕ) → (shards s ≡ []) ⊎ IsLinearizableText (shards s))
         → IsLinearizableAtAnyLength whole }
-    ensures no { (shard_of : ℕ → ℕ) (whole : List ℕ) (shards : ℕ → List ℕ)
-        → IsSplit shard_of whole shards
+    ensures no { (shard_of name : ℕ → ℕ) (whole : List ℕ) (shards : ℕ → List ℕ)
+        → IsSplit shard_of name whole shards
         → (s : ℕ) → IsNotLinearizableText (shards s)
         → ¬ IsLinearizableAtAnyLength whole }
 {}

@@ -55,7 +55,7 @@ impl Waiting {
     pub fn flush<D: Folder>(
         &mut self,
         folder: &mut D,
-        shard: u32,
+        shard: u16,
         least: usize,
     ) -> Result<(), Failed>
         requires { D.broken folder.old ≡ false }
@@ -77,7 +77,7 @@ impl Waiting {
 }
 
 /// This many shards, of which nothing waits.
-pub(crate) fn waiting_of(alloc: Global, shards: u32) -> Result<Vec<Waiting>, AllocError>
+pub(crate) fn waiting_of(alloc: Global, shards: u16) -> Result<Vec<Waiting>, AllocError>
     ensures long { IfOk result (λ v. vec_len v ≡ shards) }
     ensures none_wait { IfOk result (λ v. NoneWait v.items) }
     ensures none_counted { IfOk result (λ v. (s : ℕ) → count_in v.items s ≡ 0) }

@@ -1,5 +1,5 @@
 -- The forms of lines are a history's maps, and none of them is faulty.
-use Rattle.std.proofs.Common.{◌≡◌, ℕ, ◌≤◌, cond, Option, Some, None, option_map, refl, ap, sym, ◌∙◌}
+use Rattle.std.proofs.Common.{◌≡◌, ℕ, ◌≤◌, cond, Option, Some, None, option_map, refl, ap, sym, ◌∙◌, arith}
 use Rattle.std.specs.Prelude.{option_and_then}
 use Rattle.std.proofs.lemmas.Bool.{le-leb}
 use Rattle.model.specs.declared.AnyOp.{AnyOp}
@@ -10,8 +10,8 @@ use Rattle.seq_objects.specs.Functions.{name_of}
 use Rattle.seq_objects.specs.Values.{function_in, op_with, op_value, reply_value, reply_with}
 use Rattle.events.specs.declared.event.Action.{Action}
 use Rattle.events.specs.declared.event.Action.TheVariants.{Invoke, Ok, Fail, Info}
-use Rattle.edn_fields.specs.Fields.{max_object, object_in}
-use Rattle.history.specs.Maps.{ClientMap, MapType, invoke, ok, fail, info, client_of, client_with, type_named, plain_value}
+use Rattle.edn_fields.specs.Fields.{max_object}
+use Rattle.history.specs.Maps.{ClientMap, MapType, invoke, ok, fail, info, client_of, client_with, short_in, type_named, plain_value}
 use Rattle.history.specs.Names.{function_named}
 use Rattle.history.specs.Denotes.{action_of}
 use Rattle.history.proofs.Naming.{named_is}
@@ -35,15 +35,15 @@ type_is (Ok r) = refl
 type_is Fail = refl
 type_is Info = refl
 
-object_is : (x : ℕ) → x ≤ max_object → object_in (Some x) ≡ Some x
-object_is x low = ap (λ b. cond b (Some x) None) (le-leb x max_object low)
+object_is : (x : ℕ) → x ≤ max_object → short_in (Some x) ≡ Some x
+object_is x low = ap (λ b. cond b (Some x) None) (le-leb x 4294967295 (omega (arith, low)))
 
 pub client_is : (l : Line) → l.event.object ≤ max_object → client_of (form_of l) ≡ Some (map_of l)
 client_is l low =
     let p = l.event.process in
     let v = value_form (value_of l.op l.event.action) in
     let name : Some (function_in l.op) ≡ function_named (name_of (function_in l.op)) = named_is (Some (function_in l.op)) (name_of (function_in l.op)) refl tt in
-    ap (λ t. client_with (Some p) t (Some (name_of (function_in l.op))) (object_in (Some l.event.object)) v) (type_is l.event.action)
+    ap (λ t. client_with (Some p) t (Some (name_of (function_in l.op))) (short_in (Some l.event.object)) v) (type_is l.event.action)
     ∙ (ap (λ x. client_with (Some p) (Some (type_map l.event.action)) (Some (name_of (function_in l.op))) x v) (object_is l.event.object low)
     ∙ ap (λ f. Some (record { process = p; type = type_map l.event.action; function = f; object = l.event.object; value = v })) (sym name))
 

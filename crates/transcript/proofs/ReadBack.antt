@@ -6,7 +6,7 @@ use Rattle.std.proofs.lemmas.Option.{same_Some}
 use Rattle.std.proofs.lemmas.List.{reverse-append, map-append, length-map}
 use Rattle.model.specs.declared.AnyOp.{AnyOp}
 use Rattle.model.specs.Objects.{kind_of}
-use Rattle.model.proofs.Lists.{In, Pairs, in_map, in_map_from, in_filter, in_filter_from, in_from_contains, in_split, in_left, in_middle, all_at, pairs_from_all}
+use Rattle.model.proofs.Lists.{In, Pairs, in_map, in_map_from, in_filter, in_filter_from, in_from_contains, in_split, in_left, in_middle, all_at, all_from_in, pairs_from_all}
 use Rattle.edn_reader.specs.Datum.{Datum, Fits, max_open}
 use Rattle.edn_reader.specs.Text.{InProfile}
 use Rattle.edn_reader.specs.Laws.{EachSpelled}
@@ -24,7 +24,7 @@ use Rattle.history.specs.declared.fault.HistoryFaultKind.TheVariants.{NotAnOpera
 use Rattle.history.specs.Maps.{ClientMap, MapType, invoke, ok, fail, info, client_of, clients, op_in, reply_in}
 use Rattle.history.specs.Faults.{last_map, HasBadValue, ClientFault, IsFaultless, IsFaultlessAtAnyLength, IsOutstanding, IsClosed}
 use Rattle.history.specs.Denotes.{action_of, event_with, event_of, events_from}
-use Rattle.history.proofs.MapLimit.{faultless_within}
+use Rattle.history.proofs.MapLimit.{IsSmall, faultless_within}
 use Rattle.history.proofs.OneMore.{fault_of}
 use Rattle.history.proofs.Laws.{kind_of_op}
 use Rattle.desk_model.specs.declared.JournalEvent.TheVariants.{Invoked, Returned}
@@ -353,9 +353,19 @@ module _ (objects : ℕ) (journals : ℕ → List AnyEvent) (logs : ℕ → List
       (subst (λ (ms : List ClientMap). ClientFault ms (map_of l) kind) maps
       (fault_of earlier d (map_of l) kind client fault))
 
+  small : All IsSmall (map form_of ls)
+  small = all_from_in IsSmall (map form_of ls) (λ d i great.
+      let r = in_map form_of d ls i in
+      let low : r.0.event.object ≤ max_object = object_low r.0 r.1 in
+      let client : client_of d ≡ Some (map_of r.0) = ap client_of r.2 ∙ client_is r.0 low in
+      let own : great.0.object ≡ r.0.event.object =
+      ap (λ (x : ClientMap). x.object) (same_Some great.0 (map_of r.0) (sym great.1 ∙ client)) in
+      let l = great.2 in
+      absurd (omega (arith, own, low, l)))
+
   faultless : IsFaultless (map form_of ls)
   faultless = let few = few_lines in let long = length-map ls form_of in faultless_within
-      (map form_of ls) at_any_length (omega arith)
+      (map form_of ls) at_any_length (omega arith) small
 
   says_action : (l : Line) → In l ls → action_of (map_of l).type (map_of l) ≡ Some l.event.action
   says_action l i = let r = in_split l ls i in action_is l (last_line l.event.process r.0) (follows_at r.0 r.1 l r.2)

@@ -8,6 +8,7 @@ import sys
 import time
 
 from .dividing import Folder, judged
+from .trusted_statuses import BELIEVED, TRUST
 from ..judge.like_recorded import played
 from ..running import ROOT, SECONDS, Ran
 from ..text_writers import lines
@@ -53,20 +54,32 @@ def in_shell(program, line, cwd):
     return Ran(ran.returncode, ran.stdout, ran.stderr)
 
 
+def by_statuses(folder, expected):
+    """What merge says by the statuses of 64 workers, and what it is to say where verify says this of the whole."""
+    ran = folder.merge(TRUST)
+    yes = b"yes by statuses: 64 shards\n" if expected.status == 0 else b""
+    head = (BELIEVED % 64).encode()
+    is_well = ran.out == head + yes if yes else re.fullmatch(re.escape(head) + rb"(; shard \d+: no\n)+", ran.out)
+    return (expected.status, True), (ran.status, bool(is_well))
+
+
 def documented_lines(program, report):
-    """The lines of shell in docs/shards.md that look for the evidence of 64 shards lead to what verify says of the whole."""
+    """The lines of shell in docs/shards.md that look for the evidence of 64 shards, or judge them, lead to what verify says of the whole."""
     with open(f"{ROOT}/docs/shards.md", encoding="utf-8") as file:
-        found = {name: line for line, name in re.findall(r"^    (.*\b(xargs|make) .*)$", file.read(), re.M)}
-    report.equal("docs/shards.md: a line with xargs, and one with make", ["make", "xargs"], sorted(found))
-    skipped = [name for name in found if not shutil.which(name)]
-    for name in found.keys() - skipped:
-        for wrong in (False, True):
+        found = dict(re.findall(r"^    (.*\b(xargs|make) .*)$", file.read(), re.M))
+    report.equal("docs/shards.md: two lines with xargs, and one with make", ["make", "xargs", "xargs"], sorted(found.values()))
+    skipped = {name for name in found.values() if not shutil.which(name)}
+    for number, (line, name) in enumerate(found.items()):
+        for wrong in (False, True) if name not in skipped else ():
             expected, _ = judged(program, "whole", whole(name, wrong))
-            folder = Folder(program, f"{name}.{wrong}", 64)
+            folder = Folder(program, f"{number}.{wrong}", 64)
             report.equal(f"{name}: split", 0, folder.split("whole.edn").status)
-            in_shell(program, found[name], folder.path())
-            report.equal(f"{name}: merge: {found[name]}", expected, folder.merge())
-    return "".join(f"{name} is not there: SKIPPED" for name in skipped)
+            in_shell(program, line, folder.path())
+            if "fcbench judge" in line:
+                report.equal(f"{name}: merge {TRUST}: {line}", *by_statuses(folder, expected))
+            else:
+                report.equal(f"{name}: merge: {line}", expected, folder.merge())
+    return "".join(f"{name} is not there: SKIPPED" for name in sorted(skipped))
 
 
 # ---- Dask

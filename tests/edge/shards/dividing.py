@@ -5,16 +5,40 @@ from dataclasses import dataclass
 
 from ..running import Program
 
+# How many names a shard has for its objects, and the greatest object of a whole.
+NAMES, LAST_OBJECT = 65_536, 4_294_967_295
 # A map in the histories of tests, which have no maps in maps, and no strings.
 MAP = re.compile(rb"\{[^{}]*\}")
+# Its object.
+OBJECT = re.compile(rb":object[\s,]+([-+]?\d+)")
+
+
+def shard_of(on, shards):
+    """The shard of an object."""
+    return (on // NAMES + on % NAMES) % shards
+
+
+def name_of(on):
+    """The name of an object in its shard."""
+    return on % NAMES
+
+
+def shards_needed(on):
+    """The least number of shards into which a whole with this object is divided."""
+    return on // NAMES + 1
 
 
 def object_of(text):
     """The object of a map of a client, or None: the map is ignored."""
     if re.search(rb":process[\s,]*:", text):
         return None
-    named = re.search(rb":object[\s,]+(\+?\d+)", text)
+    named = OBJECT.search(text)
     return int(named[1]) if named else 0
+
+
+def in_its_shard(text, on):
+    """A map on this object as its shard has it: a name that is another number is in the place of the number, and all else is as it is written."""
+    return text if on < NAMES else text[: OBJECT.search(text).start(1)] + b"%d" % name_of(on) + text[OBJECT.search(text).end(1) :]
 
 
 def divided(history, shards):
@@ -23,9 +47,19 @@ def divided(history, shards):
     for place, text in enumerate(MAP.findall(history.encode() if isinstance(history, str) else history)):
         on = object_of(text)
         if on is not None:
-            files[f"{on % shards}.edn"].append(text)
-            files[f"{on % shards}.places"].append(str(place).encode())
+            files[f"{shard_of(on, shards)}.edn"].append(in_its_shard(text, on))
+            files[f"{shard_of(on, shards)}.places"].append(str(place).encode())
     return {name: b"".join(it + b"\n" for it in those) for name, those in files.items()}
+
+
+def evidence_in_shards(found, numbers, shards):
+    """The evidence for each shard, where this evidence is for a whole whose objects have these numbers instead."""
+    of_shards = [[] for _ in range(shards)]
+    for line in found.splitlines(keepends=True):
+        head, on, rest = re.fullmatch(rb"(\{:object )(\d+)(.*\n)", line).groups()
+        on = numbers[int(on)]
+        of_shards[shard_of(on, shards)].append((name_of(on), head + b"%d" % name_of(on) + rest))
+    return [b"".join(text for _, text in sorted(it)) for it in of_shards]
 
 
 @dataclass(frozen=True)
@@ -55,10 +89,11 @@ class Folder:
         return self.program.run("find", f"{stem}.edn", "--places", f"{stem}.places", "--workers", "1", *options).out
 
     def find_all(self):
-        """Writes the evidence for each shard, and returns it."""
-        found = [self.find(shard) for shard in range(self.shards)]
+        """Writes the evidence for each shard that has maps, and returns that of all."""
+        found = [self.find(shard) if os.path.getsize(self.path(f"{shard}.edn")) else b"" for shard in range(self.shards)]
         for shard, text in enumerate(found):
-            self.write(f"{shard}.evidence", text)
+            if text:
+                self.write(f"{shard}.evidence", text)
         return found
 
     def merge(self, *options, **how):
@@ -73,9 +108,9 @@ class Folder:
         return os.path.exists(self.path("shards"))
 
     def files(self):
-        """What is in the folder: each file with its bytes."""
+        """What is in the folder, if it is there: each file with its bytes."""
         files = {}
-        for it in os.scandir(self.path()):
+        for it in os.scandir(self.path()) if os.path.isdir(self.path()) else ():
             with open(it.path, "rb") as file:
                 files[it.name] = file.read()
         return files

@@ -2,13 +2,21 @@
 import os
 import re
 
+from . import wide_objects
 from .dividing import Folder
+from .long_wholes import MOST_MAPS, maps_of
 from .worked_wholes import MERGED, MERGED_YES, ORDERS, TWO_QUEUES
 from ..answers import through_pipes
 from ..check.unreadable_files import AS_NOBODY
+from ..running import at_once
 from ..text_writers import lines, invoke, ok
 
 TWO_SHARDS = "4 maps in 2 shards\n"
+# The same maps on objects that have other names in their shards, of which one is in each of two.
+WIDE_QUEUES = TWO_QUEUES.replace(":object 4", ":object 65540").replace(":object 5", ":object 65541")
+# A whole that needs more than two shards, and what split says of it.
+TOO_WIDE = TWO_QUEUES.replace(":object 5", ":object 131072")
+THREE_NEEDED = "object 131072: 3 shards or more are needed\n"
 
 
 def is_named(ran, name):
@@ -83,12 +91,14 @@ def wholes_through_pipes(program, report):
 
 def failing_reads_of_shards(program, report):
     """Where any one read fails, split and merge end with 4 and print nothing, and split leaves no files."""
-    program.write("whole.edn", TWO_QUEUES)
-    _, _, reads = program.counts("split", "whole.edn", "counted", "--shards", "2")
-    for at in range(1, reads + 1):
-        folder = Folder(program, f"unread.{at}", 2)
-        report.answers(f"split: read {at} fails", folder.split("whole.edn", faults={"FAIL_READ_AT": at}), "", 4, "fcbench: cannot read whole.edn\n")
-        report.equal(f"split: read {at} fails: the files", {}, folder.files())
+    for name, whole in (("narrow", TWO_QUEUES), ("wide", WIDE_QUEUES)):
+        program.write("whole.edn", whole)
+        _, _, reads = program.counts("split", "whole.edn", f"counted.{name}", "--shards", "2")
+        for at in range(1, reads + 1):
+            folder = Folder(program, f"unread.{name}.{at}", 2)
+            ran = folder.split("whole.edn", faults={"FAIL_READ_AT": at})
+            report.answers(f"split: {name}: read {at} fails", ran, "", 4, "fcbench: cannot read whole.edn\n")
+            report.equal(f"split: {name}: read {at} fails: the files", {}, folder.files())
     merged_with(program, "merged", {})
     _, _, reads = program.counts("merge", "merged")
     for at in range(1, reads + 1):
@@ -98,22 +108,48 @@ def failing_reads_of_shards(program, report):
 
 def refused_memory_of_shards(program, report):
     """Where any one allocation fails, split and merge say so, or give their answer."""
-    program.write("whole.edn", TWO_QUEUES)
-    _, allocations, _ = program.counts("split", "whole.edn", "counted", "--shards", "2")
-    report.holds("split: its allocations are counted", allocations > 0)
-    for at in range(1, allocations + 1):
+    for name, whole in (("narrow", TWO_QUEUES), ("wide", WIDE_QUEUES)):
+        program.write("whole.edn", whole)
+        for at in range(1, allocations_of(program, report, "split", "whole.edn", f"counted.{name}", "--shards", "2") + 1):
+            folder = Folder(program, f"refused.{name}.{at}", 2)
+            ran = folder.split("whole.edn", faults={"REFUSE_AT": at})
+            # Where the line is written, and then the file `shards` cannot be made, it ends with 4 and leaves no files.
+            answers = {0: TWO_SHARDS.encode(), 3: b"out of memory\n", 4: TWO_SHARDS.encode()}
+            is_well = ran.out == answers.get(ran.status) and (ran.status != 4 or folder.files() == {})
+            report.holds(f"split: {name}: allocation {at} fails", is_well and folder.is_whole() == (ran.status == 0), ran)
+    wholes = {"merged": merged_with(program, "merged", {}), "wide": wide_objects.merged(program, "wide").merge()}
+    wholes["refuted"] = wide_objects.refuted(program, "refuted").merge()
+    report.equal("merge: with ample memory", [0, 0, 1], [it.status for it in wholes.values()], wholes)
+    for name, whole in wholes.items():
+        for at in range(1, allocations_of(program, report, "merge", name) + 1):
+            ran = program.run("merge", name, faults={"REFUSE_AT": at})
+            report.holds(f"merge: {name}: allocation {at} fails", ran == whole or ran.status == 3 and b"yes" not in ran.out, ran)
+
+
+def allocations_of(program, report, *words):
+    """How many allocations a run makes."""
+    _, allocations, _ = program.counts(*words)
+    report.holds(f"{' '.join(words)}: its allocations are counted", allocations > 0)
+    return allocations
+
+
+def refused_memory_of_what_does_not_fit(program, report):
+    """Where an allocation fails, split names the object that does not fit, or those that are too large, or says that it is out of memory."""
+    program.write("wide.edn", TOO_WIDE)
+    for at in range(1, allocations_of(program, report, "split", "wide.edn", "counted", "--shards", "2") + 1):
         folder = Folder(program, f"refused.{at}", 2)
-        ran = folder.split("whole.edn", faults={"REFUSE_AT": at})
-        # Where the line is written, and then the file `shards` cannot be made, it ends with 4 and leaves no files.
-        answers = {0: TWO_SHARDS.encode(), 3: b"out of memory\n", 4: TWO_SHARDS.encode()}
-        is_well = ran.out == answers.get(ran.status) and (ran.status != 4 or folder.files() == {})
-        report.holds(f"split: allocation {at} fails", is_well and folder.is_whole() == (ran.status == 0), ran)
-    whole = merged_with(program, "merged", {})
-    _, allocations, _ = program.counts("merge", "merged")
-    report.holds("merge: its allocations are counted", allocations > 0)
-    for at in range(1, allocations + 1):
-        ran = program.run("merge", "merged", faults={"REFUSE_AT": at})
-        report.holds(f"merge: allocation {at} fails", ran == whole or ran.status == 3 and b"yes" not in ran.out, ran)
+        ran = folder.split("wide.edn", faults={"REFUSE_AT": at})
+        is_well = (ran.status, ran.err) == (3, b"") and ran.out in (THREE_NEEDED.encode(), b"out of memory\n")
+        # Where an allocation fails while files are removed, some may be left.
+        report.holds(f"split: too few shards: allocation {at} fails", is_well and not folder.is_whole(), ran)
+    program.write("large.edn", maps_of(65_537, MOST_MAPS + 1, 0) + maps_of(1, 2, 1))
+    whole = Folder(program, "large", 2).split("large.edn")
+    count = allocations_of(program, report, "split", "large.edn", "counted.large", "--shards", "2")
+    numbers = sorted({*range(1, count + 1, max(1, count // 20)), *range(max(1, count - 30), count + 1)})
+    runs = at_once(lambda at: Folder(program, f"large.{at}", 2).split("large.edn", faults={"REFUSE_AT": at}), numbers)
+    for at, ran in zip(numbers, runs):
+        is_well = (ran.status, ran.out) in ((3, whole.out), (3, b"out of memory\n"), (4, whole.out))
+        report.holds(f"split: an object that is too large: allocation {at} of {count} fails", is_well, ran)
 
 
 # Changes to the files of the shards of MERGED among three: each file with another text, or None where it is not there.
@@ -166,5 +202,6 @@ PARTS = (
     wholes_through_pipes,
     failing_reads_of_shards,
     refused_memory_of_shards,
+    refused_memory_of_what_does_not_fit,
     shards_that_were_changed,
 )

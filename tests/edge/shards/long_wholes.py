@@ -3,7 +3,7 @@ import re
 
 from .dividing import Folder, divided
 from ..answers import through_pipes
-from ..text_writers import invoke, lines, ok
+from ..text_writers import fail, invoke, lines, ok
 
 OBJECTS, SHARDS, MOST_MAPS = 100, 4, 1_000_000
 
@@ -66,10 +66,40 @@ def too_many_maps(program, report):
     report.answers("split: a million maps in a shard", folder.split(program.write("most.edn", text)), f"{MOST_MAPS + 2} maps in 2 shards\n", 0)
     folder = Folder(program, "more", 2)
     program.write("more.edn", text + lines(invoke(0, "read", None, 1)))
-    too_many = f"{MOST_MAPS + 3} maps in 2 shards\nshard 1: {MOST_MAPS + 1} maps, too many for one text\n"
+    too_many = f"{MOST_MAPS + 3} maps in 2 shards\n" + lines(*[f"{it} 1: {MOST_MAPS + 1} maps, too many for one text" for it in ("shard", "object")])
     report.answers("split: one more", folder.split("more.edn"), too_many, 3)
     folder.write("0.evidence", b"{:object 2, :order [%d]}\n" % MOST_MAPS)
     report.answers("merge: one more", folder.merge(), "shard 1: too large\n", 3)
 
 
-PARTS = (long_wholes, late_faults, too_many_maps)
+# How many maps each of some objects has, among four shards. Objects 2 and 65,541 are in shard 2, and so is 65,537, which has a lesser name there;
+# objects 3 and 196,608 are in shard 3.
+LARGE = {65_537: MOST_MAPS + 2, 3: MOST_MAPS, 2: MOST_MAPS + 1, 65_541: 1, 196_608: 2, 4: 5}
+
+
+def maps_of(on, count, process):
+    """The maps of reads of one object by one process. The last may be pending, and some calls failed."""
+    call = invoke(process, "read", None, on)
+    pairs = lines(call, ok(process, "read", None, on)) * (count // 4) + lines(call, fail(process, "read", None, on)) * (count // 2 - count // 4)
+    return pairs + lines(call) * (count % 2)
+
+
+def large_objects(program, report):
+    """Split names each object that has more than a million maps, after the shards that have. Those that have as many as that it does not name."""
+    with open(f"{program.room}/large.edn", "w", encoding="ascii") as file:
+        for process, (on, count) in enumerate(LARGE.items()):
+            file.write(maps_of(on, count, process))
+    folder = Folder(program, "large", 4)
+    expected = lines(
+        f"{sum(LARGE.values())} maps in 4 shards",
+        f"shard 2: {2 * MOST_MAPS + 4} maps, too many for one text",
+        f"shard 3: {MOST_MAPS + 2} maps, too many for one text",
+        f"object 2: {MOST_MAPS + 1} maps, too many for one text",
+        f"object 65537: {MOST_MAPS + 2} maps, too many for one text",
+    )
+    report.answers("split: objects with more than a million maps", folder.split("large.edn"), expected, 3)
+    report.equal("split: objects with more than a million maps: the shards", b"4\n", folder.files()["shards"])
+    report.answers("merge: objects with more than a million maps", folder.merge(), "shard 2: too large\nshard 3: too large\n; object 4: open\n", 3)
+
+
+PARTS = (long_wholes, late_faults, too_many_maps, large_objects)

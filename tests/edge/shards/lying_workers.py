@@ -3,7 +3,8 @@ import random
 import re
 
 from . import wholes
-from .dividing import Folder, judged
+from .dividing import NAMES, Folder, judged
+from .wide_wholes import widened
 from .worked_wholes import MERGED, MERGED_YES, ORDERS
 from ..running import at_once
 from ..text_writers import lines
@@ -45,31 +46,62 @@ def cut_short(rng, found, shard):
     return found[shard][: rng.randrange(len(found[shard]) + 1)]
 
 
+def names_in(found):
+    """The objects that are named in evidence, and some others."""
+    return sorted({*range(10), *(int(it) for it in re.findall(rb":object (\d+)", b"".join(found)))})
+
+
 def orders_for_all(rng, found, shard):
     """An empty order of each object."""
-    return b"".join(b"{:object %d, :order []}\n" % on for on in range(10))
+    return b"".join(b"{:object %d, :order []}\n" % on for on in names_in(found))
 
 
 def reasons_for_all(rng, found, shard):
     """A reason that says of each object that no order is valid."""
-    return b"".join(b"{:object %d, :cuts [], :search {:first :number, :steps 1000}}\n" % on for on in range(10))
+    return b"".join(b"{:object %d, :cuts [], :search {:first :number, :steps 1000}}\n" % on for on in names_in(found))
+
+
+def all_shards(rng, found, shard):
+    """The evidence of all shards, of which some may be on an object of this name, one claim after another in any order."""
+    claims = b"".join(found).splitlines(keepends=True)
+    return b"".join(rng.sample(claims, len(claims)))
+
+
+def numbers_of_the_whole(rng, found, shard):
+    """Names of objects as they may be in the whole, past those of a shard."""
+    return re.sub(rb"(?<=:object )\d+", lambda it: b"%d" % (int(it[0]) + NAMES * rng.randrange(3)), found[shard])
 
 
 def nothing(rng, found, shard):
     return b""
 
 
-LIES_OF_WORKERS = (another_shard, changed_orders, other_numbers, garbage, cut_short, orders_for_all, reasons_for_all, nothing)
+LIES_OF_WORKERS = (
+    another_shard,
+    changed_orders,
+    other_numbers,
+    garbage,
+    cut_short,
+    orders_for_all,
+    reasons_for_all,
+    all_shards,
+    numbers_of_the_whole,
+    nothing,
+)
 
 
-def lied_about(program, number):
-    """What verify says of a whole, and what merge says where one or two workers lie."""
+def lied_about(program, number, is_wide):
+    """What verify says of a whole, and what merge says where one or two workers lie. The objects may get other numbers, past 65,535 too."""
     maps, damage = wholes.damaged(number) if number % 2 else (wholes.made(number), "none")
-    expected, _ = judged(program, f"lied.{number}", lines(*maps))
+    history = lines(*maps)
+    expected, _ = judged(program, f"lied.{number}", history)
     answers = []
     if expected.status != 2:
+        if is_wide:
+            wide = widened(history, random.Random(f"lied {number}"), SHARDS)
+            history, expected = wide.text, wide.answer(expected)
         folder = Folder(program, f"lies.{number}", SHARDS)
-        folder.make(lines(*maps))
+        folder.make(history)
         found = folder.find_all()
         for lie in LIES_OF_WORKERS:
             rng = random.Random(f"{lie.__name__} {number}")
@@ -80,17 +112,34 @@ def lied_about(program, number):
     return expected, answers
 
 
-def lying_workers(program, report):
-    """Whatever evidence workers send, a whole that is linearizable is never refuted, and one that is not is never a yes."""
+def impossible(ran):
+    """The objects that are said to have no valid order."""
+    return {*re.findall(rb"^; object (\d+): impossible$", ran.out, re.M)}
+
+
+def lying(program, report, is_wide):
+    """What workers lead to that lie about wholes."""
     came = {}
-    for number, (expected, answers) in enumerate(at_once(lambda it: lied_about(program, it), range(WHOLES))):
+    for number, (expected, answers) in enumerate(at_once(lambda it: lied_about(program, it, is_wide), range(WHOLES))):
         for name, ran in answers:
             is_well = ran.status in ALLOWED[expected.status] and (ran.status != 0 or expected.status != 0 or ran.out == expected.out)
-            report.holds(f"merge: {name} about whole {number}", is_well, (expected, ran))
+            # An object that is open in the whole may be shown to be impossible by a search that a liar asks for.
+            is_well = is_well and (impossible(ran) <= impossible(expected) or b": open\n" in expected.out or b": out of" in expected.out)
+            report.holds(f"merge: {name} about {'wide ' if is_wide else ''}whole {number}", is_well, (expected, ran))
             came[expected.status, ran.status] = came.get((expected.status, ran.status), 0) + 1
     few = {it: came.get(it, 0) for it in ((0, 0), (0, 3), (1, 1), (1, 3)) if came.get(it, 0) < 10}
     report.equal("merge: of these answers there are too few", {}, few)
     return f"{sum(came.values())} merges"
+
+
+def lying_workers(program, report):
+    """Whatever evidence workers send, a whole that is linearizable is never refuted, and one that is not is never a yes."""
+    return lying(program, report, False)
+
+
+def lying_workers_of_wide_wholes(program, report):
+    """The same of wholes whose objects pass 65,535, so that some in two shards have the same name."""
+    return lying(program, report, True)
 
 
 def lies_by_hand(program, report):
@@ -141,4 +190,4 @@ def missing_evidence(program, report):
     report.answers("merge: no evidence at all", found.merge(), "; object 0: open\n; object 1: open\n; object 2: open\n", 3)
 
 
-PARTS = (missing_evidence, lies_by_hand, lying_workers)
+PARTS = (missing_evidence, lies_by_hand, lying_workers, lying_workers_of_wide_wholes)

@@ -1,6 +1,6 @@
 """Small histories that are split, found and merged: what merge says of the shards is what verify says of the whole."""
 from . import wholes
-from .dividing import Folder, divided, judged
+from .dividing import NAMES, Folder, divided, evidence_in_shards, judged
 from ..running import at_once
 from ..text_writers import lines
 
@@ -20,13 +20,25 @@ def faults_of_split(folder, history, expected, ran):
     if expected.status == 2:
         is_well = (ran.status, ran.out, ran.err) == (2, expected.out, b"") and folder.files() == {}
         return None if is_well else f"split of a malformed history: {ran}"
-    files = divided(history, SHARDS)
+    files = divided(history, folder.shards)
     count = sum(text.count(b"\n") for name, text in files.items() if name.endswith(".edn"))
-    if (ran.status, ran.out, ran.err) != (0, b"%d maps in %d shards\n" % (count, SHARDS), b""):
+    if (ran.status, ran.out, ran.err) != (0, b"%d maps in %d shards\n" % (count, folder.shards), b""):
         return f"split: {ran}"
+    files["shards"] = b"%d\n" % folder.shards
     came = folder.files()
-    others = sorted(it for it in {*came, *files, "shards"} if came.get(it) != {**files, "shards": b"%d\n" % SHARDS}.get(it))
+    others = sorted(it for it in {*came, *files} if came.get(it) != files.get(it))
     return f"split: other files: {[(it, came.get(it)) for it in others]}" if others else None
+
+
+def faults_of_answer(folder, evidence, expected):
+    """What is wrong with what find and merge say of the shards, or None: find prints this evidence of each, and merge is to answer this."""
+    found = folder.find_all()
+    merged = folder.merge()
+    if found != evidence:
+        return f"find: other evidence: {found} and not {evidence}"
+    if (merged.status, merged.out, merged.err) != (expected.status, expected.out, expected.err):
+        return f"merge: {merged} and not {expected}"
+    return None
 
 
 def look(program, number):
@@ -36,23 +48,23 @@ def look(program, number):
     folder = Folder(program, f"shards.{number}", SHARDS)
     wrong = faults_of_split(folder, history, expected, folder.split(f"whole.{number}.edn"))
     if wrong is None and expected.status != 2:
-        of_shards = sorted(it for text in folder.find_all() for it in text.splitlines())
-        merged = folder.merge()
-        if of_shards != sorted(found.splitlines()):
-            wrong = f"find: other evidence: {of_shards} and not {found}"
-        elif (merged.status, merged.out, merged.err) != (expected.status, expected.out, expected.err):
-            wrong = f"merge: {merged} and not {expected}"
+        wrong = faults_of_answer(folder, evidence_in_shards(found, range(NAMES), SHARDS), expected)
     return expected.status, damage, wrong
+
+
+def on_all(report, name, look_at):
+    """Looks at each whole, and says how many have each status."""
+    came = {}
+    for number, (status, damage, wrong) in enumerate(at_once(look_at, range(WHOLES))):
+        report.equal(f"{name} {number}, damage: {damage}", None, wrong)
+        came[status] = came.get(status, 0) + 1
+    report.equal(f"{name}: of these statuses there are too few", {}, {it: came.get(it, 0) for it, least in FEWEST.items() if came.get(it, 0) < least})
+    return ", ".join(f"{count} of status {status}" for status, count in sorted(came.items()))
 
 
 def small_wholes(program, report):
     """Of a thousand small histories merge says by three shards, line for line, what verify says of the whole, and split names its first fault."""
-    came = {}
-    for number, (status, damage, wrong) in enumerate(at_once(lambda it: look(program, it), range(WHOLES))):
-        report.equal(f"shards of whole {number}, damage: {damage}", None, wrong)
-        came[status] = came.get(status, 0) + 1
-    report.equal("shards: of these statuses there are too few", {}, {it: came.get(it, 0) for it, least in FEWEST.items() if came.get(it, 0) < least})
-    return ", ".join(f"{count} of status {status}" for status, count in sorted(came.items()))
+    return on_all(report, "shards of whole", lambda it: look(program, it))
 
 
 def evidence_of_shards(program, report):
@@ -63,7 +75,7 @@ def evidence_of_shards(program, report):
         folder = Folder(program, f"found.{number}", 1 + number % 4)
         folder.make(history)
         whole_found = program.run("find", program.write(f"found.{number}.edn", history)).out
-        return sorted(whole_found.splitlines()), sorted(it for text in folder.find_all() for it in text.splitlines())
+        return evidence_in_shards(whole_found, range(NAMES), folder.shards), folder.find_all()
 
     for number, (expected, came) in enumerate(at_once(look_at, range(100))):
         report.equal(f"find --places: the shards of whole {number}", expected, came)

@@ -82,7 +82,7 @@ def damages(rng):
         "another type": replaced(rng, ":type", (":invoke", ":ok", ":fail", ":info", ":what", "7", "[]")),
         "another function": replaced(rng, ":f", (":read", ":enqueue", ":drain", ":acquire", "3")),
         "another value": replaced(rng, ":value", ("nil", "false", "true", "7", "[1 2]", "[1 2 3]", '"x"', ":x", "007")),
-        "another object": replaced(rng, ":object", ("0", "1", "2", "-1", ":a", "65535", "65536", "1.5")),
+        "another object": replaced(rng, ":object", ("0", "1", "2", "-1", ":a", "65535", "4294967296", "1.5")),
         "another reply": other_reply(rng),
         "another byte": other_byte(rng),
     }

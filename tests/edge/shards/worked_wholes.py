@@ -1,7 +1,7 @@
 """Wholes of a few maps, with the files of their shards and the lines of split and merge. All expected values are worked out by hand."""
 from dataclasses import dataclass
 
-from .dividing import Folder
+from .dividing import LAST_OBJECT, Folder
 from ..judge.like_recorded import nemesis
 from ..running import at_once
 from ..text_writers import fail, info, invoke, lines, ok
@@ -66,7 +66,7 @@ DIVIDED = (
         ),
     ),
     Row(
-        "the greatest object",
+        "the greatest object of a text",
         lines(invoke(0, "acquire", None, 65_535)),
         (("", ""), (lines(invoke(0, "acquire", None, 65_535)), "0\n"), *(("", ""),) * 5),
     ),
@@ -86,7 +86,7 @@ FAULTS = (
 # Faults of one map, or of the text.
 OTHER_FAULTS = (
     ("no map", "7", "H1 at map 0"),
-    ("an object past the last", invoke(0, "read", None, 65_536), "H1 at map 0"),
+    ("an object past the last", invoke(0, "read", None, LAST_OBJECT + 1), "H1 at map 0"),
     ("no function", lines(FOUR, invoke(1, "drain", None, 5)), "H2 at map 1"),
     ("no argument", lines(FOUR, invoke(1, "enqueue", None, 5)), "H3 at map 1"),
     ("another kind", lines(FOUR, invoke(1, "push", 1, 4)), "H4 at map 1"),
@@ -104,39 +104,60 @@ def split(program, name, whole, shards):
     return folder, folder.split(program.write(f"{name}.edn", whole))
 
 
+def same_files(report, name, expected, came):
+    """Compares the files of a folder with those that are expected, and says which differ."""
+    others = sorted(it for it in {*expected, *came} if expected.get(it) != came.get(it))
+    report.equal(f"{name}: files that differ", {}, {it: (expected.get(it), came.get(it)) for it in others})
+
+
+def is_divided(program, report, name, row):
+    """Splits a whole, and compares the files."""
+    folder, ran = split(program, name, row.whole, len(row.shards))
+    report.answers(f"split: {row.name}", ran, f"{row.count()} maps in {len(row.shards)} shards\n", 0)
+    if ran.status == 0:
+        same_files(report, f"split: {row.name}", row.files(), folder.files())
+
+
+def are_refused(program, report, rows):
+    """Splits wholes with a fault into two shards each: it is named, and nothing is left of the split. Returns the folders."""
+    runs = at_once(lambda at: split(program, f"fault.{at}", rows[at][1], 2), range(len(rows)))
+    for (name, _, fault), (folder, ran) in zip(rows, runs):
+        report.answers(f"split: {name}", ran, f"malformed history: {fault}\n", 2)
+        report.equal(f"split: {name}: the files", {}, folder.files())
+    return [folder for folder, _ in runs]
+
+
 def divided_by_hand(program, report):
     """The files of the shards are the maps as they are written, with their places, and each map of a client is in one of them."""
     for number, row in enumerate(DIVIDED):
-        folder, ran = split(program, f"row.{number}", row.whole, len(row.shards))
-        report.answers(f"split: {row.name}", ran, f"{row.count()} maps in {len(row.shards)} shards\n", 0)
-        if ran.status == 0:
-            report.equal(f"split: {row.name}: the files", row.files(), folder.files())
+        is_divided(program, report, f"row.{number}", row)
 
 
 def faults_of_the_whole(program, report):
     """The first fault of the whole is named, also where each shard alone is a history."""
     rows = (*FAULTS, *OTHER_FAULTS)
-    runs = at_once(lambda at: split(program, f"fault.{at}", rows[at][1], 2), range(len(rows)))
-    for (name, whole, fault), (folder, ran) in zip(rows, runs):
-        report.answers(f"split: {name}", ran, f"malformed history: {fault}\n", 2)
+    for (name, whole, fault), folder in zip(rows, are_refused(program, report, rows)):
         checked = program.run("verify", program.write("faulty.edn", whole), program.write("nothing.edn", ""))
         report.answers(f"verify: {name}", checked, f"malformed history: {fault}\n", 2)
-        report.equal(f"split: {name}: the files", {}, folder.files())
         report.holds(f"merge: {name}: there are no shards", folder.merge().status == 4)
 
 
-# Object 0 is a queue, object 1 a stack, and object 2 a register.
-MERGED = lines(
-    invoke(0, "push", 1, 1),
-    invoke(1, "enqueue", 5, 0),
-    ok(1, "enqueue", 5, 0),
-    ok(0, "push", 1, 1),
-    nemesis("kill"),
-    invoke(1, "write", 3, 2),
-    ok(1, "write", 3, 2),
-    invoke(0, "dequeue", None, 0),
-    ok(0, "dequeue", 5, 0),
-)
+def merged_on(queue, stack, register):
+    """A history of one object of each of these kinds, which have these numbers."""
+    return lines(
+        invoke(0, "push", 1, stack),
+        invoke(1, "enqueue", 5, queue),
+        ok(1, "enqueue", 5, queue),
+        ok(0, "push", 1, stack),
+        nemesis("kill"),
+        invoke(1, "write", 3, register),
+        ok(1, "write", 3, register),
+        invoke(0, "dequeue", None, queue),
+        ok(0, "dequeue", 5, queue),
+    )
+
+
+MERGED = merged_on(0, 1, 2)
 ORDERS = {0: b"{:object 0, :order [1 7]}\n", 1: b"{:object 1, :order [0]}\n", 2: b"{:object 2, :order [5]}\n"}
 MERGED_YES = "yes: 4 operations, 3 objects\nstack: 1 objects, 1 operations\nqueue: 1 objects, 2 operations\nregister: 1 objects, 1 operations\n"
 
@@ -155,26 +176,38 @@ def merged_by_hand(program, report):
     report.answers("merge: no evidence for objects 0 and 1", folder.merge(), "; object 0: open\n; object 1: open\n", 3)
 
 
-REFUTED = lines(nemesis("kill"), invoke(0, "push", 1, 4), ok(0, "push", 1, 4), invoke(0, "dequeue", None, 3), ok(0, "dequeue", 7, 3))
+def refuted_on(queue, stack):
+    """A history of a queue and a stack with these numbers: what is dequeued was never enqueued."""
+    return lines(nemesis("kill"), invoke(0, "push", 1, stack), ok(0, "push", 1, stack), invoke(0, "dequeue", None, queue), ok(0, "dequeue", 7, queue))
+
+
 NOTE = "value 7 was dequeued and never enqueued"
-REASON = f'{{:object 3, :cuts [{{:keep [7], :numbers [3]}} {{:until 5}}], :count {{:value 7, :from 0}}, :note "{NOTE}"}}\n'
-REFUTED_NO = lines(
-    "; object 3: impossible",
-    f"; {NOTE}",
-    "; events 3 and 4: process 0, :dequeue nil, :ok 7",
-    "; {:object 3, :cuts [{:keep [7], :numbers [3]} {:until 5}], :count {:value 7, :from 0}}",
-)
+
+
+def reason_on(on):
+    """The reason why that object is impossible."""
+    return f'{{:object {on}, :cuts [{{:keep [7], :numbers [3]}} {{:until 5}}], :count {{:value 7, :from 0}}, :note "{NOTE}"}}\n'
+
+
+def refuted_no(on):
+    """What is said of that object."""
+    return lines(
+        f"; object {on}: impossible",
+        f"; {NOTE}",
+        "; events 3 and 4: process 0, :dequeue nil, :ok 7",
+        f"; {{:object {on}, :cuts [{{:keep [7], :numbers [3]}} {{:until 5}}], :count {{:value 7, :from 0}}}}",
+    )
 
 
 def refuted_by_hand(program, report):
     """A reason of one shard is a no of the whole, told in the numbers of the whole. Objects without evidence do not change it."""
     folder = Folder(program, "refuted", 2)
-    folder.make(REFUTED)
+    folder.make(refuted_on(3, 4))
     folder.write("0.evidence", b"{:object 4, :order [1]}\n")
-    folder.write("1.evidence", REASON.encode())
-    report.answers("merge: one object is impossible", folder.merge(), REFUTED_NO, 1)
+    folder.write("1.evidence", reason_on(3).encode())
+    report.answers("merge: one object is impossible", folder.merge(), refuted_no(3), 1)
     folder.write("0.evidence", b"")
-    report.answers("merge: one is impossible, and one is open", folder.merge(), REFUTED_NO + "; object 4: open\n", 1)
+    report.answers("merge: one is impossible, and one is open", folder.merge(), refuted_no(3) + "; object 4: open\n", 1)
 
 
 PARTS = (divided_by_hand, faults_of_the_whole, merged_by_hand, refuted_by_hand)

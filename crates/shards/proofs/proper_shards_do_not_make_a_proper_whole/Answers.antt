@@ -1,5 +1,9 @@
-use Rattle.shards.proofs.WorkedShards.{two_at_once-shards, two_at_once-refused, two_at_once-not_linearizable}
+use Rattle.shards.proofs.WorkedShards.{two_at_once-divided, two_at_once-shards, two_at_once-refused}
+use Rattle.shards.proofs.WorkedShards.{two_at_once-not_linearizable}
 use Rattle.shards.proofs.proper_shards_do_not_make_a_proper_whole.Goals as goal
+
+pub returns-clause-divided : goal.returns-clause-divided
+returns-clause-divided c = two_at_once-divided
 
 pub returns-clause-shards_proper : goal.returns-clause-shards_proper
 returns-clause-shards_proper c s = (two_at_once-shards s).0

@@ -1,11 +1,12 @@
 use Rattle.std.proofs.Common.{◌+◌, ◌++◌, ◌∷◌, ◌∙◌, [], ap, arith, length, refl, sym}
 use Rattle.std.proofs.lemmas.List.{length-append}
 use Rattle.history_commands.specs.Merged.{Shard}
+use Rattle.commands.specs.Sharded.{IsReadAs}
 use Rattle.commands.proofs.Merges.{none_read, read_more}
 use Rattle.commands.proofs.folders.merge_all.Goals as goal
 
 pub loop-shard-init : goal.loop-shard-init
-loop-shard-init g c = ([], refl, none_read (g.F.ShardFiles.holds c.args.files.now) c.args.steps, c.new-merging.ensures)
+loop-shard-init g c = ([], refl, none_read (IsReadAs (g.F.ShardFiles.holds c.args.files.now) c.args.shards c.args.steps), c.new-merging.ensures)
 
 pub loop-shard-preserved : goal.loop-shard-preserved
 loop-shard-preserved g c =
@@ -16,6 +17,7 @@ loop-shard-preserved g c =
     let evidence = c.deref-in-loop-shard-2 in
     let s : Shard = record {
       number = c.loop-shard.shard;
+      count = c.args.shards;
       text = maps.result.now;
       table = places.result.now;
       evidence = evidence.result.now;
@@ -25,7 +27,7 @@ loop-shard-preserved g c =
     rw (i.1, maps.ensures.value, places.ensures.value, evidence.ensures.value) c.in-Ok.ensures in (
       i.0 ++ s ∷ [],
       length-append i.0 (s ∷ []) ∙ ap (λ n. n + 1) i.1,
-      read_more holds c.args.steps i.0 s i.2 (sym i.1, refl, held),
+      read_more (IsReadAs holds c.args.shards c.args.steps) i.0 s i.2 (sym i.1, refl, refl, held),
       c.in-Ok-take.ensures i.0 i.3,
     )
 

@@ -8,5 +8,5 @@ returns g c =
     let left = leaves_as c.write_output.ensures.leaves
     (made_is (IsSplitOutput c.args.shards (g.F.Source.remaining c.args.history.now)
     (g.F.Source.remaining c.split_output.new.history) (g.D.Folder.files c.args.folder.now)
-    (g.D.Folder.files c.split_output.new.folder)) c.in_ok-output.output c.in_ok-output.ensures) in
-    record { divided = shows_divided _ _ _ _ _ left; leaves = left; nothing_written = tt }
+    (g.D.Folder.files c.split_output.new.folder)) c.in_ok-output.output c.in_ok-output.ensures.made) in
+    record { divided = shows_divided _ _ _ _ _ left; few_shards = tt; leaves = left; nothing_written = tt }

@@ -3,13 +3,18 @@ use Rattle.std.specs.Prelude.{is_err}
 use Rattle.std.proofs.lemmas.List.{append-nil}
 use Rattle.history.specs.Faults.{max_maps}
 use Rattle.history.specs.Seen.{IsFitting}
-use Rattle.history.proofs.MapLimit.{not_memory, first_within, none_within, too_many_first}
+use Rattle.history.proofs.MapLimit.{great_first, not_memory, first_within, none_within, too_many_first}
 use Rattle.history.proofs.Pushing.{pushed_unless}
 use Rattle.history.proofs.OneMore.{fitting_faultless, ignored_read}
 use Rattle.history.proofs.seen.read_next.Goals as goal
 
+pub returns-then-has_great_object-clause-fault : goal.returns-then-has_great_object-clause-fault
+returns-then-has_great_object-clause-fault c = λ other ds d says seen long.
+    great_first ds d (c.if-has_great_object.ensures d says)
+
 pub returns-in-Err-clause-fault : goal.returns-in-Err-clause-fault
 returns-in-Err-clause-fault c = λ other ds d says seen long. first_within ds d c.in-Err.kind
+    (c.if-has_great_object.ensures d says)
     (c.in-Err.ensures.fault ds d says seen)
 
 pub returns-in-Err-clause-memory : goal.returns-in-Err-clause-memory
@@ -18,7 +23,8 @@ returns-in-Err-clause-memory c = λ memory ds d says seen long. absurd
 
 pub returns-then-map-ge-MAX_MAPS-clause-fault : goal.returns-then-map-ge-MAX_MAPS-clause-fault
 returns-then-map-ge-MAX_MAPS-clause-fault c = λ other ds d says seen long.
-    too_many_first ds d (fitting_faultless c.args.seen.now ds d c.in-Ok.fitting (c.in-Ok.ensures.fits ds d says seen))
+    too_many_first ds d (c.if-has_great_object.ensures d says)
+    (fitting_faultless c.args.seen.now ds d c.in-Ok.fitting (c.in-Ok.ensures.fits ds d says seen))
     (subst (λ n. max_maps ≤ n) (sym long) c.if-map-ge-MAX_MAPS.true)
 
 pub returns-in_default-clause-read : goal.returns-in_default-clause-read
@@ -28,12 +34,14 @@ returns-in_default-clause-read c = λ ds d says seen long.
 
 pub returns-in_default-note-clause-memory : goal.returns-in_default-note-clause-memory
 returns-in_default-note-clause-memory c = λ memory ds d says seen long.
-    none_within ds d (fitting_faultless c.args.seen.now ds d c.in-Ok.fitting (c.in-Ok.ensures.fits ds d says seen))
+    none_within ds d (c.if-has_great_object.ensures d says)
+    (fitting_faultless c.args.seen.now ds d c.in-Ok.fitting (c.in-Ok.ensures.fits ds d says seen))
     (subst (λ n. n < max_maps) (sym long) c.if-map-ge-MAX_MAPS.false)
 
 pub returns-then-is_err-clause-memory : goal.returns-then-is_err-clause-memory
 returns-then-is_err-clause-memory c = λ memory ds d says seen long.
-    none_within ds d (fitting_faultless c.args.seen.now ds d c.in-Ok.fitting (c.in-Ok.ensures.fits ds d says seen))
+    none_within ds d (c.if-has_great_object.ensures d says)
+    (fitting_faultless c.args.seen.now ds d c.in-Ok.fitting (c.in-Ok.ensures.fits ds d says seen))
     (subst (λ n. n < max_maps) (sym long) c.if-map-ge-MAX_MAPS.false)
 
 pub returns-clause-read : goal.returns-clause-read

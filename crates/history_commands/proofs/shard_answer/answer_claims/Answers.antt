@@ -1,9 +1,9 @@
 use Rattle.std.proofs.Common.{ap, ◌∙◌, subst}
-use Rattle.std.specs.List.{flat_map}
 use Rattle.events.specs.Events.{kind_at, denoted}
 use Rattle.judging.proofs.Naming.{orders}
 use Rattle.verifying.specs.Decisions.{AreDecisionsOn, certificates_in}
-use Rattle.history_commands.specs.Merged.{finding_on, lines_by}
+use Rattle.shards.specs.Dividing.{object_named}
+use Rattle.history_commands.specs.Merged.{finding_on}
 use Rattle.history_commands.proofs.Merged.{answers_claims}
 use Rattle.history_commands.proofs.shard_answer.answer_claims.Goals as goal
 
@@ -12,9 +12,10 @@ returns c =
     let es = c.args.history.now in
     let claims = c.args.claims.items in
     let ds = c.in_ok-decisions.decisions.items in
-    answers_claims es claims c.args.steps ds _
+    let name = object_named c.args.shard.count c.args.shard.number in
+    answers_claims name es claims c.args.steps ds _
     (subst (λ n. AreDecisionsOn es claims n ds) c.from.ensures c.in_ok-decisions.ensures)
     (λ valid. c.named_objects.ensures (kind_at es) (denoted es) c.events.ensures.history
     (orders es (certificates_in ds) valid))
     (c.finding_of.ensures ∙ ap finding_on c.deref.ensures.value) c.new.ensures.items
-    (c.in_ok-lines_of.ensures ∙ ap (flat_map (λ d. lines_by es d.0 d.1)) c.deref-2.ensures.value) c.in_ok-of.ensures
+    c.in_ok-lines_of.ensures c.in_ok-of.ensures

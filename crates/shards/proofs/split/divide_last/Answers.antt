@@ -8,7 +8,7 @@ use Rattle.shards.proofs.split.divide_last.Goals as goal
 pub returns-in-Err-clause-fault : goal.returns-in-Err-clause-fault
 returns-in-Err-clause-fault g c = λ count text written left h end.
     let p = c.args.pieces.now in
-    let is = subst (λ t. IsPieceFault (forms_of h.maps) t c.in-Err.fault) c.text.ensures
+    let is = subst (λ t. IsPieceFault count (forms_of h.maps) t c.in-Err.fault) c.text.ensures
     (c.in-Err.ensures.fault count h.maps written h.taken) in
     fault_in count c.args.divider.now p text p.text.items [] written left c.in-Err.fault c.fault_from.result h
     (sym (append-nil p.text.items)) end is (λ e. refl)
@@ -22,6 +22,6 @@ returns-clause-divided g c = λ count text written files h adds.
     let last = c.flush.new.self in
     let long : length last.waiting.items ≡ last.shards = omega (arith, last.each, last.waiting.ok.0) in
     adds_shards count c.args.divider.now c.take.new.self p text written files (g.D.Folder.files c.args.folder.now)
-    (g.D.Folder.files c.flush.new.folder) c.in_ok-counts.field-0.items h of last
+    (g.D.Folder.files c.flush.new.folder) c.in_ok-division.field-0 h of last
     (c.in-Ok-flush.ensures.taken count (h.maps ++ of.more) written of.taken) adds (c.in-Ok-flush.ensures.none_wait refl)
-    c.in_ok-counts.ensures long
+    c.in_ok-division.ensures.counts c.in_ok-division.ensures.large long

@@ -10,14 +10,14 @@ use Rattle.shards.proofs.split.divide_piece.Goals as goal
 pub returns-in_default-clause-fault : goal.returns-in_default-clause-fault
 returns-in_default-clause-fault c =
     of_errors c.ask_for_more.result
-    (λ e q long count text written left h. subst (IsFaultIn text left) (sym q)
+    (λ e q long count text written left h. subst (IsFaultIn count text left) (sym q)
     (too_long_in count c.args.divider.now c.args.pieces.now text written left h long))
     c.ask_for_more.ensures.too_long c.ask_for_more.ensures.long
 
 pub returns-then-ends_inside_form-clause-fault : goal.returns-then-ends_inside_form-clause-fault
 returns-then-ends_inside_form-clause-fault c =
     of_errors c.ask_for_more-then-ends_inside_form.result
-    (λ e q long count text written left h. subst (IsFaultIn text left) (sym q)
+    (λ e q long count text written left h. subst (IsFaultIn count text left) (sym q)
     (too_long_in count c.args.divider.now c.args.pieces.now text written left h long))
     c.ask_for_more-then-ends_inside_form.ensures.too_long c.ask_for_more-then-ends_inside_form.ensures.long
 
@@ -36,7 +36,7 @@ pub returns-else-ends_inside_form-clause-fault : goal.returns-else-ends_inside_f
 returns-else-ends_inside_form-clause-fault c = λ count text written left h.
     let p = c.args.pieces.now in
     let n = c.in-Some.length in
-    let is = subst (λ t. IsPieceFault (forms_of h.maps) (take n t) c.in-Err.fault) c.text.ensures
+    let is = subst (λ t. IsPieceFault count (forms_of h.maps) (take n t) c.in-Err.fault) c.text.ensures
     (c.in-Err.ensures.fault count h.maps written h.taken) in
     let inside = c.ends_inside_form.ensures in
     let no = c.if-ends_inside_form.false in

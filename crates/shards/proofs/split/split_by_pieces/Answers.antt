@@ -13,7 +13,7 @@ returns-then-is_ended-clause-divided g c =
     let s = more_so_far c.args.shards l.divider l.pieces c.read.new.self left (g.F.Source.remaining l.history)
     (g.F.Source.remaining c.read.new.source) files (g.D.Folder.files l.folder) read l.invariant.so_far in
     IfOk-weaker c.divide_last.result _ _
-    (λ counts all. record {
+    (λ told all. record {
       whole = s.text;
       consumed = s.consumed;
       ended = read.ended (sym c.is_ended.ensures ∙ c.if-is_ended.true);
@@ -30,7 +30,8 @@ returns-then-is_ended-clause-malformed g c =
     let s = more_so_far c.args.shards l.divider l.pieces c.read.new.self left (g.F.Source.remaining l.history)
     left_after files (g.D.Folder.files l.folder) read l.invariant.so_far in
     if_err_weaker c.divide_last.result
-    (λ e f. split_fault_of e left left_after s.text s.consumed (f c.args.shards s.text s.written left_after s.under_way
+    (λ e f. split_fault_of c.args.shards e left left_after s.text s.consumed
+    (f c.args.shards s.text s.written left_after s.under_way
     (read.ended (sym c.is_ended.ensures ∙ c.if-is_ended.true))))
     c.divide_last.ensures.fault
 
@@ -44,7 +45,7 @@ returns-in_err-divide_piece-clause-malformed g c =
     left_after files (g.D.Folder.files l.folder) c.in_ok-read.ensures.read l.invariant.so_far in
     let r = c.from_residual-in_err-divide_piece in
     let p = err_from_is_err_and r.result r.ensures.1 in
-    rw (p.1, p.2) (split_fault_of c.in_err-divide_piece.field-0.0 left left_after s.text s.consumed
+    rw (p.1, p.2) (split_fault_of c.args.shards c.in_err-divide_piece.field-0.0 left left_after s.text s.consumed
     (c.in_err-divide_piece.ensures.fault c.args.shards s.text s.written left_after s.under_way))
 
 pub loop-preserved : goal.loop-preserved

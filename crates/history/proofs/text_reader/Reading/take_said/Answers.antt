@@ -11,7 +11,8 @@ returns-in-Ok c = λ ds d says h.
     let a = are_read c.args.self.now ds c.requires h in
     let r = c.in-Ok.ensures.read ds d says a.kept a.count in
     let more = one_more c.args.self.now.seen c.read_next.new.seen c.args.self.now.map ds d
-    c.args.self.now.events.items r.0 a c.in-Ok.ensures.few r.1 in
+    c.args.self.now.events.items r.0 a c.in-Ok.ensures.few
+    (c.in-Ok.ensures.small d says) r.1 in
     let all = subst (λ (es : List Event). AreRead c.read_next.new.seen (c.args.self.now.map + 1) (ds ++ d ∷ []) es) (sym r.2) more in
     subst (λ (o : Option HistoryFault). IsReadOrFaulty o c.read_next.new.seen (c.args.self.now.map + 1) (ds ++ d ∷ []) c.read_next.new.events.items) (sym c.requires) all
 

@@ -5,7 +5,8 @@ use Rattle.history_commands.proofs.merging.Merging.take.Goals as goal
 pub returns : goal.returns
 returns c =
     let shard : Shard = record {
-      number = c.args.shard;
+      number = c.args.shard.number;
+      count = c.args.shard.count;
       text = c.args.text.now;
       table = c.args.table.now;
       evidence = c.args.evidence.now;

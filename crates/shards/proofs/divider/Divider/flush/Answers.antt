@@ -24,7 +24,7 @@ loop-shard-preserved g c =
     record {
       taken = λ count maps written h. flushed_more count l.self _ maps written (g.D.Folder.files c.args.folder.now)
           (g.D.Folder.files l.folder) (g.D.Folder.files c.flush.new.folder) l.shard c.index_mut.result.now v within
-          c.index_mut.ensures.value refl refl refl done.flushes (l.invariant.taken count maps written h);
+          c.index_mut.ensures.value refl refl refl refl done.flushes (l.invariant.taken count maps written h);
       usable = done.usable;
       shards = l.invariant.shards;
       maps = λ q. none_more (λ w. w.maps.items) [] ws l.shard v within (done.none_wait q).0 (l.invariant.maps q);

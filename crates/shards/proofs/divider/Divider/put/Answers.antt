@@ -1,15 +1,26 @@
-use Rattle.std.proofs.Common.{◌<◌, length, arith}
+use Rattle.std.proofs.Common.{refl, subst}
+use Rattle.std.proofs.lemmas.Result.{on_ok_weaker}
+use Rattle.history.specs.Views.{client_map}
 use Rattle.shards.specs.Dividing.{shard_among}
-use Rattle.shards.proofs.OnOk.{of_three}
-use Rattle.shards.proofs.WaitingLines.{adds_line}
+use Rattle.shards.specs.Taking.{AddsLine}
+use Rattle.shards.proofs.TakingMaps.{says_by}
 use Rattle.shards.proofs.divider.Divider.put.Goals as goal
 
 pub returns-clause-adds : goal.returns-clause-adds
 returns-clause-adds c =
     let d = c.args.self.now in
-    let i = shard_among d.shards c.args.object in
-    let within : i < length d.waiting.items = omega (arith, d.some, d.each, d.waiting.ok.0) in
-    of_three c.add.result
-    (λ maps places count. adds_line d.waiting.items i c.index_mut.result.now c.add.new.self c.args.map.now c.args.place
-    within c.index_mut.ensures.value maps places count)
-    c.add.ensures.maps c.add.ensures.places c.add.ensures.count
+    let x = c.args.map.now.object in
+    on_ok_weaker c.put_text-2.result
+    (λ adds f client spells.
+    let own = c.in_ok-own.ensures f client spells in
+    record {
+      own = own.0;
+      text = c.in_ok-own.own.items;
+      says = says_by c.name_of-name.result x f own.0 (client_map c.args.map.now client.0) client.1 refl
+          c.name_of-name.ensures own.1;
+      spells = own.2;
+      adds = subst
+          (λ t. AddsLine (shard_among d.shards x) t c.args.place d.waiting.items c.put_text-2.new.self.waiting.items)
+          c.deref.ensures.value adds;
+    })
+    c.put_text-2.ensures.adds

@@ -1,14 +1,13 @@
-use Rattle.std.proofs.Common.{ℕ, List, ◌++◌, take}
+use Rattle.std.proofs.Common.{ℕ, List}
 use Rattle.edn_reader.specs.Datum.{Datum}
 use Rattle.history.specs.MapTexts.{AreMapTexts}
 use Rattle.shards.specs.Dividing.{Files}
 use Rattle.shards.specs.ShardTexts.{SpelledMap}
 use Rattle.shards.specs.Taking.{AreTaken}
-use Rattle.shards.proofs.TakingMaps.{spelled_all}
+use Rattle.shards.proofs.TakingMaps.{AreTakenUpTo}
 use Rattle.shards.proofs.divider.Divider.take.Given as goal
 
 abbrev pub invariant-loop-map : goal.invariant-loop-map
 invariant-loop-map l =
     (count : ℕ) (maps : List SpelledMap) (written : Files) (ds : List Datum) → AreMapTexts l.map-items ds
-    → AreTaken count l.fn.self maps written
-    → AreTaken count l.self (maps ++ take l.map-index (spelled_all l.map-items ds)) written
+    → AreTaken count l.fn.self maps written → AreTakenUpTo l.map-index ds count l.self maps written

@@ -1,12 +1,16 @@
-use Rattle.std.proofs.Common.{◌≡◌, ◌++◌, ◌∷◌, ◌∙◌, [], Option, arith, refl, sym, subst, option_to_list}
+use Rattle.std.proofs.lemmas.Bool.{cases_lt}
+use Rattle.std.proofs.Common.{◌≡◌, ◌≤◌, ◌/◌, inl, inr, ◌++◌, ◌∷◌, ◌∙◌, [], Option, arith, refl, sym, subst, option_to_list, rules}
 use Rattle.std.proofs.lemmas.List.{length-append}
 use Rattle.events.specs.declared.event.Event.{Event}
+use Rattle.history.specs.declared.client_map.OperationMap.{OperationMap}
 use Rattle.history.specs.declared.long_reader.LongReader.{LongReader}
 use Rattle.history.specs.Denotes.{events_from}
 use Rattle.history.specs.LongReading.{AreReadAtAnyLength}
+use Rattle.history.specs.Views.{Says, client_map}
 use Rattle.shards.specs.Taking.{forms_of}
-use Rattle.shards.proofs.EventsOfMaps.{event_is, no_client}
-use Rattle.shards.proofs.TakingMaps.{all_before, taken_line, taken_unseen}
+use Rattle.shards.proofs.EventsOfMaps.{event_is, no_client, says_client}
+use Rattle.shards.specs.Dividing.{most_names}
+use Rattle.shards.proofs.TakingMaps.{all_before, forms_fit, taken_map, taken_unseen, unfit_last}
 use Rattle.shards.proofs.divider.Divider.take_map.Goals as goal
 
 pub returns-in-Ok-clause-taken : goal.returns-in-Ok-clause-taken
@@ -18,8 +22,10 @@ returns-in-Ok-clause-taken c = λ count maps written d says spells h.
     (some.ensures.event ds d says h.read)) in
     let read = subst (λ (r : LongReader). AreReadAtAnyLength r (ds ++ d ∷ [])) (sym c.in-Ok.ensures.reader)
     (some.ensures.read ds d says h.read) in
-    taken_line count c.args.self.now c.put.new.self maps written d c.args.text.now some.event h read spells own
-    c.in-Ok.ensures.shards c.in-Ok.ensures.adds
+    let client = subst (λ (s : OperationMap). Says s d) c.in-OfClient.is says in
+    taken_map count c.args.self.now c.put.new.self maps written d (client_map c.in-OfClient.map client.0)
+    some.event.number h read client.1 (search rules) own.number c.in-Ok.ensures.shards c.in-Ok.ensures.tally
+    (c.in-Ok.ensures.adds d client spells)
 
 pub returns-in-Ok-None-clause-taken : goal.returns-in-Ok-None-clause-taken
 returns-in-Ok-None-clause-taken c = λ count maps written d says spells h.
@@ -29,10 +35,39 @@ returns-in-Ok-None-clause-taken c = λ count maps written d says spells h.
     let no = no_client ds d read.faultless
     (subst (λ (o : Option Event). events_from 0 (ds ++ d ∷ []) ≡ events_from 0 ds ++ option_to_list o) none.field-0-is
     (none.ensures.event ds d says h.read)) in
-    taken_unseen count c.args.self.now _ maps written d c.args.text.now h read spells no refl refl
+    taken_unseen count c.args.self.now _ maps written d h read no refl refl refl
+
+pub returns-then-not-fits-clause-fault : goal.returns-then-not-fits-clause-fault
+returns-then-not-fits-clause-fault c = λ count maps written d says h.
+    let ds = forms_of maps in
+    let map = c.in-OfClient.map in
+    let client = subst (λ (s : OperationMap). Says s d) c.in-OfClient.is says in
+    let read = c.in-Ok-Some.ensures.read ds d says h.read in
+    let past = c.if-not-fits.ensures in
+    let shards = c.args.self.now.shards in
+    let own : shards ≤ map.object / most_names = elim (cases_lt (map.object / most_names) shards) [
+      | inl fits ↦ let no = past.1 fits in absurd (cc no)
+      | inr unfit ↦ unfit
+    ] in
+    let unfit : count ≤ map.object / most_names = subst (λ n. n ≤ map.object / most_names) h.shards own in
+    unfit_last count ds d (client_map map client.0) read.faultless client.1 unfit (forms_fit count maps h.fit)
+
+-- only the map of a client has an event
+pub returns-in_default : goal.returns-in_default
+returns-in_default c = record {
+  taken = λ count maps written d says spells h.
+      let ds = forms_of maps in
+      let some = c.in-Ok-Some in
+      let own = event_is ds d some.event
+      (subst (λ (o : Option Event). events_from 0 (ds ++ d ∷ []) ≡ events_from 0 ds ++ option_to_list o)
+      some.field-0-is (some.ensures.event ds d says h.read)) in
+      absurd (says_client c.args.said d own.map says own.client c.in_default.not-OfClient);
+  fault = tt;
+  of_map = tt;
+}
 
 pub returns-in-Err-clause-fault : goal.returns-in-Err-clause-fault
-returns-in-Err-clause-fault c = λ other count maps written d says h.
+returns-in-Err-clause-fault c = λ count maps written d says h other.
     let ds = forms_of maps in
     let e = c.in-Err.ensures in (
       λ few. e.fault few other ds d says h.read,

@@ -1,0 +1,195 @@
+-- The forms of a shard say what those of the whole on its objects say, of these objects by their names there: they have
+-- no fault where the whole has none, and denote the same events, renamed.
+use Rattle.std.proofs.Common.{◌≡◌, ℕ, ◌+◌, ◌==◌, Bool, true, false, cond, inl, inr, List, [], ◌∷◌, ◌++◌, All, filter}
+use Rattle.std.proofs.Common.{map, Option, Some, None, refl, ap, sym, ◌∙◌, subst}
+use Rattle.std.specs.List.{cons_option}
+use Rattle.std.proofs.lemmas.Bool.{eqb-true}
+use Rattle.std.proofs.lemmas.List.{map-append}
+use Rattle.std.proofs.lemmas.List.Elements.{All-head, All-tail}
+use Rattle.model.proofs.Lists.{In, in_filter, in_filter_passes, in_right, in_split}
+use Rattle.edn_reader.specs.Datum.{Datum}
+use Rattle.events.specs.declared.event.Action.{Action}
+use Rattle.events.specs.declared.event.Event.{Event}
+use Rattle.events.specs.Events.{IsNamed}
+use Rattle.history.specs.Maps.{ClientMap, client_of, clients}
+use Rattle.history.specs.Denotes.{action_of, event_with, event_of, events_from}
+use Rattle.history.specs.Faults.{IsFaultlessAtAnyLength}
+use Rattle.history.specs.declared.fault.HistoryFaultKind.TheVariants.{BadValue}
+use Rattle.history.proofs.FirstFaults.{bad_stands}
+use Rattle.history.proofs.Proper.{proper_at_any_length}
+use Rattle.shards.specs.Forms.{is_on, forms_on}
+use Rattle.shards.specs.Shards.{AreApart, events_on, renamed, renamed_event, said}
+use Rattle.shards.specs.ShardTexts.{IsRenamed, IsSpelled, SaysRenamed, SpelledMap}
+use Rattle.shards.proofs.FewerEvents.{said_on}
+use Rattle.shards.proofs.FewerForms.{client_on, clients_on, faultless_from, fine_on_objects}
+use Rattle.shards.proofs.FewerMaps.{on}
+use Rattle.shards.proofs.RenamedMaps.{AreMapsApart, AreRenamedMaps, are_fine_renamed, same_action}
+use Rattle.shards.proofs.RenamedObjects.{named_in}
+
+-- forms one by one
+abbrev AreRenamedForms : (ℕ → ℕ) → List Datum → List Datum → Type 0
+AreRenamedForms name [] [] = Unit {0}
+AreRenamedForms name [] (e ∷ es) = ⊥
+AreRenamedForms name (d ∷ ds) [] = ⊥
+AreRenamedForms name (d ∷ ds) (e ∷ es) = SaysRenamed name d e × AreRenamedForms name ds es
+
+-- the forms of a shard
+abbrev pub own_forms_on : (ℕ → Bool) → List SpelledMap → List Datum
+own_forms_on has ms = map (λ m. m.own) (filter (λ m. is_on has m.form) ms)
+
+own_renamed : (name : ℕ → ℕ) (has : ℕ → Bool) (ms : List SpelledMap) → All (IsSpelled name) ms
+    → AreRenamedForms name (forms_on has (map (λ m. m.form) ms)) (own_forms_on has ms)
+own_renamed name has [] each = tt
+own_renamed name has (m ∷ ms) each =
+    go (is_on has m.form) refl (own_renamed name has ms (All-tail (IsSpelled name) m ms each))
+  where
+    forms : List Datum
+    forms = forms_on has (map (λ x. x.form) ms)
+
+    kept : List SpelledMap
+    kept = filter (λ x. is_on has x.form) ms
+
+    go : (b : Bool) → is_on has m.form ≡ b → AreRenamedForms name forms (map (λ x. x.own) kept)
+        → AreRenamedForms name (cond b (m.form ∷ forms) forms) (map (λ x. x.own) (cond b (m ∷ kept) kept))
+    go true q rest =
+        let client = client_on has m.form q in
+        ((All-head (IsSpelled name) m ms each client.0 client.1).0, rest)
+    go false q rest = rest
+
+-- ---- no fault
+
+clients_renamed : (name : ℕ → ℕ) (ds es : List Datum) → AreRenamedForms name ds es
+    → AreRenamedMaps name (clients ds) (clients es)
+clients_renamed name [] [] h = tt
+clients_renamed name [] (e ∷ es) h = absurd h
+clients_renamed name (d ∷ ds) [] h = absurd h
+clients_renamed name (d ∷ ds) (e ∷ es) h =
+    let says = h.0 in
+    subst (λ o. AreRenamedMaps name (cons_option o (clients ds)) (clients (e ∷ es))) (sym says.2)
+    (subst (λ o. AreRenamedMaps name (says.0 ∷ clients ds) (cons_option o (clients es))) (sym says.3)
+    (says.4, clients_renamed name ds es h.1))
+
+renamed_client : (name : ℕ → ℕ) (ds es : List Datum) → AreRenamedForms name ds es → (e : Datum) → In e es
+    → (n : ClientMap) × (client_of e ≡ Some n)
+renamed_client name [] [] h e i = absurd i
+renamed_client name [] (x ∷ es) h e i = absurd h
+renamed_client name (d ∷ ds) [] h e i = absurd h
+renamed_client name (d ∷ ds) (x ∷ es) h e i = elim i [
+  | inl q ↦ let says = h.0 in (says.1, ap client_of q ∙ says.3)
+  | inr j ↦ renamed_client name ds es h.1 e j
+]
+
+-- each map of a client says something
+abbrev HaveActions : List Datum → Type 0
+HaveActions ds = (d : Datum) (m : ClientMap) → In d ds → client_of d ≡ Some m → action_of m.type m ≡ None → ⊥
+
+have_actions : (ds : List Datum) → IsFaultlessAtAnyLength ds → HaveActions ds
+have_actions ds faultless d m i q none =
+    let parts = in_split d ds i in
+    faultless parts.0 parts.1 d BadValue parts.2 (m, q, bad_stands m.type m none)
+
+event_in : (ds : List Datum) (k : ℕ) → HaveActions ds → (m : ClientMap) → In m (clients ds)
+    → (e : Event) × In e (events_from k ds) × (e.object ≡ m.object)
+event_in [] k have m i = absurd i
+event_in (d ∷ ds) k have m i = go (client_of d) refl i (λ j. event_in ds (k + 1) (λ x c l. have x c (inr l)) m j)
+  where
+    later : List Event
+    later = events_from (k + 1) ds
+
+    Found : List Event → Type 0
+    Found es = (e : Event) × In e es × (e.object ≡ m.object)
+
+    with_action : (c : ClientMap) (a : Option Action) → client_of d ≡ Some c → action_of c.type c ≡ a → m ≡ c
+        → Found (event_with k c a ++ later)
+    with_action c None q r s = absurd (have d c (inl refl) q r)
+    with_action c (Some a) q r s = (
+      record { number = k; process = c.process; object = c.object; action = a },
+      inl refl,
+      ap (λ (x : ClientMap). x.object) (sym s),
+    )
+
+    go : (o : Option ClientMap) → client_of d ≡ o → In m (cons_option o (clients ds))
+        → (In m (clients ds) → Found later) → Found (event_of k o ++ later)
+    go None q j rest = rest j
+    go (Some c) q j rest = elim j [
+      | inl s ↦ with_action c (action_of c.type c) q refl s
+      | inr l ↦ let f = rest l in (f.0, in_right f.0 (event_with k c (action_of c.type c)) later f.1, f.2)
+    ]
+
+-- the object of each map of a client is named
+map_named : (ds : List Datum) → IsFaultlessAtAnyLength ds → (m : ClientMap) → In m (clients ds)
+    → IsNamed (events_from 0 ds) m.object
+map_named ds faultless m i =
+    let e = event_in ds 0 (have_actions ds faultless) m i in
+    subst (IsNamed (events_from 0 ds)) e.2
+    (named_in (events_from 0 ds) (proper_at_any_length ds faultless) e.0 e.1)
+
+maps_apart : (shard_of name : ℕ → ℕ) (ds : List Datum) → IsFaultlessAtAnyLength ds
+    → AreApart shard_of name (events_from 0 ds) → (s : ℕ) → AreMapsApart name (on (λ x. shard_of x == s) (clients ds))
+maps_apart shard_of name ds faultless apart s x y i j q =
+    let test = λ (m : ClientMap). shard_of m.object == s in
+    apart x.object y.object (map_named ds faultless x (in_filter test x (clients ds) i))
+    (map_named ds faultless y (in_filter test y (clients ds) j))
+    (eqb-true (shard_of x.object) s (in_filter_passes test x (clients ds) i)
+    ∙ sym (eqb-true (shard_of y.object) s (in_filter_passes test y (clients ds) j))) q
+
+pub own_faultless : (shard_of name : ℕ → ℕ) (ms : List SpelledMap) → All (IsSpelled name) ms
+    → IsFaultlessAtAnyLength (map (λ m. m.form) ms) → (s : ℕ)
+    → AreApart shard_of name (events_from 0 (map (λ m. m.form) ms))
+    → IsFaultlessAtAnyLength (own_forms_on (λ x. shard_of x == s) ms)
+own_faultless shard_of name ms each faultless s apart =
+    let ds = map (λ (m : SpelledMap). m.form) ms in
+    let has = λ (x : ℕ). shard_of x == s in
+    let own = own_forms_on has ms in
+    let are = own_renamed name has ms each in
+    faultless_from own (renamed_client name (forms_on has ds) own are)
+    (are_fine_renamed name [] [] (on has (clients ds)) (clients own) tt
+    (subst (λ cs. AreRenamedMaps name cs (clients own)) (clients_on has ds)
+    (clients_renamed name (forms_on has ds) own are))
+    (maps_apart shard_of name ds faultless apart s) (fine_on_objects has ds faultless))
+
+-- ---- events
+
+event_renamed : (name : ℕ → ℕ) (k : ℕ) (m n : ClientMap) (a : Option Action) → IsRenamed name m n
+    → event_with k n a ≡ renamed name (event_with k m a)
+event_renamed name k m n None r = refl
+event_renamed name k m n (Some a) r =
+    ap (λ p. record { number = k; process = p; object = n.object; action = a } ∷ []) r.process
+    ∙ ap (λ x. record { number = k; process = m.process; object = x; action = a } ∷ []) r.object
+
+events_renamed : (name : ℕ → ℕ) (ds es : List Datum) → AreRenamedForms name ds es → (k : ℕ)
+    → events_from k es ≡ renamed name (events_from k ds)
+events_renamed name [] [] h k = refl
+events_renamed name [] (e ∷ es) h k = absurd h
+events_renamed name (d ∷ ds) [] h k = absurd h
+events_renamed name (d ∷ ds) (e ∷ es) h k =
+    let m = h.0.0 in
+    let n = h.0.1 in
+    let r = h.0.4 in
+    ap (λ o. event_of k o ++ events_from (k + 1) es) h.0.3
+    ∙ (ap (λ xs. event_with k n (action_of n.type n) ++ xs) (events_renamed name ds es h.1 (k + 1))
+    ∙ (ap (λ a. event_with k n a ++ renamed name (events_from (k + 1) ds)) (same_action name m n r)
+    ∙ (ap (λ xs. xs ++ renamed name (events_from (k + 1) ds)) (event_renamed name k m n (action_of m.type m) r)
+    ∙ (sym (map-append (renamed_event name) (event_with k m (action_of m.type m)) (events_from (k + 1) ds))
+    ∙ ap (λ o. renamed name (event_of k o ++ events_from (k + 1) ds)) (sym h.0.2)))))
+
+pub own_events_are : (name : ℕ → ℕ) (has : ℕ → Bool) (ms : List SpelledMap) → All (IsSpelled name) ms
+    → events_from 0 (own_forms_on has ms) ≡ renamed name (events_from 0 (forms_on has (map (λ m. m.form) ms)))
+own_events_are name has ms each = events_renamed name (forms_on has (map (λ m. m.form) ms)) (own_forms_on has ms)
+    (own_renamed name has ms each) 0
+
+-- what renamed events say depends on what the events say
+said_renamed : (name : ℕ → ℕ) (es : List Event)
+    → map said (renamed name es) ≡ map (λ t. (t.0, name t.1, t.2)) (map said es)
+said_renamed name [] = refl
+said_renamed name (e ∷ es) = ap (λ ts. (e.process, name e.object, e.action) ∷ ts) (said_renamed name es)
+
+pub own_said : (name : ℕ → ℕ) (has : ℕ → Bool) (ms : List SpelledMap) → All (IsSpelled name) ms
+    → map said (events_from 0 (own_forms_on has ms))
+    ≡ map said (renamed name (events_on has (events_from 0 (map (λ m. m.form) ms))))
+own_said name has ms each =
+    let ds = map (λ (m : SpelledMap). m.form) ms in
+    ap (map said) (own_events_are name has ms each)
+    ∙ (said_renamed name (events_from 0 (forms_on has ds))
+    ∙ (ap (map (λ (t : ℕ × ℕ × Action). (t.0, name t.1, t.2))) (said_on has ds 0 0)
+    ∙ sym (said_renamed name (events_on has (events_from 0 ds)))))

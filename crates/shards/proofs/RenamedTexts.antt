@@ -1,0 +1,68 @@
+-- A text that was written anew and read again: it spells one map of a client, which says what the map says that was
+-- given, of an object by another number.
+use Rattle.std.proofs.Common.{◌≡◌, ℕ, true, List, [], ◌∷◌, length, get_or, Option, Some, None, refl, ap, sym, ◌∙◌}
+use Rattle.std.proofs.Common.{subst, arith}
+use Rattle.std.specs.Option.{option_eq}
+use Rattle.edn_reader.specs.Datum.{Datum}
+use Rattle.edn_reader.specs.Spells.{Spells}
+use Rattle.history.specs.Maps.{client_of}
+use Rattle.history.specs.MapTexts.{AreMapsOf, AreMapTexts}
+use Rattle.history.specs.Views.{IsClient, Says, client_map}
+use Rattle.history.specs.declared.client_map.ClientMap.{ClientMap}
+use Rattle.history.specs.declared.client_map.OperationMap.TheVariants.{OfClient}
+use Rattle.history.specs.declared.map_texts.MapText.{MapText}
+use Rattle.seq_objects.specs.contracts.value.ValuePartialEq.TheImpl.{eq-value}
+use Rattle.seq_objects.specs.declared.value.Value.{Value}
+use Rattle.seq_objects.specs.declared.value.Value.TheVariants.{Nil, False, True, Int, Pair, Triple}
+use Rattle.shards.specs.ShardTexts.{SaysRenamed}
+
+-- values that are found equal are the same
+values_same : (a b : Value) → eq-value.it a b ≡ true → a ≡ b
+values_same Nil Nil q = refl
+values_same False False q = refl
+values_same True True q = refl
+values_same (Int x) (Int y) q = grind arith
+values_same (Pair x y) (Pair z w) q = grind arith
+values_same (Triple x y z) (Triple u v w) q = grind arith
+values_same a b q = absurd (cc q)
+
+pub values_in_same : (a b : Option Value) → option_eq eq-value.it a b ≡ true → a ≡ b
+values_in_same None None q = refl
+values_in_same None (Some w) q = absurd (cc q)
+values_in_same (Some v) None q = absurd (cc q)
+values_in_same (Some v) (Some w) q = ap Some (values_same v w q)
+
+pub same_map : (a b : ClientMap) → a.process ≡ b.process → a.object ≡ b.object → a.map_type ≡ b.map_type
+    → a.function ≡ b.function → a.value ≡ b.value → a ≡ b
+same_map a b process object type function value =
+    ap (λ p. record a { process = p }) process
+    ∙ (ap (λ x. record a { process = b.process; object = x }) object
+    ∙ (ap (λ t. record a { process = b.process; object = b.object; map_type = t }) type
+    ∙ (ap (λ f. record a { process = b.process; object = b.object; map_type = b.map_type; function = f }) function
+    ∙ ap (λ v. record b { value = v }) value)))
+
+abbrev SpellsOne : List ℕ → ClientMap → Type 0
+SpellsOne text c = (e : Datum) × Spells (e ∷ []) text × IsClient (Some c) (client_of e)
+
+one_form : (m : MapText) (ds : List Datum) (text : List ℕ) (c : ClientMap) → AreMapTexts (m ∷ []) ds → Spells ds text
+    → m.said ≡ OfClient c → SpellsOne text c
+one_form m [] text c h spells is = absurd h
+one_form m (e ∷ []) text c h spells is = (e, spells, subst (λ s. Says s e) is h.0.says)
+one_form m (e ∷ f ∷ ds) text c h spells is = absurd h.1
+
+pub spells_one : (ms : List MapText) (z : MapText) (text : List ℕ) (said c : ClientMap) → AreMapsOf text ms
+    → length ms ≡ 1 → (get_or ms 0 z).said ≡ OfClient said → said ≡ c → SpellsOne text c
+spells_one [] z text said c h one is same = absurd (omega (arith, one))
+spells_one (m ∷ []) z text said c h one is same = one_form m h.0 text c h.2 h.1 (is ∙ ap OfClient same)
+spells_one (m ∷ n ∷ ms) z text said c h one is same = absurd (omega (arith, one))
+
+-- the form that is spelled anew
+pub says_renamed : (map : ClientMap) (name : ℕ) (d e : Datum) → IsClient (Some map) (client_of d)
+    → IsClient (Some (record map { object = name })) (client_of e) → SaysRenamed (λ x. name) d e
+says_renamed map name d e before after = (
+  client_map map before.0,
+  client_map (record map { object = name }) after.0,
+  before.1,
+  after.1,
+  record { process = refl; type = refl; function = refl; object = refl; value = after.2 ∙ sym before.2 },
+)

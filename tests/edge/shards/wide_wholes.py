@@ -1,0 +1,86 @@
+"""Small histories whose objects get other numbers, past 65,535 too: what merge says of their shards is what verify says of the small one."""
+import random
+import re
+from dataclasses import dataclass, replace
+
+from .dividing import MAP, NAMES, OBJECT, Folder, evidence_in_shards, judged, object_of
+from .small_wholes import faults_of_answer, faults_of_split, on_all, whole
+
+# How many shards a wide whole has.
+SHARDS = (2, 3, 5, 64)
+# An object as it is spelled, and what may follow it in a map that is one.
+INTEGER, END = re.compile(rb"[-+]?(0|[1-9]\d*)"), re.compile(rb"[\s,}]")
+
+
+@dataclass(frozen=True)
+class Wide:
+    """A whole like a small history: its text, the number of each object of the small one, and after which bytes of that how many more come."""
+
+    text: bytes
+    numbers: dict
+    longer: tuple
+
+    def answer(self, ran):
+        """What is said of the small history, said of this one: in its numbers, and in their order."""
+        told = re.fullmatch(rb"malformed history: (E\d+) at byte (\d+)\n", ran.out)
+        if told:
+            at = int(told[2])
+            return replace(ran, out=b"malformed history: %s at byte %d\n" % (told[1], at + sum(more for end, more in self.longer if end <= at)))
+        head, *those = re.split(rb"^(?=; object \d+: )", ran.out, flags=re.M)
+        return replace(ran, out=head + b"".join(text for _, text in sorted(map(self.of_object, those))))
+
+    def of_object(self, text):
+        """What is said of one object: its number in this whole, and what is said of it here."""
+        on = self.numbers[int(re.match(rb"; object (\d+)", text)[1])]
+        return on, re.sub(rb"^(; object |; \{:object )\d+", rb"\g<1>%d" % on, text, flags=re.M)
+
+
+def names_an_object(it, history):
+    return INTEGER.fullmatch(it[1]) and 0 <= int(it[1]) < NAMES and END.match(history, it.end())
+
+
+def other_numbers(rng, objects, shards, least):
+    """Another number of at least this for each object. All fit this many shards, and often some of them have the same name in two shards."""
+    names = sorted({0, 1, NAMES - 1, rng.randrange(NAMES), rng.randrange(NAMES)})
+    few = [it for multiple in range(shards) for it in (multiple * NAMES + name for name in names) if it >= least]
+    among = few if len(few) >= len(objects) and rng.random() < 0.6 else range(least, shards * NAMES)
+    return dict(zip(objects, rng.sample(among, len(objects))))
+
+
+def widened(history, rng, shards):
+    """A small history with other numbers for its objects. Where a map of a client has no `:object`, object 0 keeps its number."""
+    history = history.encode()
+    named = [it for it in OBJECT.finditer(history) if names_an_object(it, history)]
+    keeps_0 = any(object_of(it) is not None and not OBJECT.search(it) for it in MAP.findall(history))
+    objects = sorted({int(it[1]) for it in named})
+    numbers = {**other_numbers(rng, objects, shards, 1 if keeps_0 else 0), **({0: 0} if keeps_0 else {})}
+    parts, longer, begin = [], [], 0
+    for it in named:
+        number = b"%d" % numbers[int(it[1])]
+        parts += [history[begin : it.start(1)], number]
+        longer.append((it.end(), len(number) - len(it[1])))
+        begin = it.end()
+    return Wide(b"".join((*parts, history[begin:])), numbers, tuple(longer))
+
+
+def look(program, number):
+    """Splits, finds and merges one wide whole. Returns the status of the small one, its damage, and what is wrong, or None."""
+    history, damage = whole(number)
+    small, found = judged(program, f"small.{number}", history)
+    rng = random.Random(f"wide {number}")
+    shards = rng.choice(SHARDS)
+    wide = widened(history, rng, shards)
+    expected = wide.answer(small)
+    folder = Folder(program, f"wide.{number}", shards)
+    wrong = faults_of_split(folder, wide.text, expected, folder.split(program.write(f"wide.{number}.edn", wide.text)))
+    if wrong is None and small.status != 2:
+        wrong = faults_of_answer(folder, evidence_in_shards(found, wide.numbers, shards), expected)
+    return small.status, damage, wrong
+
+
+def wide_wholes(program, report):
+    """Of a thousand small histories whose objects get numbers past 65,535, merge says line for line what verify says of the small one."""
+    return on_all(report, "shards of wide whole", lambda it: look(program, it))
+
+
+PARTS = (wide_wholes,)
