@@ -7,68 +7,38 @@ ghost use Rattle.history.specs.Maps.{client_of};
 ghost use Rattle.history.specs.Views.{IsClient};
 ghost use Rattle.shards.specs.ShardTexts.{SaysRenamed};
 
-use edn::{after, after_gap, push_natural};
+use edn::{Piece, after, after_gap, push_natural};
 use history::{ClientMap, OperationMap, maps_of};
 use std::alloc::{AllocError, Global};
 
 // ---- where the number is
 
-/// Whether a word does not have this byte.
-fn ends_word(byte: u8) -> bool {
-    matches!(
-        byte,
-        b'\t' | b'\n' | b'\r' | b' ' | b',' | b';' | b'"' | b'(' | b')' | b'[' | b']' | b'{' | b'}'
-    )
-}
-
-fn after_word(text: &[u8]) -> &[u8] {
-    for place in 0..text.len() {
-        if ends_word(text[place]) {
-            return &text[place..];
-        }
+/// The token that is next in the text, and what follows it.
+fn next_token(text: &[u8]) -> Option<(Piece, &[u8])> {
+    let token = after_gap(text);
+    if token.is_empty() {
+        return None;
     }
-    &text[text.len()..]
-}
-
-/// After a string, whose first quote is not in the text.
-fn after_string(text: &[u8]) -> &[u8] {
-    let mut is_escaped = false;
-    for place in 0..text.len() {
-        let byte = text[place];
-        if byte == b'"' && !is_escaped {
-            return &text[place + 1..];
-        }
-        is_escaped = byte == b'\\' && !is_escaped;
-    }
-    &text[text.len()..]
-}
-
-/// After the token that the text begins with.
-fn after_token(text: &[u8]) -> &[u8] {
-    match text {
-        [b'"', rest @ ..] => after_string(rest),
-        [b'{' | b'}' | b'[' | b']', rest @ ..] => rest,
-        _ => after_word(text),
-    }
+    Piece::first(token).ok()
 }
 
 /// After the element that the text begins with, which may be a vector or a map.
-fn after_element(text: &[u8]) -> &[u8] {
+fn after_element(text: &[u8]) -> Option<&[u8]> {
     let mut rest = text;
     let mut depth: usize = 0;
     for _ in 0..text.len() {
-        let token = after_gap(rest);
+        let (token, behind) = next_token(rest)?;
+        rest = behind;
         depth = match token {
-            [b'{' | b'[', ..] => depth.saturating_add(1),
-            [b'}' | b']', ..] => depth.saturating_sub(1),
+            Piece::OpenMap | Piece::OpenVector => depth.saturating_add(1),
+            Piece::CloseMap | Piece::CloseVector => depth.saturating_sub(1),
             _ => depth,
         };
-        rest = after_token(token);
         if depth == 0 {
             break;
         }
     }
-    rest
+    Some(rest)
 }
 
 /// What is before the rest of a text.
@@ -76,15 +46,18 @@ fn before<'a>(text: &'a [u8], rest: &[u8]) -> Option<&'a [u8]> {
     text.get(..text.len().checked_sub(rest.len())?)
 }
 
+fn is_object(key: &Piece) -> bool {
+    matches!(key, Piece::Keyword(name) if *name == "object")
+}
+
 /// What a map has before the value of its key `:object`, and after it.
 fn around_object(text: &[u8]) -> Option<(&[u8], &[u8])> {
     let mut rest = after(text, b"{")?;
     for _ in 0..text.len() {
-        let key = after_gap(rest);
-        let behind = after_token(key);
+        let (key, behind) = next_token(rest)?;
         let value = after_gap(behind);
-        rest = after_element(value);
-        if before(key, behind)? == b":object".as_slice() {
+        rest = after_element(value)?;
+        if is_object(&key) {
             return Some((before(text, value)?, rest));
         }
     }

@@ -139,7 +139,7 @@ def is_running(number):
 
 
 def evidence_in(folder):
-    return [it for it in folder.files() if it.endswith(".evidence")]
+    return [it for it in folder.names() if it.endswith(".evidence")]
 
 
 def by_workers_of_one_machine(python, program, report):

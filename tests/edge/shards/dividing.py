@@ -107,12 +107,16 @@ class Folder:
         """Whether the folder says how many shards it has."""
         return os.path.exists(self.path("shards"))
 
+    def names(self):
+        """The names of the files that are in the folder, if it is there."""
+        return os.listdir(self.path()) if os.path.isdir(self.path()) else []
+
     def files(self):
         """What is in the folder, if it is there: each file with its bytes."""
         files = {}
-        for it in os.scandir(self.path()) if os.path.isdir(self.path()) else ():
-            with open(it.path, "rb") as file:
-                files[it.name] = file.read()
+        for name in self.names():
+            with open(self.path(name), "rb") as file:
+                files[name] = file.read()
         return files
 
 
