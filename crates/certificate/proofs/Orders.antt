@@ -14,29 +14,39 @@ use Rattle.certificate.specs.TokenBuffers.{IsKept, object_of}
 
 -- ---- the object
 
-pub object_is : (number : List Piece) (d : Datum) → IsValueIn number (codes "object") (truncated d) → object_in (natural_first (token_buffer_tokens number)) ≡ object_of d
+pub object_is : (number : List Piece) (d : Datum) → IsValueIn number (codes "object") (truncated d)
+    → object_in (natural_first (token_buffer_tokens number)) ≡ object_of d
 object_is number (atom a) h = absurd h
 object_is number (vector ds) h = absurd h
 object_is number (dictionary es) h =
-    ap object_in (natural_is number (value_at (codes "object") (truncated_entries es)) h ∙ ap natural_in (value_of_truncated (codes "object") es) ∙ natural_of_truncated (value_at (codes "object") es))
+    ap object_in (natural_is number (value_at (codes "object") (truncated_entries es)) h
+      ∙ ap natural_in (value_of_truncated (codes "object") es) ∙ natural_of_truncated (value_at (codes "object") es))
 
 -- ---- the certificate
 
 pub certificate_is : (d : Datum) → certificate_of d ≡ reading_with (object_of d) (integer_vector_at (codes "order") d)
 certificate_is (atom a) = refl
 certificate_is (vector ds) = refl
-certificate_is (dictionary es) = ap (reading_with (object_of (dictionary es))) (sym (integer_vector_of_value (codes "order") es))
+certificate_is (dictionary es) =
+    ap (reading_with (object_of (dictionary es))) (sym (integer_vector_of_value (codes "order") es))
 
 -- by what is kept
-pub certificate_by : (ps : List Piece) (integer_vector : Option (List ℤ)) (o : Option ℕ) (d : Datum) → IsKept ps integer_vector d → o ≡ object_of d → certificate_of d ≡ reading_with o integer_vector
-certificate_by ps integer_vector o d h e = certificate_is d ∙ ap (λ (x : Option ℕ). reading_with x (integer_vector_at (codes "order") d)) (sym e) ∙ ap (reading_with o) (sym h.1)
+pub certificate_by : (ps : List Piece) (integer_vector : Option (List ℤ)) (o : Option ℕ) (d : Datum)
+    → IsKept ps integer_vector d → o ≡ object_of d → certificate_of d ≡ reading_with o integer_vector
+certificate_by ps integer_vector o d h e =
+    certificate_is d ∙ ap (λ (x : Option ℕ). reading_with x (integer_vector_at (codes "order") d)) (sym e)
+    ∙ ap (reading_with o) (sym h.1)
 
-pub no_integer_vector : (ps : List Piece) (integer_vector : Option (List ℤ)) (o : Option ℕ) (d : Datum) → IsKept ps integer_vector d → o ≡ object_of d → integer_vector ≡ None → certificate_of d ≡ None
-no_integer_vector ps integer_vector o d h e n = certificate_by ps integer_vector o d h e ∙ ap (reading_with o) n ∙ nothing o
+pub no_integer_vector : (ps : List Piece) (integer_vector : Option (List ℤ)) (o : Option ℕ) (d : Datum)
+    → IsKept ps integer_vector d → o ≡ object_of d → integer_vector ≡ None → certificate_of d ≡ None
+no_integer_vector ps integer_vector o d h e n =
+    certificate_by ps integer_vector o d h e ∙ ap (reading_with o) n ∙ nothing o
   where
     nothing : (x : Option ℕ) → reading_with x None ≡ None
     nothing None = refl
     nothing (Some x) = refl
 
-pub no_object : (ps : List Piece) (integer_vector : Option (List ℤ)) (o : Option ℕ) (d : Datum) → IsKept ps integer_vector d → o ≡ object_of d → o ≡ None → certificate_of d ≡ None
-no_object ps integer_vector o d h e n = certificate_by ps integer_vector o d h e ∙ ap (λ (x : Option ℕ). reading_with x integer_vector) n
+pub no_object : (ps : List Piece) (integer_vector : Option (List ℤ)) (o : Option ℕ) (d : Datum)
+    → IsKept ps integer_vector d → o ≡ object_of d → o ≡ None → certificate_of d ≡ None
+no_object ps integer_vector o d h e n =
+    certificate_by ps integer_vector o d h e ∙ ap (λ (x : Option ℕ). reading_with x integer_vector) n

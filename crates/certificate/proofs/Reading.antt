@@ -1,5 +1,6 @@
 -- Reading certificates form by form: the forms so far have no fault, or this is the first one.
-use Rattle.std.proofs.Common.{◌≡◌, ◌≢◌, ℕ, zero, suc, ◌+◌, ◌<◌, ◌≤◌, ◌==◌, Bool, true, false, cond, List, [], ◌∷◌, ◌++◌, length, take, drop, get_or}
+use Rattle.std.proofs.Common.{◌≡◌, ◌≢◌, ℕ, zero, suc, ◌+◌, ◌<◌, ◌≤◌, ◌==◌, Bool, true, false, cond, List, [], ◌∷◌}
+use Rattle.std.proofs.Common.{◌++◌, length, take, drop, get_or}
 use Rattle.std.proofs.Common.{map, option_map, Option, Some, None, Contains, refl, ap, sym, ◌∙◌, length-append, arith}
 use Rattle.std.specs.Prelude.{ℤ, ◌||◌, codes}
 use Rattle.std.specs.List.{list_any}
@@ -32,14 +33,19 @@ at_place fs i f lt e = drop_more fs i f lt ∙ ap (λ (y : Form). y ∷ drop (i 
 
 -- ---- one certificate
 
-pub no_object : (es : Entries) (v : Option Datum) (n : Option ℕ) → v ≡ value_at (codes "object") es → n ≡ natural_in v → None ≡ object_in n → None ≡ certificate_of (dictionary es)
-no_object es v n h k e = ap (λ x. reading_with x (order_in (value_at (codes "order") es))) (e ∙ ap object_in k ∙ ap (λ w. object_in (natural_in w)) h)
+pub no_object : (es : Entries) (v : Option Datum) (n : Option ℕ) → v ≡ value_at (codes "object") es → n ≡ natural_in v
+    → None ≡ object_in n → None ≡ certificate_of (dictionary es)
+no_object es v n h k e =
+    ap (λ x. reading_with x (order_in (value_at (codes "order") es)))
+    (e ∙ ap object_in k ∙ ap (λ w. object_in (natural_in w)) h)
 
-pub both_keys : (es : Entries) (v w : Option Datum) (n x : Option ℕ) (o : Option (List ℤ)) → v ≡ value_at (codes "object") es → n ≡ natural_in v
+pub both_keys : (es : Entries) (v w : Option Datum) (n x : Option ℕ) (o : Option (List ℤ))
+    → v ≡ value_at (codes "object") es → n ≡ natural_in v
     → x ≡ object_in n → w ≡ value_at (codes "order") es → o ≡ order_in w
     → reading_with x o ≡ certificate_of (dictionary es)
 both_keys es v w n x o h k e g q =
-    ap (λ y. reading_with y o) (e ∙ ap object_in k ∙ ap (λ u. object_in (natural_in u)) h) ∙ ap (reading_with (object_in (natural_in (value_at (codes "object") es)))) (q ∙ ap order_in g)
+    ap (λ y. reading_with y o) (e ∙ ap object_in k ∙ ap (λ u. object_in (natural_in u)) h)
+      ∙ ap (reading_with (object_in (natural_in (value_at (codes "object") es)))) (q ∙ ap order_in g)
 
 -- ---- the forms so far
 
@@ -53,11 +59,13 @@ or_nothing : (b : Bool) → (b || false) ≡ cond b true false
 or_nothing true = refl
 or_nothing false = refl
 
-list_any-push : (p : Certificate → Bool) (cs : List Certificate) (c : Certificate) → list_any p (cs ++ c ∷ []) ≡ cond (p c) true (list_any p cs)
+list_any-push : (p : Certificate → Bool) (cs : List Certificate) (c : Certificate)
+    → list_any p (cs ++ c ∷ []) ≡ cond (p c) true (list_any p cs)
 list_any-push p [] c = or_nothing (p c)
 list_any-push p (b ∷ cs) c = ap (λ v. p b || v) (list_any-push p cs c) ∙ either (p b) (p c) (list_any p cs)
 
-list_any-none : (p : Certificate → Bool) (cs : List Certificate) (k : ℕ) (d : Certificate) → list_any p cs ≡ false → k < length cs → p (get_or cs k d) ≡ false
+list_any-none : (p : Certificate → Bool) (cs : List Certificate) (k : ℕ) (d : Certificate) → list_any p cs ≡ false
+    → k < length cs → p (get_or cs k d) ≡ false
 list_any-none p [] k d h lt = absurd (omega arith)
 list_any-none p (c ∷ cs) zero d h lt = (or_parts (p c) (list_any p cs) h).0
 list_any-none p (c ∷ cs) (suc k) d h lt = list_any-none p cs k d (or_parts (p c) (list_any p cs) h).1 (omega arith)
@@ -69,7 +77,8 @@ Contains-cons x xs y (k, lt, is) = (suc k, omega arith, is)
 abbrev pub Passes : (Certificate → Bool) → List Certificate → Type 0
 Passes p cs = (c : Certificate) × Contains cs c × (p c ≡ true)
 
-passes_first : (p : Certificate → Bool) (c : Certificate) (cs : List Certificate) (b : Bool) → p c ≡ b → (b || list_any p cs) ≡ true → (list_any p cs ≡ true → Passes p cs) → Passes p (c ∷ cs)
+passes_first : (p : Certificate → Bool) (c : Certificate) (cs : List Certificate) (b : Bool) → p c ≡ b
+    → (b || list_any p cs) ≡ true → (list_any p cs ≡ true → Passes p cs) → Passes p (c ∷ cs)
 passes_first p c cs true e h more = (c, (0, omega arith, refl), e)
 passes_first p c cs false e h more = let m = more h in (m.0, Contains-cons c cs m.0 m.1, m.2)
 
@@ -77,18 +86,22 @@ list_any-some : (p : Certificate → Bool) (cs : List Certificate) → list_any 
 list_any-some p [] h = absurd cc
 list_any-some p (c ∷ cs) h = passes_first p c cs (p c) refl h (list_any-some p cs)
 
-pub one_more_read : (ds : List Datum) (cs : List Certificate) (among after : ℕ → Bool) (d : Datum) (c : Certificate) → AreRead ds cs among
+pub one_more_read : (ds : List Datum) (cs : List Certificate) (among after : ℕ → Bool) (d : Datum) (c : Certificate)
+    → AreRead ds cs among
     → certificate_of d ≡ Some (reading_of c) → among c.object ≡ false
     → ((x : ℕ) → after x ≡ cond (c.object == x) true (among x)) → AreRead (ds ++ d ∷ []) (cs ++ c ∷ []) after
 one_more_read ds cs among after d c h own new more = record {
   denoted = record {
     each = map-append certificate_of ds (d ∷ []) ∙ ap (λ xs. xs ++ certificate_of d ∷ []) h.denoted.each
-        ∙ ap (λ v. map (λ b. Some (reading_of b)) cs ++ v ∷ []) own ∙ sym (map-append (λ b. Some (reading_of b)) cs (c ∷ []));
+        ∙ ap (λ v. map (λ b. Some (reading_of b)) cs ++ v ∷ []) own
+        ∙ sym (map-append (λ b. Some (reading_of b)) cs (c ∷ []));
     distinct = all_pairs_push (λ (a b : Certificate). a.object ≢ b.object) cs c h.denoted.distinct
         (λ k e lt same. both_ways ((get_or cs k e).object == c.object)
-        (list_any-none (λ b. b.object == c.object) cs k e (sym (h.objects c.object) ∙ new) lt) (eq-eqb (get_or cs k e).object c.object same));
+        (list_any-none (λ b. b.object == c.object) cs k e (sym (h.objects c.object) ∙ new) lt)
+          (eq-eqb (get_or cs k e).object c.object same));
   };
-  objects = λ x. more x ∙ ap (λ v. cond (c.object == x) true v) (h.objects x) ∙ sym (list_any-push (λ b. b.object == x) cs c);
+  objects = λ x. more x ∙ ap (λ v. cond (c.object == x) true v) (h.objects x)
+    ∙ sym (list_any-push (λ b. b.object == x) cs c);
 }
 
 -- ---- faults
@@ -102,7 +115,8 @@ record IsReadAt (earlier : List Datum) (d : Datum) (cs : List Certificate) : Typ
   each : map certificate_of earlier ≡ map (λ c. Some (reading_of c)) before
   is_own : certificate_of d ≡ Some (reading_of own)
 
-read_at : (earlier later : List Datum) (d : Datum) (cs : List Certificate) → map certificate_of (earlier ++ d ∷ later) ≡ map (λ c. Some (reading_of c)) cs → IsReadAt earlier d cs
+read_at : (earlier later : List Datum) (d : Datum) (cs : List Certificate)
+    → map certificate_of (earlier ++ d ∷ later) ≡ map (λ c. Some (reading_of c)) cs → IsReadAt earlier d cs
 read_at [] later d [] h = absurd cc
 read_at [] later d (c ∷ cs) h = record { before = []; own = c; later = cs; split = refl; each = refl; is_own = cc }
 read_at (e ∷ es) later d [] h = absurd cc
@@ -120,27 +134,37 @@ read_at (e ∷ es) later d (c ∷ cs) h =
     }
 
 -- the certificate of a form that was read
-read_from : (ds : List Datum) (cs : List Certificate) (d : Datum) (k : ℕ) → map certificate_of ds ≡ map (λ c. Some (reading_of c)) cs → k < length ds
+read_from : (ds : List Datum) (cs : List Certificate) (d : Datum) (k : ℕ)
+    → map certificate_of ds ≡ map (λ c. Some (reading_of c)) cs → k < length ds
     → get_or ds k d ≡ d → (c : Certificate) × Contains cs c × (certificate_of d ≡ Some (reading_of c))
 read_from [] cs d k h lt is = absurd (omega arith)
 read_from (e ∷ es) [] d k h lt is = absurd cc
 read_from (e ∷ es) (c ∷ cs) d zero h lt is = (c, (0, omega arith, refl), ap certificate_of (sym is) ∙ cc)
-read_from (e ∷ es) (c ∷ cs) d (suc k) h lt is = let r = read_from es cs d k (cc) (omega arith) is in (r.0, Contains-cons c cs r.0 r.1, r.2)
+read_from (e ∷ es) (c ∷ cs) d (suc k) h lt is =
+    let r = read_from es cs d k (cc) (omega arith) is in (r.0, Contains-cons c cs r.0 r.1, r.2)
 
 -- the form of a certificate
-form_from : (ds : List Datum) (cs : List Certificate) (c : Certificate) (k : ℕ) → map certificate_of ds ≡ map (λ b. Some (reading_of b)) cs
+form_from : (ds : List Datum) (cs : List Certificate) (c : Certificate) (k : ℕ)
+    → map certificate_of ds ≡ map (λ b. Some (reading_of b)) cs
     → k < length cs → get_or cs k c ≡ c → (d : Datum) × Contains ds d × (certificate_of d ≡ Some (reading_of c))
 form_from ds [] c k h lt is = absurd (omega arith)
 form_from [] (b ∷ bs) c k h lt is = absurd cc
-form_from (e ∷ es) (b ∷ bs) c zero h lt is = let own : certificate_of e ≡ Some (reading_of b) = cc in (e, (0, omega arith, refl), own ∙ ap (λ (x : Certificate). Some (reading_of x)) is)
-form_from (e ∷ es) (b ∷ bs) c (suc k) h lt is = let r = form_from es bs c k (cc) (omega arith) is in (r.0, Contains-cons e es r.0 r.1, r.2)
+form_from (e ∷ es) (b ∷ bs) c zero h lt is =
+    let own : certificate_of e ≡ Some (reading_of b) = cc in
+    (e, (0, omega arith, refl), own ∙ ap (λ (x : Certificate). Some (reading_of x)) is)
+form_from (e ∷ es) (b ∷ bs) c (suc k) h lt is =
+    let r = form_from es bs c k (cc) (omega arith) is in (r.0, Contains-cons e es r.0 r.1, r.2)
 
-apart : (cs before later : List Certificate) (c b : Certificate) → AreDistinct cs → cs ≡ before ++ c ∷ later → Contains before b → b.object ≡ c.object → ⊥
+apart : (cs before later : List Certificate) (c b : Certificate) → AreDistinct cs → cs ≡ before ++ c ∷ later
+    → Contains before b → b.object ≡ c.object → ⊥
 apart cs before later c b h split (k, lt, is) same =
-    let at_b : get_or cs k b ≡ b = ap (λ (xs : List Certificate). get_or xs k b) split ∙ get_or-append before (c ∷ later) b k lt ∙ is in
-    let at_c : get_or cs (length before) b ≡ c = ap (λ (xs : List Certificate). get_or xs (length before) b) split ∙ get_or-append_seam before c later b in
+    let at_b : get_or cs k b ≡ b =
+      ap (λ (xs : List Certificate). get_or xs k b) split ∙ get_or-append before (c ∷ later) b k lt ∙ is in
+    let at_c : get_or cs (length before) b ≡ c =
+      ap (λ (xs : List Certificate). get_or xs (length before) b) split ∙ get_or-append_seam before c later b in
     let long : length cs ≡ length before + length (c ∷ later) = ap length split ∙ length-append before (c ∷ later) in
-    h k (length before) b lt (omega (arith, long)) (ap (λ (x : Certificate). x.object) at_b ∙ same ∙ sym (ap (λ (x : Certificate). x.object) at_c))
+    h k (length before) b lt (omega (arith, long))
+      (ap (λ (x : Certificate). x.object) at_b ∙ same ∙ sym (ap (λ (x : Certificate). x.object) at_c))
 
 same_objects : (a b r s : Reading) → Some a ≡ Some r → Some b ≡ Some s → r.object ≡ s.object → a.object ≡ b.object
 same_objects a b r s p q e =
@@ -162,16 +186,19 @@ no_fault ds cs h earlier later d TwoForOneObject split fault =
     apart cs r.before r.later r.own f.0 h.distinct r.split f.1 same
 no_fault ds cs h earlier later d NoMemory split fault = fault
 
-pub fault_here : (ds : List Datum) (cs : List Certificate) (among : ℕ → Bool) (d : Datum) (kind : CertFaultKind) → AreRead ds cs among → IsFaultAmong among d kind → kind ≢ NoMemory → IsFault ds d kind
+pub fault_here : (ds : List Datum) (cs : List Certificate) (among : ℕ → Bool) (d : Datum) (kind : CertFaultKind)
+    → AreRead ds cs among → IsFaultAmong among d kind → kind ≢ NoMemory → IsFault ds d kind
 fault_here ds cs among d NotACertificate h fault other = fault
 fault_here ds cs among d TwoForOneObject h (r, own, stands) other =
     let some = list_any-some (λ c. c.object == r.object) cs (sym (h.objects r.object) ∙ stands) in
     let first = form_from ds cs some.0 some.1.0 h.denoted.each some.1.1 some.1.2 in
-    record { own = r; first = first.0; first_own = reading_of some.0; is_own = own; stands = first.1; is_first_own = first.2; same_object = eqb-true some.0.object r.object some.2 }
+    record { own = r; first = first.0; first_own = reading_of some.0; is_own = own; stands = first.1;
+        is_first_own = first.2; same_object = eqb-true some.0.object r.object some.2 }
 fault_here ds cs among d NoMemory h fault other = absurd (other refl)
 
 -- a form has one fault at most
-pub only_fault : (earlier : List Datum) (d : Datum) (kind other : CertFaultKind) → IsFault earlier d kind → IsFault earlier d other → number_of kind ≤ number_of other
+pub only_fault : (earlier : List Datum) (d : Datum) (kind other : CertFaultKind) → IsFault earlier d kind
+    → IsFault earlier d other → number_of kind ≤ number_of other
 only_fault earlier d NotACertificate NotACertificate h k = omega arith
 only_fault earlier d NotACertificate TwoForOneObject h k = omega arith
 only_fault earlier d NotACertificate NoMemory h k = omega arith
@@ -183,11 +210,15 @@ only_fault earlier d NoMemory other h k = absurd h
 pub not_denoted : (ds : List Datum) (e : CertFault) → IsFirstFault ds e → (cs : List Certificate) → Denotes ds cs → ⊥
 not_denoted ds e f cs h = no_fault ds cs h f.earlier f.later f.form e.kind f.split f.stands
 
-parts_at : (fs : List Form) (i : ℕ) (f : Form) → i < length fs → f ≡ get_or fs i f → views fs ≡ views (take i fs) ++ view f ∷ views (drop (i + 1) fs)
-parts_at fs i f lt is = ap views (sym (take-append-drop i fs) ∙ ap (λ (xs : List Form). take i fs ++ xs) (at_place fs i f lt is)) ∙ map-append view (take i fs) (f ∷ drop (i + 1) fs)
+parts_at : (fs : List Form) (i : ℕ) (f : Form) → i < length fs → f ≡ get_or fs i f
+    → views fs ≡ views (take i fs) ++ view f ∷ views (drop (i + 1) fs)
+parts_at fs i f lt is =
+    ap views (sym (take-append-drop i fs) ∙ ap (λ (xs : List Form). take i fs ++ xs) (at_place fs i f lt is))
+    ∙ map-append view (take i fs) (f ∷ drop (i + 1) fs)
 
 -- the first fault, after forms that were read
-pub first_fault : (fs : List Form) (i : ℕ) (f : Form) (cs : List Certificate) (among : ℕ → Bool) (kind : CertFaultKind) → i < length fs
+pub first_fault : (fs : List Form) (i : ℕ) (f : Form) (cs : List Certificate) (among : ℕ → Bool)
+    (kind : CertFaultKind) → i < length fs
     → f ≡ get_or fs i f → AreRead (views (take i fs)) cs among → IsFaultAmong among (view f) kind
     → kind ≢ NoMemory → IsFirstFault (views fs) (record { kind = kind; form = i })
 first_fault fs i f cs among kind lt is h fault other = record {
@@ -198,23 +229,29 @@ first_fault fs i f cs among kind lt is h fault other = record {
   place = length-map (take i fs) view ∙ length-take-le i fs (omega arith);
   stands = fault_here (views (take i fs)) cs among (view f) kind h fault other;
   least = no_fault (views (take i fs)) cs h.denoted;
-  first = λ k. only_fault (views (take i fs)) (view f) kind k (fault_here (views (take i fs)) cs among (view f) kind h fault other);
+  first = λ k. only_fault (views (take i fs)) (view f) kind k
+    (fault_here (views (take i fs)) cs among (view f) kind h fault other);
 }
 
 -- a certificate of an object that no earlier form has
-pub nothing_here : (ds : List Datum) (cs : List Certificate) (among : ℕ → Bool) (d : Datum) (r : Reading) → AreRead ds cs among
+pub nothing_here : (ds : List Datum) (cs : List Certificate) (among : ℕ → Bool) (d : Datum) (r : Reading)
+    → AreRead ds cs among
     → certificate_of d ≡ Some r → among r.object ≡ false → (kind : CertFaultKind) → IsFault ds d kind → ⊥
 nothing_here ds cs among d r h own new NotACertificate fault = cc
 nothing_here ds cs among d r h own new TwoForOneObject fault =
     let f = read_from ds cs fault.first fault.stands.0 h.denoted.each fault.stands.1 fault.stands.2 in
     let x = r.object in
-    let same : f.0.object ≡ x = same_objects _ _ _ _ (sym f.2 ∙ fault.is_first_own) (sym own ∙ fault.is_own) fault.same_object in
+    let same : f.0.object ≡ x =
+      same_objects _ _ _ _ (sym f.2 ∙ fault.is_first_own) (sym own ∙ fault.is_own) fault.same_object in
     let none = list_any-none (λ b. b.object == x) cs f.1.0 f.0 (sym (h.objects x) ∙ new) f.1.1 in
-    both_ways ((get_or cs f.1.0 f.0).object == x) none (eq-eqb (get_or cs f.1.0 f.0).object x (ap (λ (b : Certificate). b.object) f.1.2 ∙ same))
+    both_ways ((get_or cs f.1.0 f.0).object == x) none
+      (eq-eqb (get_or cs f.1.0 f.0).object x (ap (λ (b : Certificate). b.object) f.1.2 ∙ same))
 nothing_here ds cs among d r h own new NoMemory fault = fault
 
-pub sound_at : (fs : List Form) (i : ℕ) (f : Form) (cs : List Certificate) (among : ℕ → Bool) (r : Reading) → i < length fs → f ≡ get_or fs i f
-    → AreRead (views (take i fs)) cs among → certificate_of (view f) ≡ Some r → among r.object ≡ false → IsSoundAt (views fs) i
+pub sound_at : (fs : List Form) (i : ℕ) (f : Form) (cs : List Certificate) (among : ℕ → Bool) (r : Reading)
+    → i < length fs → f ≡ get_or fs i f
+    → AreRead (views (take i fs)) cs among → certificate_of (view f) ≡ Some r → among r.object ≡ false
+    → IsSoundAt (views fs) i
 sound_at fs i f cs among r lt is h own new = record {
   earlier = views (take i fs);
   form = view f;
@@ -225,5 +262,8 @@ sound_at fs i f cs among r lt is h own new = record {
   none = nothing_here (views (take i fs)) cs among (view f) r h own new;
 }
 
-pub taken_one_more : (fs : List Form) (i : ℕ) (f : Form) → i < length fs → f ≡ get_or fs i f → views (take (i + 1) fs) ≡ views (take i fs) ++ view f ∷ []
-taken_one_more fs i f lt is = ap views (take_more fs i f lt ∙ ap (λ (x : Form). take i fs ++ x ∷ []) (sym is)) ∙ map-append view (take i fs) (f ∷ [])
+pub taken_one_more : (fs : List Form) (i : ℕ) (f : Form) → i < length fs → f ≡ get_or fs i f
+    → views (take (i + 1) fs) ≡ views (take i fs) ++ view f ∷ []
+taken_one_more fs i f lt is =
+    ap views (take_more fs i f lt ∙ ap (λ (x : Form). take i fs ++ x ∷ []) (sym is))
+    ∙ map-append view (take i fs) (f ∷ [])

@@ -1,5 +1,6 @@
 -- The elements of a text of certificates, one by one: what was found stays found, whatever follows.
-use Rattle.std.proofs.Common.{◌≡◌, ℕ, ◌+◌, Bool, true, false, Option, Some, None, List, [], ◌∷◌, ◌++◌, length, refl, sym, ap, subst, ◌∙◌, append_assoc}
+use Rattle.std.proofs.Common.{◌≡◌, ℕ, ◌+◌, Bool, true, false, Option, Some, None, List, [], ◌∷◌, ◌++◌, length, refl}
+use Rattle.std.proofs.Common.{sym, ap, subst, ◌∙◌, append_assoc}
 use Rattle.std.specs.Prelude.{is_some}
 use Rattle.std.proofs.lemmas.List.{length-map}
 use Rattle.edn_reader.specs.Datum.{Datum}
@@ -28,27 +29,32 @@ sound_more ds d n h = record {
   none = h.none;
 }
 
-faulty_more : (r : Reading) (f : CertFault) (ds : List Datum) (d : Datum) → r.fault ≡ Some f → IsReading r ds → IsReading r (ds ++ d ∷ [])
+faulty_more : (r : Reading) (f : CertFault) (ds : List Datum) (d : Datum) → r.fault ≡ Some f → IsReading r ds
+    → IsReading r (ds ++ d ∷ [])
 faulty_more r f ds d e h =
-    let a : IsFoundIn ds f = subst (λ (o : Option CertFault). IsReadOrFaulty o ds r.certificates.items (has r.objects)) e h in
+    let a : IsFoundIn ds f =
+      subst (λ (o : Option CertFault). IsReadOrFaulty o ds r.certificates.items (has r.objects)) e h in
     subst (λ (o : Option CertFault). IsReadOrFaulty o (ds ++ d ∷ []) r.certificates.items (has r.objects)) (sym e)
     (λ n. first_more ds d f.form f.kind (a.0 n), λ m. sound_more ds d f.form (a.1 m))
 
-pub still_faulty : (r : Reading) (ds : List Datum) (d : Datum) → is_some r.fault ≡ true → IsReading r ds → IsReading r (ds ++ d ∷ [])
+pub still_faulty : (r : Reading) (ds : List Datum) (d : Datum) → is_some r.fault ≡ true → IsReading r ds
+    → IsReading r (ds ++ d ∷ [])
 still_faulty r ds d e h = by_fault r.fault refl
   where
     by_fault : (o : Option CertFault) → r.fault ≡ o → IsReading r (ds ++ d ∷ [])
     by_fault None q = absurd cc
     by_fault (Some f) q = faulty_more r f ds d q h
 
-pub are_read : (r : Reading) (ds : List Datum) → r.fault ≡ None → IsReading r ds → AreRead ds r.certificates.items (has r.objects)
+pub are_read : (r : Reading) (ds : List Datum) → r.fault ≡ None → IsReading r ds
+    → AreRead ds r.certificates.items (has r.objects)
 are_read r ds e h = subst (λ (o : Option CertFault). IsReadOrFaulty o ds r.certificates.items (has r.objects)) e h
 
 one_each : (ds : List Datum) (cs : List Certificate) → Denotes ds cs → length ds ≡ length cs
 one_each ds cs h = sym (length-map ds certificate_of) ∙ ap length h.each ∙ length-map cs (λ c. Some (reading_of c))
 
 -- what is wrong with the form after those that were read, or that an allocation failed for it
-pub found : (ds : List Datum) (cs : List Certificate) (among : ℕ → Bool) (d : Datum) (kind : CertFaultKind) → AreRead ds cs among
+pub found : (ds : List Datum) (cs : List Certificate) (among : ℕ → Bool) (d : Datum) (kind : CertFaultKind)
+    → AreRead ds cs among
     → IsFaultAmong among d kind → IsFoundIn (ds ++ d ∷ []) (record { kind = kind; form = length cs })
 found ds cs among d kind h fault = (
   λ n. record {
@@ -63,15 +69,19 @@ found ds cs among d kind h fault = (
   },
   λ m. (
       let r = subst (IsFaultAmong among d) m fault in
-      record { earlier = ds; form = d; later = []; split = refl; stands_at = one_each ds cs h.denoted; least = no_fault ds cs h.denoted; none = nothing_here ds cs among d r.0 h r.1 r.2 }
+      record { earlier = ds; form = d; later = []; split = refl; stands_at = one_each ds cs h.denoted;
+          least = no_fault ds cs h.denoted; none = nothing_here ds cs among d r.0 h r.1 r.2 }
       ),
 )
 
 -- one form more, of which this is known
-pub along_passed : (P Q : List Datum → Type 0) (text mid rest : List ℕ) (before start : ℕ) (d : Datum) → SpellsFront mid (d ∷ []) rest
-    → start + length rest ≡ before + length mid → ((ds : List Datum) → P ds → Q (ds ++ d ∷ [])) → Along P text mid before → Along Q text rest start
+pub along_passed : (P Q : List Datum → Type 0) (text mid rest : List ℕ) (before start : ℕ) (d : Datum)
+    → SpellsFront mid (d ∷ []) rest
+    → start + length rest ≡ before + length mid → ((ds : List Datum) → P ds → Q (ds ++ d ∷ []))
+    → Along P text mid before → Along Q text rest start
 along_passed P Q text mid rest before start d f moves put a =
-    record { forms = a.forms ++ d ∷ []; front = front_more text mid rest a.forms (d ∷ []) a.front f; holds = put a.forms a.holds; place = moves ∙ a.place }
+    record { forms = a.forms ++ d ∷ []; front = front_more text mid rest a.forms (d ∷ []) a.front f;
+        holds = put a.forms a.holds; place = moves ∙ a.place }
 
 pub no_fault_yet : (o : Option CertFault) → is_some o ≡ false → o ≡ None
 no_fault_yet None e = refl

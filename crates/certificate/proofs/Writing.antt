@@ -1,5 +1,6 @@
 -- Certificates written one after the other.
-use Rattle.std.proofs.Common.{◌≡◌, ℕ, ◌+◌, ◌<◌, ◌≤◌, Bool, true, false, suc, List, [], ◌∷◌, ◌++◌, length, take, drop, get_or, map, option_map, Some}
+use Rattle.std.proofs.Common.{◌≡◌, ℕ, ◌+◌, ◌<◌, ◌≤◌, Bool, true, false, suc, List, [], ◌∷◌, ◌++◌, length, take}
+use Rattle.std.proofs.Common.{drop, get_or, map, option_map, Some}
 use Rattle.std.proofs.Common.{None, lit<, refl, ap, sym, ◌∙◌, subst, append_assoc, arith}
 use Rattle.std.specs.Prelude.{ℤ, pos, codes, if◌then◌else◌}
 use Rattle.std.specs.Fmt.{signed_decimal}
@@ -8,7 +9,8 @@ use Rattle.std.proofs.lemmas.List.{drop_more, take_more, append-nil}
 use Rattle.std.proofs.lemmas.Bool.{le-leb}
 use Rattle.edn_reader.specs.Bytes.{is_name}
 use Rattle.edn_reader.specs.Truncation.{integers_in}
-use Rattle.edn_reader.specs.Datum.{Datum, integer, atom, vector, dictionary, no_entries, entry, items_of, Fits, ItemsFit, max_open}
+use Rattle.edn_reader.specs.Datum.{Datum, integer, atom, vector, dictionary, no_entries, entry, items_of, Fits}
+use Rattle.edn_reader.specs.Datum.{ItemsFit, max_open}
 use Rattle.edn_reader.specs.Spells.{Spells}
 use Rattle.edn_reader.specs.Text.{between, IsInt64, InProfile, ItemsInProfile, text_of, items_text}
 use Rattle.edn_reader.specs.Text as edn
@@ -21,24 +23,31 @@ use Rattle.certificate.specs.declared.Certificate.{Certificate}
 -- ---- the integers of an order
 
 pub numbers_left : (zs : List ℤ) (i : ℕ) (d : ℤ) (first : Bool) → i < length zs
-    → numbers_text first (drop i zs) ≡ (between first (codes " ") ++ signed_decimal (get_or zs i d)) ++ numbers_text false (drop (i + 1) zs)
+    → numbers_text first (drop i zs)
+      ≡ (between first (codes " ") ++ signed_decimal (get_or zs i d)) ++ numbers_text false (drop (i + 1) zs)
 numbers_left zs i d first lt = ap (numbers_text first) (drop_more zs i d lt)
 
-all_with : {X : Type 0} (P : X → Type 0) (xs : List X) (x : X) → AllByRecursion P xs → P x → AllByRecursion P (xs ++ x ∷ [])
+all_with : {X : Type 0} (P : X → Type 0) (xs : List X) (x : X) → AllByRecursion P xs → P x
+    → AllByRecursion P (xs ++ x ∷ [])
 all_with P [] x h p = (p, h)
 all_with P (y ∷ ys) x h p = (h.0, all_with P ys x h.1 p)
 
-pub all_taken : {X : Type 0} (P : X → Type 0) (xs : List X) (i : ℕ) (d : X) → i < length xs → AllByRecursion P (take i xs) → P (get_or xs i d) → AllByRecursion P (take (i + 1) xs)
-all_taken P xs i d lt h p = subst (AllByRecursion P) (sym (take_more xs i d lt)) (all_with P (take i xs) (get_or xs i d) h p)
+pub all_taken : {X : Type 0} (P : X → Type 0) (xs : List X) (i : ℕ) (d : X) → i < length xs
+    → AllByRecursion P (take i xs) → P (get_or xs i d) → AllByRecursion P (take (i + 1) xs)
+all_taken P xs i d lt h p =
+    subst (AllByRecursion P) (sym (take_more xs i d lt)) (all_with P (take i xs) (get_or xs i d) h p)
 
-pub all_taken_item : {X : Type 0} (P : X → Type 0) (xs : List X) (i : ℕ) (x : X) → i < length xs → x ≡ get_or xs i x → AllByRecursion P (take i xs) → P x → AllByRecursion P (take (i + 1) xs)
+pub all_taken_item : {X : Type 0} (P : X → Type 0) (xs : List X) (i : ℕ) (x : X) → i < length xs → x ≡ get_or xs i x
+    → AllByRecursion P (take i xs) → P x → AllByRecursion P (take (i + 1) xs)
 all_taken_item {X} P xs i x lt e h p = all_taken P xs i x lt h (subst P e p)
 
 -- ---- the lines
 
-pub lines_left : (cs : List Certificate) (i : ℕ) (c : Certificate) → i < length cs → c ≡ get_or cs i c → lines_of (drop i cs) ≡ line_of c ++ lines_of (drop (i + 1) cs)
+pub lines_left : (cs : List Certificate) (i : ℕ) (c : Certificate) → i < length cs → c ≡ get_or cs i c
+    → lines_of (drop i cs) ≡ line_of c ++ lines_of (drop (i + 1) cs)
 lines_left cs i c lt e =
-    let here : drop i cs ≡ c ∷ drop (i + 1) cs = drop_more cs i c lt ∙ ap (λ (y : Certificate). y ∷ drop (i + 1) cs) (sym e) in
+    let here : drop i cs ≡ c ∷ drop (i + 1) cs =
+      drop_more cs i c lt ∙ ap (λ (y : Certificate). y ∷ drop (i + 1) cs) (sym e) in
     rw here refl
 
 -- ---- what the lines spell
@@ -47,16 +56,20 @@ unfoldable pub numbers_data : List ℤ → List Datum
 numbers_data zs = map (λ z. atom (integer z)) zs
 
 unfoldable pub datum_of : Certificate → Datum
-datum_of c = dictionary (entry (codes "object") (atom (integer (pos c.object))) (entry (codes "order") (vector (items_of (numbers_data c.order.items))) no_entries))
+datum_of c = dictionary
+    (entry (codes "object") (atom (integer (pos c.object)))
+    (entry (codes "order") (vector (items_of (numbers_data c.order.items))) no_entries))
 
 numbers_are_items : (first : Bool) (zs : List ℤ) → numbers_text first zs ≡ items_text first (items_of (numbers_data zs))
 unfolding numbers_data
 numbers_are_items first [] = refl
-numbers_are_items first (z ∷ zs) = ap (λ t. (between first (codes " ") ++ signed_decimal z) ++ t) (numbers_are_items false zs)
+numbers_are_items first (z ∷ zs) =
+    ap (λ t. (between first (codes " ") ++ signed_decimal z) ++ t) (numbers_are_items false zs)
 
 -- the brackets that close an order and its map
 closed : (numbers : List ℕ) → ((numbers ++ codes "]") ++ []) ++ codes "}\n" ≡ numbers ++ codes "]}\n"
-closed numbers = ap (λ t. t ++ codes "}\n") (append-nil (numbers ++ codes "]")) ∙ append_assoc numbers (codes "]") (codes "}\n")
+closed numbers = ap (λ t. t ++ codes "}\n") (append-nil (numbers ++ codes "]"))
+    ∙ append_assoc numbers (codes "]") (codes "}\n")
 
 line_is_text : (c : Certificate) → line_of c ≡ text_of (datum_of c) ++ 10 ∷ []
 unfolding datum_of
@@ -64,8 +77,11 @@ line_is_text c =
     let x = signed_decimal (pos c.object) in
     let items = items_text true (items_of (numbers_data c.order.items)) in
     let order = codes ", :order [" ++ ((items ++ codes "]") ++ []) in
-    ap (λ t. codes "{:object " ++ (x ++ (codes ", :order [" ++ (t ++ codes "]}\n")))) (numbers_are_items true c.order.items)
-    ∙ sym (ap (λ t. codes "{:object " ++ t) (append_assoc (x ++ order) (codes "}") (codes "\n") ∙ append_assoc x order (codes "}\n") ∙ ap (λ t. x ++ (codes ", :order [" ++ t)) (closed items)))
+    ap (λ t. codes "{:object " ++ (x ++ (codes ", :order [" ++ (t ++ codes "]}\n"))))
+      (numbers_are_items true c.order.items)
+    ∙ sym (ap (λ t. codes "{:object " ++ t)
+      (append_assoc (x ++ order) (codes "}") (codes "\n") ∙ append_assoc x order (codes "}\n")
+      ∙ ap (λ t. x ++ (codes ", :order [" ++ t)) (closed items)))
 
 numbers_fit : (n : ℕ) (zs : List ℤ) → ItemsFit n (items_of (numbers_data zs))
 unfolding numbers_data
@@ -92,7 +108,8 @@ numbers_read (z ∷ zs) = ap (option_map (λ ys. z ∷ ys)) (numbers_read zs)
 
 pub datum_denotes : (c : Certificate) → c.object ≤ 65535 → certificate_of (datum_of c) ≡ Some (reading_of c)
 unfolding datum_of
-datum_denotes c small = ap (λ b. reading_with (if b then Some c.object else None) (integers_in (items_of (numbers_data c.order.items))))
+datum_denotes c small =
+    ap (λ b. reading_with (if b then Some c.object else None) (integers_in (items_of (numbers_data c.order.items))))
     (le-leb c.object 65535 small) ∙ ap (reading_with (Some c.object)) (numbers_read c.order.items)
 
 data_of : List Certificate → List Datum
@@ -101,7 +118,9 @@ data_of cs = map datum_of cs
 lines_are_texts : (cs : List Certificate) → lines_of cs ≡ edn.lines_of (data_of cs)
 unfolding data_of
 lines_are_texts [] = refl
-lines_are_texts (c ∷ cs) = ap (λ t. t ++ lines_of cs) (line_is_text c) ∙ append_assoc (text_of (datum_of c)) (10 ∷ []) (lines_of cs) ∙ ap (λ t. text_of (datum_of c) ++ 10 ∷ t) (lines_are_texts cs)
+lines_are_texts (c ∷ cs) =
+    ap (λ t. t ++ lines_of cs) (line_is_text c) ∙ append_assoc (text_of (datum_of c)) (10 ∷ []) (lines_of cs)
+    ∙ ap (λ t. text_of (datum_of c) ++ 10 ∷ t) (lines_are_texts cs)
 
 -- the integers of each order have 64 bits
 abbrev pub InProfiles : List Certificate → Type 0
@@ -111,17 +130,21 @@ each_spelled : (cs : List Certificate) → AreInRange cs → InProfiles cs → E
 unfolding data_of
 each_spelled [] r p = tt
 each_spelled (c ∷ cs) r p =
-    (text_spells_it (datum_of c) (datum_fits c) (datum_in_profile c (r 0 c (omega arith)) p.0), each_spelled cs (λ k d lt. r (suc k) d (omega arith)) p.1)
+    (text_spells_it (datum_of c) (datum_fits c) (datum_in_profile c (r 0 c (omega arith)) p.0),
+      each_spelled cs (λ k d lt. r (suc k) d (omega arith)) p.1)
 
-each_denoted : (cs : List Certificate) → AreInRange cs → map certificate_of (data_of cs) ≡ map (λ c. Some (reading_of c)) cs
+each_denoted : (cs : List Certificate) → AreInRange cs
+    → map certificate_of (data_of cs) ≡ map (λ c. Some (reading_of c)) cs
 unfolding data_of
 each_denoted [] r = refl
 each_denoted (c ∷ cs) r = ap (λ v. v ∷ map certificate_of (map datum_of cs)) (datum_denotes c (r 0 c (omega arith)))
     ∙ ap (λ vs. Some (reading_of c) ∷ vs) (each_denoted cs (λ k d lt. r (suc k) d (omega arith)))
 
-pub lines_spell : (cs : List Certificate) → InProfiles cs → AreDistinct cs → AreInRange cs → SpellsCertificates cs (lines_of cs)
+pub lines_spell : (cs : List Certificate) → InProfiles cs → AreDistinct cs → AreInRange cs
+    → SpellsCertificates cs (lines_of cs)
 lines_spell cs p apart r = record {
   forms = data_of cs;
-  spelled = subst (Spells (data_of cs)) (sym (lines_are_texts cs)) (lines_spell_them (data_of cs) (each_spelled cs r p));
+  spelled = subst (Spells (data_of cs)) (sym (lines_are_texts cs))
+    (lines_spell_them (data_of cs) (each_spelled cs r p));
   denoted = record { each = each_denoted cs r; distinct = apart };
 }

@@ -1,6 +1,8 @@
 -- Checking one object after the other.
-use Rattle.std.proofs.Common.{◌≡◌, ◌≢◌, ℕ, zero, suc, ◌+◌, ◌<◌, ◌≤◌, ◌⊎◌, ◌↔◌, ◌++◌, ◌∷◌, [], List, Option, Some, None, IsSome, All, AllPairs}
-use Rattle.std.proofs.Common.{Contains, map, length, get_or, take, drop, OnOk, IfErr, Result, Ok, Err, inl, inr, refl, ap, sym, ◌∙◌, subst, arith}
+use Rattle.std.proofs.Common.{◌≡◌, ◌≢◌, ℕ, zero, suc, ◌+◌, ◌<◌, ◌≤◌, ◌⊎◌, ◌↔◌, ◌++◌, ◌∷◌, [], List, Option, Some}
+use Rattle.std.proofs.Common.{None, IsSome, All, AllPairs}
+use Rattle.std.proofs.Common.{Contains, map, length, get_or, take, drop, OnOk, IfErr, Result, Ok, Err, inl, inr}
+use Rattle.std.proofs.Common.{refl, ap, sym, ◌∙◌, subst, arith}
 use Rattle.std.specs.Prelude.{IfSome, IfNone}
 use Rattle.std.proofs.lemmas.Option.{same_Some}
 use Rattle.number_map.specs.Lookup.{value_of}
@@ -9,7 +11,8 @@ use Rattle.std.proofs.lemmas.Bool.{cases_order}
 use Rattle.std.proofs.lemmas.List.{get_or_default, take_more, take_all}
 use Rattle.model.specs.declared.Kind.{Kind}
 use Rattle.model.specs.Orders.{Call, IsValidOrder, calls_on}
-use Rattle.model.proofs.Lists.{In, Pairs, in_append, in_map, in_map_from, in_from_contains, contains_from_in, in_from_get, all_at, all_from_in, pairs_from_all}
+use Rattle.model.proofs.Lists.{In, Pairs, in_append, in_map, in_map_from, in_from_contains, contains_from_in}
+use Rattle.model.proofs.Lists.{in_from_get, all_at, all_from_in, pairs_from_all}
 use Rattle.events.specs.declared.event.Event.{Event}
 use Rattle.events.specs.Events.{IsNamed, kind_at, denoted}
 use Rattle.events.specs.Operations.{ObjectCalls, calls_of}
@@ -19,7 +22,8 @@ use Rattle.checker.specs.declared.refusal.Refusal.{Refusal}
 use Rattle.checker.specs.declared.refusal.Refusal.TheVariants.{NoCertificate, StrangeObject, BadOrder, NoMemory}
 use Rattle.checker.specs.Faults.{IsFirstFault}
 use Rattle.checker.specs.Refusals.{RefusesOrder, HasCertificate, AreValid, IsRefusalAt, IsLeastStrange, IsFirstRefusal}
-use Rattle.checker.specs.Checking.{IsPlace, ArePlaces, AreAllPlaces, IsFine, IsRefused, AreForThese, IsLeastBesides, IsLeastPlaced}
+use Rattle.checker.specs.Checking.{IsPlace, ArePlaces, AreAllPlaces, IsFine, IsRefused, AreForThese, IsLeastBesides}
+use Rattle.checker.specs.Checking.{IsLeastPlaced}
 
 apart_or_same : (x y : ℕ) → (x ≡ y) ⊎ (x ≢ y)
 apart_or_same x y = elim (cases_order x y) [
@@ -31,21 +35,27 @@ apart_or_same x y = elim (cases_order x y) [
 ]
 
 -- one more certificate has its place
-pub one_placed : (certificates : List Certificate) (m n : NumberMap ℕ) (k : ℕ) (d : Certificate) → k < length certificates
-    → d ≡ get_or certificates k d → ArePlaces m certificates → ((c : Certificate) → In c (take k certificates) → IsSome (value_of m c.object))
+pub one_placed : (certificates : List Certificate) (m n : NumberMap ℕ) (k : ℕ) (d : Certificate)
+    → k < length certificates
+    → d ≡ get_or certificates k d → ArePlaces m certificates
+    → ((c : Certificate) → In c (take k certificates) → IsSome (value_of m c.object))
     → value_of n d.object ≡ Some k → ((x : ℕ) → x ≢ d.object → value_of n x ≡ value_of m x) → ArePlaces n certificates
     × ((c : Certificate) → In c (take (k + 1) certificates) → IsSome (value_of n c.object))
 one_placed certificates m n k d l is places some own others = (
   λ x j q. elim (apart_or_same x d.object) [
     | inl e ↦ (
         let same : k ≡ j = same_Some k j (sym own ∙ (ap (value_of n) (sym e) ∙ q)) in
-        subst (IsPlace certificates x) same (record { inside = l; for_object = λ c. ap (λ (z : Certificate). z.object) (get_or_default certificates k c d l ∙ sym is) ∙ sym e })
+        subst (IsPlace certificates x) same
+          (record { inside = l; for_object =
+          λ c. ap (λ (z : Certificate). z.object) (get_or_default certificates k c d l ∙ sym is) ∙ sym e })
         )
     | inr ne ↦ places x j (sym (others x ne) ∙ q)
   ],
   λ c i. elim (apart_or_same c.object d.object) [
     | inl e ↦ subst IsSome (sym (ap (value_of n) e ∙ own)) refl
-    | inr ne ↦ subst IsSome (sym (others c.object ne)) (elim (in_append c (take k certificates) (get_or certificates k d ∷ []) (subst (In c) (take_more certificates k d l) i)) [
+    | inr ne ↦ subst IsSome (sym (others c.object ne))
+        (elim (in_append c (take k certificates) (get_or certificates k d ∷ [])
+        (subst (In c) (take_more certificates k d l) i)) [
       | inl j ↦ some c j
       | inr j ↦ elim j [
         | inl e ↦ absurd (ne (ap (λ (z : Certificate). z.object) (e ∙ sym is)))
@@ -56,8 +66,11 @@ one_placed certificates m n k d l is places some own others = (
 )
 
 pub all_placed : (certificates : List Certificate) (m : NumberMap ℕ) (k : ℕ) → length certificates ≤ k
-    → ((c : Certificate) → In c (take k certificates) → IsSome (value_of m c.object)) → All (λ c. IsSome (value_of m c.object)) certificates
-all_placed certificates m k l some = all_from_in (λ (c : Certificate). IsSome (value_of m c.object)) certificates (λ c i. some c (subst (In c) (sym (take_all k certificates l)) i))
+    → ((c : Certificate) → In c (take k certificates) → IsSome (value_of m c.object))
+    → All (λ c. IsSome (value_of m c.object)) certificates
+all_placed certificates m k l some =
+    all_from_in (λ (c : Certificate). IsSome (value_of m c.object)) certificates
+    (λ c i. some c (subst (In c) (sym (take_all k certificates l)) i))
 
 -- a history's objects, in rising number, each with its kind and calls
 pub record AreObjects (es : List Event) (os : List ObjectCalls) : Type 0 where
@@ -77,27 +90,38 @@ AreFine es certificates os = (o : ObjectCalls) → In o os → IsFineAt es certi
 pub record AreLeft (certificates : List Certificate) (os : List ObjectCalls) (left : NumberMap ℕ) : Type 0 where
   pub places : ArePlaces left certificates
   pub apart : (o : ObjectCalls) → In o os → value_of left o.object ≡ None
-  pub gone : (c : Certificate) → In c certificates → value_of left c.object ≡ None → (o : ObjectCalls) × In o os × (o.object ≡ c.object)
+  pub gone : (c : Certificate) → In c certificates → value_of left c.object ≡ None
+      → (o : ObjectCalls) × In o os × (o.object ≡ c.object)
 
 -- ---- the next object
 
-abbrev pub has_here : (certificates : List Certificate) (x k : ℕ) (d : Certificate) → IsPlace certificates x k → d ≡ get_or certificates k d → HasCertificate certificates x
+abbrev pub has_here : (certificates : List Certificate) (x k : ℕ) (d : Certificate) → IsPlace certificates x k
+    → d ≡ get_or certificates k d → HasCertificate certificates x
 has_here certificates x k d p is = record {
   certificate = d;
-  stands = contains_from_in certificates d (subst (λ z. In z certificates) (sym is) (in_from_get certificates k d p.inside));
+  stands = contains_from_in certificates d
+    (subst (λ z. In z certificates) (sym is) (in_from_get certificates k d p.inside));
   for_object = ap (λ (c : Certificate). c.object) is ∙ p.for_object d;
 }
 
-pub fine_here : (kind : Kind) (calls : List Call) (certificates : List Certificate) (x k : ℕ) (d : Certificate) (r : Result (Unit {0}) Refusal) → IsPlace certificates x k → d ≡ get_or certificates k d
-    → OnOk r (IsValidOrder kind calls d.order.items) → OnOk r ((f : OrderFault) → IsFirstFault kind calls d.order.items f → ⊥) → OnOk r (IsFine kind calls certificates x)
-fine_here kind calls certificates x k d (Ok u) p is v h = record { certificate = has_here certificates x k d p is; valid = v; faultless = h }
+pub fine_here : (kind : Kind) (calls : List Call) (certificates : List Certificate) (x k : ℕ) (d : Certificate)
+    (r : Result (Unit {0}) Refusal) → IsPlace certificates x k → d ≡ get_or certificates k d
+    → OnOk r (IsValidOrder kind calls d.order.items)
+    → OnOk r ((f : OrderFault) → IsFirstFault kind calls d.order.items f → ⊥)
+    → OnOk r (IsFine kind calls certificates x)
+fine_here kind calls certificates x k d (Ok u) p is v h =
+    record { certificate = has_here certificates x k d p is; valid = v; faultless = h }
 fine_here kind calls certificates x k d (Err e) p is v h = tt
 
-pub refused_here : (kind : Kind) (calls : List Call) (certificates : List Certificate) (x k : ℕ) (d : Certificate) (r : Result (Unit {0}) Refusal)
+pub refused_here : (kind : Kind) (calls : List Call) (certificates : List Certificate) (x k : ℕ) (d : Certificate)
+    (r : Result (Unit {0}) Refusal)
     → IsPlace certificates x k → d ≡ get_or certificates k d
-    → IfErr r (RefusesOrder x kind calls d.order.items) → (IsValidOrder kind calls d.order.items → IfErr r (λ e. e ≡ NoMemory)) → IfErr r (IsRefused kind calls certificates x)
+    → IfErr r (RefusesOrder x kind calls d.order.items)
+    → (IsValidOrder kind calls d.order.items → IfErr r (λ e. e ≡ NoMemory))
+    → IfErr r (IsRefused kind calls certificates x)
 refused_here kind calls certificates x k d (Ok u) p is h exact = tt
-refused_here kind calls certificates x k d (Err (BadOrder y f)) p is h exact = (h.0, has_here certificates x k d p is, h.1, λ v. let e = exact v in cc e)
+refused_here kind calls certificates x k d (Err (BadOrder y f)) p is h exact =
+    (h.0, has_here certificates x k d p is, h.1, λ v. let e = exact v in cc e)
 refused_here kind calls certificates x k d (Err (NoCertificate y)) p is h exact = absurd h
 refused_here kind calls certificates x k d (Err (StrangeObject y)) p is h exact = absurd h
 refused_here kind calls certificates x k d (Err NoMemory) p is h exact = tt
@@ -107,14 +131,17 @@ has_some None q s = cc s
 has_some (Some k) q s = cc q
 
 -- an object that has no place has no certificate
-pub no_certificate : (certificates : List Certificate) (m : NumberMap ℕ) (x : ℕ) → AreAllPlaces m certificates → value_of m x ≡ None → HasCertificate certificates x → ⊥
+pub no_certificate : (certificates : List Certificate) (m : NumberMap ℕ) (x : ℕ) → AreAllPlaces m certificates
+    → value_of m x ≡ None → HasCertificate certificates x → ⊥
 no_certificate certificates m x h none c =
-    let some = all_at (λ (c : Certificate). IsSome (value_of m c.object)) certificates h.all c.certificate (in_from_contains certificates c.certificate c.stands) in
+    let some = all_at (λ (c : Certificate). IsSome (value_of m c.object)) certificates h.all c.certificate
+      (in_from_contains certificates c.certificate c.stands) in
     has_some (value_of m c.certificate.object) (ap (value_of m) c.for_object ∙ none) some
 
 -- ---- one after the other
 
-pub one_more_fine : (es : List Event) (certificates : List Certificate) (os : List ObjectCalls) (o : ObjectCalls) → AreFine es certificates os
+pub one_more_fine : (es : List Event) (certificates : List Certificate) (os : List ObjectCalls) (o : ObjectCalls)
+    → AreFine es certificates os
     → IsFineAt es certificates o.object → AreFine es certificates (os ++ o ∷ [])
 one_more_fine es certificates os o h fine = λ p i. elim (in_append p os (o ∷ []) i) [
   | inl j ↦ h p j
@@ -124,15 +151,19 @@ one_more_fine es certificates os o h fine = λ p i. elim (in_append p os (o ∷ 
   ]
 ]
 
-pub all_left : (certificates : List Certificate) (m : NumberMap ℕ) → AreAllPlaces m certificates → AreLeft certificates [] m
+pub all_left : (certificates : List Certificate) (m : NumberMap ℕ) → AreAllPlaces m certificates
+    → AreLeft certificates [] m
 all_left certificates m h = record {
   places = h.places;
   apart = λ o i. absurd i;
-  gone = λ c i q. absurd (has_some (value_of m c.object) q (all_at (λ c. IsSome (value_of m c.object)) certificates h.all c i));
+  gone = λ c i q. absurd (has_some (value_of m c.object) q
+    (all_at (λ c. IsSome (value_of m c.object)) certificates h.all c i));
 }
 
-pub one_taken : (certificates : List Certificate) (os : List ObjectCalls) (o : ObjectCalls) (left new : NumberMap ℕ) → AreLeft certificates os left
-    → value_of new o.object ≡ None → ((x : ℕ) → x ≢ o.object → value_of new x ≡ value_of left x) → AreLeft certificates (os ++ o ∷ []) new
+pub one_taken : (certificates : List Certificate) (os : List ObjectCalls) (o : ObjectCalls) (left new : NumberMap ℕ)
+    → AreLeft certificates os left
+    → value_of new o.object ≡ None → ((x : ℕ) → x ≢ o.object → value_of new x ≡ value_of left x)
+    → AreLeft certificates (os ++ o ∷ []) new
 one_taken certificates os o left new h own others = record {
   places = λ x k q. elim (apart_or_same x o.object) [
     | inl e ↦ (let n : None ≡ Some k = sym own ∙ (ap (value_of new) (sym e) ∙ q) in cc n)
@@ -167,12 +198,15 @@ one_taken certificates os o left new h own others = record {
 
 -- an object in the list stands among their numbers
 number_stands : (os : List ObjectCalls) (o : ObjectCalls) → In o os → Contains (map (λ o. o.object) os) o.object
-number_stands os o i = contains_from_in (map (λ (o : ObjectCalls). o.object) os) o.object (in_map_from (λ (o : ObjectCalls). o.object) o os i)
+number_stands os o i = contains_from_in (map (λ (o : ObjectCalls). o.object) os) o.object
+    (in_map_from (λ (o : ObjectCalls). o.object) o os i)
 
 -- where no certificate has a place that is left, each is for one of these
-none_besides : (certificates : List Certificate) (os : List ObjectCalls) (left : NumberMap ℕ) → AreLeft certificates os left
+none_besides : (certificates : List Certificate) (os : List ObjectCalls) (left : NumberMap ℕ)
+    → AreLeft certificates os left
     → IsLeastPlaced left certificates None → AreForThese (map (λ o. o.object) os) certificates
-none_besides certificates os left h none = all_from_in (λ (c : Certificate). Contains (map (λ o. o.object) os) c.object) certificates (λ c i.
+none_besides certificates os left h none =
+    all_from_in (λ (c : Certificate). Contains (map (λ o. o.object) os) c.object) certificates (λ c i.
     let g = h.gone c i (all_at (λ (c : Certificate). value_of left c.object ≡ None) certificates none c i) in
     subst (Contains (map (λ o. o.object) os)) g.2 (number_stands os g.0 g.1))
 
@@ -182,13 +216,17 @@ element [] k l = absurd (omega arith)
 element (x ∷ xs) k l = let d = get_or (x ∷ xs) k x in (d, get_or_default (x ∷ xs) k x d l)
 
 -- the least object of a place that is left is the least object besides
-least_besides : (certificates : List Certificate) (os : List ObjectCalls) (left : NumberMap ℕ) (x : ℕ) → AreLeft certificates os left
+least_besides : (certificates : List Certificate) (os : List ObjectCalls) (left : NumberMap ℕ) (x : ℕ)
+    → AreLeft certificates os left
     → IsLeastPlaced left certificates (Some x) → IsLeastBesides (map (λ o. o.object) os) certificates x
 least_besides certificates os left x h is = record {
-  certified = (let p = h.places x there.0 there.1 in let e = element certificates there.0 p.inside in has_here certificates x there.0 e.0 p e.1);
-  besides = λ stands. let o = in_map (λ (o : ObjectCalls). o.object) x os (in_from_contains (map (λ (o : ObjectCalls). o.object) os) x stands) in
+  certified = (let p = h.places x there.0 there.1 in let e = element certificates there.0 p.inside in
+    has_here certificates x there.0 e.0 p e.1);
+  besides = λ stands. let o =
+    in_map (λ (o : ObjectCalls). o.object) x os (in_from_contains (map (λ (o : ObjectCalls). o.object) os) x stands) in
       let n : None ≡ Some there.0 = sym (h.apart o.0 o.1) ∙ (ap (value_of left) (sym o.2) ∙ there.1) in cc n;
-  least = all_from_in (λ (c : Certificate). c.object < x → Contains (map (λ o. o.object) os) c.object) certificates (λ c i l. below c i l (value_of left c.object) refl);
+  least = all_from_in (λ (c : Certificate). c.object < x → Contains (map (λ o. o.object) os) c.object) certificates
+    (λ c i l. below c i l (value_of left c.object) refl);
 }
   where
     the : (o : Option ℕ) → IsSome o → (k : ℕ) × (o ≡ Some k)
@@ -198,14 +236,20 @@ least_besides certificates os left x h is = record {
     there : (k : ℕ) × (value_of left x ≡ Some k)
     there = the (value_of left x) is.0
 
-    below : (c : Certificate) → In c certificates → c.object < x → (o : Option ℕ) → value_of left c.object ≡ o → Contains (map (λ o. o.object) os) c.object
-    below c i l None q = let g = h.gone c i q in subst (Contains (map (λ o. o.object) os)) g.2 (number_stands os g.0 g.1)
+    below : (c : Certificate) → In c certificates → c.object < x → (o : Option ℕ) → value_of left c.object ≡ o
+      → Contains (map (λ o. o.object) os) c.object
+    below c i l None q =
+        let g = h.gone c i q in subst (Contains (map (λ o. o.object) os)) g.2 (number_stands os g.0 g.1)
     below c i l (Some j) q =
-        let least = all_at (λ (c : Certificate). IsSome (value_of left c.object) → x ≤ c.object) certificates is.1 c i (subst IsSome (sym q) refl) in
+        let least = all_at (λ (c : Certificate). IsSome (value_of left c.object) → x ≤ c.object) certificates is.1 c i
+          (subst IsSome (sym q) refl) in
         absurd (omega (arith, l, least))
 
-pub strange : (certificates : List Certificate) (os : List ObjectCalls) (left : NumberMap ℕ) (r : Option ℕ) → AreLeft certificates os left
-    → IsLeastPlaced left certificates r → IfNone r (AreForThese (map (λ o. o.object) os) certificates) × IfSome r (IsLeastBesides (map (λ o. o.object) os) certificates)
+pub strange : (certificates : List Certificate) (os : List ObjectCalls) (left : NumberMap ℕ) (r : Option ℕ)
+    → AreLeft certificates os left
+    → IsLeastPlaced left certificates r
+    → IfNone r (AreForThese (map (λ o. o.object) os) certificates)
+      × IfSome r (IsLeastBesides (map (λ o. o.object) os) certificates)
 strange certificates os left None h is = (none_besides certificates os left h is, tt)
 strange certificates os left (Some x) h is = (tt, least_besides certificates os left x h is)
 
@@ -213,16 +257,25 @@ strange certificates os left (Some x) h is = (tt, least_besides certificates os 
 
 -- ---- what has been checked
 
-object_named : (es : List Event) (os : List ObjectCalls) → AreObjects es os → (x : ℕ) → IsNamed es x → (o : ObjectCalls) × In o os × (x ≡ o.object)
-object_named es os h x named = in_map (λ (o : ObjectCalls). o.object) x os (in_from_contains (map (λ (o : ObjectCalls). o.object) os) x ((h.named x).1 named))
+object_named : (es : List Event) (os : List ObjectCalls) → AreObjects es os → (x : ℕ) → IsNamed es x
+    → (o : ObjectCalls) × In o os × (x ≡ o.object)
+object_named es os h x named =
+    in_map (λ (o : ObjectCalls). o.object) x os
+    (in_from_contains (map (λ (o : ObjectCalls). o.object) os) x ((h.named x).1 named))
 
-is_named : (es : List Event) (os : List ObjectCalls) → AreObjects es os → (o : ObjectCalls) → In o os → IsNamed es o.object
-is_named es os h o i = (h.named o.object).0 (contains_from_in (map (λ (o : ObjectCalls). o.object) os) o.object (in_map_from (λ (o : ObjectCalls). o.object) o os i))
+is_named : (es : List Event) (os : List ObjectCalls) → AreObjects es os → (o : ObjectCalls) → In o os
+    → IsNamed es o.object
+is_named es os h o i = (h.named o.object).0
+    (contains_from_in (map (λ (o : ObjectCalls). o.object) os) o.object
+    (in_map_from (λ (o : ObjectCalls). o.object) o os i))
 
-fine_at : (es : List Event) (certificates : List Certificate) (os : List ObjectCalls) → AreObjects es os → AreFine es certificates os → (x : ℕ) → IsNamed es x → IsFineAt es certificates x
-fine_at es certificates os objects h x named = let o = object_named es os objects x named in subst (IsFineAt es certificates) (sym o.2) (h o.0 o.1)
+fine_at : (es : List Event) (certificates : List Certificate) (os : List ObjectCalls) → AreObjects es os
+    → AreFine es certificates os → (x : ℕ) → IsNamed es x → IsFineAt es certificates x
+fine_at es certificates os objects h x named =
+    let o = object_named es os objects x named in subst (IsFineAt es certificates) (sym o.2) (h o.0 o.1)
 
-same_certificate : (certificates : List Certificate) → Pairs (λ a b. a.object ≢ b.object) certificates → (a b : Certificate) → In a certificates → In b certificates → a.object ≡ b.object → a ≡ b
+same_certificate : (certificates : List Certificate) → Pairs (λ a b. a.object ≢ b.object) certificates
+    → (a b : Certificate) → In a certificates → In b certificates → a.object ≡ b.object → a ≡ b
 same_certificate [] d a b i j q = absurd i
 same_certificate (c ∷ cs) d a b i j q = elim i [
   | inl e ↦ elim j [
@@ -235,25 +288,32 @@ same_certificate (c ∷ cs) d a b i j q = elim i [
   ]
 ]
 
-pub same_orders : (certificates : List Certificate) → AllPairs (λ a b. a.object ≢ b.object) certificates → (x : ℕ) (a b : HasCertificate certificates x) → a.certificate ≡ b.certificate
+pub same_orders : (certificates : List Certificate) → AllPairs (λ a b. a.object ≢ b.object) certificates
+    → (x : ℕ) (a b : HasCertificate certificates x) → a.certificate ≡ b.certificate
 same_orders certificates d x a b =
-    same_certificate certificates (pairs_from_all (λ a b. a.object ≢ b.object) certificates d) a.certificate b.certificate
-    (in_from_contains certificates a.certificate a.stands) (in_from_contains certificates b.certificate b.stands) (a.for_object ∙ sym b.for_object)
+    same_certificate certificates
+      (pairs_from_all (λ a b. a.object ≢ b.object) certificates d) a.certificate b.certificate
+    (in_from_contains certificates a.certificate a.stands) (in_from_contains certificates b.certificate b.stands)
+      (a.for_object ∙ sym b.for_object)
 
-no_refusal : (es : List Event) (certificates : List Certificate) → AllPairs (λ a b. a.object ≢ b.object) certificates → (x : ℕ)
+no_refusal : (es : List Event) (certificates : List Certificate) → AllPairs (λ a b. a.object ≢ b.object) certificates
+    → (x : ℕ)
     → IsFineAt es certificates x → (r : Refusal) → IsRefusalAt es certificates x r → ⊥
 no_refusal es certificates d x h (NoCertificate y) s = s.1 h.certificate
 no_refusal es certificates d x h (StrangeObject y) s = s
 no_refusal es certificates d x h (BadOrder y f) s =
-    h.faultless f (subst (λ (c : Certificate). IsFirstFault (kind_at es x) (calls_on x (denoted es)) c.order.items f) (same_orders certificates d x s.1 h.certificate) s.2)
+    h.faultless f (subst (λ (c : Certificate). IsFirstFault (kind_at es x) (calls_on x (denoted es)) c.order.items f)
+      (same_orders certificates d x s.1 h.certificate) s.2)
 no_refusal es certificates d x h NoMemory s = s
 
-pub all_valid : (es : List Event) (certificates : List Certificate) (os : List ObjectCalls) → AreObjects es os → AreFine es certificates os
+pub all_valid : (es : List Event) (certificates : List Certificate) (os : List ObjectCalls) → AreObjects es os
+    → AreFine es certificates os
     → AreForThese (map (λ o. o.object) os) certificates → AreValid es certificates
 all_valid es certificates os objects h besides = record {
   each = λ x named. let f = fine_at es certificates os objects h x named in (f.certificate, f.valid);
   none_besides = all_from_in (λ (c : Certificate). IsNamed es c.object) certificates
-      (λ c i. (objects.named c.object).0 (all_at (λ (c : Certificate). Contains (map (λ o. o.object) os) c.object) certificates besides c i));
+      (λ c i. (objects.named c.object).0
+        (all_at (λ (c : Certificate). Contains (map (λ o. o.object) os) c.object) certificates besides c i));
 }
 
 pub least_strange : (es : List Event) (certificates : List Certificate) (os : List ObjectCalls) (x : ℕ)
@@ -263,13 +323,16 @@ least_strange es certificates os x d objects h s = record {
   certified = s.certified;
   not_named = λ named. s.besides ((objects.named x).1 named);
   least = all_from_in (λ (c : Certificate). c.object < x → IsNamed es c.object) certificates
-      (λ c i l. (objects.named c.object).0 (all_at (λ (c : Certificate). c.object < x → Contains (map (λ o. o.object) os) c.object) certificates s.least c i l));
+      (λ c i l. (objects.named c.object).0
+        (all_at (λ (c : Certificate). c.object < x → Contains (map (λ o. o.object) os) c.object) certificates s.least
+        c i l));
   none = λ y r named t. no_refusal es certificates d y (fine_at es certificates os objects h y named) r t;
 }
 
 -- ---- where the next object is refused
 
-already : (os : List ObjectCalls) (o : ObjectCalls) (later : List ObjectCalls) → Pairs (λ a b. a.object < b.object) (os ++ o ∷ later)
+already : (os : List ObjectCalls) (o : ObjectCalls) (later : List ObjectCalls)
+    → Pairs (λ a b. a.object < b.object) (os ++ o ∷ later)
     → (p : ObjectCalls) → In p (os ++ o ∷ later) → p.object < o.object → In p os
 already [] o later r p i l = elim i [
   | inl e ↦ (let e' : p.object ≡ o.object = ap (λ (z : ObjectCalls). z.object) e in absurd (omega arith))
@@ -280,13 +343,17 @@ already (q ∷ os) o later r p i l = elim i [
   | inr j ↦ inr (already os o later r.1 p j l)
 ]
 
-first_refusal : (es : List Event) (certificates : List Certificate) (all os : List ObjectCalls) (o : ObjectCalls) (later : List ObjectCalls)
+first_refusal : (es : List Event) (certificates : List Certificate) (all os : List ObjectCalls) (o : ObjectCalls)
+    (later : List ObjectCalls)
     (r : Refusal) → AllPairs (λ a b. a.object ≢ b.object) certificates → AreObjects es all
-    → all ≡ os ++ o ∷ later → AreFine es certificates os → IsRefused (kind_at es o.object) (calls_on o.object (denoted es)) certificates o.object r → IsFirstRefusal es certificates r
+    → all ≡ os ++ o ∷ later → AreFine es certificates os
+    → IsRefused (kind_at es o.object) (calls_on o.object (denoted es)) certificates o.object r
+    → IsFirstRefusal es certificates r
 first_refusal es certificates all os o later r d objects split h refused = go r refused
   where
     up : Pairs (λ a b. a.object < b.object) (os ++ o ∷ later)
-    up = subst (Pairs (λ a b. a.object < b.object)) split (pairs_from_all (λ a b. a.object < b.object) all objects.rising)
+    up = subst (Pairs (λ a b. a.object < b.object)) split
+      (pairs_from_all (λ a b. a.object < b.object) all objects.rising)
 
     middle : (os : List ObjectCalls) → In o (os ++ o ∷ later)
     middle [] = inl refl
@@ -302,38 +369,51 @@ first_refusal es certificates all os o later r d objects split h refused = go r 
         let i = already os o later up p.0 (subst (In p.0) split p.1) l' in
         no_refusal es certificates d y (subst (IsFineAt es certificates) (sym p.2) (h p.0 i)) s stands
 
-    go : (r : Refusal) → IsRefused (kind_at es o.object) (calls_on o.object (denoted es)) certificates o.object r → IsFirstRefusal es certificates r
+    go : (r : Refusal) → IsRefused (kind_at es o.object) (calls_on o.object (denoted es)) certificates o.object r
+      → IsFirstRefusal es certificates r
     go (NoCertificate y) s = record { object = o.object; named = named; stands = (s.0, s.1); least = least }
     go (StrangeObject y) s = absurd s
     go (BadOrder y f) s = record { object = o.object; named = named; stands = (s.0, s.1, s.2); least = least }
     go NoMemory s = tt
 
 -- certificates that are valid are refused by an allocation failure alone
-refused_are_not_valid : (es : List Event) (certificates : List Certificate) (all os : List ObjectCalls) (o : ObjectCalls) (later : List ObjectCalls)
+refused_are_not_valid : (es : List Event) (certificates : List Certificate) (all os : List ObjectCalls)
+    (o : ObjectCalls) (later : List ObjectCalls)
     (r : Refusal) → AllPairs (λ a b. a.object ≢ b.object) certificates → AreObjects es all
-    → all ≡ os ++ o ∷ later → AreFine es certificates os → IsRefused (kind_at es o.object) (calls_on o.object (denoted es)) certificates o.object r → AreValid es certificates → r ≡ NoMemory
-refused_are_not_valid es certificates all os o later r d objects split h refused valid = go r (first_refusal es certificates all os o later r d objects split h refused) refused
+    → all ≡ os ++ o ∷ later → AreFine es certificates os
+    → IsRefused (kind_at es o.object) (calls_on o.object (denoted es)) certificates o.object r
+    → AreValid es certificates → r ≡ NoMemory
+refused_are_not_valid es certificates all os o later r d objects split h refused valid =
+    go r (first_refusal es certificates all os o later r d objects split h refused) refused
   where
-    go : (r : Refusal) → IsFirstRefusal es certificates r → IsRefused (kind_at es o.object) (calls_on o.object (denoted es)) certificates o.object r → r ≡ NoMemory
+    go : (r : Refusal) → IsFirstRefusal es certificates r
+      → IsRefused (kind_at es o.object) (calls_on o.object (denoted es)) certificates o.object r → r ≡ NoMemory
     go (NoCertificate y) f s = absurd (f.stands.1 (valid.each f.object f.named).0)
     go (StrangeObject y) f s = absurd s
     go (BadOrder y g) f s =
         let each = valid.each o.object (subst (IsNamed es) (sym f.stands.0 ∙ s.0) f.named) in
-        absurd (s.3 (subst (λ (c : Certificate). IsValidOrder (kind_at es o.object) (calls_on o.object (denoted es)) c.order.items) (same_orders certificates d o.object each.0 s.1) each.1))
+        absurd (s.3 (subst (λ (c : Certificate). IsValidOrder (kind_at es o.object)
+          (calls_on o.object (denoted es)) c.order.items) (same_orders certificates d o.object each.0 s.1) each.1))
     go NoMemory f s = refl
 
-pub strange_is_not_valid : (es : List Event) (certificates : List Certificate) (x : ℕ) → IsLeastStrange es certificates x → AreValid es certificates → ⊥
+pub strange_is_not_valid : (es : List Event) (certificates : List Certificate) (x : ℕ)
+    → IsLeastStrange es certificates x → AreValid es certificates → ⊥
 strange_is_not_valid es certificates x h valid =
     h.not_named (subst (IsNamed es) h.certified.for_object
-    (all_at (λ (c : Certificate). IsNamed es c.object) certificates valid.none_besides h.certified.certificate (in_from_contains certificates h.certified.certificate h.certified.stands)))
+    (all_at (λ (c : Certificate). IsNamed es c.object) certificates valid.none_besides h.certified.certificate
+      (in_from_contains certificates h.certified.certificate h.certified.stands)))
 
 -- ---- the list of objects
 
-pub are_objects : (es : List Event) (fs os : List ObjectCalls) → fs ≡ os → AllPairs (λ a b. a.object < b.object) os → ((x : ℕ) → Contains (map (λ o. o.object) os) x ↔ IsNamed es x)
-    → All (λ o. o.kind ≡ kind_at es o.object) os → All (λ o. calls_of o.ops ≡ calls_on o.object (denoted es)) os → AreObjects es fs
-are_objects es fs os is rising named kinds calls = subst (AreObjects es) (sym is) (record { rising = rising; named = named; kinds = kinds; calls = calls })
+pub are_objects : (es : List Event) (fs os : List ObjectCalls) → fs ≡ os → AllPairs (λ a b. a.object < b.object) os
+    → ((x : ℕ) → Contains (map (λ o. o.object) os) x ↔ IsNamed es x)
+    → All (λ o. o.kind ≡ kind_at es o.object) os → All (λ o. calls_of o.ops ≡ calls_on o.object (denoted es)) os
+    → AreObjects es fs
+are_objects es fs os is rising named kinds calls =
+    subst (AreObjects es) (sym is) (record { rising = rising; named = named; kinds = kinds; calls = calls })
 
-next_parts : (fs : List ObjectCalls) (i : ℕ) (o : ObjectCalls) → i < length fs → o ≡ get_or fs i o → fs ≡ take i fs ++ o ∷ drop (suc i) fs
+next_parts : (fs : List ObjectCalls) (i : ℕ) (o : ObjectCalls) → i < length fs → o ≡ get_or fs i o
+    → fs ≡ take i fs ++ o ∷ drop (suc i) fs
 next_parts fs i o l is = parts fs i l ∙ ap (λ x. take i fs ++ x ∷ drop (suc i) fs) (sym is)
   where
     parts : (gs : List ObjectCalls) (j : ℕ) → j < length gs → gs ≡ take j gs ++ get_or gs j o ∷ drop (suc j) gs
@@ -345,21 +425,30 @@ in_objects : (fs : List ObjectCalls) (i : ℕ) (o : ObjectCalls) → i < length 
 in_objects fs i o l is = subst (λ z. In z fs) (sym is) (in_from_get fs i o l)
 
 -- what holds of the kind and the calls of an object holds of those in the history
-pub next_is : (es : List Event) (fs : List ObjectCalls) (i : ℕ) (o : ObjectCalls) (P : Kind → List Call → Type 0) → AreObjects es fs → i < length fs
+pub next_is : (es : List Event) (fs : List ObjectCalls) (i : ℕ) (o : ObjectCalls) (P : Kind → List Call → Type 0)
+    → AreObjects es fs → i < length fs
     → o ≡ get_or fs i o → P o.kind (calls_of o.ops) → P (kind_at es o.object) (calls_on o.object (denoted es))
 next_is es fs i o P h l is p =
     let j = in_objects fs i o l is in
-    let its_kind = subst (λ k. P k (calls_of o.ops)) (all_at (λ (o : ObjectCalls). o.kind ≡ kind_at es o.object) fs h.kinds o j) p in
-    subst (P (kind_at es o.object)) (all_at (λ (o : ObjectCalls). calls_of o.ops ≡ calls_on o.object (denoted es)) fs h.calls o j) its_kind
+    let its_kind = subst (λ k. P k (calls_of o.ops))
+      (all_at (λ (o : ObjectCalls). o.kind ≡ kind_at es o.object) fs h.kinds o j) p in
+    subst (P (kind_at es o.object))
+      (all_at (λ (o : ObjectCalls). calls_of o.ops ≡ calls_on o.object (denoted es)) fs h.calls o j) its_kind
 
-pub next_fine : (es : List Event) (certificates : List Certificate) (fs : List ObjectCalls) (i : ℕ) (o : ObjectCalls) → AreObjects es fs
-    → i < length fs → o ≡ get_or fs i o → IsFine o.kind (calls_of o.ops) certificates o.object → IsFineAt es certificates o.object
-next_fine es certificates fs i o h l is fine = next_is es fs i o (λ kind calls. IsFine kind calls certificates o.object) h l is fine
+pub next_fine : (es : List Event) (certificates : List Certificate) (fs : List ObjectCalls) (i : ℕ) (o : ObjectCalls)
+    → AreObjects es fs
+    → i < length fs → o ≡ get_or fs i o → IsFine o.kind (calls_of o.ops) certificates o.object
+    → IsFineAt es certificates o.object
+next_fine es certificates fs i o h l is fine =
+    next_is es fs i o (λ kind calls. IsFine kind calls certificates o.object) h l is fine
 
--- Where the next object is refused, that is the first refusal. Certificates that are valid are refused by an allocation failure alone.
-pub next_is_first : (es : List Event) (certificates : List Certificate) (fs : List ObjectCalls) (i : ℕ) (o : ObjectCalls) (r : Refusal)
+-- Where the next object is refused, that is the first refusal. Certificates that are valid are refused by an
+-- allocation failure alone.
+pub next_is_first : (es : List Event) (certificates : List Certificate) (fs : List ObjectCalls) (i : ℕ)
+    (o : ObjectCalls) (r : Refusal)
     → AllPairs (λ a b. a.object ≢ b.object) certificates → AreObjects es fs → AreFine es certificates (take i fs)
-    → i < length fs → o ≡ get_or fs i o → IsRefused o.kind (calls_of o.ops) certificates o.object r → IsFirstRefusal es certificates r × (AreValid es certificates → r ≡ NoMemory)
+    → i < length fs → o ≡ get_or fs i o → IsRefused o.kind (calls_of o.ops) certificates o.object r
+    → IsFirstRefusal es certificates r × (AreValid es certificates → r ≡ NoMemory)
 next_is_first es certificates fs i o r d objects fine l is h =
     let refused = next_is es fs i o (λ kind calls. IsRefused kind calls certificates o.object r) objects l is h in
     let parts = next_parts fs i o l is in (

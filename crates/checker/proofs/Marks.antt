@@ -5,8 +5,10 @@ use Rattle.events.specs.declared.operations.Invocation.{Invocation}
 use Rattle.events.specs.Operations.{return_of}
 use Rattle.checker.specs.Ends.{AreMarked, IsFirstUnmarked}
 
-pub first_unmarked : (ops : List Invocation) (marks : List Bool) (k : ℕ) (d : Invocation) → k < length ops → AreMarked ops marks k
-    → is_some (return_of (get_or ops k d).«end») ≡ true → get_or marks k false ≡ false → IsFirstUnmarked ops marks (get_or ops k d).number
+pub first_unmarked : (ops : List Invocation) (marks : List Bool) (k : ℕ) (d : Invocation) → k < length ops
+    → AreMarked ops marks k
+    → is_some (return_of (get_or ops k d).«end») ≡ true → get_or marks k false ≡ false
+    → IsFirstUnmarked ops marks (get_or ops k d).number
 first_unmarked ops marks k d l before back fresh = record {
   place = k;
   within = l;

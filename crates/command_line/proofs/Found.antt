@@ -15,7 +15,8 @@ use Rattle.clap.specs.declared.error.kind.ErrorKind.TheVariants.{OutOfMemory}
 use Rattle.clap.specs.declared.parser.matches.ArgMatches.{ArgMatches}
 use Rattle.clap.specs.declared.parser.matches.ArgMatches.TheViews.{out-ArgMatches, out-SubCommand}
 use Rattle.command_line.specs.Command.{command}
-use Rattle.command_line.specs.Lines.{AskFor, Finds, IsFault, IsClapFaultFor, IsLine, IsRead, AreWordsRefused, verb_named}
+use Rattle.command_line.specs.Lines.{AskFor, Finds, IsFault, IsClapFaultFor, IsLine, IsRead, AreWordsRefused}
+use Rattle.command_line.specs.Lines.{verb_named}
 use Rattle.command_line.specs.declared.asking.Line.{Line}
 use Rattle.command_line.specs.declared.asking.LineFault.{LineFault}
 use Rattle.command_line.specs.declared.asking.LineFault.TheVariants as said
@@ -106,7 +107,8 @@ module _ (a : App) (words : List Text) (is : a ≡ command) where
       pub asked : (l : Line) → Finds (subcommand_rows_of m) l → AskFor words l
       asked l f = record { faultless = faultless; finds = subst (λ o. Finds o l) found f }
 
-      unfit : (f : LineFault) → ((l : Line) → Finds (subcommand_rows_of m) l → ⊥) → (f ≢ said.NoMemory → AreWordsRefused f)
+      unfit : (f : LineFault) → ((l : Line) → Finds (subcommand_rows_of m) l → ⊥)
+        → (f ≢ said.NoMemory → AreWordsRefused f)
           → IsFault words f
       unfit (said.Help t) none refuses = absurd (refuses (λ e. cc))
       unfit (said.Refused t) none refuses =

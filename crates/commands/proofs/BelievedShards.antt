@@ -1,7 +1,8 @@
 -- What exit statuses show that are believed: a yes of all is a yes of each, whose text is then that of 0, and a no is a
 -- no of one. With what workers said taken for right, the shards decide the whole.
 use Rattle.std.proofs.Common.{◌≡◌, ◌∙◌, ℕ, ◌+◌, ◌<◌, ◌≤◌, ◌⊎◌, inl, inr, List, [], ◌∷◌, ◌++◌, Bool, true, false, cond}
-use Rattle.std.proofs.Common.{Option, Some, None, append-nil, append_assoc, arith, ap, codes, get_or, length, refl, sym, subst}
+use Rattle.std.proofs.Common.{Option, Some, None, append-nil, append_assoc, arith, ap, codes, get_or, length, refl}
+use Rattle.std.proofs.Common.{sym, subst}
 use Rattle.std.specs.Prelude.{unwrap_or}
 use Rattle.std.specs.Str.{bytes_eq}
 use Rattle.std.proofs.lemmas.Bool.{cases_lt}
@@ -100,8 +101,10 @@ no_read (Some text) e = ap Some (says_no text (was_said (said_by text) Refuted e
 module _ (holds : HoldingStatus) (count : ℕ) (some : 0 < count) (whole : List ℕ) (files : Files)
     (divided : AreShardsOf count whole files) where
   module _ (read : List (Option (List ℕ))) (each : length read ≡ count) (are_read : AreStatusesRead holds read) where
-    whole_linearizable : finding_by read ≡ Certified → IsEachYesRight holds count files → IsLinearizableAtAnyLength whole
-    whole_linearizable found right = linearizable_where_judged (shard_among count) name_in_shard whole files.texts divided.split
+    whole_linearizable : finding_by read ≡ Certified → IsEachYesRight holds count files
+      → IsLinearizableAtAnyLength whole
+    whole_linearizable found right =
+      linearizable_where_judged (shard_among count) name_in_shard whole files.texts divided.split
         (λ s. elim (cases_lt s (length read)) [
           | inl below ↦
               let is = yes_read (get_or read s None) (all_certified finding_of read found (get_or read s None)

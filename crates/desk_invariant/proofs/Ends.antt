@@ -1,5 +1,6 @@
 -- The end of a client, and the sight of another's.
-use Rattle.std.proofs.Common.{◌≡◌, ◌≢◌, ℕ, ◌+◌, ◌<◌, Bool, true, false, List, ◌∷◌, map, length, get_or, set, Some, refl, sym, ap, ◌∙◌, subst, ◌⊎◌, ⊎_elim, arith}
+use Rattle.std.proofs.Common.{◌≡◌, ◌≢◌, ℕ, ◌+◌, ◌<◌, Bool, true, false, List, ◌∷◌, map, length, get_or, set, Some}
+use Rattle.std.proofs.Common.{refl, sym, ap, ◌∙◌, subst, ◌⊎◌, ⊎_elim, arith}
 use mathlib.Core.Logic.{dite}
 use mathlib.Core.Option as maybe
 use native.Mathlib.Decide.{ℕ_discrete}
@@ -23,7 +24,8 @@ use Rattle.desk_model.specs.Images.{event_in}
 use Rattle.desk_model.proofs.Changed.{changed_here, changed_else, changed_all}
 use Rattle.desk_model.proofs.Entries.{starts_same}
 use Rattle.desk_model.proofs.Effects.{sound_ended}
-use Rattle.desk_invariant.specs.Views.{end_place, own_request, journal, IsAtRest, after_end, after_end_seen, after_end_unset}
+use Rattle.desk_invariant.specs.Views.{end_place, own_request, journal, IsAtRest, after_end, after_end_seen}
+use Rattle.desk_invariant.specs.Views.{after_end_unset}
 use Rattle.desk_invariant.specs.Rule.{end_word, OwnOk, HeldOk, SeatOk}
 use Rattle.desk_invariant.specs.Plays as play
 use Rattle.desk_invariant.proofs.Seats.{Later, alike, kept_after, seat_knowing, mine, unmoved, Rule}
@@ -54,8 +56,11 @@ pub own_is : (o : Own) (t : Stage) → OwnOk o t → own_request o ≡ request_o
 own_is own.Absent t is = ap request_of (sym is)
 own_is own.Idle t is = ap request_of (sym is)
 own_is (own.Drawn q) t is = ap request_of (sym is)
-own_is (own.Waiting q) t is = ⊎_elim (λ (e : t ≡ posted q). ap request_of (sym e)) (λ (f : (t ≡ picked q) ⊎ ((a : AnyAnswer) × (t ≡ answered q a))).
-    ⊎_elim (λ (e : t ≡ picked q). ap request_of (sym e)) (λ (e : (a : AnyAnswer) × (t ≡ answered q a)). ap request_of (sym e.1)) f) is
+own_is (own.Waiting q) t is =
+    ⊎_elim (λ (e : t ≡ posted q). ap request_of (sym e))
+    (λ (f : (t ≡ picked q) ⊎ ((a : AnyAnswer) × (t ≡ answered q a))).
+    ⊎_elim (λ (e : t ≡ picked q). ap request_of (sym e))
+      (λ (e : (a : AnyAnswer) × (t ≡ answered q a)). ap request_of (sym e.1)) f) is
 own_is (own.Taken q a) t is = ap request_of (sym is)
 
 -- a client at rest has come
@@ -63,30 +68,41 @@ has_come : (o : Own) (t : Stage) → IsAtRest o → OwnOk o t → t ≢ absent
 has_come own.Absent t calm is gone = absurd calm
 has_come own.Idle t calm is gone = let e = sym is ∙ gone in absurd (cc)
 has_come (own.Drawn q) t calm is gone = absurd calm
-has_come (own.Waiting q) t calm is gone = let e : Some q ≡ request_of absent = own_is (own.Waiting q) t is ∙ ap request_of gone in absurd (cc)
+has_come (own.Waiting q) t calm is gone =
+    let e : Some q ≡ request_of absent = own_is (own.Waiting q) t is ∙ ap request_of gone in absurd (cc)
 has_come (own.Taken q a) t calm is gone = absurd calm
 
-module _ {S O R : Type 0} (content : S → Content) (op_in : O → AnyOp) (reply_in : R → AnyReply) (kinds : List Kind) (clients quota : ℕ) where
+module _ {S O R : Type 0} (content : S → Content) (op_in : O → AnyOp) (reply_in : R → AnyReply) (kinds : List Kind)
+    (clients quota : ℕ) where
   abbrev K : State (Slot S O R) DeskView → Type 0
   K = Rule content op_in reply_in kinds clients quota
 
-  pub end_keeps_rule : (slots id c : ℕ) (m : Me (Slot S O R) DeskView) (j : Journal O R) (tl : List (ℕ × Slot S O R)) → m.0.role ≡ role.Client
+  pub end_keeps_rule : (slots id c : ℕ) (m : Me (Slot S O R) DeskView) (j : Journal O R) (tl : List (ℕ × Slot S O R))
+      → m.0.role ≡ role.Client
       → m.0.number ≡ c → IsAtRest m.0.own → m.0.held ≡ held.Free
       → map (event_in op_in reply_in) j.events.items ≡ journal m.0 → m.1 ≡ (48 + c, slot.Journal j) ∷ tl
-      → Allows K slots id m (end_place c) (λ _. 1) (λ _. play.ends content op_in reply_in (step slots (end_place c) 1 0 maybe.none) m 1)
+      → Allows K slots id m (end_place c) (λ _. 1)
+        (λ _. play.ends content op_in reply_in (step slots (end_place c) 1 0 maybe.none) m 1)
   end_keeps_rule slots id c m j tl cl number calm free says carried s k deep at small =
-      let w : World = k.world in let ok = subst (λ z. SeatOk kinds w z m.0) number (mine content op_in reply_in kinds clients quota s k id m.0 cl at) in let v' : DeskView = after_end m.0 in
-      let says' : map (event_in op_in reply_in) j.events.items ≡ journal_of (w.done c) (request_of (w.stage c)) = says ∙ λ i. journal_of (ok.done i) (own_is m.0.own (w.stage c) ok.own i) in (
+      let w : World = k.world in
+      let ok = subst (λ z. SeatOk kinds w z m.0) number
+        (mine content op_in reply_in kinds clients quota s k id m.0 cl at) in let v' : DeskView = after_end m.0 in
+      let says' : map (event_in op_in reply_in) j.events.items ≡ journal_of (w.done c) (request_of (w.stage c)) =
+        says ∙ λ i. journal_of (ok.done i) (own_is m.0.own (w.stage c) ok.own i) in (
         v',
         gives,
         tt,
-        subst (λ cs. K record { words = set s.words (end_place c) 1; homes = put_back s.homes cs; views = set s.views id v' }) (sym carried)
+        subst (λ cs. K record { words = set s.words (end_place c) 1; homes = put_back s.homes cs;
+          views = set s.views id v' }) (sym carried)
             (kept_after content op_in reply_in kinds clients quota s k id m.0 v' at cl alike record {
               world = ended_by w c;
-              holders = λ x d e. let b = k.holders x d e in (b.0, changed_else w.ended c true d (λ same. subst (HeldOk (length kinds) w c) free ok.held x (e ∙ ap Some same)) ∙ b.1);
+              holders = λ x d e. let b = k.holders x d e in
+                (b.0, changed_else w.ended c true d
+                (λ same. subst (HeldOk (length kinds) w c) free ok.held x (e ∙ ap Some same)) ∙ b.1);
               come = k.come;
               sound = sound_ended kinds quota w c k.sound;
-              tied = tied_end content op_in reply_in kinds k.lists w c j s.words s.homes ok.small (has_come m.0.own (w.stage c) calm ok.own) says' k.tied;
+              tied = tied_end content op_in reply_in kinds k.lists w c j s.words s.homes ok.small
+                (has_come m.0.own (w.stage c) calm ok.own) says' k.tied;
               leave = λ d e. (still_ended w c d e, refl);
               others = λ d other. later_ended w c d (λ e. other (e ∙ sym number));
               own = subst (λ z. SeatOk kinds (ended_by w c) z v') (sym number) record {
@@ -109,24 +125,29 @@ module _ {S O R : Type 0} (content : S → Content) (op_in : O → AnyOp) (reply
       )
 
   pub look_at_end_keeps_rule : (slots id d : ℕ) (m : Me (Slot S O R) DeskView) → m.0.role ≡ role.Client → d < 32
-      → Allows K slots id m (end_place d) (λ f. f) (play.sees_end content op_in reply_in (step slots (end_place d) 0 0 maybe.none) m)
+      → Allows K slots id m (end_place d) (λ f. f)
+        (play.sees_end content op_in reply_in (step slots (end_place d) 0 0 maybe.none) m)
   look_at_end_keeps_rule slots id d m cl low s k deep at small =
-      let w : World = k.world in let ok = mine content op_in reply_in kinds clients quota s k id m.0 cl at in let word = k.tied.ends d low in dite (ℕ_discrete (get_or s.words (end_place d) 0) 1)
+      let w : World = k.world in let ok = mine content op_in reply_in kinds clients quota s k id m.0 cl at in
+      let word = k.tied.ends d low in dite (ℕ_discrete (get_or s.words (end_place d) 0) 1)
       (λ hit. let is : w.ended d ≡ true = is_ended (w.ended d) (sym word ∙ hit) in (
         after_end_seen d m.0,
         keeps,
         tt,
         unmoved content op_in reply_in kinds clients quota s k (end_place d) id m.0 (after_end_seen d m.0) m.1 at cl
             alike (seat_knowing ok.ready (All-push (λ e. w.ended e ≡ true) m.0.retired d ok.retired is) ok),
-        λ e same. let f : d ≡ e = omega arith in ((λ _. ap (λ z. (after_end_seen z m.0, m.1)) f), λ miss. absurd (miss hit)),
+        λ e same. let f : d ≡ e = omega arith in
+          ((λ _. ap (λ z. (after_end_seen z m.0, m.1)) f), λ miss. absurd (miss hit)),
       ))
       (λ miss. (
         after_end_unset d m.0,
         keeps,
         tt,
-        unmoved content op_in reply_in kinds clients quota s k (end_place d) id m.0 (after_end_unset d m.0) m.1 at cl alike (seat_knowing ok.ready ok.retired ok),
+        unmoved content op_in reply_in kinds clients quota s k (end_place d) id m.0
+          (after_end_unset d m.0) m.1 at cl alike (seat_knowing ok.ready ok.retired ok),
         λ e same. let f : d ≡ e = omega arith in (
           (λ hit. absurd (miss hit)),
-          λ _. (ap (λ z. (after_end_unset z m.0, m.1)) f, λ i z l g. miss (word ∙ ap end_word (ap w.ended (f ∙ sym g) ∙ ((k.seats id m.0 at).left i z l).0))),
+          λ _. (ap (λ z. (after_end_unset z m.0, m.1)) f,
+            λ i z l g. miss (word ∙ ap end_word (ap w.ended (f ∙ sym g) ∙ ((k.seats id m.0 at).left i z l).0))),
         ),
       ))

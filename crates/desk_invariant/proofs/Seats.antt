@@ -1,5 +1,6 @@
 -- What a step of one client leaves of what the others know.
-use Rattle.std.proofs.Common.{◌≡◌, ◌≢◌, ℕ, ◌+◌, ◌<◌, ◌≤◌, Bool, true, false, List, [], length, get_or, set, Some, All, refl, sym, ap, subst, ◌∙◌, ⊎_elim, arith}
+use Rattle.std.proofs.Common.{◌≡◌, ◌≢◌, ℕ, ◌+◌, ◌<◌, ◌≤◌, Bool, true, false, List, [], length, get_or, set, Some}
+use Rattle.std.proofs.Common.{All, refl, sym, ap, subst, ◌∙◌, ⊎_elim, arith}
 use mathlib.Core.Option as maybe
 use mathlib.Core.Option.{some}
 use lib.ListN.{get_elem?}
@@ -20,7 +21,8 @@ use Rattle.desk_invariant.specs.declared.board.Leaving.{Leaving}
 use Rattle.desk_invariant.specs.declared.board.PutBack.{PutBack}
 use Rattle.desk_invariant.specs.declared.board.Role.TheVariants as role
 use Rattle.desk_invariant.specs.declared.board.DeskView.{DeskView}
-use Rattle.desk_model.specs.World.{AnyEntry, AnyRequest, AnyAnswer, AnyDone, Stage, absent, posted, picked, answered, World, request_of, journal_of, journal_in, StartsWith}
+use Rattle.desk_model.specs.World.{AnyEntry, AnyRequest, AnyAnswer, AnyDone, Stage, absent, posted, picked}
+use Rattle.desk_model.specs.World.{answered, World, request_of, journal_of, journal_in, StartsWith}
 use Rattle.desk_model.specs.Transitions.{changed}
 use Rattle.desk_model.specs.Sound.{Sound}
 use Rattle.desk_model.proofs.Changed.{changed_all}
@@ -36,7 +38,8 @@ pub record Later (w w' : World) (c : ℕ) : Type 0 where
   pub logs : (x : ℕ) → StartsWith (w'.log x) (w.log x)
   pub held : (x : ℕ) → w.holder x ≡ Some c → (w'.holder x ≡ w.holder x) × (w'.hand x ≡ w.hand x) × (w'.log x ≡ w.log x)
   pub holds : (x : ℕ) → w'.holder x ≡ Some c → w.holder x ≡ Some c
-  pub picked : (x r : ℕ) (q : AnyRequest) → w.holder x ≡ Some c → w.hand x ≡ Some r → w.stage r ≡ picked q → w'.stage r ≡ picked q
+  pub picked : (x r : ℕ) (q : AnyRequest) → w.holder x ≡ Some c → w.hand x ≡ Some r → w.stage r ≡ picked q
+      → w'.stage r ≡ picked q
   pub posted : (r : ℕ) (q : AnyRequest) → w.holder q.object ≡ Some c → w.stage r ≡ posted q → w'.stage r ≡ posted q
   pub ended : w'.ended c ≡ w.ended c
 
@@ -48,9 +51,12 @@ left_stays : (w w' : World) (ls : List Leaving) → Leaves w w' → All (HasLeft
 left_stays w w' ls leave all i d l = let b = all i d l in let e = leave (get_or ls i d).client b.0 in (e.0, e.1 ∙ b.1)
 
 -- the row r goes on with its call
-pub row_leaves : (w : World) (r : ℕ) (t : Stage) → request_of (w.stage r) ≡ request_of t → (d : ℕ) → w.ended d ≡ true → (w.ended d ≡ true)
+pub row_leaves : (w : World) (r : ℕ) (t : Stage) → request_of (w.stage r) ≡ request_of t → (d : ℕ) → w.ended d ≡ true
+    → (w.ended d ≡ true)
     × (journal_of (w.done d) (request_of (changed w.stage r t d)) ≡ journal_in w d)
-row_leaves w r t same d e = (e, ap (journal_of (w.done d)) (changed_all (λ p s. request_of s ≡ request_of (w.stage p)) w.stage r t (sym same) (λ p _. refl) d))
+row_leaves w r t same d e =
+    (e, ap (journal_of (w.done d))
+    (changed_all (λ p s. request_of s ≡ request_of (w.stage p)) w.stage r t (sym same) (λ p _. refl) d))
 
 same_later : (w : World) (c : ℕ) → Later w w c
 same_later w c = record {
@@ -67,10 +73,14 @@ same_later w c = record {
 
 held_stays : (n : ℕ) (w w' : World) (c : ℕ) → Later w w' c → (h : Held) → HeldOk n w c h → HeldOk n w' c h
 held_stays n w w' c t held.Free k = λ x e. k x (t.holds x e)
-held_stays n w w' c t (held.Pass x l) k = let e = t.held x k.1 in (k.0, e.0 ∙ k.1, e.1 ∙ k.2, e.2 ∙ k.3, λ y f. k.4 y (t.holds y f))
-held_stays n w w' c t (held.Hand x l r q) k = let e = t.held x k.1 in (k.0, e.0 ∙ k.1, e.1 ∙ k.2, e.2 ∙ k.3, (λ y f. k.4 y (t.holds y f)), k.5, t.picked x r q k.1 k.2 k.6)
+held_stays n w w' c t (held.Pass x l) k =
+    let e = t.held x k.1 in (k.0, e.0 ∙ k.1, e.1 ∙ k.2, e.2 ∙ k.3, λ y f. k.4 y (t.holds y f))
+held_stays n w w' c t (held.Hand x l r q) k =
+    let e = t.held x k.1 in
+    (k.0, e.0 ∙ k.1, e.1 ∙ k.2, e.2 ∙ k.3, (λ y f. k.4 y (t.holds y f)), k.5, t.picked x r q k.1 k.2 k.6)
 
-seat_stays : (kinds : List Kind) (w w' : World) (c : ℕ) (v : DeskView) → Leaves w w' → Later w w' c → SeatOk kinds w c v → SeatOk kinds w' c v
+seat_stays : (kinds : List Kind) (w w' : World) (c : ℕ) (v : DeskView) → Leaves w w' → Later w w' c
+    → SeatOk kinds w c v → SeatOk kinds w' c v
 seat_stays kinds w w' c v leave t k = record {
   number = k.number;
   small = k.small;
@@ -84,7 +94,8 @@ seat_stays kinds w w' c v leave t k = record {
   held = held_stays (length kinds) w w' c t v.held k.held;
   ended = t.ended ∙ k.ended;
   retired = λ i d l. (leave (get_or v.retired i d) (k.retired i d l)).0;
-  back = λ i d l. let b = k.back i d l in let p = get_or v.back i d in (t.posted p.row p.request b.1 b.0, (t.held p.request.object b.1).0 ∙ b.1);
+  back = λ i d l. let b = k.back i d l in let p = get_or v.back i d in
+    (t.posted p.row p.request b.1 b.0, (t.held p.request.object b.1).0 ∙ b.1);
 }
 
 -- what no step of a client's own changes in its view
@@ -97,7 +108,8 @@ pub record Alike (v v' : DeskView) : Type 0 where
   pub lists : v'.lists ≡ v.lists
 
 -- a view in which none of these changed
-pub alike : {v : DeskView} {kinds : List Kind} {done : List AnyDone} {own : Own} {ready : Bool} {seen : List (List AnyEntry)} {back : List PutBack}
+pub alike : {v : DeskView} {kinds : List Kind} {done : List AnyDone} {own : Own} {ready : Bool}
+    {seen : List (List AnyEntry)} {back : List PutBack}
     {missed : List ℕ} {won : ℕ} {held : Held} {ended : Bool} {retired still_there : List ℕ}
     → Alike v (record v {
       kinds = kinds;
@@ -118,10 +130,14 @@ alike = record { role = refl; number = refl; made = refl; received = refl; left 
 
 -- A client that was told more, missed more, and knows more of its row and of the ends of others. What it was told, has
 -- missed and has found there does not matter.
-pub seat_knowing : {kinds : List Kind} {w : World} {c : ℕ} {v : DeskView} {ready : Bool} {received : List (List AnyEntry)} {missed : List ℕ}
-    {left : List Leaving} {retired still_there : List ℕ} → (ready ≡ true → (q : AnyRequest) × (a : AnyAnswer) × (w.stage c ≡ answered q a))
+pub seat_knowing : {kinds : List Kind} {w : World} {c : ℕ} {v : DeskView} {ready : Bool}
+    {received : List (List AnyEntry)} {missed : List ℕ}
+    {left : List Leaving} {retired still_there : List ℕ}
+      → (ready ≡ true → (q : AnyRequest) × (a : AnyAnswer) × (w.stage c ≡ answered q a))
     → All (λ d. w.ended d ≡ true) retired → SeatOk kinds w c v
-    → SeatOk kinds w c (record v { ready = ready; received = received; missed = missed; left = left; retired = retired; still_there = still_there })
+    → SeatOk kinds w c (record v
+      { ready = ready; received = received; missed = missed; left = left; retired = retired;
+      still_there = still_there })
 seat_knowing ready retired ok = record {
   number = ok.number;
   small = ok.small;
@@ -139,23 +155,32 @@ seat_knowing ready retired ok = record {
 }
 
 -- after a step to w', in which the client's view v becomes v', each view is true
-seats_after : (kinds : List Kind) (lists : List TableId) (clients : ℕ) (w w' : World) (so : ℕ → ℕ) (vs : List DeskView) (id : ℕ) (v v' : DeskView)
+seats_after : (kinds : List Kind) (lists : List TableId) (clients : ℕ) (w w' : World) (so : ℕ → ℕ)
+    (vs : List DeskView) (id : ℕ) (v v' : DeskView)
     → get_elem? vs id ≡ some v → v.role ≡ role.Client → Alike v v' → Makers clients vs
-    → ((j : ℕ) (u : DeskView) → get_elem? vs j ≡ some u → ViewOk kinds lists w so j u) → Leaves w w' → ((c : ℕ) → c ≢ v.number → Later w w' c) → SeatOk kinds w' v.number v'
+    → ((j : ℕ) (u : DeskView) → get_elem? vs j ≡ some u → ViewOk kinds lists w so j u) → Leaves w w'
+    → ((c : ℕ) → c ≢ v.number → Later w w' c) → SeatOk kinds w' v.number v'
     → (j : ℕ) (u : DeskView) → get_elem? (set vs id v') j ≡ some u → ViewOk kinds lists w' so j u
 seats_after kinds lists clients w w' so vs id v v' at cl alike makers before leave others ok j u e =
-    let here = (before id v at).client cl in let next : 1 + v.number ≢ v.number = λ h. omega arith in let logs = (others (1 + v.number) next).logs in
-    let is_made : (c : ℕ) (z : DeskView) (i : ℕ) → get_elem? vs i ≡ some z → z.role ≡ role.Maker → z.made ≤ c → c ≢ v.number =
+    let here = (before id v at).client cl in let next : 1 + v.number ≢ v.number = λ h. omega arith in
+    let logs = (others (1 + v.number) next).logs in
+    let is_made : (c : ℕ) (z : DeskView) (i : ℕ) → get_elem? vs i ≡ some z → z.role ≡ role.Maker → z.made ≤ c
+      → c ≢ v.number =
     λ c z i g is l same. let low = (makers.made i z g is id v at).0 cl in omega arith in
-    let unmade : (c : ℕ) → c ≢ v.number → (w.stage c ≡ absent) × (w.done c ≡ []) × (w.ended c ≡ false) × ((x : ℕ) → w.holder x ≢ Some c)
+    let unmade : (c : ℕ) → c ≢ v.number
+      → (w.stage c ≡ absent) × (w.done c ≡ []) × (w.ended c ≡ false) × ((x : ℕ) → w.holder x ≢ Some c)
     → (w'.stage c ≡ absent) × (w'.done c ≡ []) × (w'.ended c ≡ false) × ((x : ℕ) → w'.holder x ≢ Some c) =
-    λ c apart b. let o = others c apart in (o.own own.Absent b.0, o.done ∙ b.1, o.ended ∙ b.2, λ x f. b.3 x (o.holds x f)) in
-    ⊎_elim (λ (t : (j ≡ id) × (v' ≡ u)). subst (λ (z : ℕ × DeskView). ViewOk kinds lists w' so z.0 z.1) (λ i. (sym t.0 i, t.1 i)) record {
+    λ c apart b. let o = others c apart in
+      (o.own own.Absent b.0, o.done ∙ b.1, o.ended ∙ b.2, λ x f. b.3 x (o.holds x f)) in
+    ⊎_elim (λ (t : (j ≡ id) × (v' ≡ u)). subst (λ (z : ℕ × DeskView). ViewOk kinds lists w' so z.0 z.1)
+      (λ i. (sym t.0 i, t.1 i)) record {
       seen = ok.seen;
-      received = λ x. subst (λ z. StartsWith (w'.log x) (get_or z x [])) (sym alike.received) (starts_longer (w'.log x) (w.log x) (received_of v x) (logs x) ((before id v at).received x));
+      received = λ x. subst (λ z. StartsWith (w'.log x) (get_or z x [])) (sym alike.received)
+        (starts_longer (w'.log x) (w.log x) (received_of v x) (logs x) ((before id v at).received x));
       left = subst (All (HasLeft w')) (sym alike.left) (left_stays w w' v.left leave (before id v at).left);
       client = λ _. (ap so alike.number ∙ here.0, subst (λ z. SeatOk kinds w' z v') (sym alike.number) ok);
-      unmade = λ is c l. let is' : v.role ≡ role.Maker = sym alike.role ∙ is in let l' : v.made ≤ c = subst (λ z. z ≤ c) alike.made l in
+      unmade = λ is c l. let is' : v.role ≡ role.Maker = sym alike.role ∙ is in
+          let l' : v.made ≤ c = subst (λ z. z ≤ c) alike.made l in
           unmade c (is_made c v id at is' l') ((before id v at).unmade is' c l');
       maker_kinds = λ is. ok.kinds_are;
       lists_are = λ is. alike.lists ∙ (before id v at).lists_are cl;
@@ -165,44 +190,56 @@ seats_after kinds lists clients w w' so vs id v v' at cl alike makers before lea
       seen = λ x. starts_longer (w'.log x) (w.log x) (seen_of u x) (logs x) (b.seen x);
       received = λ x. starts_longer (w'.log x) (w.log x) (received_of u x) (logs x) (b.received x);
       left = left_stays w w' u.left leave b.left;
-      client = λ is. let c = b.client is in (c.0, seat_stays kinds w w' u.number u leave (others u.number (λ g. t.0 (sym c.0 ∙ (ap so g ∙ here.0)))) c.1);
+      client = λ is. let c = b.client is in
+        (c.0, seat_stays kinds w w' u.number u leave (others u.number (λ g. t.0 (sym c.0 ∙ (ap so g ∙ here.0)))) c.1);
       unmade = λ is c l. unmade c (is_made c u j t.1 is l) (b.unmade is c l);
       maker_kinds = b.maker_kinds;
       lists_are = b.lists_are;
       maker_lists = b.maker_lists;
     }) (at_set vs id j v' u e)
 
-pub makers_stay : (clients : ℕ) (vs : List DeskView) (id : ℕ) (v v' : DeskView) → get_elem? vs id ≡ some v → v'.role ≡ v.role → v'.number ≡ v.number
+pub makers_stay : (clients : ℕ) (vs : List DeskView) (id : ℕ) (v v' : DeskView) → get_elem? vs id ≡ some v
+    → v'.role ≡ v.role → v'.number ≡ v.number
     → v'.made ≡ v.made → Makers clients vs → Makers clients (set vs id v')
 makers_stay clients vs id v v' at role number made before =
-    let back : (a : ℕ) (z : DeskView) → get_elem? (set vs id v') a ≡ some z → (y : DeskView) × (get_elem? vs a ≡ some y) × (z.role ≡ y.role) × (z.number ≡ y.number) × (z.made ≡ y.made)
-    = λ a z g. ⊎_elim (λ (h : (a ≡ id) × (v' ≡ z)). (v, ap (get_elem? vs) h.0 ∙ at, ap (λ q. q.role) (sym h.1) ∙ role, ap (λ q. q.number) (sym h.1) ∙ number, ap (λ q. q.made) (sym h.1) ∙ made))
+    let back : (a : ℕ) (z : DeskView) → get_elem? (set vs id v') a ≡ some z
+      → (y : DeskView) × (get_elem? vs a ≡ some y) × (z.role ≡ y.role) × (z.number ≡ y.number) × (z.made ≡ y.made)
+    = λ a z g. ⊎_elim (λ (h : (a ≡ id) × (v' ≡ z)).
+      (v, ap (get_elem? vs) h.0 ∙ at, ap (λ q. q.role) (sym h.1) ∙ role, ap (λ q. q.number) (sym h.1) ∙ number,
+      ap (λ q. q.made) (sym h.1) ∙ made))
     (λ (h : (a ≢ id) × (get_elem? vs a ≡ some z)). (z, h.1, refl, refl, refl)) (at_set vs id a v' z g) in
     record {
-      made = λ j u e is i t f. let a = back j u e in let b = back i t f in let low = before.made j a.0 a.1 (sym a.2 ∙ is) i b.0 b.1 in let n₁ = b.3 in let n₂ = a.4 in
+      made = λ j u e is i t f. let a = back j u e in let b = back i t f in
+          let low = before.made j a.0 a.1 (sym a.2 ∙ is) i b.0 b.1 in let n₁ = b.3 in let n₂ = a.4 in
           ((λ tc. let l = low.0 (sym b.2 ∙ tc) in omega arith), λ tm. low.1 (sym b.2 ∙ tm));
-      numbers = λ j u e is. let a = back j u e in let low = before.numbers j a.0 a.1 (sym a.2 ∙ is) in let n = a.3 in omega arith;
+      numbers = λ j u e is. let a = back j u e in let low = before.numbers j a.0 a.1 (sym a.2 ∙ is) in let n = a.3 in
+        omega arith;
     }
 
 -- who has come is one of the clients still, after one of them goes to another stage
-pub come_after : (clients : ℕ) (w : World) (c : ℕ) (t : Stage) → c < clients → ((d : ℕ) → w.stage d ≢ absent → d < clients) → (d : ℕ) → changed w.stage c t d ≢ absent → d < clients
+pub come_after : (clients : ℕ) (w : World) (c : ℕ) (t : Stage) → c < clients
+    → ((d : ℕ) → w.stage d ≢ absent → d < clients) → (d : ℕ) → changed w.stage c t d ≢ absent → d < clients
 come_after clients w c t low all = changed_all (λ d s. s ≢ absent → d < clients) w.stage c t (λ _. low) (λ d _. all d)
 
-makers_after : (clients : ℕ) (vs : List DeskView) (id : ℕ) (v v' : DeskView) → get_elem? vs id ≡ some v → Alike v v' → Makers clients vs → Makers clients (set vs id v')
+makers_after : (clients : ℕ) (vs : List DeskView) (id : ℕ) (v v' : DeskView) → get_elem? vs id ≡ some v → Alike v v'
+    → Makers clients vs → Makers clients (set vs id v')
 makers_after clients vs id v v' at alike = makers_stay clients vs id v v' at alike.role alike.number alike.made
 
-module _ {S O R : Type 0} (content : S → Content) (op_in : O → AnyOp) (reply_in : R → AnyReply) (kinds : List Kind) (clients quota : ℕ) where
+module _ {S O R : Type 0} (content : S → Content) (op_in : O → AnyOp) (reply_in : R → AnyReply) (kinds : List Kind)
+    (clients quota : ℕ) where
   abbrev pub St : Type 0
   St = State (Slot S O R) DeskView
 
   abbrev pub Rule : St → Type 0
   Rule = Kept content op_in reply_in kinds clients quota
 
-  pub mine : (s : St) (k : Rule s) (id : ℕ) (v : DeskView) → v.role ≡ role.Client → get_elem? s.views id ≡ some v → SeatOk kinds k.world v.number v
+  pub mine : (s : St) (k : Rule s) (id : ℕ) (v : DeskView) → v.role ≡ role.Client → get_elem? s.views id ≡ some v
+      → SeatOk kinds k.world v.number v
   mine s k id v cl at = ((k.seats id v at).client cl).1
 
   -- the world after a step of the client whose view v becomes v', with what the rule asks of it
-  pub record After (s : St) (k : Rule s) (v v' : DeskView) (words : List ℕ) (homes : List (maybe.Option (Slot S O R))) : Type 0 where
+  pub record After (s : St) (k : Rule s) (v v' : DeskView) (words : List ℕ)
+      (homes : List (maybe.Option (Slot S O R))) : Type 0 where
     pub world : World
     pub holders : (x d : ℕ) → world.holder x ≡ Some d → (d < clients) × (world.ended d ≡ false)
     pub come : (d : ℕ) → world.stage d ≢ absent → d < clients
@@ -212,7 +249,8 @@ module _ {S O R : Type 0} (content : S → Content) (op_in : O → AnyOp) (reply
     pub others : (d : ℕ) → d ≢ v.number → Later k.world world d
     pub own : SeatOk kinds world v.number v'
 
-  pub kept_after : {words : List ℕ} {homes : List (maybe.Option (Slot S O R))} (s : St) (k : Rule s) (id : ℕ) (v v' : DeskView)
+  pub kept_after : {words : List ℕ} {homes : List (maybe.Option (Slot S O R))} (s : St) (k : Rule s) (id : ℕ)
+      (v v' : DeskView)
       → get_elem? s.views id ≡ some v → v.role ≡ role.Client → Alike v v' → After s k v v' words homes
       → Rule record { words = words; homes = homes; views = set s.views id v' }
   kept_after s k id v v' at cl alike a = record {
@@ -223,16 +261,20 @@ module _ {S O R : Type 0} (content : S → Content) (op_in : O → AnyOp) (reply
     few_clients = k.few_clients;
     sound = a.sound;
     tied = a.tied;
-    seats = seats_after kinds k.lists clients k.world a.world k.seat_of s.views id v v' at cl alike k.makers k.seats a.leave a.others a.own;
+    seats = seats_after kinds k.lists clients k.world a.world k.seat_of s.views id v v' at cl alike k.makers k.seats
+      a.leave a.others a.own;
     makers = makers_after clients s.views id v v' at alike k.makers;
     holders = a.holders;
     come = a.come;
   }
 
   -- a step that changes no word
-  pub unmoved : (s : St) (k : Rule s) (i id : ℕ) (v v' : DeskView) (cs : List (ℕ × Slot S O R)) → get_elem? s.views id ≡ some v → v.role ≡ role.Client → Alike v v' → SeatOk kinds k.world v.number v'
+  pub unmoved : (s : St) (k : Rule s) (i id : ℕ) (v v' : DeskView) (cs : List (ℕ × Slot S O R))
+      → get_elem? s.views id ≡ some v → v.role ≡ role.Client → Alike v v' → SeatOk kinds k.world v.number v'
       → Rule (stepped s i (get_or s.words i 0) id cs v' keeps)
-  unmoved s k i id v v' cs at cl alike ok = subst (λ (ws : List ℕ). Rule record { words = ws; homes = s.homes; views = set s.views id v' }) (sym (set-get_or s.words i 0))
+  unmoved s k i id v v' cs at cl alike ok =
+    subst (λ (ws : List ℕ). Rule record { words = ws; homes = s.homes; views = set s.views id v' })
+    (sym (set-get_or s.words i 0))
       (kept_after s k id v v' at cl alike record {
         world = k.world;
         holders = k.holders;
@@ -245,11 +287,15 @@ module _ {S O R : Type 0} (content : S → Content) (op_in : O → AnyOp) (reply
         own = ok;
       })
 
-  pub misses : (s : St) (k : Rule s) (i id : ℕ) (v : DeskView) (cs : List (ℕ × Slot S O R)) → v.role ≡ role.Client → get_elem? s.views id ≡ some v
+  pub misses : (s : St) (k : Rule s) (i id : ℕ) (v : DeskView) (cs : List (ℕ × Slot S O R)) → v.role ≡ role.Client
+      → get_elem? s.views id ≡ some v
       → Rule (stepped s i (get_or s.words i 0) id cs (after_miss i v) keeps)
-  misses s k i id v cs cl at = let ok = mine s k id v cl at in unmoved s k i id v (after_miss i v) cs at cl alike (seat_knowing ok.ready ok.retired ok)
+  misses s k i id v cs cl at =
+      let ok = mine s k id v cl at in
+      unmoved s k i id v (after_miss i v) cs at cl alike (seat_knowing ok.ready ok.retired ok)
 
   -- a look that tells nothing
-  pub looks : (s : St) (k : Rule s) (i id : ℕ) (v : DeskView) (cs : List (ℕ × Slot S O R)) → v.role ≡ role.Client → get_elem? s.views id ≡ some v
+  pub looks : (s : St) (k : Rule s) (i id : ℕ) (v : DeskView) (cs : List (ℕ × Slot S O R)) → v.role ≡ role.Client
+      → get_elem? s.views id ≡ some v
       → Rule (stepped s i (get_or s.words i 0) id cs v keeps)
   looks s k i id v cs cl at = unmoved s k i id v v cs at cl alike (mine s k id v cl at)

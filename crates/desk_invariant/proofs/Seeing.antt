@@ -1,6 +1,8 @@
 -- A client sees more of a log.
-use Rattle.std.proofs.Common.{◌≡◌, ◌≢◌, ℕ, ◌<◌, true, false, cond, eqb, ◌⊎◌, ⊎_elim, inl, inr, length-append, List, [], ◌∷◌, ◌++◌, length, get_or}
-use Rattle.std.proofs.Common.{set, refl, sym, ap, subst, ◌∙◌, arith, append_assoc, append-nil, length-set, get_or-set_other, get_or-set_same}
+use Rattle.std.proofs.Common.{◌≡◌, ◌≢◌, ℕ, ◌<◌, true, false, cond, eqb, ◌⊎◌, ⊎_elim, inl, inr, length-append, List}
+use Rattle.std.proofs.Common.{[], ◌∷◌, ◌++◌, length, get_or}
+use Rattle.std.proofs.Common.{set, refl, sym, ap, subst, ◌∙◌, arith, append_assoc, append-nil, length-set}
+use Rattle.std.proofs.Common.{get_or-set_other, get_or-set_same}
 use mathlib.Core.Logic.{dite}
 use native.Mathlib.Decide.{ℕ_discrete}
 use Rattle.model.specs.declared.Kind.{Kind}
@@ -9,7 +11,8 @@ use Rattle.desk_invariant.specs.declared.board.Own.TheVariants as own
 use Rattle.desk_invariant.specs.declared.board.DeskView.{DeskView}
 use Rattle.std.proofs.lemmas.List.{append_cancel_left, nil_from_length}
 use Rattle.desk_model.specs.declared.Answer.TheVariants.{Reply, Refused}
-use Rattle.desk_model.specs.World.{AnyEntry, AnyRequest, AnyAnswer, AnyDone, Stage, posted, picked, answered, World, logged, logged_on, entries_of, served, served_now, StartsWith}
+use Rattle.desk_model.specs.World.{AnyEntry, AnyRequest, AnyAnswer, AnyDone, Stage, posted, picked, answered, World}
+use Rattle.desk_model.specs.World.{logged, logged_on, entries_of, served, served_now, StartsWith}
 use Rattle.desk_model.specs.Sound.{Sound}
 use Rattle.desk_model.proofs.Entries.{entries-append}
 use Rattle.desk_invariant.specs.Views.{owed, after_meet, IsAtRest, MayHold, IsAccount}
@@ -24,23 +27,28 @@ owed_served x c (own.Waiting q) t e = (served_now x c t, refl)
 owed_served x c (own.Taken q a) t e = ([], ap (served_now x c) e ∙ sym (append-nil (logged_on x c q a)))
 
 -- the whole log has what the client is to find in it
-pub all_covered : (kinds : List Kind) (quota : ℕ) (w : World) (c x : ℕ) (ds : List AnyDone) (o : Own) → ds ≡ w.done c → OwnOk o (w.stage c)
+pub all_covered : (kinds : List Kind) (quota : ℕ) (w : World) (c x : ℕ) (ds : List AnyDone) (o : Own) → ds ≡ w.done c
+    → OwnOk o (w.stage c)
     → Sound kinds quota w → StartsWith (entries_of c (w.log x)) (served x c ds ++ owed x c o)
 all_covered kinds quota w c x ds o same ok k = let d = owed_served x c o (w.stage c) ok in
-    (d.0, k.counted c x ∙ ((λ i. served x c (sym same i) ++ d.1 i) ∙ sym (append_assoc (served x c ds) (owed x c o) d.0)))
+    (d.0, k.counted c x ∙ ((λ i. served x c (sym same i) ++ d.1 i)
+      ∙ sym (append_assoc (served x c ds) (owed x c o) d.0)))
 
 pub entries_start : (c : ℕ) (xs ys : List AnyEntry) → StartsWith xs ys → StartsWith (entries_of c xs) (entries_of c ys)
 entries_start c xs ys b = (entries_of c b.0, ap (entries_of c) b.1 ∙ entries-append c ys b.0)
 
 -- what holds of the list seen of x, and of the lists seen of the others, holds after the list of x has changed
-pub seen_all : (P : ℕ → List AnyEntry → Type 0) (seen : List (List AnyEntry)) (x : ℕ) (l : List AnyEntry) → x < length seen → P x l
+pub seen_all : (P : ℕ → List AnyEntry → Type 0) (seen : List (List AnyEntry)) (x : ℕ) (l : List AnyEntry)
+    → x < length seen → P x l
     → ((y : ℕ) → y ≢ x → P y (get_or seen y [])) → (y : ℕ) → P y (get_or (set seen x l) y [])
 seen_all P seen x l low here others y = dite (ℕ_discrete y x)
-    (λ same. subst (λ z. P z (get_or (set seen x l) z [])) (sym same) (subst (P x) (sym (get_or-set_same seen x l [] low)) here))
+    (λ same. subst (λ z. P z (get_or (set seen x l) z [])) (sym same)
+      (subst (P x) (sym (get_or-set_same seen x l [] low)) here))
     (λ other. subst (P y) (sym (get_or-set_other seen x y l [] other)) (others y other))
 
 -- the client sees the list l of the object x
-pub saw : (kinds : List Kind) (w : World) (c x : ℕ) (v : DeskView) (l : List AnyEntry) → x < 16 → StartsWith (w.log x) l → StartsWith (entries_of c l) (served x c v.done ++ owed x c v.own)
+pub saw : (kinds : List Kind) (w : World) (c x : ℕ) (v : DeskView) (l : List AnyEntry) → x < 16
+    → StartsWith (w.log x) l → StartsWith (entries_of c l) (served x c v.done ++ owed x c v.own)
     → SeatOk kinds w c v → SeatOk kinds w c (after_meet x l v)
 saw kinds w c x v l low begins covers ok = let wide = ok.wide_seen in record {
   number = ok.number;
@@ -51,7 +59,8 @@ saw kinds w c x v l low begins covers ok = let wide = ok.wide_seen in record {
   ready = ok.ready;
   wide_seen = length-set v.seen x l ∙ wide;
   seen = seen_all (λ y z. StartsWith (w.log y) z) v.seen x l (omega arith) begins (λ y _. ok.seen y);
-  covers = seen_all (λ y z. StartsWith (entries_of c z) (served y c v.done ++ owed y c v.own)) v.seen x l (omega arith) covers (λ y _. ok.covers y);
+  covers = seen_all (λ y z. StartsWith (entries_of c z) (served y c v.done ++ owed y c v.own)) v.seen x l
+    (omega arith) covers (λ y _. ok.covers y);
   held = ok.held;
   ended = ok.ended;
   retired = ok.retired;
@@ -61,31 +70,48 @@ saw kinds w c x v l low begins covers ok = let wide = ok.wide_seen in record {
 -- the front of a list of one element at most is empty or whole
 one_front : {A : Type 0} (l xs ys : List A) → length l < 2 → l ≡ xs ++ ys → (xs ≡ []) ⊎ (xs ≡ l)
 one_front l [] ys short e = inl refl
-one_front l (z ∷ zs) ys short e = let n = ap length e in let m = length-append (z ∷ zs) ys in let none : length ys ≡ 0 = omega arith in
+one_front l (z ∷ zs) ys short e =
+    let n = ap length e in let m = length-append (z ∷ zs) ys in let none : length ys ≡ 0 = omega arith in
     inr (sym (e ∙ (ap (λ w. z ∷ zs ++ w) (nil_from_length ys none) ∙ append-nil (z ∷ zs))))
 
 short_logged : (x c : ℕ) (q : AnyRequest) (a : AnyAnswer) → length (logged_on x c q a) < 2
-short_logged x c q (Reply r) = elim (eqb q.object x) as (λ b. length (cond b (logged c q (Reply r)) []) < 2) [ true ↦ omega arith | false ↦ omega arith ]
-short_logged x c q Refused = elim (eqb q.object x) as (λ b. length (cond b (logged c q Refused) []) < 2) [ true ↦ omega arith | false ↦ omega arith ]
+short_logged x c q (Reply r) = elim (eqb q.object x) as (λ b. length (cond b (logged c q (Reply r)) []) < 2) [
+  | true ↦ omega arith
+  | false ↦ omega arith
+]
+short_logged x c q Refused = elim (eqb q.object x) as (λ b. length (cond b (logged c q Refused) []) < 2) [
+  | true ↦ omega arith
+  | false ↦ omega arith
+]
 
-held_now : (x c : ℕ) (o : Own) (t : Stage) (now more : List AnyEntry) → IsAtRest o → OwnOk o t → served_now x c t ≡ now ++ more → MayHold x c o now
+held_now : (x c : ℕ) (o : Own) (t : Stage) (now more : List AnyEntry) → IsAtRest o → OwnOk o t
+    → served_now x c t ≡ now ++ more → MayHold x c o now
 held_now x c own.Absent t now more rest ok e = absurd rest
-held_now x c own.Idle t now more rest ok e = ⊎_elim (λ f. f) (λ f. f) (one_front [] now more (omega arith) (ap (served_now x c) (sym ok) ∙ e))
+held_now x c own.Idle t now more rest ok e =
+    ⊎_elim (λ f. f) (λ f. f) (one_front [] now more (omega arith) (ap (served_now x c) (sym ok) ∙ e))
 held_now x c (own.Drawn q) t now more rest ok e = absurd rest
-held_now x c (own.Waiting q) t now more rest ok e = ⊎_elim (λ (f : t ≡ posted q). inl (⊎_elim (λ g. g) (λ g. g) (one_front [] now more (omega arith) (ap (served_now x c) (sym f) ∙ e))))
+held_now x c (own.Waiting q) t now more rest ok e =
+    ⊎_elim (λ (f : t ≡ posted q). inl
+    (⊎_elim (λ g. g) (λ g. g) (one_front [] now more (omega arith) (ap (served_now x c) (sym f) ∙ e))))
     (λ (g : (t ≡ picked q) ⊎ ((a : AnyAnswer) × (t ≡ answered q a))). ⊎_elim
-    (λ (f : t ≡ picked q). inl (⊎_elim (λ g. g) (λ g. g) (one_front [] now more (omega arith) (ap (served_now x c) (sym f) ∙ e))))
+    (λ (f : t ≡ picked q). inl
+      (⊎_elim (λ g. g) (λ g. g) (one_front [] now more (omega arith) (ap (served_now x c) (sym f) ∙ e))))
     (λ (f : (a : AnyAnswer) × (t ≡ answered q a)). ⊎_elim (λ h. inl h) (λ h. inr (f.0, h))
     (one_front (logged_on x c q f.0) now more (short_logged x c q f.0) (ap (served_now x c) (sym f.1) ∙ e))) g) ok
 held_now x c (own.Taken q a) t now more rest ok e = absurd rest
 
 -- a list that the client has seen has of its own calls what it is to have
-pub accounts : (kinds : List Kind) (quota : ℕ) (w : World) (x : ℕ) (v : DeskView) (l : List AnyEntry) → IsAtRest v.own → v.done ≡ w.done v.number → OwnOk v.own (w.stage v.number) → Sound kinds quota w
-    → StartsWith (w.log x) l → StartsWith (entries_of v.number l) (served x v.number v.done ++ owed x v.number v.own) → IsAccount x v l
+pub accounts : (kinds : List Kind) (quota : ℕ) (w : World) (x : ℕ) (v : DeskView) (l : List AnyEntry) → IsAtRest v.own
+    → v.done ≡ w.done v.number → OwnOk v.own (w.stage v.number) → Sound kinds quota w
+    → StartsWith (w.log x) l → StartsWith (entries_of v.number l) (served x v.number v.done ++ owed x v.number v.own)
+    → IsAccount x v l
 accounts kinds quota w x v l rest done ok k begins covers =
-    let c : ℕ = v.number in let d : List AnyEntry = served x c v.done in let now : List AnyEntry = owed x c v.own ++ covers.0 in
+    let c : ℕ = v.number in let d : List AnyEntry = served x c v.done in
+    let now : List AnyEntry = owed x c v.own ++ covers.0 in
     let seen : entries_of c l ≡ d ++ now = covers.1 ∙ append_assoc d (owed x c v.own) covers.0 in
-    let whole : d ++ served_now x c (w.stage c) ≡ d ++ (now ++ entries_of c begins.0) = ap (λ z. served x c z ++ served_now x c (w.stage c)) done
+    let whole : d ++ served_now x c (w.stage c) ≡ d ++ (now ++ entries_of c begins.0) =
+      ap (λ z. served x c z ++ served_now x c (w.stage c)) done
     ∙ (sym (k.counted c x) ∙ (ap (entries_of c) begins.1 ∙ (entries-append c l begins.0
     ∙ (ap (λ z. z ++ entries_of c begins.0) seen ∙ append_assoc d now (entries_of c begins.0))))) in
-    (now, seen, held_now x c v.own (w.stage c) now (entries_of c begins.0) rest ok (append_cancel_left d (served_now x c (w.stage c)) (now ++ entries_of c begins.0) whole))
+    (now, seen, held_now x c v.own (w.stage c) now (entries_of c begins.0) rest ok
+      (append_cancel_left d (served_now x c (w.stage c)) (now ++ entries_of c begins.0) whole))

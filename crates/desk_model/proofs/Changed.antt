@@ -14,7 +14,8 @@ module _ {A : Type 0} where
   changed_else f i v j other = ap (λ b. cond b v (f j)) (ne_eqb j i other)
 
   -- what holds of the new value at i, and of the old ones elsewhere, holds of the changed function
-  pub changed_all : (P : ℕ → A → Type 0) (f : ℕ → A) (i : ℕ) (v : A) → P i v → ((j : ℕ) → j ≢ i → P j (f j)) → (j : ℕ) → P j (changed f i v j)
+  pub changed_all : (P : ℕ → A → Type 0) (f : ℕ → A) (i : ℕ) (v : A) → P i v → ((j : ℕ) → j ≢ i → P j (f j)) → (j : ℕ)
+      → P j (changed f i v j)
   changed_all P f i v here others j = dite (ℕ_discrete j i)
       (λ same. subst (λ z. P z (changed f i v z)) (sym same) (subst (P i) (sym (changed_here f i v)) here))
       (λ other. subst (P j) (sym (changed_else f i v j other)) (others j other))

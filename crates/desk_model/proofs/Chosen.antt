@@ -1,5 +1,6 @@
 -- A log and the calls that its entries are of, one beside the other.
-use Rattle.std.proofs.Common.{◌≡◌, ◌≢◌, ℕ, ℤ, pos, ◌<◌, ◌==◌, Bool, true, false, cond, inl, inr, List, [], ◌∷◌, ◌++◌, map, IfSome, refl, ap, sym, ◌∙◌, subst, eq-eqb, arith}
+use Rattle.std.proofs.Common.{◌≡◌, ◌≢◌, ℕ, ℤ, pos, ◌<◌, ◌==◌, Bool, true, false, cond, inl, inr, List, [], ◌∷◌}
+use Rattle.std.proofs.Common.{◌++◌, map, IfSome, refl, ap, sym, ◌∙◌, subst, eq-eqb, arith}
 use Rattle.model.specs.Objects.{Content, next}
 use Rattle.model.specs.Orders.{Call, RepliesAlong}
 use Rattle.model.proofs.Lists.{In, Pairs, pairs_weaker, pairs_map}
@@ -12,11 +13,14 @@ Along P [] [] = Unit {0}
 Along P (e ∷ es) (k ∷ ks) = P e k × Along P es ks
 Along P es ks = ⊥
 
-pub chosen : (P : AnyEntry → Call → Type 0) (es : List AnyEntry) → ((e : AnyEntry) → In e es → (k : Call) × P e k) → (ks : List Call) × Along P es ks
+pub chosen : (P : AnyEntry → Call → Type 0) (es : List AnyEntry) → ((e : AnyEntry) → In e es → (k : Call) × P e k)
+    → (ks : List Call) × Along P es ks
 chosen P [] f = ([], tt)
-chosen P (e ∷ es) f = let k = f e (inl refl) in let rest = chosen P es (λ d i. f d (inr i)) in (k.0 ∷ rest.0, (k.1, rest.1))
+chosen P (e ∷ es) f =
+    let k = f e (inl refl) in let rest = chosen P es (λ d i. f d (inr i)) in (k.0 ∷ rest.0, (k.1, rest.1))
 
-pub entry_beside : (P : AnyEntry → Call → Type 0) (es : List AnyEntry) (ks : List Call) → Along P es ks → (k : Call) → In k ks → (e : AnyEntry) × In e es × P e k
+pub entry_beside : (P : AnyEntry → Call → Type 0) (es : List AnyEntry) (ks : List Call) → Along P es ks → (k : Call)
+    → In k ks → (e : AnyEntry) × In e es × P e k
 entry_beside P [] [] a k i = absurd i
 entry_beside P [] (l ∷ ks) a k i = absurd a
 entry_beside P (e ∷ es) [] a k i = absurd a
@@ -25,7 +29,8 @@ entry_beside P (e ∷ es) (l ∷ ks) a k i = elim i [
   | inr j ↦ let r = entry_beside P es ks a.1 k j in (r.0, inr r.1, r.2)
 ]
 
-pub call_beside : (P : AnyEntry → Call → Type 0) (es : List AnyEntry) (ks : List Call) → Along P es ks → (e : AnyEntry) → In e es → (k : Call) × In k ks × P e k
+pub call_beside : (P : AnyEntry → Call → Type 0) (es : List AnyEntry) (ks : List Call) → Along P es ks
+    → (e : AnyEntry) → In e es → (k : Call) × In k ks × P e k
 call_beside P [] ks a e i = absurd i
 call_beside P (f ∷ es) [] a e i = absurd a
 call_beside P (f ∷ es) (l ∷ ks) a e i = elim i [
@@ -34,12 +39,14 @@ call_beside P (f ∷ es) (l ∷ ks) a e i = elim i [
 ]
 
 -- what holds of the calls beside each two entries holds of each two calls
-pub pairs_beside : (P : AnyEntry → Call → Type 0) (R : Call → Call → Type 0) (es : List AnyEntry) (ks : List Call) → Along P es ks
+pub pairs_beside : (P : AnyEntry → Call → Type 0) (R : Call → Call → Type 0) (es : List AnyEntry) (ks : List Call)
+    → Along P es ks
     → Pairs (λ e f. (a b : Call) → P e a → P f b → R a b) es → Pairs R ks
 pairs_beside P R [] [] a h = tt
 pairs_beside P R [] (k ∷ ks) a h = absurd a
 pairs_beside P R (e ∷ es) [] a h = absurd a
-pairs_beside P R (e ∷ es) (k ∷ ks) a h = (λ l i. let f = entry_beside P es ks a.1 l i in h.0 f.0 f.1 k l a.0 f.2, pairs_beside P R es ks a.1 h.1)
+pairs_beside P R (e ∷ es) (k ∷ ks) a h =
+    (λ l i. let f = entry_beside P es ks a.1 l i in h.0 f.0 f.1 k l a.0 f.2, pairs_beside P R es ks a.1 h.1)
 
 -- ---- the call beside an entry says the same as the entry
 
@@ -49,7 +56,8 @@ pub record SaysSame (e : AnyEntry) (k : Call) : Type 0 where
   pub reply : IfSome k.returned (λ r. r.reply ≡ e.reply)
 
 module _ (P : AnyEntry → Call → Type 0) (same : (e : AnyEntry) (k : Call) → P e k → SaysSame e k) where
-  pub numbers_beside : (es : List AnyEntry) (ks : List Call) → Along P es ks → map (λ (e : AnyEntry). pos e.ticket) es ≡ map (λ (k : Call). pos k.number) ks
+  pub numbers_beside : (es : List AnyEntry) (ks : List Call) → Along P es ks
+      → map (λ (e : AnyEntry). pos e.ticket) es ≡ map (λ (k : Call). pos k.number) ks
   numbers_beside [] [] a = refl
   numbers_beside [] (k ∷ ks) a = absurd a
   numbers_beside (e ∷ es) [] a = absurd a
@@ -58,7 +66,8 @@ module _ (P : AnyEntry → Call → Type 0) (same : (e : AnyEntry) (k : Call) �
       let rest = numbers_beside es ks a.1 in
       ap (λ z. z ∷ map (λ (e : AnyEntry). pos e.ticket) es) s ∙ ap (λ zs. pos k.number ∷ zs) rest
 
-  pub replies_beside : (c after : Content) (es : List AnyEntry) (ks : List Call) → Replays c es after → Along P es ks → RepliesAlong c ks
+  pub replies_beside : (c after : Content) (es : List AnyEntry) (ks : List Call) → Replays c es after → Along P es ks
+      → RepliesAlong c ks
   replies_beside c after [] [] h a = tt
   replies_beside c after [] (k ∷ ks) h a = absurd a
   replies_beside c after (e ∷ es) [] h a = absurd a
@@ -68,21 +77,28 @@ module _ (P : AnyEntry → Call → Type 0) (same : (e : AnyEntry) (k : Call) �
 
 -- ---- the tickets of a log
 
-pub once_in_order : (es : List AnyEntry) → Pairs (λ e f. e.ticket ≢ f.ticket) es → Pairs (λ (a b : ℤ). a ≢ b) (map (λ (e : AnyEntry). pos e.ticket) es)
+pub once_in_order : (es : List AnyEntry) → Pairs (λ e f. e.ticket ≢ f.ticket) es
+    → Pairs (λ (a b : ℤ). a ≢ b) (map (λ (e : AnyEntry). pos e.ticket) es)
 once_in_order es h = pairs_map (λ (a b : ℤ). a ≢ b) (λ (e : AnyEntry). pos e.ticket) es
-    (pairs_weaker (λ e f. e.ticket ≢ f.ticket) (λ e f. pos e.ticket ≢ pos f.ticket) es (λ e f i j ne s. ne (same_pos e.ticket f.ticket s)) h)
+    (pairs_weaker (λ e f. e.ticket ≢ f.ticket) (λ e f. pos e.ticket ≢ pos f.ticket) es
+      (λ e f i j ne s. ne (same_pos e.ticket f.ticket s)) h)
 
 pub in_own_entries : (e : AnyEntry) (es : List AnyEntry) → In e es → In e (entries_of e.client es)
 in_own_entries e [] i = absurd i
 in_own_entries e (f ∷ es) i = go (f.client == e.client) refl i (in_own_entries e es)
   where
-    go : (b : Bool) → (f.client == e.client) ≡ b → In e (f ∷ es) → (In e es → In e (entries_of e.client es)) → In e (cond b (f ∷ entries_of e.client es) (entries_of e.client es))
+    go : (b : Bool) → (f.client == e.client) ≡ b → In e (f ∷ es) → (In e es → In e (entries_of e.client es))
+      → In e (cond b (f ∷ entries_of e.client es) (entries_of e.client es))
     go true s i g = elim i [ inl t ↦ inl t | inr j ↦ inr (g j) ]
-    go false s i g = elim i [ inl t ↦ absurd (cc (sym s ∙ eq-eqb f.client e.client (ap (λ (d : AnyEntry). d.client) (sym t)))) | inr j ↦ g j ]
+    go false s i g = elim i [
+      | inl t ↦ absurd (cc (sym s ∙ eq-eqb f.client e.client (ap (λ (d : AnyEntry). d.client) (sym t))))
+      | inr j ↦ g j
+    ]
 
 -- where the entries of each client rise and those of two clients have no ticket in common, no ticket stands twice
 pub tickets_once : (es : List AnyEntry) → ((c : ℕ) → Pairs (λ e f. e.ticket < f.ticket) (entries_of c es))
-    → ((e f : AnyEntry) → In e es → In f es → e.ticket ≡ f.ticket → e.client ≡ f.client) → Pairs (λ e f. e.ticket ≢ f.ticket) es
+    → ((e f : AnyEntry) → In e es → In f es → e.ticket ≡ f.ticket → e.client ≡ f.client)
+    → Pairs (λ e f. e.ticket ≢ f.ticket) es
 tickets_once [] up apart = tt
 tickets_once (e ∷ es) up apart = (head, tickets_once es tail (λ f g i j s. apart f g (inr i) (inr j) s))
   where
@@ -92,36 +108,45 @@ tickets_once (e ∷ es) up apart = (head, tickets_once es tail (λ f g i j s. ap
     head : (f : AnyEntry) → In f es → e.ticket ≢ f.ticket
     head f i s =
         let client : e.client ≡ f.client = apart e f (inl refl) (inr i) s in
-        let rises : Pairs (λ (e f : AnyEntry). e.ticket < f.ticket) (e ∷ entries_of e.client es) = subst (Pairs (λ (e f : AnyEntry). e.ticket < f.ticket)) own (up e.client) in
-        let l : e.ticket < f.ticket = rises.0 f (subst (λ c. In f (entries_of c es)) (sym client) (in_own_entries f es i)) in
+        let rises : Pairs (λ (e f : AnyEntry). e.ticket < f.ticket) (e ∷ entries_of e.client es) =
+          subst (Pairs (λ (e f : AnyEntry). e.ticket < f.ticket)) own (up e.client) in
+        let l : e.ticket < f.ticket =
+          rises.0 f (subst (λ c. In f (entries_of c es)) (sym client) (in_own_entries f es i)) in
         omega arith
 
     tail : (c : ℕ) → Pairs (λ e f. e.ticket < f.ticket) (entries_of c es)
     tail c = go (e.client == c) (up c)
       where
-        go : (b : Bool) → Pairs (λ e f. e.ticket < f.ticket) (cond b (e ∷ entries_of c es) (entries_of c es)) → Pairs (λ e f. e.ticket < f.ticket) (entries_of c es)
+        go : (b : Bool) → Pairs (λ e f. e.ticket < f.ticket) (cond b (e ∷ entries_of c es) (entries_of c es))
+          → Pairs (λ e f. e.ticket < f.ticket) (entries_of c es)
         go true h = h.1
         go false h = h
 
 -- where no ticket stands twice, what stands before an entry stands before it however the log is split at it
 pub in_front : (es : List AnyEntry) → Pairs (λ e f. e.ticket ≢ f.ticket) es
-    → Pairs (λ e f. (before after : List AnyEntry) (g : AnyEntry) → es ≡ before ++ g ∷ after → g.ticket ≡ f.ticket → In e before) es
+    → Pairs (λ e f. (before after : List AnyEntry) (g : AnyEntry) → es ≡ before ++ g ∷ after → g.ticket ≡ f.ticket
+      → In e before) es
 in_front [] h = tt
 in_front (x ∷ xs) h = (
   λ f i before after g s t. first f i before after g s t,
-  pairs_weaker (λ e f. (before after : List AnyEntry) (g : AnyEntry) → xs ≡ before ++ g ∷ after → g.ticket ≡ f.ticket → In e before)
-      (λ e f. (before after : List AnyEntry) (g : AnyEntry) → x ∷ xs ≡ before ++ g ∷ after → g.ticket ≡ f.ticket → In e before) xs
+  pairs_weaker (λ e f. (before after : List AnyEntry) (g : AnyEntry) → xs ≡ before ++ g ∷ after → g.ticket ≡ f.ticket
+    → In e before)
+      (λ e f. (before after : List AnyEntry) (g : AnyEntry) → x ∷ xs ≡ before ++ g ∷ after → g.ticket ≡ f.ticket
+        → In e before) xs
       (λ e f i j k. further e f j k) (in_front xs h.1),
 )
   where
     not_first : (f g : AnyEntry) (after : List AnyEntry) → In f xs → x ∷ xs ≡ g ∷ after → g.ticket ≡ f.ticket → ⊥
     not_first f g after i s t = let u : x ≡ g = cc (s) in h.0 f i (ap (λ (e : AnyEntry). e.ticket) u ∙ t)
 
-    first : (f : AnyEntry) → In f xs → (before after : List AnyEntry) (g : AnyEntry) → x ∷ xs ≡ before ++ g ∷ after → g.ticket ≡ f.ticket → In x before
+    first : (f : AnyEntry) → In f xs → (before after : List AnyEntry) (g : AnyEntry) → x ∷ xs ≡ before ++ g ∷ after
+      → g.ticket ≡ f.ticket → In x before
     first f i [] after g s t = absurd (not_first f g after i s t)
     first f i (y ∷ ys) after g s t = inl (cc (s))
 
-    further : (e f : AnyEntry) → In f xs → ((before after : List AnyEntry) (g : AnyEntry) → xs ≡ before ++ g ∷ after → g.ticket ≡ f.ticket → In e before)
-        → (before after : List AnyEntry) (g : AnyEntry) → x ∷ xs ≡ before ++ g ∷ after → g.ticket ≡ f.ticket → In e before
+    further : (e f : AnyEntry) → In f xs
+      → ((before after : List AnyEntry) (g : AnyEntry) → xs ≡ before ++ g ∷ after → g.ticket ≡ f.ticket → In e before)
+        → (before after : List AnyEntry) (g : AnyEntry) → x ∷ xs ≡ before ++ g ∷ after → g.ticket ≡ f.ticket
+        → In e before
     further e f j k [] after g s t = absurd (not_first f g after j s t)
     further e f j k (y ∷ ys) after g s t = let u : xs ≡ ys ++ g ∷ after = cc (s) in inr (k ys after g u t)

@@ -30,7 +30,8 @@ ended c q u Refused os = os
 
 abbrev pub made : ℕ → List AnyDone → Option AnyRequest → List ProcessCall
 made c [] None = []
-made c [] (Some q) = record { process = c; object = q.object; call = record { number = q.ticket; op = q.op; returned = None } } ∷ []
+made c [] (Some q) = record { process = c; object = q.object;
+    call = record { number = q.ticket; op = q.op; returned = None } } ∷ []
 made c (d ∷ ds) q = ended c d.request d.returned d.answer (made c ds q)
 
 pub denotes : (c : ℕ) (ds : List AnyDone) (q : Option AnyRequest) → Denotes c (journal_of ds q) (denoted c ds q)
@@ -38,17 +39,24 @@ denotes c [] None = refl
 denotes c [] (Some q) = refl
 denotes c (d ∷ ds) q = go d.answer (denotes c ds q)
   where
-    go : (a : AnyAnswer) → Denotes c (journal_of ds q) (denoted c ds q) → Denotes c (invoked d.request ∷ Returned d.returned a ∷ journal_of ds q) (turn c d.request d.returned a (denoted c ds q))
+    go : (a : AnyAnswer) → Denotes c (journal_of ds q) (denoted c ds q)
+      → Denotes c (invoked d.request ∷ Returned d.returned a ∷ journal_of ds q)
+      (turn c d.request d.returned a (denoted c ds q))
     go (Reply r) h = (denoted c ds q, refl, h)
     go Refused h = h
 
 -- each event is of the client, and its number is a ticket of the journal
-pub of_client : (c : ℕ) (ds : List AnyDone) (q : Option AnyRequest) (m : Numbered) → In m (denoted c ds q) → (process_of m.event ≡ c) × In m.number (map ticket_of (journal_of ds q))
+pub of_client : (c : ℕ) (ds : List AnyDone) (q : Option AnyRequest) (m : Numbered) → In m (denoted c ds q)
+    → (process_of m.event ≡ c) × In m.number (map ticket_of (journal_of ds q))
 of_client c [] None m i = absurd i
-of_client c [] (Some q) m i = elim i [ inl e ↦ (ap (λ (m : Numbered). process_of m.event) e, inl (ap (λ (m : Numbered). m.number) e)) | inr j ↦ absurd j ]
+of_client c [] (Some q) m i = elim i [
+  | inl e ↦ (ap (λ (m : Numbered). process_of m.event) e, inl (ap (λ (m : Numbered). m.number) e))
+  | inr j ↦ absurd j
+]
 of_client c (d ∷ ds) q m i = go d.answer i (of_client c ds q m)
   where
-    go : (a : AnyAnswer) → In m (turn c d.request d.returned a (denoted c ds q)) → (In m (denoted c ds q) → (process_of m.event ≡ c) × In m.number (map ticket_of (journal_of ds q)))
+    go : (a : AnyAnswer) → In m (turn c d.request d.returned a (denoted c ds q))
+      → (In m (denoted c ds q) → (process_of m.event ≡ c) × In m.number (map ticket_of (journal_of ds q)))
         → (process_of m.event ≡ c) × In m.number (d.request.ticket ∷ d.returned ∷ map ticket_of (journal_of ds q))
     go (Reply r) i f = elim i [
       | inl e ↦ (ap (λ (m : Numbered). process_of m.event) e, inl (ap (λ (m : Numbered). m.number) e))
@@ -60,7 +68,8 @@ of_client c (d ∷ ds) q m i = go d.answer i (of_client c ds q m)
     go Refused i f = let g = f i in (g.0, inr (inr g.1))
 
 -- the numbers rise with the tickets
-pub denoted_rises : (c : ℕ) (ds : List AnyDone) (q : Option AnyRequest) → Pairs (λ t u. t < u) (map ticket_of (journal_of ds q)) → Pairs (λ a b. a.number < b.number) (denoted c ds q)
+pub denoted_rises : (c : ℕ) (ds : List AnyDone) (q : Option AnyRequest)
+    → Pairs (λ t u. t < u) (map ticket_of (journal_of ds q)) → Pairs (λ a b. a.number < b.number) (denoted c ds q)
 denoted_rises c [] None h = tt
 denoted_rises c [] (Some q) h = (λ y i. absurd i, tt)
 denoted_rises c (d ∷ ds) q h = go d.answer (denoted_rises c ds q h.1.1)
@@ -68,9 +77,13 @@ denoted_rises c (d ∷ ds) q h = go d.answer (denoted_rises c ds q h.1.1)
     later : (m : Numbered) → In m (denoted c ds q) → In m.number (map ticket_of (journal_of ds q))
     later m i = (of_client c ds q m i).1
 
-    go : (a : AnyAnswer) → Pairs (λ a b. a.number < b.number) (denoted c ds q) → Pairs (λ a b. a.number < b.number) (turn c d.request d.returned a (denoted c ds q))
+    go : (a : AnyAnswer) → Pairs (λ a b. a.number < b.number) (denoted c ds q)
+      → Pairs (λ a b. a.number < b.number) (turn c d.request d.returned a (denoted c ds q))
     go (Reply r) k = (
-      λ m i. elim i [ inl e ↦ let l = h.0 d.returned (inl refl) in omega (arith, ap (λ (m : Numbered). m.number) e) | inr j ↦ h.0 m.number (inr (later m j)) ],
+      λ m i. elim i [
+        | inl e ↦ let l = h.0 d.returned (inl refl) in omega (arith, ap (λ (m : Numbered). m.number) e)
+        | inr j ↦ h.0 m.number (inr (later m j))
+      ],
       (λ m i. h.1.0 m.number (later m i), k),
     )
     go Refused k = k
@@ -80,8 +93,10 @@ denoted_sequential c [] None = tt
 denoted_sequential c [] (Some q) = refl
 denoted_sequential c (d ∷ ds) q = go d.answer (denoted_sequential c ds q)
   where
-    go : (a : AnyAnswer) → IsSequential (events (denoted c ds q)) → IsSequential (events (turn c d.request d.returned a (denoted c ds q)))
-    go (Reply r) h = (and_from (c == c) (d.request.object == d.request.object) (eq-eqb c c refl) (eq-eqb d.request.object d.request.object refl), h)
+    go : (a : AnyAnswer) → IsSequential (events (denoted c ds q))
+      → IsSequential (events (turn c d.request d.returned a (denoted c ds q)))
+    go (Reply r) h = (and_from (c == c) (d.request.object == d.request.object) (eq-eqb c c refl)
+      (eq-eqb d.request.object d.request.object refl), h)
     go Refused h = h
 
 -- the operations among the events
@@ -90,7 +105,8 @@ made_in c [] None = refl
 made_in c [] (Some q) = refl
 made_in c (d ∷ ds) q = go d.answer (made_in c ds q)
   where
-    go : (a : AnyAnswer) → calls_in (denoted c ds q) ≡ made c ds q → calls_in (turn c d.request d.returned a (denoted c ds q)) ≡ ended c d.request d.returned a (made c ds q)
+    go : (a : AnyAnswer) → calls_in (denoted c ds q) ≡ made c ds q
+      → calls_in (turn c d.request d.returned a (denoted c ds q)) ≡ ended c d.request d.returned a (made c ds q)
     go (Reply r) h = calls_in-call c d.request.ticket d.request.object d.request.op d.returned r (denoted c ds q)
         ∙ ap (λ os. first c d.request.ticket d.request.object d.request.op d.returned r ∷ os) h
     go Refused h = h

@@ -1,5 +1,6 @@
 -- The entries of a client in a log that grows, and the replay of such a log.
-use Rattle.std.proofs.Common.{◌≡◌, ◌≢◌, ℕ, true, false, cond, eqb, eq-eqb, ne_eqb, List, [], ◌∷◌, ◌++◌, map, refl, sym, ap, subst, ◌∙◌, append_assoc, append-nil}
+use Rattle.std.proofs.Common.{◌≡◌, ◌≢◌, ℕ, true, false, cond, eqb, eq-eqb, ne_eqb, List, [], ◌∷◌, ◌++◌, map, refl}
+use Rattle.std.proofs.Common.{sym, ap, subst, ◌∙◌, append_assoc, append-nil}
 use Rattle.model.specs.declared.AnyOp.{AnyOp}
 use Rattle.model.specs.declared.AnyReply.{AnyReply}
 use Rattle.model.specs.declared.Kind.{Kind}
@@ -7,7 +8,8 @@ use Rattle.model.specs.Objects.{Content, empty, next}
 use Rattle.desk_model.specs.declared.Answer.TheVariants.{Reply, Refused}
 use Rattle.desk_model.specs.declared.JournalEvent.TheVariants.{Invoked, Returned}
 use Rattle.desk_model.specs.Images.{entry_in, event_in}
-use Rattle.desk_model.specs.World.{AnyEntry, AnyEvent, AnyRequest, AnyAnswer, AnyDone, logged, logged_on, entries_of, served, Replays, IsLegal, StartsWith, Serves}
+use Rattle.desk_model.specs.World.{AnyEntry, AnyEvent, AnyRequest, AnyAnswer, AnyDone, logged, logged_on}
+use Rattle.desk_model.specs.World.{entries_of, served, Replays, IsLegal, StartsWith, Serves}
 
 pub starts_longer : (xs ys zs : List AnyEntry) → StartsWith xs ys → StartsWith ys zs → StartsWith xs zs
 starts_longer xs ys zs a b = (b.0 ++ a.0, a.1 ∙ (ap (λ l. l ++ a.0) b.1 ∙ append_assoc zs b.0 a.0))
@@ -17,7 +19,10 @@ starts_same xs = ([], sym (append-nil xs))
 
 pub entries-append : (c : ℕ) (xs ys : List AnyEntry) → entries_of c (xs ++ ys) ≡ entries_of c xs ++ entries_of c ys
 entries-append c [] ys = refl
-entries-append c (e ∷ es) ys = elim (eqb e.client c) as (λ b. cond b (e ∷ entries_of c (es ++ ys)) (entries_of c (es ++ ys)) ≡ cond b (e ∷ entries_of c es) (entries_of c es) ++ entries_of c ys)
+entries-append c (e ∷ es) ys =
+    elim (eqb e.client c) as
+    (λ b. cond b (e ∷ entries_of c (es ++ ys)) (entries_of c (es ++ ys))
+    ≡ cond b (e ∷ entries_of c es) (entries_of c es) ++ entries_of c ys)
     [ true ↦ ap (λ z. e ∷ z) (entries-append c es ys) | false ↦ entries-append c es ys ]
 
 pub own_entries : (c : ℕ) (q : AnyRequest) (a : AnyAnswer) → entries_of c (logged c q a) ≡ logged c q a
@@ -36,25 +41,33 @@ logged_else x c q a other = ap (λ b. cond b (logged c q a) []) (ne_eqb q.object
 
 served-append : (x c : ℕ) (ds es : List AnyDone) → served x c (ds ++ es) ≡ served x c ds ++ served x c es
 served-append x c [] es = refl
-served-append x c (d ∷ ds) es = ap (λ z. logged_on x c d.request d.answer ++ z) (served-append x c ds es) ∙ sym (append_assoc (logged_on x c d.request d.answer) (served x c ds) (served x c es))
+served-append x c (d ∷ ds) es =
+    ap (λ z. logged_on x c d.request d.answer ++ z) (served-append x c ds es)
+    ∙ sym (append_assoc (logged_on x c d.request d.answer) (served x c ds) (served x c es))
 
 -- one call more
-pub served_more : (x c t : ℕ) (ds : List AnyDone) (q : AnyRequest) (a : AnyAnswer) → served x c (ds ++ record { request = q; answer = a; returned = t } ∷ []) ≡ served x c ds ++ logged_on x c q a
-served_more x c t ds q a = served-append x c ds (record { request = q; answer = a; returned = t } ∷ []) ∙ ap (λ z. served x c ds ++ z) (append-nil (logged_on x c q a))
+pub served_more : (x c t : ℕ) (ds : List AnyDone) (q : AnyRequest) (a : AnyAnswer)
+    → served x c (ds ++ record { request = q; answer = a; returned = t } ∷ []) ≡ served x c ds ++ logged_on x c q a
+served_more x c t ds q a =
+    served-append x c ds (record { request = q; answer = a; returned = t } ∷ [])
+    ∙ ap (λ z. served x c ds ++ z) (append-nil (logged_on x c q a))
 
 -- a log that is replayed goes on with what is served
-pub replays_more : (c m after : Content) (l : List AnyEntry) (r : ℕ) (q : AnyRequest) (a : AnyAnswer) → Replays c l m → Serves m q.op a after → Replays c (l ++ logged r q a) after
+pub replays_more : (c m after : Content) (l : List AnyEntry) (r : ℕ) (q : AnyRequest) (a : AnyAnswer) → Replays c l m
+    → Serves m q.op a after → Replays c (l ++ logged r q a) after
 replays_more c m after [] r q (Reply p) h s = (after, ap (λ z. next z q.op) h ∙ s, refl)
 replays_more c m after [] r q Refused h s = h ∙ sym s
 replays_more c m after (e ∷ es) r q a h s = (h.0, h.1, replays_more h.0 m after es r q a h.2 s)
 
 -- what a log begins with is legal where the log is
-replays_front : (c after : Content) (xs ys : List AnyEntry) → Replays c (xs ++ ys) after → (between : Content) × Replays c xs between
+replays_front : (c after : Content) (xs ys : List AnyEntry) → Replays c (xs ++ ys) after
+    → (between : Content) × Replays c xs between
 replays_front c after [] ys h = (c, refl)
 replays_front c after (x ∷ xs) ys h = let b = replays_front h.0 after xs ys h.2 in (b.0, (h.0, h.1, b.1))
 
 pub legal_front : (kind : Kind) (log seen : List AnyEntry) → StartsWith log seen → IsLegal kind log → IsLegal kind seen
-legal_front kind log seen begins legal = replays_front (empty kind) legal.0 seen begins.0 (subst (λ z. Replays (empty kind) z legal.0) begins.1 legal.1)
+legal_front kind log seen begins legal =
+    replays_front (empty kind) legal.0 seen begins.0 (subst (λ z. Replays (empty kind) z legal.0) begins.1 legal.1)
 
 -- ---- events and entries of operations of all kinds stand for themselves
 

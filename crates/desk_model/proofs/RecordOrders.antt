@@ -1,19 +1,25 @@
 -- Each log of a sound world is a valid order of the calls on its object, and so its record is sound.
-use Rattle.std.proofs.Common.{◌≡◌, ◌≢◌, ℕ, ◌<◌, ◌==◌, inl, List, [], ◌∷◌, ◌++◌, filter, Some, IsSome, Contains, eqb-true, eq-eqb, refl, ap, sym, ◌∙◌, subst, append_assoc, arith}
+use Rattle.std.proofs.Common.{◌≡◌, ◌≢◌, ℕ, ◌<◌, ◌==◌, inl, List, [], ◌∷◌, ◌++◌, filter, Some, IsSome, Contains}
+use Rattle.std.proofs.Common.{eqb-true, eq-eqb, refl, ap, sym, ◌∙◌, subst, append_assoc, arith}
 use Rattle.model.specs.declared.Kind.{Kind}
 use Rattle.model.specs.Objects.{empty}
 use Rattle.model.specs.Orders.{Numbered, Return, Call, ProcessCall, calls_in, calls_on, ReturnsBefore, IsValidOrder}
-use Rattle.model.proofs.Lists.{In, Pairs, in_filter, in_filter_passes, in_filter_from, in_map, in_map_from, pairs_weaker, contains_from_in, all_from_in, all_at, all_from_pairs, in_right}
+use Rattle.model.proofs.Lists.{In, Pairs, in_filter, in_filter_passes, in_filter_from, in_map, in_map_from}
+use Rattle.model.proofs.Lists.{pairs_weaker, contains_from_in, all_from_in, all_at, all_from_pairs, in_right}
 use Rattle.desk_model.specs.declared.JournalEvent.TheVariants.{Invoked}
-use Rattle.desk_model.specs.World.{AnyEntry, World, kind_at, entries_of, logged, request_of, journal_in, tickets_in, ticket_of}
+use Rattle.desk_model.specs.World.{AnyEntry, World, kind_at, entries_of, logged, request_of, journal_in, tickets_in}
+use Rattle.desk_model.specs.World.{ticket_of}
 use Rattle.desk_model.specs.Sound.{Sound, IsInTime}
 use Rattle.desk_model.specs.Records.{order_of, IsSoundRecord}
 use Rattle.locality.proofs.Entries.{number_of}
 use Rattle.locality.proofs.Merge.{one_number}
 use Rattle.desk_model.proofs.Effects.{clock_few}
 use Rattle.desk_model.proofs.Sources.{put_in, served_is, IsOf, is_of, put_rises, IsOver, is_over}
-use Rattle.desk_model.proofs.Chosen.{Along, chosen, entry_beside, call_beside, pairs_beside, SaysSame, numbers_beside, replies_beside, once_in_order, in_own_entries, tickets_once, in_front}
-use Rattle.desk_model.proofs.RecordHistory.{calls_by, tickets_rise, history, history_denoted, history_well_formed, calls_up, calls_of_client}
+use Rattle.desk_model.proofs.Chosen.{Along, chosen, entry_beside, call_beside, pairs_beside, SaysSame}
+use Rattle.desk_model.proofs.Chosen.{numbers_beside, replies_beside, once_in_order, in_own_entries, tickets_once}
+use Rattle.desk_model.proofs.Chosen.{in_front}
+use Rattle.desk_model.proofs.RecordHistory.{calls_by, tickets_rise, history, history_denoted, history_well_formed}
+use Rattle.desk_model.proofs.RecordHistory.{calls_up, calls_of_client}
 use Rattle.model.proofs.Orders.{returned_some}
 
 -- the entry of a call that returned
@@ -27,8 +33,10 @@ record IsLogged (log : List AnyEntry) (o : ProcessCall) (r : Return) : Type 0 wh
   whole : log ≡ before ++ entry_for o r ∷ after
   early : (e : AnyEntry) → In e before → e.ticket < r.at
 
-one_logged : (log before es after : List AnyEntry) (e : AnyEntry) → log ≡ before ++ es ++ after → es ≡ e ∷ [] → log ≡ before ++ e ∷ after
-one_logged log before es after e whole one = whole ∙ (append_assoc before es after ∙ ap (λ z. before ++ (z ++ after)) one)
+one_logged : (log before es after : List AnyEntry) (e : AnyEntry) → log ≡ before ++ es ++ after → es ≡ e ∷ []
+    → log ≡ before ++ e ∷ after
+one_logged log before es after e whole one =
+    whole ∙ (append_assoc before es after ∙ ap (λ z. before ++ (z ++ after)) one)
 
 module _ (kinds : List Kind) (quota : ℕ) (w : World) (k : Sound kinds quota w) where
   abbrev past : List Numbered
@@ -41,30 +49,40 @@ module _ (kinds : List Kind) (quota : ℕ) (w : World) (k : Sound kinds quota w)
   put_in_log c x = k.counted c x ∙ served_is x c (w.done c) (w.stage c)
 
   sources : (x : ℕ) (e : AnyEntry) → In e (w.log x) → IsOf x e.client e (journal_in w e.client) (calls_by w e.client)
-  sources x e i = is_of x e.client (w.done e.client) (w.stage e.client) e (subst (In e) (put_in_log e.client x) (in_own_entries e (w.log x) i))
+  sources x e i = is_of x e.client (w.done e.client) (w.stage e.client) e
+    (subst (In e) (put_in_log e.client x) (in_own_entries e (w.log x) i))
 
   has_ticket : (x : ℕ) (e : AnyEntry) → In e (w.log x) → Contains (tickets_in w e.client) e.ticket
-  has_ticket x e i = contains_from_in (tickets_in w e.client) e.ticket (in_map_from ticket_of (Invoked e.ticket x e.op) (journal_in w e.client) (sources x e i).invocation)
+  has_ticket x e i = contains_from_in (tickets_in w e.client) e.ticket
+    (in_map_from ticket_of (Invoked e.ticket x e.op) (journal_in w e.client) (sources x e i).invocation)
 
   -- no ticket stands twice in a log
   once : (x : ℕ) → Pairs (λ e f. e.ticket ≢ f.ticket) (w.log x)
   once x = tickets_once (w.log x)
-      (λ c. subst (Pairs (λ (e f : AnyEntry). e.ticket < f.ticket)) (sym (put_in_log c x)) (put_rises x c (w.done c) (w.stage c) (tickets_rise w k.journals.tickets c)))
-      (λ e f i j s. k.journals.tickets.apart e.client f.client e.ticket (has_ticket x e i) (subst (Contains (tickets_in w f.client)) (sym s) (has_ticket x f j)))
+      (λ c. subst (Pairs (λ (e f : AnyEntry). e.ticket < f.ticket)) (sym (put_in_log c x))
+        (put_rises x c (w.done c) (w.stage c) (tickets_rise w k.journals.tickets c)))
+      (λ e f i j s. k.journals.tickets.apart e.client f.client e.ticket (has_ticket x e i)
+        (subst (Contains (tickets_in w f.client)) (sym s) (has_ticket x f j)))
 
   call_among : (c : ℕ) (o : ProcessCall) → In o (calls_by w c) → In o ops
-  call_among c o i = in_filter (λ o. o.process == c) o ops (subst (In o) (sym (calls_of_client w k.journals.tickets c)) i)
+  call_among c o i = in_filter (λ o. o.process == c) o ops
+    (subst (In o) (sym (calls_of_client w k.journals.tickets c)) i)
 
   -- a call that returned has its entry in the log, in time
   is_logged : (o : ProcessCall) (r : Return) → In o ops → o.call.returned ≡ Some r → IsLogged (w.log o.object) o r
   is_logged o r i e =
-      let own : In o (calls_by w o.process) = subst (In o) (calls_of_client w k.journals.tickets o.process) (in_filter_from (λ p. p.process == o.process) o ops i (eq-eqb o.process o.process refl)) in
-      let d : IsOver o.process o r (w.done o.process) = is_over o.process (w.done o.process) (request_of (w.stage o.process)) o r own e in
-      let t : IsInTime w o.process d.over = all_at (IsInTime w o.process) (w.done o.process) (k.journals.in_time o.process) d.over d.among in
+      let own : In o (calls_by w o.process) =
+        subst (In o) (calls_of_client w k.journals.tickets o.process)
+        (in_filter_from (λ p. p.process == o.process) o ops i (eq-eqb o.process o.process refl)) in
+      let d : IsOver o.process o r (w.done o.process) =
+        is_over o.process (w.done o.process) (request_of (w.stage o.process)) o r own e in
+      let t : IsInTime w o.process d.over =
+        all_at (IsInTime w o.process) (w.done o.process) (k.journals.in_time o.process) d.over d.among in
       record {
         before = t.0;
         after = t.1;
-        whole = one_logged (w.log o.object) t.0 (logged o.process d.over.request d.over.answer) t.1 (entry_for o r) (ap w.log (sym d.object) ∙ t.2) d.logs;
+        whole = one_logged (w.log o.object) t.0 (logged o.process d.over.request d.over.answer) t.1 (entry_for o r)
+          (ap w.log (sym d.object) ∙ t.2) d.logs;
         early = λ f j. subst (λ n. f.ticket < n) d.returned (all_at (λ e. e.ticket < d.over.returned) t.0 t.3 f j);
       }
 
@@ -83,7 +101,8 @@ module _ (kinds : List Kind) (quota : ℕ) (w : World) (k : Sound kinds quota w)
     beside : (e : AnyEntry) → In e log → (c : Call) × Beside e c
     beside e i =
         let s = (sources x e i).has_call in
-        (s.call, record { says = record { number = s.number; op = s.op; reply = s.reply }; among = call_among e.client (on_object s.call e) s.among })
+        (s.call, record { says = record { number = s.number; op = s.op; reply = s.reply };
+          among = call_among e.client (on_object s.call e) s.among })
 
     pick : (cs : List Call) × Along Beside log cs
     pick = chosen Beside log beside
@@ -104,18 +123,22 @@ module _ (kinds : List Kind) (quota : ℕ) (w : World) (k : Sound kinds quota w)
         let e : AnyEntry = entry_for o r in
         let l : IsLogged (w.log o.object) o r = is_logged o r i back in
         let split : l.before ++ e ∷ l.after ≡ log = sym l.whole ∙ ap w.log on in
-        let b = call_beside Beside log entries pick.1 e (subst (In e) split (in_right e l.before (e ∷ l.after) (inl refl))) in
-        let same : on_object b.0 e ≡ o = one_number number_of ops (on_object b.0 e) o (calls_up w k.journals.tickets) b.2.among i b.2.says.number in
+        let b = call_beside Beside log entries pick.1 e
+          (subst (In e) split (in_right e l.before (e ∷ l.after) (inl refl))) in
+        let same : on_object b.0 e ≡ o =
+          one_number number_of ops (on_object b.0 e) o (calls_up w k.journals.tickets) b.2.among i b.2.says.number in
         subst (λ (c : Call). In c entries) (ap (λ (o : ProcessCall). o.call) same) b.1
 
     whole : (o : ProcessCall) → In o (filter (λ o. o.object == x) ops) → IsSome o.call.returned → In o.call entries
     whole o i s =
         let back = returned_some o.call.returned s in
-        stands o back.0 (in_filter (λ o. o.object == x) o ops i) (eqb-true o.object x (in_filter_passes (λ o. o.object == x) o ops i)) back.1
+        stands o back.0 (in_filter (λ o. o.object == x) o ops i)
+          (eqb-true o.object x (in_filter_passes (λ o. o.object == x) o ops i)) back.1
 
     in_order : Pairs (λ a b. ReturnsBefore b a → ⊥) entries
     in_order = pairs_beside Beside (λ a b. ReturnsBefore b a → ⊥) log entries pick.1
-        (pairs_weaker (λ e f. (before after : List AnyEntry) (g : AnyEntry) → log ≡ before ++ g ∷ after → g.ticket ≡ f.ticket → In e before)
+        (pairs_weaker (λ e f. (before after : List AnyEntry) (g : AnyEntry) → log ≡ before ++ g ∷ after
+          → g.ticket ≡ f.ticket → In e before)
         (λ e f. (a b : Call) → Beside e a → Beside f b → ReturnsBefore b a → ⊥) log
         (λ e f i j front a b p q back.
         let l = is_logged (on_object b f) back.0 q.among back.1 in
@@ -133,12 +156,16 @@ module _ (kinds : List Kind) (quota : ℕ) (w : World) (k : Sound kinds quota w)
       once = all_from_pairs (λ a b. a ≢ b) (order_of log) (once_in_order log (once x));
       whole = all_from_in (λ c. IsSome c.returned → Contains entries c) (calls_on x past)
           (λ c i. let o = in_map (λ (o : ProcessCall). o.call) c (filter (λ o. o.object == x) ops) i in
-          subst (λ (c : Call). IsSome c.returned → Contains entries c) (sym o.2) (λ s. contains_from_in entries o.0.call (whole o.0 o.1 s)));
+          subst (λ (c : Call). IsSome c.returned → Contains entries c) (sym o.2)
+            (λ s. contains_from_in entries o.0.call (whole o.0 o.1 s)));
       in_order = all_from_pairs (λ a b. ReturnsBefore b a → ⊥) entries in_order;
-      replies = let legal = k.legal x in replies_beside Beside (λ e c b. b.says) (empty (kind_at kinds x)) legal.0 log entries legal.1 pick.1;
+      replies =
+          let legal = k.legal x in
+          replies_beside Beside (λ e c b. b.says) (empty (kind_at kinds x)) legal.0 log entries legal.1 pick.1;
     }
 
-pub sound_record : (kinds : List Kind) (quota : ℕ) (w : World) → Sound kinds quota w → IsSoundRecord kinds quota (journal_in w) w.log
+pub sound_record : (kinds : List Kind) (quota : ℕ) (w : World) → Sound kinds quota w
+    → IsSoundRecord kinds quota (journal_in w) w.log
 sound_record kinds quota w k = record {
   count = w.clock;
   tickets = k.journals.tickets;
@@ -149,6 +176,7 @@ sound_record kinds quota w k = record {
   well_formed = history_well_formed w k.journals.tickets;
   legal = k.legal;
   agree = λ x. all_from_in (λ e. Contains (journal_in w e.client) (Invoked e.ticket x e.op)) (w.log x)
-      (λ e i. contains_from_in (journal_in w e.client) (Invoked e.ticket x e.op) (sources kinds quota w k x e i).invocation);
+      (λ e i. contains_from_in (journal_in w e.client) (Invoked e.ticket x e.op)
+        (sources kinds quota w k x e i).invocation);
   valid = valid kinds quota w k;
 }

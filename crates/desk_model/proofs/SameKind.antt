@@ -15,7 +15,8 @@ use Rattle.model.specs.Objects.{next_set, next_counter, next_lock}
 use Rattle.model.proofs.Objects.{kind_of_empty}
 use Rattle.desk_model.specs.World.{AnyEntry, Replays}
 
-after_kind : (c d : Content) (q r : AnyReply) → ◌≡◌ {A = Option (Content × AnyReply)} (Some (c, q)) (Some (d, r)) → kind_with d ≡ kind_with c
+after_kind : (c d : Content) (q r : AnyReply) → ◌≡◌ {A = Option (Content × AnyReply)} (Some (c, q)) (Some (d, r))
+    → kind_with d ≡ kind_with c
 after_kind c d q r e = ap kind_with (sym (ap (λ (z : Content × AnyReply). z.0) (same_Some (c, q) (d, r) e)))
 
 -- what a step of one kind leaves is of that kind
@@ -55,5 +56,7 @@ kind_replayed kind l d h = replays_kind (empty kind) d l h ∙ kind_of_empty kin
 -- and a log leaves one content
 pub replays_once : (c a b : Content) (l : List AnyEntry) → Replays c l a → Replays c l b → a ≡ b
 replays_once c a b [] h k = sym h ∙ k
-replays_once c a b (e ∷ es) h k = let same : ◌≡◌ {A = Option (Content × AnyReply)} (Some (h.0, e.reply)) (Some (k.0, e.reply)) = sym h.1 ∙ k.1 in
-    let f : h.0 ≡ k.0 = ap (λ (z : Content × AnyReply). z.0) (same_Some (h.0, e.reply) (k.0, e.reply) same) in replays_once k.0 a b es (subst (λ z. Replays z es a) f h.2) k.2
+replays_once c a b (e ∷ es) h k =
+    let same : ◌≡◌ {A = Option (Content × AnyReply)} (Some (h.0, e.reply)) (Some (k.0, e.reply)) = sym h.1 ∙ k.1 in
+    let f : h.0 ≡ k.0 = ap (λ (z : Content × AnyReply). z.0) (same_Some (h.0, e.reply) (k.0, e.reply) same) in
+    replays_once k.0 a b es (subst (λ z. Replays z es a) f h.2) k.2

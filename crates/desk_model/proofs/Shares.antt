@@ -1,9 +1,11 @@
 -- Lists of several processes, each in rising order of numbers, in which no number stands twice: merged into one.
-use Rattle.std.proofs.Common.{◌≡◌, ℕ, zero, suc, ◌<◌, ◌≤◌, ◌==◌, inl, inr, List, [], ◌∷◌, ◌++◌, filter, flat_map, ap, sym, ◌∙◌, arith}
+use Rattle.std.proofs.Common.{◌≡◌, ℕ, zero, suc, ◌<◌, ◌≤◌, ◌==◌, inl, inr, List, [], ◌∷◌, ◌++◌, filter, flat_map}
+use Rattle.std.proofs.Common.{ap, sym, ◌∙◌, arith}
 use mathlib.Core.Logic.{dite}
 use native.Mathlib.Decide.{ℕ_discrete}
 use Rattle.std.proofs.lemmas.Bool.{eqb-true, eq-eqb, ne_eqb}
-use Rattle.model.proofs.Lists.{In, Pairs, in_filter, in_filter_passes, in_append, pairs_filter, pairs_weaker, pairs_append, pairs_flat_map}
+use Rattle.model.proofs.Lists.{In, Pairs, in_filter, in_filter_passes, in_append, pairs_filter, pairs_weaker}
+use Rattle.model.proofs.Lists.{pairs_append, pairs_flat_map}
 use Rattle.model.proofs.Lists.{filter_all, filter_none, filter-flat_map, flat_map_same, batches, in_left, in_right}
 
 -- the numbers below n
@@ -42,9 +44,11 @@ of_number number t ms = filter (λ m. number m == t) ms
 abbrev pub merged : {X : Type 0} → (X → ℕ) → ℕ → (ℕ → ℕ) → (ℕ → List X) → List X
 merged number count owner lists = flat_map (λ t. of_number number t (lists (owner t))) (upto count)
 
-module _ {X : Type 0} (number process : X → ℕ) (count : ℕ) (owner : ℕ → ℕ) (lists : ℕ → List X) (s : Shares number process count owner lists) where
+module _ {X : Type 0} (number process : X → ℕ) (count : ℕ) (owner : ℕ → ℕ) (lists : ℕ → List X)
+    (s : Shares number process count owner lists) where
   pub merged_rises : Pairs (λ a b. number a < number b) (merged number count owner lists)
-  merged_rises = pairs_flat_map (λ a b. number a < number b) (λ a b. a < b) (λ t. of_number number t (lists (owner t))) (upto count) (upto_rises count)
+  merged_rises = pairs_flat_map (λ a b. number a < number b) (λ a b. a < b)
+    (λ t. of_number number t (lists (owner t))) (upto count) (upto_rises count)
       (λ t i. pairs_filter (λ a b. number a < number b) (λ m. number m == t) (lists (owner t)) (s.rising (owner t)))
       (λ t u l a b i j.
       let e = eqb-true (number a) t (in_filter_passes (λ m. number m == t) a (lists (owner t)) i) in
@@ -54,16 +58,21 @@ module _ {X : Type 0} (number process : X → ℕ) (count : ℕ) (owner : ℕ �
   -- of the element with one number, what the process c has
   cut : (c t : ℕ) → filter (λ m. process m == c) (of_number number t (lists (owner t))) ≡ of_number number t (lists c)
   cut c t = dite (ℕ_discrete (owner t) c)
-      (λ same. filter_all (λ m. process m == c) (of_number number t (lists (owner t))) (λ m i. eq-eqb (process m) c (s.own (owner t) m (in_filter (λ m. number m == t) m (lists (owner t)) i) ∙ same))
+      (λ same. filter_all (λ m. process m == c) (of_number number t (lists (owner t)))
+        (λ m i. eq-eqb (process m) c (s.own (owner t) m (in_filter (λ m. number m == t) m (lists (owner t)) i) ∙ same))
       ∙ ap (λ k. of_number number t (lists k)) same)
       (λ other. filter_none (λ m. process m == c) (of_number number t (lists (owner t)))
-      (λ m i. ne_eqb (process m) c (λ e. other (sym (s.own (owner t) m (in_filter (λ m. number m == t) m (lists (owner t)) i)) ∙ e)))
-      ∙ sym (filter_none (λ m. number m == t) (lists c) (λ m i. ne_eqb (number m) t (λ e. other (ap owner (sym e) ∙ s.owned c m i)))))
+      (λ m i. ne_eqb (process m) c
+        (λ e. other (sym (s.own (owner t) m (in_filter (λ m. number m == t) m (lists (owner t)) i)) ∙ e)))
+      ∙ sym (filter_none (λ m. number m == t) (lists c)
+        (λ m i. ne_eqb (number m) t (λ e. other (ap owner (sym e) ∙ s.owned c m i)))))
 
   pub merged_part : (c : ℕ) → filter (λ m. process m == c) (merged number count owner lists) ≡ lists c
   merged_part c =
       filter-flat_map (λ m. process m == c) (λ t. of_number number t (lists (owner t))) (upto count)
-      ∙ (flat_map_same (λ t. filter (λ m. process m == c) (of_number number t (lists (owner t)))) (λ t. of_number number t (lists c)) (upto count) (λ t i. cut c t)
+      ∙ (flat_map_same (λ t. filter (λ m. process m == c) (of_number number t (lists (owner t))))
+        (λ t. of_number number t (lists c)) (upto count) (λ t i. cut c t)
       ∙ batches number (upto count) (lists c) (upto_rises count)
-      (pairs_weaker (λ a b. number a < number b) (λ a b. number a ≤ number b) (lists c) (λ a b i j l. omega arith) (s.rising c))
+      (pairs_weaker (λ a b. number a < number b) (λ a b. number a ≤ number b) (lists c) (λ a b i j l. omega arith)
+        (s.rising c))
       (λ m i. upto_has count (number m) (s.below c m i)))

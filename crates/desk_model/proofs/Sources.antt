@@ -1,12 +1,14 @@
 -- What the calls of a client have put into a log: of which calls it is, and that its tickets rise.
-use Rattle.std.proofs.Common.{◌≡◌, ℕ, ◌<◌, ◌==◌, Bool, true, false, cond, eqb-true, inl, inr, List, [], ◌∷◌, ◌++◌, map, Option, Some, None, IfSome, refl, ap, sym, ◌∙◌, subst, append_assoc, arith}
+use Rattle.std.proofs.Common.{◌≡◌, ℕ, ◌<◌, ◌==◌, Bool, true, false, cond, eqb-true, inl, inr, List, [], ◌∷◌, ◌++◌}
+use Rattle.std.proofs.Common.{map, Option, Some, None, IfSome, refl, ap, sym, ◌∙◌, subst, append_assoc, arith}
 use Rattle.std.proofs.lemmas.Option.{same_Some}
 use Rattle.model.specs.declared.AnyReply.{AnyReply}
 use Rattle.model.specs.Orders.{Return, Call, ProcessCall}
 use Rattle.model.proofs.Lists.{In, Pairs, in_append, in_map_from, pairs_append}
 use Rattle.desk_model.specs.declared.Answer.TheVariants.{Reply, Refused}
 use Rattle.desk_model.specs.declared.JournalEvent.TheVariants.{Invoked}
-use Rattle.desk_model.specs.World.{AnyEntry, AnyRequest, AnyAnswer, AnyDone, AnyEvent, Stage, absent, idle, drawn, posted, picked, answered, taken}
+use Rattle.desk_model.specs.World.{AnyEntry, AnyRequest, AnyAnswer, AnyDone, AnyEvent, Stage, absent, idle, drawn}
+use Rattle.desk_model.specs.World.{posted, picked, answered, taken}
 use Rattle.desk_model.specs.World.{logged, logged_on, served, served_now, request_of, invoked, journal_of, ticket_of}
 use Rattle.desk_model.proofs.Denoted.{ended, made}
 
@@ -17,7 +19,9 @@ put_in x c (d ∷ ds) t = logged_on x c d.request d.answer ++ put_in x c ds t
 
 pub served_is : (x c : ℕ) (ds : List AnyDone) (t : Stage) → served x c ds ++ served_now x c t ≡ put_in x c ds t
 served_is x c [] t = refl
-served_is x c (d ∷ ds) t = append_assoc (logged_on x c d.request d.answer) (served x c ds) (served_now x c t) ∙ ap (λ z. logged_on x c d.request d.answer ++ z) (served_is x c ds t)
+served_is x c (d ∷ ds) t =
+    append_assoc (logged_on x c d.request d.answer) (served x c ds) (served_now x c t)
+    ∙ ap (λ z. logged_on x c d.request d.answer ++ z) (served_is x c ds t)
 
 abbrev entry : ℕ → AnyRequest → AnyReply → AnyEntry
 entry c q r = record { client = c; ticket = q.ticket; op = q.op; reply = r }
@@ -33,12 +37,16 @@ is_put : (x c : ℕ) (q : AnyRequest) (a : AnyAnswer) (e : AnyEntry) → In e (l
 is_put x c q a e = go (q.object == x) refl a
   where
     go : (b : Bool) → (q.object == x) ≡ b → (a : AnyAnswer) → In e (cond b (logged c q a) []) → IsPut x c q a e
-    go true s (Reply r) i = elim i [ inl f ↦ record { reply = r; answer = refl; object = eqb-true q.object x s; same = f } | inr j ↦ absurd j ]
+    go true s (Reply r) i = elim i [
+      | inl f ↦ record { reply = r; answer = refl; object = eqb-true q.object x s; same = f }
+      | inr j ↦ absurd j
+    ]
     go true s Refused i = absurd i
     go false s a i = absurd i
 
 -- what a stage has put in is of its call
-put_now : (x c : ℕ) (t : Stage) (e : AnyEntry) → In e (served_now x c t) → (q : AnyRequest) × (a : AnyAnswer) × (request_of t ≡ Some q) × IsPut x c q a e
+put_now : (x c : ℕ) (t : Stage) (e : AnyEntry) → In e (served_now x c t)
+    → (q : AnyRequest) × (a : AnyAnswer) × (request_of t ≡ Some q) × IsPut x c q a e
 put_now x c absent e i = absurd i
 put_now x c idle e i = absurd i
 put_now x c (drawn q) e i = absurd i
@@ -61,21 +69,26 @@ pub record IsOf (x c : ℕ) (e : AnyEntry) (events : List AnyEvent) (ops : List 
   pub invocation : In (Invoked e.ticket x e.op) events
   pub has_call : HasCall x c e ops
 
-invoked_same : (x c : ℕ) (q : AnyRequest) (a : AnyAnswer) (e : AnyEntry) → IsPut x c q a e → ◌≡◌ {A = AnyEvent} (Invoked e.ticket x e.op) (invoked q)
-invoked_same x c q a e p = ap (λ (f : AnyEntry). Invoked f.ticket x f.op) p.same ∙ ap (λ y. Invoked q.ticket y q.op) (sym p.object)
+invoked_same : (x c : ℕ) (q : AnyRequest) (a : AnyAnswer) (e : AnyEntry) → IsPut x c q a e
+    → ◌≡◌ {A = AnyEvent} (Invoked e.ticket x e.op) (invoked q)
+invoked_same x c q a e p =
+    ap (λ (f : AnyEntry). Invoked f.ticket x f.op) p.same ∙ ap (λ y. Invoked q.ticket y q.op) (sym p.object)
 
 -- the call that is over, with this reply
 abbrev over_call : AnyDone → AnyReply → Call
-over_call d r = record { number = d.request.ticket; op = d.request.op; returned = Some (record { at = d.returned; reply = r }) }
+over_call d r = record { number = d.request.ticket; op = d.request.op;
+    returned = Some (record { at = d.returned; reply = r }) }
 
-later_made : (c : ℕ) (d : AnyDone) (ops : List ProcessCall) (o : ProcessCall) → In o ops → In o (ended c d.request d.returned d.answer ops)
+later_made : (c : ℕ) (d : AnyDone) (ops : List ProcessCall) (o : ProcessCall) → In o ops
+    → In o (ended c d.request d.returned d.answer ops)
 later_made c d ops o i = go d.answer
   where
     go : (a : AnyAnswer) → In o (ended c d.request d.returned a ops)
     go (Reply r) = inr i
     go Refused = i
 
-pub is_of : (x c : ℕ) (ds : List AnyDone) (t : Stage) (e : AnyEntry) → In e (put_in x c ds t) → IsOf x c e (journal_of ds (request_of t)) (made c ds (request_of t))
+pub is_of : (x c : ℕ) (ds : List AnyDone) (t : Stage) (e : AnyEntry) → In e (put_in x c ds t)
+    → IsOf x c e (journal_of ds (request_of t)) (made c ds (request_of t))
 is_of x c [] t e i =
     let n = put_now x c t e i in
     let q : AnyRequest = n.0 in
@@ -85,7 +98,8 @@ is_of x c [] t e i =
       invocation = inl (invoked_same x c q n.1 e p);
       has_call = record {
         call = record { number = q.ticket; op = q.op; returned = None };
-        among = inl (ap (λ y. record { process = c; object = y; call = record { number = q.ticket; op = q.op; returned = None } }) (sym p.object));
+        among = inl (ap (λ y. record { process = c; object = y;
+          call = record { number = q.ticket; op = q.op; returned = None } }) (sym p.object));
         number = sym (ap (λ (f : AnyEntry). f.ticket) p.same);
         op = sym (ap (λ (f : AnyEntry). f.op) p.same);
         reply = tt;
@@ -96,13 +110,15 @@ is_of x c (d ∷ ds) t e i = elim (in_append e (logged_on x c d.request d.answer
   | inr j ↦ there (is_of x c ds t e j)
 ]
   where
-    here : IsPut x c d.request d.answer e → IsOf x c e (journal_of (d ∷ ds) (request_of t)) (made c (d ∷ ds) (request_of t))
+    here : IsPut x c d.request d.answer e
+      → IsOf x c e (journal_of (d ∷ ds) (request_of t)) (made c (d ∷ ds) (request_of t))
     here p = record {
       client = ap (λ (f : AnyEntry). f.client) p.same;
       invocation = inl (invoked_same x c d.request d.answer e p);
       has_call = record {
         call = over_call d p.reply;
-        among = subst (λ a. In (record { process = c; object = x; call = over_call d p.reply }) (ended c d.request d.returned a (made c ds (request_of t)))) (sym p.answer)
+        among = subst (λ a. In (record { process = c; object = x; call = over_call d p.reply })
+          (ended c d.request d.returned a (made c ds (request_of t)))) (sym p.answer)
             (inl (ap (λ y. record { process = c; object = y; call = over_call d p.reply }) (sym p.object)));
         number = sym (ap (λ (f : AnyEntry). f.ticket) p.same);
         op = sym (ap (λ (f : AnyEntry). f.op) p.same);
@@ -110,13 +126,15 @@ is_of x c (d ∷ ds) t e i = elim (in_append e (logged_on x c d.request d.answer
       };
     }
 
-    there : IsOf x c e (journal_of ds (request_of t)) (made c ds (request_of t)) → IsOf x c e (journal_of (d ∷ ds) (request_of t)) (made c (d ∷ ds) (request_of t))
+    there : IsOf x c e (journal_of ds (request_of t)) (made c ds (request_of t))
+      → IsOf x c e (journal_of (d ∷ ds) (request_of t)) (made c (d ∷ ds) (request_of t))
     there k = record {
       client = k.client;
       invocation = inr (inr k.invocation);
       has_call = record {
         call = k.has_call.call;
-        among = later_made c d (made c ds (request_of t)) (record { process = c; object = x; call = k.has_call.call }) k.has_call.among;
+        among = later_made c d (made c ds (request_of t))
+          (record { process = c; object = x; call = k.has_call.call }) k.has_call.among;
         number = k.has_call.number;
         op = k.has_call.op;
         reply = k.has_call.reply;
@@ -124,7 +142,8 @@ is_of x c (d ∷ ds) t e i = elim (in_append e (logged_on x c d.request d.answer
     }
 
 -- one answer puts in one entry at most
-pairs_logged : (R : AnyEntry → AnyEntry → Type 0) (x c : ℕ) (q : AnyRequest) (a : AnyAnswer) → Pairs R (logged_on x c q a)
+pairs_logged : (R : AnyEntry → AnyEntry → Type 0) (x c : ℕ) (q : AnyRequest) (a : AnyAnswer)
+    → Pairs R (logged_on x c q a)
 pairs_logged R x c q a = go (q.object == x) a
   where
     go : (b : Bool) (a : AnyAnswer) → Pairs R (cond b (logged c q a) [])
@@ -142,14 +161,19 @@ pairs_now R x c (answered q a) = pairs_logged R x c q a
 pairs_now R x c (taken q a) = pairs_logged R x c q a
 
 -- the entries' tickets rise where those of the journal do
-pub put_rises : (x c : ℕ) (ds : List AnyDone) (t : Stage) → Pairs (λ t u. t < u) (map ticket_of (journal_of ds (request_of t))) → Pairs (λ e f. e.ticket < f.ticket) (put_in x c ds t)
+pub put_rises : (x c : ℕ) (ds : List AnyDone) (t : Stage)
+    → Pairs (λ t u. t < u) (map ticket_of (journal_of ds (request_of t)))
+    → Pairs (λ e f. e.ticket < f.ticket) (put_in x c ds t)
 put_rises x c [] t h = pairs_now (λ e f. e.ticket < f.ticket) x c t
-put_rises x c (d ∷ ds) t h = pairs_append (λ e f. e.ticket < f.ticket) (logged_on x c d.request d.answer) (put_in x c ds t)
+put_rises x c (d ∷ ds) t h =
+    pairs_append (λ e f. e.ticket < f.ticket) (logged_on x c d.request d.answer) (put_in x c ds t)
     (pairs_logged (λ e f. e.ticket < f.ticket) x c d.request d.answer) (put_rises x c ds t h.1.1)
     (λ e f i j.
     let p = is_put x c d.request d.answer e i in
     let s : e.ticket ≡ d.request.ticket = ap (λ (g : AnyEntry). g.ticket) p.same in
-    let l : d.request.ticket < f.ticket = h.0 f.ticket (inr (in_map_from ticket_of (Invoked f.ticket x f.op) (journal_of ds (request_of t)) (is_of x c ds t f j).invocation)) in
+    let l : d.request.ticket < f.ticket =
+      h.0 f.ticket (inr (in_map_from ticket_of (Invoked f.ticket x f.op) (journal_of ds (request_of t))
+      (is_of x c ds t f j).invocation)) in
     omega arith)
 
 -- a call that returned is over, and this is the entry of it
@@ -159,21 +183,30 @@ pub record IsOver (c : ℕ) (o : ProcessCall) (r : Return) (ds : List AnyDone) :
   pub object : over.request.object ≡ o.object
   pub number : over.request.ticket ≡ o.call.number
   pub returned : over.returned ≡ r.at
-  pub logs : logged c over.request over.answer ≡ record { client = c; ticket = o.call.number; op = o.call.op; reply = r.reply } ∷ []
+  pub logs : logged c over.request over.answer
+      ≡ record { client = c; ticket = o.call.number; op = o.call.op; reply = r.reply } ∷ []
 
-pub is_over : (c : ℕ) (ds : List AnyDone) (q : Option AnyRequest) (o : ProcessCall) (r : Return) → In o (made c ds q) → o.call.returned ≡ Some r → IsOver c o r ds
+pub is_over : (c : ℕ) (ds : List AnyDone) (q : Option AnyRequest) (o : ProcessCall) (r : Return) → In o (made c ds q)
+    → o.call.returned ≡ Some r → IsOver c o r ds
 is_over c [] None o r i e = absurd i
-is_over c [] (Some q) o r i e = elim i [ inl s ↦ let no : None ≡ Some r = sym (ap (λ (o : ProcessCall). o.call.returned) s) ∙ e in absurd (cc (no)) | inr j ↦ absurd j ]
+is_over c [] (Some q) o r i e = elim i [
+  | inl s ↦ let no : None ≡ Some r = sym (ap (λ (o : ProcessCall). o.call.returned) s) ∙ e in absurd (cc (no))
+  | inr j ↦ absurd j
+]
 is_over c (d ∷ ds) q o r i e = go d.answer refl i (λ j. later (is_over c ds q o r j e))
   where
     later : IsOver c o r ds → IsOver c o r (d ∷ ds)
-    later k = record { over = k.over; among = inr k.among; object = k.object; number = k.number; returned = k.returned; logs = k.logs }
+    later k = record { over = k.over; among = inr k.among; object = k.object; number = k.number;
+      returned = k.returned; logs = k.logs }
 
-    go : (a : AnyAnswer) → d.answer ≡ a → In o (ended c d.request d.returned a (made c ds q)) → (In o (made c ds q) → IsOver c o r (d ∷ ds)) → IsOver c o r (d ∷ ds)
+    go : (a : AnyAnswer) → d.answer ≡ a → In o (ended c d.request d.returned a (made c ds q))
+      → (In o (made c ds q) → IsOver c o r (d ∷ ds)) → IsOver c o r (d ∷ ds)
     go (Reply p) s i f = elim i [
       | inl t ↦
-          let same : Some (record { at = d.returned; reply = p }) ≡ Some r = sym (ap (λ (o : ProcessCall). o.call.returned) t) ∙ e in
-          let one : record { at = d.returned; reply = p } ≡ r = same_Some (record { at = d.returned; reply = p }) r same in
+          let same : Some (record { at = d.returned; reply = p }) ≡ Some r =
+            sym (ap (λ (o : ProcessCall). o.call.returned) t) ∙ e in
+          let one : record { at = d.returned; reply = p } ≡ r =
+            same_Some (record { at = d.returned; reply = p }) r same in
           record {
             over = d;
             among = inl refl;
@@ -181,8 +214,10 @@ is_over c (d ∷ ds) q o r i e = go d.answer refl i (λ j. later (is_over c ds q
             number = sym (ap (λ (o : ProcessCall). o.call.number) t);
             returned = ap (λ (r : Return). r.at) one;
             logs = ap (logged c d.request) s
-                ∙ (ap (λ (o : ProcessCall). record { client = c; ticket = o.call.number; op = o.call.op; reply = p } ∷ []) (sym t)
-                ∙ ap (λ (r : Return). record { client = c; ticket = o.call.number; op = o.call.op; reply = r.reply } ∷ []) one);
+                ∙ (ap (λ (o : ProcessCall). record { client = c; ticket = o.call.number; op = o.call.op; reply = p }
+                  ∷ []) (sym t)
+                ∙ ap (λ (r : Return). record { client = c; ticket = o.call.number; op = o.call.op; reply = r.reply }
+                  ∷ []) one);
           }
       | inr j ↦ f j
     ]

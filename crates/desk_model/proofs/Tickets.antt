@@ -1,16 +1,20 @@
 -- Journals and tickets: what holds of them goes on where no client draws a ticket, and where one client draws the next.
-use Rattle.std.proofs.Common.{◌≡◌, ◌≢◌, ◌⊎◌, ℕ, ◌+◌, ◌<◌, List, [], ◌∷◌, ◌++◌, Some, None, All, AllPairs, Contains, map, length, true, false, cond}
+use Rattle.std.proofs.Common.{◌≡◌, ◌≢◌, ◌⊎◌, ℕ, ◌+◌, ◌<◌, List, [], ◌∷◌, ◌++◌, Some, None, All, AllPairs, Contains}
+use Rattle.std.proofs.Common.{map, length, true, false, cond}
 use Rattle.std.proofs.Common.{eqb, refl, sym, ap, subst, ◌∙◌, ⊎_elim, inl, inr, arith, append_assoc}
 use mathlib.Core.Logic.{dite}
 use native.Mathlib.Decide.{ℕ_discrete}
 use Rattle.std.proofs.lemmas.List.{length_push, length-append, get_or_push, get_or_append_left}
-use Rattle.std.proofs.lemmas.List.Elements.{All-nil, All-push, All-weaker, All-contains, Contains-append_left, Contains-push, Contains-push_cases}
+use Rattle.std.proofs.lemmas.List.Elements.{All-nil, All-push, All-weaker, All-contains, Contains-append_left}
+use Rattle.std.proofs.lemmas.List.Elements.{Contains-push, Contains-push_cases}
 use Rattle.model.specs.declared.Kind.{Kind}
 use Rattle.model.specs.Objects.{kind_of}
 use Rattle.desk_model.specs.declared.Answer.TheVariants.{Reply, Refused}
 use Rattle.desk_model.specs.declared.JournalEvent.TheVariants.{Returned}
-use Rattle.desk_model.specs.World.{AnyEntry, AnyRequest, AnyAnswer, AnyEvent, AnyDone, Stage, absent, idle, drawn, taken, World, kind_at, logged}
-use Rattle.desk_model.specs.World.{entries_of, served, served_now, request_of, invoked, journal_of, journal_in, ticket_of, tickets_in, StartsWith}
+use Rattle.desk_model.specs.World.{AnyEntry, AnyRequest, AnyAnswer, AnyEvent, AnyDone, Stage, absent, idle, drawn}
+use Rattle.desk_model.specs.World.{taken, World, kind_at, logged}
+use Rattle.desk_model.specs.World.{entries_of, served, served_now, request_of, invoked, journal_of, journal_in}
+use Rattle.desk_model.specs.World.{ticket_of, tickets_in, StartsWith}
 use Rattle.desk_model.specs.Transitions.{changed, ticked}
 use Rattle.desk_model.specs.Sound.{ShareOut, IsAmong, IsInTime, SoundJournals, Sound}
 use Rattle.desk_model.proofs.Entries.{logged_here}
@@ -23,7 +27,8 @@ journal_begun [] q = refl
 journal_begun (d ∷ ds) q = ap (λ z. invoked d.request ∷ Returned d.returned d.answer ∷ z) (journal_begun ds q)
 
 pub journal_over : (ds : List AnyDone) (q : AnyRequest) (a : AnyAnswer) (t : ℕ)
-    → journal_of (ds ++ record { request = q; answer = a; returned = t } ∷ []) None ≡ journal_of ds (Some q) ++ Returned t a ∷ []
+    → journal_of (ds ++ record { request = q; answer = a; returned = t } ∷ []) None
+      ≡ journal_of ds (Some q) ++ Returned t a ∷ []
 journal_over [] q a t = refl
 journal_over (d ∷ ds) q a t = ap (λ z. invoked d.request ∷ Returned d.returned d.answer ∷ z) (journal_over ds q a t)
 
@@ -39,7 +44,8 @@ one_more : (x e : AnyEntry) (l : List AnyEntry) → Splits l e → Splits (x ∷
 one_more x e l s = (x ∷ s.0, s.1, ap (λ z. x ∷ z) s.2)
 
 -- the same where the first entry x is one of the list es of which e is the last
-splits_own : (x e : AnyEntry) (l es s : List AnyEntry) → ((s' : List AnyEntry) → es ≡ s' ++ e ∷ [] → Splits l e) → x ∷ es ≡ s ++ e ∷ [] → Splits (x ∷ l) e
+splits_own : (x e : AnyEntry) (l es s : List AnyEntry) → ((s' : List AnyEntry) → es ≡ s' ++ e ∷ [] → Splits l e)
+    → x ∷ es ≡ s ++ e ∷ [] → Splits (x ∷ l) e
 splits_own x e l es [] later f = let same : x ≡ e = cc in ([], l, ap (λ z. z ∷ l) same)
 splits_own x e l es (y ∷ s) later f = let rest : es ≡ s ++ e ∷ [] = cc in one_more x e l (later s rest)
 
@@ -47,32 +53,46 @@ splits_own x e l es (y ∷ s) later f = let rest : es ≡ s ++ e ∷ [] = cc in 
 splits_at : (c : ℕ) (l s : List AnyEntry) (e : AnyEntry) → entries_of c l ≡ s ++ e ∷ [] → Splits l e
 splits_at c [] [] e is = absurd (cc)
 splits_at c [] (y ∷ s) e is = absurd (cc)
-splits_at c (x ∷ l) s e is = elim (eqb x.client c) as (λ b. cond b (x ∷ entries_of c l) (entries_of c l) ≡ s ++ e ∷ [] → Splits (x ∷ l) e)
-    [ true ↦ splits_own x e l (entries_of c l) s (λ s' f. splits_at c l s' e f) | false ↦ λ f. one_more x e l (splits_at c l s e f) ] is
+splits_at c (x ∷ l) s e is =
+    elim (eqb x.client c) as (λ b. cond b (x ∷ entries_of c l) (entries_of c l) ≡ s ++ e ∷ [] → Splits (x ∷ l) e)
+    [
+      | true ↦ splits_own x e l (entries_of c l) s (λ s' f. splits_at c l s' e f)
+      | false ↦ λ f. one_more x e l (splits_at c l s e f)
+    ] is
 
 -- what is logged last of a client stands after entries that are all of tickets below n
-pub stands_in : (c n : ℕ) (l s : List AnyEntry) (q : AnyRequest) (a : AnyAnswer) → entries_of c l ≡ s ++ logged c q a → All (λ (e : AnyEntry). e.ticket < n) l
-    → (before : List AnyEntry) × (after : List AnyEntry) × (l ≡ before ++ logged c q a ++ after) × All (λ (e : AnyEntry). e.ticket < n) before
-stands_in c n l s q (Reply r) is low = let e : AnyEntry = record { client = c; ticket = q.ticket; op = q.op; reply = r } in let b = splits_at c l s e is in
-    (b.0, b.1, b.2 ∙ sym (append_assoc b.0 (e ∷ []) b.1), all_before (λ (e : AnyEntry). e.ticket < n) b.0 (e ∷ b.1) (subst (All (λ (e : AnyEntry). e.ticket < n)) b.2 low))
+pub stands_in : (c n : ℕ) (l s : List AnyEntry) (q : AnyRequest) (a : AnyAnswer) → entries_of c l ≡ s ++ logged c q a
+    → All (λ (e : AnyEntry). e.ticket < n) l
+    → (before : List AnyEntry) × (after : List AnyEntry) × (l ≡ before ++ logged c q a ++ after)
+      × All (λ (e : AnyEntry). e.ticket < n) before
+stands_in c n l s q (Reply r) is low =
+    let e : AnyEntry = record { client = c; ticket = q.ticket; op = q.op; reply = r } in let b = splits_at c l s e is in
+    (b.0, b.1, b.2 ∙ sym (append_assoc b.0 (e ∷ []) b.1),
+      all_before (λ (e : AnyEntry). e.ticket < n) b.0 (e ∷ b.1) (subst (All (λ (e : AnyEntry). e.ticket < n)) b.2 low))
 stands_in c n l s q Refused is low = ([], l, refl, All-nil (λ (e : AnyEntry). e.ticket < n))
 
 -- a log that grows keeps what was in time
-still_in_time : (w w' : World) (c : ℕ) (d : AnyDone) → ((x : ℕ) → StartsWith (w'.log x) (w.log x)) → IsInTime w c d → IsInTime w' c d
+still_in_time : (w w' : World) (c : ℕ) (d : AnyDone) → ((x : ℕ) → StartsWith (w'.log x) (w.log x)) → IsInTime w c d
+    → IsInTime w' c d
 still_in_time w w' c d grows t =
-    let g = grows d.request.object in (t.0, t.1 ++ g.0, g.1 ∙ (ap (λ z. z ++ g.0) t.2 ∙ append_assoc (t.0 ++ logged c d.request d.answer) t.1 g.0), t.3)
+    let g = grows d.request.object in
+    (t.0, t.1 ++ g.0, g.1 ∙ (ap (λ z. z ++ g.0) t.2 ∙ append_assoc (t.0 ++ logged c d.request d.answer) t.1 g.0), t.3)
 
 -- ---- no client draws
 
 module _ (kinds : List Kind) where
   pub journals_kept : (w w' : World) → w'.clock ≡ w.clock → ((c : ℕ) → w'.done c ≡ w.done c)
-      → ((c : ℕ) → request_of (w'.stage c) ≡ request_of (w.stage c)) → ((c : ℕ) → w'.stage c ≡ absent → w.stage c ≡ absent)
+      → ((c : ℕ) → request_of (w'.stage c) ≡ request_of (w.stage c))
+      → ((c : ℕ) → w'.stage c ≡ absent → w.stage c ≡ absent)
       → ((x : ℕ) → StartsWith (w'.log x) (w.log x)) → SoundJournals kinds w → SoundJournals kinds w'
   journals_kept w w' clock done asked came grows k =
-      let same : (c : ℕ) → journal_in w c ≡ journal_in w' c = λ c i. journal_of (sym (done c) i) (sym (asked c) i) in record {
-        tickets = subst (λ (z : ℕ × (ℕ → List ℕ)). ShareOut z.0 z.1) (λ i. (sym clock i, λ c. map ticket_of (same c i))) k.tickets;
+      let same : (c : ℕ) → journal_in w c ≡ journal_in w' c = λ c i. journal_of (sym (done c) i) (sym (asked c) i) in
+      record {
+        tickets = subst (λ (z : ℕ × (ℕ → List ℕ)). ShareOut z.0 z.1)
+          (λ i. (sym clock i, λ c. map ticket_of (same c i))) k.tickets;
         on_objects = λ c. subst (All (IsAmong kinds)) (same c) (k.on_objects c);
-        in_time = λ c. subst (All (IsInTime w' c)) (sym (done c)) (All-weaker (IsInTime w c) (IsInTime w' c) (λ d. still_in_time w w' c d grows) (w.done c) (k.in_time c));
+        in_time = λ c. subst (All (IsInTime w' c)) (sym (done c))
+          (All-weaker (IsInTime w c) (IsInTime w' c) (λ d. still_in_time w w' c d grows) (w.done c) (k.in_time c));
         not_come = λ c e. done c ∙ k.not_come c (came c e);
       }
 
@@ -81,18 +101,24 @@ module _ (kinds : List Kind) where
       → ((d : ℕ) → w'.stage d ≡ changed w.stage c t d) → request_of t ≡ request_of (w.stage c) → t ≢ absent
       → ((x : ℕ) → StartsWith (w'.log x) (w.log x)) → SoundJournals kinds w → SoundJournals kinds w'
   journals_staged w w' c t clock done is same came grows k = journals_kept w w' clock done
-      (λ d. ap request_of (is d) ∙ changed_all (λ d t. request_of t ≡ request_of (w.stage d)) w.stage c t same (λ d _. refl) d)
-      (λ d e. changed_all (λ d t. t ≡ absent → w.stage d ≡ absent) w.stage c t (λ f. absurd (came f)) (λ d _ f. f) d (sym (is d) ∙ e)) grows k
+      (λ d. ap request_of (is d)
+        ∙ changed_all (λ d t. request_of t ≡ request_of (w.stage d)) w.stage c t same (λ d _. refl) d)
+      (λ d e. changed_all (λ d t. t ≡ absent → w.stage d ≡ absent) w.stage c t (λ f. absurd (came f)) (λ d _ f. f) d
+        (sym (is d) ∙ e)) grows k
 
 -- ---- one client draws the next ticket
 
-rising_more : (xs : List ℕ) (n : ℕ) → AllPairs (λ t u. t < u) xs → All (λ t. t < n) xs → AllPairs (λ t u. t < u) (xs ++ n ∷ [])
-rising_more xs n rising low i j d l within = let long = length_push xs n in let first = get_or_append_left xs (n ∷ []) d i (omega arith) in
+rising_more : (xs : List ℕ) (n : ℕ) → AllPairs (λ t u. t < u) xs → All (λ t. t < n) xs
+    → AllPairs (λ t u. t < u) (xs ++ n ∷ [])
+rising_more xs n rising low i j d l within =
+    let long = length_push xs n in let first = get_or_append_left xs (n ∷ []) d i (omega arith) in
     dite (ℕ_discrete j (length xs))
     (λ last. let here = get_or_push xs n d j (sym last) in let below = low i d (omega arith) in omega arith)
-    (λ other. let second = get_or_append_left xs (n ∷ []) d j (omega arith) in let pair = rising i j d l (omega arith) in omega arith)
+    (λ other. let second = get_or_append_left xs (n ∷ []) d j (omega arith) in
+        let pair = rising i j d l (omega arith) in omega arith)
 
-module _ (n : ℕ) (f g : ℕ → List ℕ) (c : ℕ) (here : g c ≡ f c ++ n ∷ []) (others : (d : ℕ) → d ≢ c → g d ≡ f d) (k : ShareOut n f) where
+module _ (n : ℕ) (f g : ℕ → List ℕ) (c : ℕ) (here : g c ≡ f c ++ n ∷ []) (others : (d : ℕ) → d ≢ c → g d ≡ f d)
+    (k : ShareOut n f) where
   -- each list is an old one, or that of the client with the new ticket
   either : (P : ℕ → List ℕ → Type 0) → P c (f c ++ n ∷ []) → ((d : ℕ) → d ≢ c → P d (f d)) → (d : ℕ) → P d (g d)
   either P new old d = dite (ℕ_discrete d c)
@@ -110,17 +136,24 @@ module _ (n : ℕ) (f g : ℕ → List ℕ) (c : ℕ) (here : g c ≡ f c ++ n �
 
   pub share_more : ShareOut (n + 1) g
   share_more = record {
-    rising = either (λ d l. AllPairs (λ t u. t < u) l) (rising_more (f c) n (k.rising c) (k.below c)) (λ d _. k.rising d);
+    rising = either (λ d l. AllPairs (λ t u. t < u) l) (rising_more (f c) n (k.rising c) (k.below c))
+      (λ d _. k.rising d);
     below = either (λ d l. All (λ t. t < n + 1) l)
-        (All-push (λ t. t < n + 1) (f c) n (All-weaker (λ t. t < n) (λ t. t < n + 1) (λ t l. omega arith) (f c) (k.below c)) (omega arith))
+        (All-push (λ t. t < n + 1) (f c) n
+          (All-weaker (λ t. t < n) (λ t. t < n + 1) (λ t l. omega arith) (f c) (k.below c)) (omega arith))
         (λ d _. All-weaker (λ t. t < n) (λ t. t < n + 1) (λ t l. omega arith) (f d) (k.below d));
     apart = λ d e t a b. ⊎_elim
-        (λ one. ⊎_elim (λ two. k.apart d e t one two) (λ (two : (e ≡ c) × (n ≡ t)). absurd (not_new d t one two.1)) (came_from e t b))
-        (λ (one : (d ≡ c) × (n ≡ t)). ⊎_elim (λ two. absurd (not_new e t two one.1)) (λ (two : (e ≡ c) × (n ≡ t)). one.0 ∙ sym two.0) (came_from e t b))
+        (λ one. ⊎_elim (λ two. k.apart d e t one two) (λ (two : (e ≡ c) × (n ≡ t)). absurd (not_new d t one two.1))
+          (came_from e t b))
+        (λ (one : (d ≡ c) × (n ≡ t)). ⊎_elim (λ two. absurd (not_new e t two one.1))
+          (λ (two : (e ≡ c) × (n ≡ t)). one.0 ∙ sym two.0) (came_from e t b))
         (came_from d t a);
     each = λ t l. dite (ℕ_discrete t n)
-        (λ same. (c, subst (λ z. Contains z t) (sym here) (subst (Contains (f c ++ n ∷ [])) (sym same) (Contains-push (f c) n))))
-        (λ other. let b = k.each t (omega arith) in (b.0, either (λ d l. Contains (f d) t → Contains l t) (Contains-append_left (f c) (n ∷ []) t) (λ d _ h. h) b.0 b.1));
+        (λ same. (c, subst (λ z. Contains z t) (sym here)
+          (subst (Contains (f c ++ n ∷ [])) (sym same) (Contains-push (f c) n))))
+        (λ other. let b = k.each t (omega arith) in
+          (b.0, either (λ d l. Contains (f d) t → Contains l t) (Contains-append_left (f c) (n ∷ []) t)
+          (λ d _ h. h) b.0 b.1));
   }
 
 map_more : (es : List AnyEvent) (e : AnyEvent) → map ticket_of (es ++ e ∷ []) ≡ map ticket_of es ++ ticket_of e ∷ []
@@ -128,17 +161,24 @@ map_more [] e = refl
 map_more (x ∷ es) e = ap (λ z. ticket_of x ∷ z) (map_more es e)
 
 module _ (kinds : List Kind) where
-  pub journals_ticked : (w : World) (c : ℕ) (t : Stage) (ds : List AnyDone) (e : AnyEvent) → ticket_of e ≡ w.clock → IsAmong kinds e
+  pub journals_ticked : (w : World) (c : ℕ) (t : Stage) (ds : List AnyDone) (e : AnyEvent) → ticket_of e ≡ w.clock
+      → IsAmong kinds e
       → journal_of ds (request_of t) ≡ journal_in w c ++ e ∷ [] → All (IsInTime w c) ds → t ≢ absent
       → SoundJournals kinds w → SoundJournals kinds (ticked w c t ds)
   journals_ticked w c t ds e ticket on more in_time came k =
       let w' : World = ticked w c t ds in
-      let here : journal_in w' c ≡ journal_in w c ++ e ∷ [] = (λ i. journal_of (changed_here w.done c ds i) (request_of (changed_here w.stage c t i))) ∙ more in
-      let others : (d : ℕ) → d ≢ c → journal_in w' d ≡ journal_in w d = λ d other i. journal_of (changed_else w.done c ds d other i) (request_of (changed_else w.stage c t d other i)) in record {
-        tickets = share_more w.clock (tickets_in w) (tickets_in w') c (ap (map ticket_of) here ∙ (map_more (journal_in w c) e ∙ ap (λ z. tickets_in w c ++ z ∷ []) ticket))
+      let here : journal_in w' c ≡ journal_in w c ++ e ∷ [] =
+        (λ i. journal_of (changed_here w.done c ds i) (request_of (changed_here w.stage c t i))) ∙ more in
+      let others : (d : ℕ) → d ≢ c → journal_in w' d ≡ journal_in w d =
+        λ d other i. journal_of (changed_else w.done c ds d other i)
+        (request_of (changed_else w.stage c t d other i)) in record {
+        tickets = share_more w.clock (tickets_in w) (tickets_in w') c
+          (ap (map ticket_of) here ∙ (map_more (journal_in w c) e ∙ ap (λ z. tickets_in w c ++ z ∷ []) ticket))
             (λ d other. ap (map ticket_of) (others d other)) k.tickets;
         on_objects = λ d. dite (ℕ_discrete d c)
-            (λ same. subst (λ z. All (IsAmong kinds) (journal_in w' z)) (sym same) (subst (All (IsAmong kinds)) (sym here) (All-push (IsAmong kinds) (journal_in w c) e (k.on_objects c) on)))
+            (λ same. subst (λ z. All (IsAmong kinds) (journal_in w' z)) (sym same)
+              (subst (All (IsAmong kinds)) (sym here)
+              (All-push (IsAmong kinds) (journal_in w c) e (k.on_objects c) on)))
             (λ other. subst (All (IsAmong kinds)) (sym (others d other)) (k.on_objects d));
         in_time = changed_all (λ d l. All (IsInTime w' d) l) w.done c ds in_time (λ d _. k.in_time d);
         not_come = λ d. dite (ℕ_discrete d c)
@@ -146,17 +186,25 @@ module _ (kinds : List Kind) where
             (λ other f. changed_else w.done c ds d other ∙ k.not_come d (sym (changed_else w.stage c t d other) ∙ f));
       }
 
-  pub journals_called : (w : World) (c : ℕ) (q : AnyRequest) → w.stage c ≡ idle → q.ticket ≡ w.clock → q.object < length kinds → kind_of q.op ≡ kind_at kinds q.object
+  pub journals_called : (w : World) (c : ℕ) (q : AnyRequest) → w.stage c ≡ idle → q.ticket ≡ w.clock
+      → q.object < length kinds → kind_of q.op ≡ kind_at kinds q.object
       → SoundJournals kinds w → SoundJournals kinds (ticked w c (drawn q) (w.done c))
   journals_called w c q was ticket on fits k = journals_ticked w c (drawn q) (w.done c) (invoked q) ticket (on, fits)
-      (journal_begun (w.done c) q ∙ ap (λ z. journal_of (w.done c) (request_of z) ++ invoked q ∷ []) (sym was)) (k.in_time c) (λ e. absurd (cc)) k
+      (journal_begun (w.done c) q ∙ ap (λ z. journal_of (w.done c) (request_of z) ++ invoked q ∷ []) (sym was))
+        (k.in_time c) (λ e. absurd (cc)) k
 
-  pub journals_returned : (quota : ℕ) (w : World) (c n : ℕ) (q : AnyRequest) (a : AnyAnswer) → w.stage c ≡ taken q a → n ≡ w.clock → Sound kinds quota w
+  pub journals_returned : (quota : ℕ) (w : World) (c n : ℕ) (q : AnyRequest) (a : AnyAnswer) → w.stage c ≡ taken q a
+      → n ≡ w.clock → Sound kinds quota w
       → SoundJournals kinds (ticked w c idle (w.done c ++ record { request = q; answer = a; returned = n } ∷ []))
   journals_returned quota w c n q a was now k =
-      let x : ℕ = q.object in let d : AnyDone = record { request = q; answer = a; returned = n } in let ds : List AnyDone = w.done c in
-      let last : entries_of c (w.log x) ≡ served x c ds ++ logged c q a = k.counted c x ∙ (ap (λ z. served x c ds ++ served_now x c z) was ∙ ap (λ z. served x c ds ++ z) (logged_here x c q a refl)) in
-      let in_time : IsInTime w c d = stands_in c n (w.log x) (served x c ds) q a last (subst (λ z. All (λ (e : AnyEntry). e.ticket < z) (w.log x)) (sym now) (k.early x)) in
+      let x : ℕ = q.object in let d : AnyDone = record { request = q; answer = a; returned = n } in
+      let ds : List AnyDone = w.done c in
+      let last : entries_of c (w.log x) ≡ served x c ds ++ logged c q a =
+        k.counted c x ∙ (ap (λ z. served x c ds ++ served_now x c z) was
+        ∙ ap (λ z. served x c ds ++ z) (logged_here x c q a refl)) in
+      let in_time : IsInTime w c d =
+        stands_in c n (w.log x) (served x c ds) q a last
+        (subst (λ z. All (λ (e : AnyEntry). e.ticket < z) (w.log x)) (sym now) (k.early x)) in
       journals_ticked w c idle (ds ++ d ∷ []) (Returned n a) now tt
       (journal_over ds q a n ∙ ap (λ z. journal_of ds (request_of z) ++ Returned n a ∷ []) (sym was))
       (All-push (IsInTime w c) ds d (k.journals.in_time c) in_time) (λ e. absurd (cc)) k.journals

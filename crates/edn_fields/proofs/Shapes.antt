@@ -27,10 +27,12 @@ keyword_by (atom (keyword k)) ts = refl
 keyword_by (vector ds) ts = refl
 keyword_by (dictionary es) ts = refl
 
-pub natural_is : (ps : List Piece) (o : Option Datum) → IsValue ps o → natural_first (token_buffer_tokens ps) ≡ natural_in o
+pub natural_is : (ps : List Piece) (o : Option Datum) → IsValue ps o
+    → natural_first (token_buffer_tokens ps) ≡ natural_in o
 natural_is ps None h = ap (λ (x : List Piece). natural_first (token_buffer_tokens x)) h
 natural_is ps (Some d) h = ap natural_first h.1 ∙ natural_by d h.0
 
-pub keyword_is : (ps : List Piece) (o : Option Datum) → IsValue ps o → keyword_first (token_buffer_tokens ps) ≡ keyword_in o
+pub keyword_is : (ps : List Piece) (o : Option Datum) → IsValue ps o
+    → keyword_first (token_buffer_tokens ps) ≡ keyword_in o
 keyword_is ps None h = ap (λ (x : List Piece). keyword_first (token_buffer_tokens x)) h
 keyword_is ps (Some d) h = ap keyword_first h.1 ∙ keyword_by d h.0

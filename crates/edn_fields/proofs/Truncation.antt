@@ -6,12 +6,14 @@ use Rattle.edn_reader.specs.Datum.{Datum, atom, vector, dictionary, Entries, no_
 use Rattle.edn_fields.specs.Fields.{same_bytes, value_at, natural_in, keyword_in}
 use Rattle.edn_fields.proofs.Finding.{same_bytes_is}
 
-pub value_of_truncated : (k : List ℕ) (es : Entries) → value_at k (truncated_entries es) ≡ option_map truncated_value (value_at k es)
+pub value_of_truncated : (k : List ℕ) (es : Entries)
+    → value_at k (truncated_entries es) ≡ option_map truncated_value (value_at k es)
 value_of_truncated k no_entries = refl
 value_of_truncated k (entry l d es) = by_key (same_bytes k l) (value_of_truncated k es)
   where
     by_key : (b : Bool) → value_at k (truncated_entries es) ≡ option_map truncated_value (value_at k es)
-        → (if b then Some (truncated_value d) else value_at k (truncated_entries es)) ≡ option_map truncated_value (if b then Some d else value_at k es)
+        → (if b then Some (truncated_value d) else value_at k (truncated_entries es))
+          ≡ option_map truncated_value (if b then Some d else value_at k es)
     by_key true e = refl
     by_key false e = e
 
@@ -28,12 +30,15 @@ keyword_of_truncated (Some (vector ds)) = refl
 keyword_of_truncated (Some (dictionary es)) = refl
 
 -- the integer vector under a key is that of the key's value
-pub integer_vector_of_value : (k : List ℕ) (es : Entries) → integer_vector_under k es ≡ option_and_then integer_vector_of (value_at k es)
+pub integer_vector_of_value : (k : List ℕ) (es : Entries)
+    → integer_vector_under k es ≡ option_and_then integer_vector_of (value_at k es)
 integer_vector_of_value k no_entries = refl
 integer_vector_of_value k (entry l d es) =
-    ap (λ (b : Bool). if b then integer_vector_of d else integer_vector_under k es) (same_bytes_is k l) ∙ by_key (same_bytes k l) (integer_vector_of_value k es)
+    ap (λ (b : Bool). if b then integer_vector_of d else integer_vector_under k es) (same_bytes_is k l)
+      ∙ by_key (same_bytes k l) (integer_vector_of_value k es)
   where
     by_key : (b : Bool) → integer_vector_under k es ≡ option_and_then integer_vector_of (value_at k es)
-        → (if b then integer_vector_of d else integer_vector_under k es) ≡ option_and_then integer_vector_of (if b then Some d else value_at k es)
+        → (if b then integer_vector_of d else integer_vector_under k es)
+          ≡ option_and_then integer_vector_of (if b then Some d else value_at k es)
     by_key true e = refl
     by_key false e = e

@@ -1,13 +1,17 @@
 -- A word stands for an element exactly where the element has that word.
-use Rattle.std.proofs.Common.{◌≡◌, ℕ, ◌^◌, ◌≤◌, Bool, true, false, cond, Some, List, [], ◌∷◌, ◌++◌, length, refl, sym, ap, subst, arith, inl, inr}
+use Rattle.std.proofs.Common.{◌≡◌, ℕ, ◌^◌, ◌≤◌, Bool, true, false, cond, Some, List, [], ◌∷◌, ◌++◌, length, refl}
+use Rattle.std.proofs.Common.{sym, ap, subst, arith, inl, inr}
 use Rattle.std.specs.Prelude.{◌==◌, ◌&&◌, ◌||◌, ◌⊎◌, not, nat_lt, nat_le, codes, ℤ, pos}
-use Rattle.std.proofs.lemmas.Bool.{or_parts, and_parts, and_from, eqb-true, ne_eqb, both_ways, not-true, leb-true, ltb-true, lt-ltb, le-leb}
+use Rattle.std.proofs.lemmas.Bool.{or_parts, and_parts, and_from, eqb-true, ne_eqb, both_ways, not-true, leb-true}
+use Rattle.std.proofs.lemmas.Bool.{ltb-true, lt-ltb, le-leb}
 use Rattle.std.proofs.lemmas.Bool.Decides.{nat_tests}
 use Rattle.std.specs.List.{list_all}
 use Rattle.edn_reader.specs.Bytes.{is_separator, is_mark, is_token_byte, is_digit, is_letter, is_name_byte, is_name}
 use Rattle.edn_reader.specs.Datum.{Atom, nil, boolean, integer, string, keyword}
-use Rattle.edn_reader.specs.Spells.{is_decimal, value_after, minus, IsPositive, IsNegative, IsInteger, IsWord, EndsToken}
-use Rattle.edn_reader.specs.Reading.{word, after_word, positive_of, negative_of, integer_of, keyword_of, literal_of, atom_of}
+use Rattle.edn_reader.specs.Spells.{is_decimal, value_after, minus, IsPositive, IsNegative, IsInteger, IsWord}
+use Rattle.edn_reader.specs.Spells.{EndsToken}
+use Rattle.edn_reader.specs.Reading.{word, after_word, positive_of, negative_of, integer_of, keyword_of, literal_of}
+use Rattle.edn_reader.specs.Reading.{atom_of}
 use Rattle.edn_reader.proofs.Consumed.{kept_if, mapped}
 use Rattle.edn_reader.proofs.Strings.{some_is}
 use Rattle.std.specs.Str.{bytes_eq}
@@ -34,9 +38,11 @@ name_token : (b : ℕ) → is_name_byte b ≡ true → is_token_byte b ≡ true
 unfolding is_token_byte
 name_token b h = grind (arith, nat_tests)
 
-weaker : (p q : ℕ → Bool) → ((b : ℕ) → p b ≡ true → q b ≡ true) → (bs : List ℕ) → list_all p bs ≡ true → list_all q bs ≡ true
+weaker : (p q : ℕ → Bool) → ((b : ℕ) → p b ≡ true → q b ≡ true) → (bs : List ℕ) → list_all p bs ≡ true
+    → list_all q bs ≡ true
 weaker p q w [] e = refl
-weaker p q w (b ∷ bs) e = let h = and_parts (p b) (list_all p bs) e in and_from (q b) (list_all q bs) (w b h.0) (weaker p q w bs h.1)
+weaker p q w (b ∷ bs) e =
+    let h = and_parts (p b) (list_all p bs) e in and_from (q b) (list_all q bs) (w b h.0) (weaker p q w bs h.1)
 
 -- a word has some byte, and each is a byte of tokens
 pub record IsRun (own : List ℕ) : Type 0 where
@@ -45,7 +51,8 @@ pub record IsRun (own : List ℕ) : Type 0 where
   pub parts : own ≡ head ∷ tail
   pub all : list_all is_token_byte own ≡ true
 
-pub decimal_parts : (ds : List ℕ) → is_decimal ds ≡ true → (b : ℕ) × (bs : List ℕ) × (ds ≡ b ∷ bs) × (is_digit b ≡ true) × (list_all is_digit ds ≡ true)
+pub decimal_parts : (ds : List ℕ) → is_decimal ds ≡ true
+    → (b : ℕ) × (bs : List ℕ) × (ds ≡ b ∷ bs) × (is_digit b ≡ true) × (list_all is_digit ds ≡ true)
 decimal_parts [] e = absurd cc
 decimal_parts (b ∷ []) e = (b, [], refl, e, and_from (is_digit b) true e refl)
 decimal_parts (b ∷ c ∷ cs) e =
@@ -54,10 +61,14 @@ decimal_parts (b ∷ c ∷ cs) e =
     (b, c ∷ cs, refl, q.0, and_from (is_digit b) (list_all is_digit (c ∷ cs)) q.0 p.1)
 
 decimal_run : (ds : List ℕ) → is_decimal ds ≡ true → IsRun ds
-decimal_run ds e = let p = decimal_parts ds e in record { head = p.0; tail = p.1; parts = p.2; all = weaker is_digit is_token_byte digit_token ds p.4 }
+decimal_run ds e =
+    let p = decimal_parts ds e in
+    record { head = p.0; tail = p.1; parts = p.2; all = weaker is_digit is_token_byte digit_token ds p.4 }
 
 signed_run : (s : ℕ) (own ds : List ℕ) → is_token_byte s ≡ true → own ≡ s ∷ ds → is_decimal ds ≡ true → IsRun own
-signed_run s own ds h q e = record { head = s; tail = ds; parts = q; all = rw q (and_from (is_token_byte s) (list_all is_token_byte ds) h (decimal_run ds e).all) }
+signed_run s own ds h q e =
+    record { head = s; tail = ds; parts = q;
+    all = rw q (and_from (is_token_byte s) (list_all is_token_byte ds) h (decimal_run ds e).all) }
 
 name_run : (k : List ℕ) → is_name k ≡ true → list_all is_token_byte k ≡ true
 unfolding is_name
@@ -65,7 +76,8 @@ name_run [] e = absurd cc
 name_run (b ∷ bs) e =
     let p = and_parts (is_letter b && list_all is_name_byte bs) (nat_le (length bs) 63) e in
     let q = and_parts (is_letter b) (list_all is_name_byte bs) p.0 in
-    and_from (is_token_byte b) (list_all is_token_byte bs) (letter_token b q.0) (weaker is_name_byte is_token_byte name_token bs q.1)
+    and_from (is_token_byte b) (list_all is_token_byte bs) (letter_token b q.0)
+      (weaker is_name_byte is_token_byte name_token bs q.1)
 
 literal_run : (own : List ℕ) (b : ℕ) (bs : List ℕ) → own ≡ b ∷ bs → list_all is_token_byte (b ∷ bs) ≡ true → IsRun own
 literal_run own b bs q h = record { head = b; tail = bs; parts = q; all = rw q h }
@@ -83,7 +95,8 @@ word_run (keyword k) own w = record { head = 58; tail = k; parts = w.0; all = rw
 
 -- ---- a word and what follows it
 
-pub word_of : (own rest : List ℕ) → list_all is_token_byte own ≡ true → EndsToken rest → (word (own ++ rest) ≡ own) × (after_word (own ++ rest) ≡ rest)
+pub word_of : (own rest : List ℕ) → list_all is_token_byte own ≡ true → EndsToken rest
+    → (word (own ++ rest) ≡ own) × (after_word (own ++ rest) ≡ rest)
 word_of [] [] h e = (refl, refl)
 word_of [] (b ∷ bs) h e = let n : is_token_byte b ≡ false = e in (rw n refl, rw n refl)
 word_of (b ∷ bs) rest h e =
@@ -92,7 +105,8 @@ word_of (b ∷ bs) rest h e =
     let q = word_of bs rest p.1 e in
     (rw y (ap (λ (t : List ℕ). b ∷ t) q.0), rw y q.1)
 
-ends_by : (b : ℕ) (bs : List ℕ) (c : Bool) → is_token_byte b ≡ c → EndsToken (after_word bs) → EndsToken (cond c (after_word bs) (b ∷ bs))
+ends_by : (b : ℕ) (bs : List ℕ) (c : Bool) → is_token_byte b ≡ c → EndsToken (after_word bs)
+    → EndsToken (cond c (after_word bs) (b ∷ bs))
 ends_by b bs true h ih = ih
 ends_by b bs false h ih = h
 
@@ -149,7 +163,8 @@ integer_is z (b ∷ bs) e =
 
 -- ---- words
 
-atom_int : (b : ℕ) (bs : List ℕ) (z : ℤ) → (b == 58) ≡ false → (b == 110) ≡ false → (b == 116) ≡ false → (b == 102) ≡ false → integer_of (b ∷ bs) ≡ Some z → atom_of (b ∷ bs) ≡ Some (integer z)
+atom_int : (b : ℕ) (bs : List ℕ) (z : ℤ) → (b == 58) ≡ false → (b == 110) ≡ false → (b == 116) ≡ false
+    → (b == 102) ≡ false → integer_of (b ∷ bs) ≡ Some z → atom_of (b ∷ bs) ≡ Some (integer z)
 unfolding atom_of literal_of
 atom_int b bs z colon n t f e = rw (colon, n, t, f, e) refl
 
@@ -168,7 +183,8 @@ atom_from (integer z) own (inl p) =
     let dash : (d.0 == 45) ≡ false = other 45 (λ e. omega arith) in
     let v : positive_of (d.0 ∷ d.1) ≡ Some z = positive_from z (d.0 ∷ d.1) (subst (IsPositive z) d.2 p) in
     let i : integer_of (d.0 ∷ d.1) ≡ Some z = rw (plus, dash, v) refl in
-    rw d.2 (atom_int d.0 d.1 z (other 58 (λ e. omega arith)) (other 110 (λ e. omega arith)) (other 116 (λ e. omega arith)) (other 102 (λ e. omega arith)) i)
+    rw d.2 (atom_int d.0 d.1 z (other 58 (λ e. omega arith)) (other 110 (λ e. omega arith))
+      (other 116 (λ e. omega arith)) (other 102 (λ e. omega arith)) i)
 atom_from (integer z) own (inr (inl p)) = let v : positive_of p.0 ≡ Some z = positive_from z p.0 p.2 in rw (p.1, v) refl
 atom_from (integer z) own (inr (inr p)) = let v : negative_of p.0 ≡ Some z = negative_from z p.0 p.2 in rw (p.1, v) refl
 atom_from (string s) own w = absurd w
@@ -183,14 +199,16 @@ literal_is a w e =
         | inl q ↦ subst (λ (x : Atom). IsWord x w) (some_is (boolean true) a q.1) (same_is w (codes "true") q.0)
         | inr q ↦ elim (chosen (bytes_eq w (codes "false")) _ _ _ q.1) [
           | inl r ↦ subst (λ (x : Atom). IsWord x w) (some_is (boolean false) a r.1) (same_is w (codes "false") r.0)
-          | inr r ↦ (let m = mapped integer (integer_of w) a r.1 in subst (λ (x : Atom). IsWord x w) m.2 (integer_is m.0 w m.1))
+          | inr r ↦ (let m = mapped integer (integer_of w) a r.1 in
+            subst (λ (x : Atom). IsWord x w) m.2 (integer_is m.0 w m.1))
         ]
       ]
     ]
 
 keyword_is : (a : Atom) (k : List ℕ) → keyword_of k ≡ Some a → IsWord a (58 ∷ k)
 unfolding keyword_of
-keyword_is a k e = let p = kept_if (is_name k) (keyword k) a e in subst (λ (x : Atom). IsWord x (58 ∷ k)) p.1 (refl, p.0)
+keyword_is a k e =
+    let p = kept_if (is_name k) (keyword k) a e in subst (λ (x : Atom). IsWord x (58 ∷ k)) p.1 (refl, p.0)
 
 pub atom_is : (a : Atom) (w : List ℕ) → atom_of w ≡ Some a → IsWord a w
 unfolding atom_of

@@ -1,5 +1,6 @@
 -- Runs of bytes at the front of a text: names and digits.
-use Rattle.std.proofs.Common.{◌≡◌, ℕ, suc, ◌+◌, ◌-◌, ◌<◌, ◌≤◌, ◌^◌, Bool, true, false, not, cond, List, [], ◌∷◌, ◌++◌, length, take, drop, get_or, refl, add-one, sym, ap, subst, ◌∙◌, arith, inl}
+use Rattle.std.proofs.Common.{◌≡◌, ℕ, suc, ◌+◌, ◌-◌, ◌<◌, ◌≤◌, ◌^◌, Bool, true, false, not, cond, List, [], ◌∷◌}
+use Rattle.std.proofs.Common.{◌++◌, length, take, drop, get_or, refl, add-one, sym, ap, subst, ◌∙◌, arith, inl}
 use Rattle.std.specs.Prelude.{◌&&◌, ◌==◌, nat_le, pos}
 use Rattle.std.specs.List.{list_all}
 use Rattle.std.proofs.lemmas.Bool.{and_from, ne_eqb, le-leb}
@@ -24,7 +25,8 @@ names_within t = rest_within (names t) (after_names t) t (names_parts t)
 pub names_front : (t : List ℕ) → take (length t - length (after_names t)) t ≡ names t
 names_front t = front_is (names t) (after_names t) t (names_parts t)
 
-all_by : (p : ℕ → Bool) (c : Bool) (b : ℕ) (bs : List ℕ) → p b ≡ c → list_all p bs ≡ true → list_all p (cond c (b ∷ bs) []) ≡ true
+all_by : (p : ℕ → Bool) (c : Bool) (b : ℕ) (bs : List ℕ) → p b ≡ c → list_all p bs ≡ true
+    → list_all p (cond c (b ∷ bs) []) ≡ true
 all_by p true b bs h k = and_from (p b) (list_all p bs) h k
 all_by p false b bs h k = refl
 
@@ -44,35 +46,46 @@ digits_all [] = refl
 digits_all (b ∷ bs) = all_by is_digit (is_digit b) b (digits bs) refl (digits_all bs)
 
 -- a letter and a run of name bytes, no longer than a name
-pub is_name_run : (b : ℕ) (t : List ℕ) → is_letter b ≡ true → nat_le (length (names t)) 63 ≡ true → is_name (b ∷ names t) ≡ true
+pub is_name_run : (b : ℕ) (t : List ℕ) → is_letter b ≡ true → nat_le (length (names t)) 63 ≡ true
+    → is_name (b ∷ names t) ≡ true
 unfolding is_name
-is_name_run b t h l = and_from (is_letter b && list_all is_name_byte (names t)) (nat_le (length (names t)) 63) (and_from (is_letter b) (list_all is_name_byte (names t)) h (names_all t)) l
+is_name_run b t h l = and_from (is_letter b && list_all is_name_byte (names t)) (nat_le (length (names t)) 63)
+    (and_from (is_letter b) (list_all is_name_byte (names t)) h (names_all t)) l
 
 -- a keyword that ends after its name
-pub keyword_first : (b : ℕ) (t : List ℕ) → is_letter b ≡ true → nat_le (length (names t)) 63 ≡ true → EndsToken (after_names t)
+pub keyword_first : (b : ℕ) (t : List ℕ) → is_letter b ≡ true → nat_le (length (names t)) 63 ≡ true
+    → EndsToken (after_names t)
     → first (58 ∷ b ∷ t) ≡ got (leaf (atom (keyword (b ∷ names t)))) (after_names t)
 keyword_first b t h l e =
     let p : 58 ∷ b ∷ t ≡ (58 ∷ b ∷ names t) ++ after_names t = ap (λ (x : List ℕ). 58 ∷ b ∷ x) (sym (names_parts t)) in
     let k : IsWord (keyword (b ∷ names t)) (58 ∷ b ∷ names t) = (refl, is_name_run b t h l) in
-    (begins_reads (58 ∷ b ∷ t) (leaf (atom (keyword (b ∷ names t)))) (after_names t) (inl (keyword (b ∷ names t), 58 ∷ b ∷ names t, refl, k, e, p))).reads
+    (begins_reads (58 ∷ b ∷ t) (leaf (atom (keyword (b ∷ names t)))) (after_names t)
+      (inl (keyword (b ∷ names t), 58 ∷ b ∷ names t, refl, k, e, p))).reads
 
 decimal_run : (b : ℕ) (t : List ℕ) → is_digit b ≡ true → (b ≡ 48 → ⊥) → is_decimal (b ∷ digits t) ≡ true
 decimal_run b t h n = by_tail (digits t) (digits_all t)
   where
     by_tail : (ds : List ℕ) → list_all is_digit ds ≡ true → is_decimal (b ∷ ds) ≡ true
     by_tail [] k = h
-    by_tail (c ∷ cs) k = let z : not (b == 48) ≡ true = ap not (ne_eqb b 48 n) in and_from (is_digit b && not (b == 48)) (list_all is_digit (c ∷ cs)) (and_from (is_digit b) (not (b == 48)) h z) k
+    by_tail (c ∷ cs) k =
+        let z : not (b == 48) ≡ true = ap not (ne_eqb b 48 n) in
+        and_from (is_digit b && not (b == 48)) (list_all is_digit (c ∷ cs))
+      (and_from (is_digit b) (not (b == 48)) h z) k
 
 -- a number that ends after its digits
-pub integer_first : (b : ℕ) (t : List ℕ) → is_digit b ≡ true → (b ≡ 48 → ⊥) → value_after 0 (b ∷ digits t) < 2 ^ 63 → EndsToken (after_digits t)
+pub integer_first : (b : ℕ) (t : List ℕ) → is_digit b ≡ true → (b ≡ 48 → ⊥) → value_after 0 (b ∷ digits t) < 2 ^ 63
+    → EndsToken (after_digits t)
     → first (b ∷ t) ≡ got (leaf (atom (integer (pos (value_after 0 (b ∷ digits t)))))) (after_digits t)
 integer_first b t h n lt e =
     let p : b ∷ t ≡ (b ∷ digits t) ++ after_digits t = ap (λ (x : List ℕ). b ∷ x) (sym (digits_parts t)) in
-    let k : IsWord (integer (pos (value_after 0 (b ∷ digits t)))) (b ∷ digits t) = inl (decimal_run b t h n, lt, refl) in
-    (begins_reads (b ∷ t) (leaf (atom (integer (pos (value_after 0 (b ∷ digits t)))))) (after_digits t) (inl (integer (pos (value_after 0 (b ∷ digits t))), b ∷ digits t, refl, k, e, p))).reads
+    let k : IsWord (integer (pos (value_after 0 (b ∷ digits t)))) (b ∷ digits t) =
+      inl (decimal_run b t h n, lt, refl) in
+    (begins_reads (b ∷ t) (leaf (atom (integer (pos (value_after 0 (b ∷ digits t)))))) (after_digits t)
+      (inl (integer (pos (value_after 0 (b ∷ digits t))), b ∷ digits t, refl, k, e, p))).reads
 
 -- as the code has them
-pub keyword_at : (b : ℕ) (t : List ℕ) → is_letter b ≡ true → length t - length (after_names t) ≤ 63 → EndsToken (after_names t)
+pub keyword_at : (b : ℕ) (t : List ℕ) → is_letter b ≡ true → length t - length (after_names t) ≤ 63
+    → EndsToken (after_names t)
     → first (58 ∷ b ∷ t) ≡ got (leaf (atom (keyword (b ∷ take (length t - length (after_names t)) t)))) (after_names t)
 keyword_at b t h l e =
     let f : take (length t - length (after_names t)) t ≡ names t = names_front t in
@@ -87,25 +100,31 @@ pub record IsUsualKeyword (t name rest : List ℕ) : Type 0 where
   pub utf8 : IsUtf8 name
   pub read : first (58 ∷ t) ≡ got (leaf (atom (keyword name))) rest
 
-pub usual_keyword : (t u r : List ℕ) → 0 < length t → u ≡ take (length t - 1) (drop 1 t) → r ≡ after_names u → is_letter (get_or t 0 0) ≡ true → length u - length r ≤ 63 → EndsToken r
+pub usual_keyword : (t u r : List ℕ) → 0 < length t → u ≡ take (length t - 1) (drop 1 t) → r ≡ after_names u
+    → is_letter (get_or t 0 0) ≡ true → length u - length r ≤ 63 → EndsToken r
     → IsUsualKeyword t (take (length u - length r + 1) t) r
 usual_keyword [] u r some q e h l w = absurd (omega arith)
 usual_keyword (b ∷ bs) u r some q e h l w =
     let i : u ≡ bs = q ∙ all_of bs in
     let e' : r ≡ after_names bs = e ∙ ap after_names i in
-    let l' : length bs - length (after_names bs) ≤ 63 = subst (λ (x : List ℕ). length bs - length x ≤ 63) e' (subst (λ (x : List ℕ). length x - length r ≤ 63) i l) in
+    let l' : length bs - length (after_names bs) ≤ 63 =
+      subst (λ (x : List ℕ). length bs - length x ≤ 63) e' (subst (λ (x : List ℕ). length x - length r ≤ 63) i l) in
     let w' : EndsToken (after_names bs) = subst EndsToken e' w in
-    let n : length u - length r ≡ length bs - length (after_names bs) = ap (λ (x : List ℕ). length x - length r) i ∙ ap (λ (x : List ℕ). length bs - length x) e' in
-    let k : take (length u - length r + 1) (b ∷ bs) ≡ b ∷ take (length bs - length (after_names bs)) bs = rw (n, add-one) refl in
+    let n : length u - length r ≡ length bs - length (after_names bs) =
+      ap (λ (x : List ℕ). length x - length r) i ∙ ap (λ (x : List ℕ). length bs - length x) e' in
+    let k : take (length u - length r + 1) (b ∷ bs) ≡ b ∷ take (length bs - length (after_names bs)) bs =
+      rw (n, add-one) refl in
     let f : take (length bs - length (after_names bs)) bs ≡ names bs = names_front bs in
     let le : nat_le (length (names bs)) 63 ≡ true = le-leb (length (names bs)) 63 (omega (arith, names_length bs)) in
     record {
-      utf8 = subst IsUtf8 (ap (λ (x : List ℕ). b ∷ x) (sym f) ∙ sym k) (name_utf8 (b ∷ names bs) (is_name_run b bs h le));
+      utf8 = subst IsUtf8 (ap (λ (x : List ℕ). b ∷ x) (sym f) ∙ sym k)
+        (name_utf8 (b ∷ names bs) (is_name_run b bs h le));
       read = keyword_at b bs h l' w' ∙ ap (λ (x : List ℕ). got (leaf (atom (keyword x))) (after_names bs)) (sym k)
           ∙ ap (got (leaf (atom (keyword (take (length u - length r + 1) (b ∷ bs)))))) (sym e');
     }
 
-pub integer_at : (t : List ℕ) → is_digit (get_or t 0 0) ≡ true → (get_or t 0 0 ≡ 48 → ⊥) → 0 < length t → value_after 0 (digits t) < 2 ^ 63 → EndsToken (after_digits t)
+pub integer_at : (t : List ℕ) → is_digit (get_or t 0 0) ≡ true → (get_or t 0 0 ≡ 48 → ⊥) → 0 < length t
+    → value_after 0 (digits t) < 2 ^ 63 → EndsToken (after_digits t)
     → first t ≡ got (leaf (atom (integer (pos (value_after 0 (digits t)))))) (after_digits t)
 integer_at [] h n some lt e = absurd (omega arith)
 integer_at (b ∷ bs) h n some lt e =

@@ -1,14 +1,17 @@
 -- The tokens of forms lead to those forms.
-use Rattle.std.proofs.Common.{◌≡◌, ℕ, ◌+◌, ◌-◌, ◌<◌, true, false, Option, Some, None, List, [], ◌∷◌, ◌++◌, length, refl, sym, ap, ◌∙◌, append_assoc, arith}
+use Rattle.std.proofs.Common.{◌≡◌, ℕ, ◌+◌, ◌-◌, ◌<◌, true, false, Option, Some, None, List, [], ◌∷◌, ◌++◌, length}
+use Rattle.std.proofs.Common.{refl, sym, ap, ◌∙◌, append_assoc, arith}
 use Rattle.std.specs.Prelude.{option_and_then, nat_lt}
 use Rattle.std.proofs.lemmas.List.{append-nil}
 use Rattle.std.proofs.lemmas.Bool.{lt-ltb, or_from}
 use Rattle.std.specs.Str.{bytes_eq}
 use Rattle.edn_reader.proofs.Strings.{some_is}
 use Rattle.edn_reader.proofs.Keys.{same_not}
-use Rattle.edn_reader.specs.Datum.{keyword, Datum, atom, vector, dictionary, Items, no_items, item, Entries, no_entries, entry, items_of, entries_of, Lacks, Fits, ItemsFit, EntriesFit}
+use Rattle.edn_reader.specs.Datum.{keyword, Datum, atom, vector, dictionary, Items, no_items, item, Entries}
+use Rattle.edn_reader.specs.Datum.{no_entries, entry, items_of, entries_of, Lacks, Fits, ItemsFit, EntriesFit}
 use Rattle.edn_reader.specs.Token.{Token, close_vector, close_map, leaf, tokens_of, items_tokens, entries_tokens}
-use Rattle.edn_reader.specs.Reading.{Frame, in_text, in_vector, in_map, in_pair, State, has_key, put, close_as, takes_key, open_at, step, steps}
+use Rattle.edn_reader.specs.Reading.{Frame, in_text, in_vector, in_map, in_pair, State, has_key, put, close_as}
+use Rattle.edn_reader.specs.Reading.{takes_key, open_at, step, steps}
 
 -- a state, written out
 abbrev pub at : Frame → List Frame → State
@@ -30,7 +33,8 @@ pub entries_of_list : (es : Entries) → entries_of (entries_list es) ≡ es
 entries_of_list no_entries = refl
 entries_of_list (entry k d es) = ap (entry k d) (entries_of_list es)
 
-by_first : (ts us : List Token) (o : Option State) (z : State) → ((x : State) → steps ts x ≡ Some z → steps (ts ++ us) x ≡ steps us z)
+by_first : (ts us : List Token) (o : Option State) (z : State)
+    → ((x : State) → steps ts x ≡ Some z → steps (ts ++ us) x ≡ steps us z)
     → option_and_then (λ x. steps ts x) o ≡ Some z → option_and_then (λ x. steps (ts ++ us) x) o ≡ steps us z
 by_first ts us None z ih h = absurd cc
 by_first ts us (Some x) z ih h = ih x h
@@ -44,11 +48,14 @@ abbrev pub Apart : List (List ℕ × Datum) → Entries → Type 0
 Apart [] es = Unit {0}
 Apart (e ∷ pre) es = Lacks e.0 es × Apart pre es
 
-Apart-key : (pre : List (List ℕ × Datum)) (k : List ℕ) (d : Datum) (es : Entries) → Apart pre (entry k d es) → has_key k pre ≡ false
+Apart-key : (pre : List (List ℕ × Datum)) (k : List ℕ) (d : Datum) (es : Entries) → Apart pre (entry k d es)
+    → has_key k pre ≡ false
 Apart-key [] k d es h = refl
-Apart-key (e ∷ pre) k d es h = or_from (bytes_eq k e.0) (has_key k pre) (same_not k e.0 (λ q. h.0.0 (sym q))) (Apart-key pre k d es h.1)
+Apart-key (e ∷ pre) k d es h =
+    or_from (bytes_eq k e.0) (has_key k pre) (same_not k e.0 (λ q. h.0.0 (sym q))) (Apart-key pre k d es h.1)
 
-Apart-next : (pre : List (List ℕ × Datum)) (k : List ℕ) (d : Datum) (es : Entries) → Lacks k es → Apart pre (entry k d es) → Apart (pre ++ (k, d) ∷ []) es
+Apart-next : (pre : List (List ℕ × Datum)) (k : List ℕ) (d : Datum) (es : Entries) → Lacks k es
+    → Apart pre (entry k d es) → Apart (pre ++ (k, d) ∷ []) es
 Apart-next [] k d es l h = (l, tt)
 Apart-next (e ∷ pre) k d es l h = (h.0.1, Apart-next pre k d es l h.1)
 
@@ -65,7 +72,8 @@ holds_map (in_vector xs) ds g e = refl
 holds_map (in_map es) ds g e = absurd cc
 holds_map (in_pair es k) ds g e = refl
 
-opens : (f i : Frame) (fs : List Frame) → takes_key i ≡ false → length fs < 16 → open_at f (at i fs) ≡ Some (at f (i ∷ fs))
+opens : (f i : Frame) (fs : List Frame) → takes_key i ≡ false → length fs < 16
+    → open_at f (at i fs) ≡ Some (at f (i ∷ fs))
 opens f i fs h l = let t : nat_lt (length fs) 16 ≡ true = lt-ltb (length fs) 16 l in rw (h, t) refl
 
 -- a frame that takes any form at its end
@@ -75,11 +83,13 @@ TakesAll frame = (ds : List Datum) (d : Datum) → put (frame ds) d ≡ Some (fr
 mutual
   unfolding step
 
-  pub steps_datum : (d : Datum) (n : ℕ) (i : Frame) (fs : List Frame) (g : Frame) → Fits n d → n + length fs ≡ 16 → put i d ≡ Some g → steps (tokens_of d) (at i fs) ≡ Some (at g fs)
+  pub steps_datum : (d : Datum) (n : ℕ) (i : Frame) (fs : List Frame) (g : Frame) → Fits n d → n + length fs ≡ 16
+      → put i d ≡ Some g → steps (tokens_of d) (at i fs) ≡ Some (at g fs)
   steps_datum (atom a) n i fs g fit len e = rw e refl
   steps_datum (vector ds) n i fs g fit len e =
       let lt : length fs < 16 = omega (arith, fit.0) in
-      let o : open_at (in_vector []) (at i fs) ≡ Some (at (in_vector []) (i ∷ fs)) = opens (in_vector []) i fs (holds_vector i ds g e) lt in
+      let o : open_at (in_vector []) (at i fs) ≡ Some (at (in_vector []) (i ∷ fs)) =
+        opens (in_vector []) i fs (holds_vector i ds g e) lt in
       let a : steps (items_tokens ds) (at (in_vector []) (i ∷ fs)) ≡ Some (at (in_vector (items_list ds)) (i ∷ fs)) =
       steps_items ds (n - 1) in_vector (λ xs d. refl) [] (i ∷ fs) fit.1 (omega (arith, fit.0)) in
       let b : steps (items_tokens ds ++ close_vector ∷ []) (at (in_vector []) (i ∷ fs)) ≡ steps (close_vector ∷ [])
@@ -89,15 +99,19 @@ mutual
       rw o (b ∙ d)
   steps_datum (dictionary ds) n i fs g fit len e =
       let lt : length fs < 16 = omega (arith, fit.0) in
-      let o : open_at (in_map []) (at i fs) ≡ Some (at (in_map []) (i ∷ fs)) = opens (in_map []) i fs (holds_map i ds g e) lt in
-      let a : steps (entries_tokens ds) (at (in_map []) (i ∷ fs)) ≡ Some (at (in_map (entries_list ds)) (i ∷ fs)) = steps_entries ds (n - 1) [] (i ∷ fs) fit.1 tt (omega (arith, fit.0)) in
+      let o : open_at (in_map []) (at i fs) ≡ Some (at (in_map []) (i ∷ fs)) =
+        opens (in_map []) i fs (holds_map i ds g e) lt in
+      let a : steps (entries_tokens ds) (at (in_map []) (i ∷ fs)) ≡ Some (at (in_map (entries_list ds)) (i ∷ fs)) =
+        steps_entries ds (n - 1) [] (i ∷ fs) fit.1 tt (omega (arith, fit.0)) in
       let b : steps (entries_tokens ds ++ close_map ∷ []) (at (in_map []) (i ∷ fs)) ≡ steps (close_map ∷ [])
       (at (in_map (entries_list ds)) (i ∷ fs)) = steps-append (entries_tokens ds) (close_map ∷ []) _ _ a in
-      let c : close_as (dictionary (entries_of (entries_list ds))) (i ∷ fs) ≡ Some (at g fs) = rw (entries_of_list ds, e) refl in
+      let c : close_as (dictionary (entries_of (entries_list ds))) (i ∷ fs) ≡ Some (at g fs) =
+        rw (entries_of_list ds, e) refl in
       let d : steps (close_map ∷ []) (at (in_map (entries_list ds)) (i ∷ fs)) ≡ Some (at g fs) = rw c refl in
       rw o (b ∙ d)
 
-  pub steps_items : (ds : Items) (n : ℕ) (frame : List Datum → Frame) (all : TakesAll frame) (pre : List Datum) (fs : List Frame) → ItemsFit n ds → n + length fs ≡ 16
+  pub steps_items : (ds : Items) (n : ℕ) (frame : List Datum → Frame) (all : TakesAll frame) (pre : List Datum)
+      (fs : List Frame) → ItemsFit n ds → n + length fs ≡ 16
       → steps (items_tokens ds) (at (frame pre) fs) ≡ Some (at (frame (pre ++ items_list ds)) fs)
   steps_items no_items n frame all pre fs fit len = rw append-nil refl
   steps_items (item d ds) n frame all pre fs fit len =
@@ -106,7 +120,8 @@ mutual
       let c : (pre ++ d ∷ []) ++ items_list ds ≡ pre ++ d ∷ items_list ds = append_assoc pre (d ∷ []) (items_list ds) in
       steps-append (tokens_of d) (items_tokens ds) _ _ a ∙ b ∙ ap (λ (xs : List Datum). Some (at (frame xs) fs)) c
 
-  pub steps_entries : (es : Entries) (n : ℕ) (pre : List (List ℕ × Datum)) (fs : List Frame) → EntriesFit n es → Apart pre es → n + length fs ≡ 16
+  pub steps_entries : (es : Entries) (n : ℕ) (pre : List (List ℕ × Datum)) (fs : List Frame) → EntriesFit n es
+      → Apart pre es → n + length fs ≡ 16
       → steps (entries_tokens es) (at (in_map pre) fs) ≡ Some (at (in_map (pre ++ entries_list es)) fs)
   steps_entries no_entries n pre fs fit apart len = rw append-nil refl
   steps_entries (entry k d es) n pre fs fit apart len =
@@ -114,5 +129,7 @@ mutual
       let s : step (leaf (atom (keyword k))) (at (in_map pre) fs) ≡ Some (at (in_pair pre k) fs) = rw h refl in
       let a = steps_datum d n (in_pair pre k) fs (in_map (pre ++ (k, d) ∷ [])) fit.1 len refl in
       let b = steps_entries es n (pre ++ (k, d) ∷ []) fs fit.2 (Apart-next pre k d es fit.0 apart) len in
-      let c : (pre ++ (k, d) ∷ []) ++ entries_list es ≡ pre ++ (k, d) ∷ entries_list es = append_assoc pre ((k, d) ∷ []) (entries_list es) in
-      rw s (steps-append (tokens_of d) (entries_tokens es) _ _ a ∙ b ∙ ap (λ (xs : List (List ℕ × Datum)). Some (at (in_map xs) fs)) c)
+      let c : (pre ++ (k, d) ∷ []) ++ entries_list es ≡ pre ++ (k, d) ∷ entries_list es =
+        append_assoc pre ((k, d) ∷ []) (entries_list es) in
+      rw s (steps-append (tokens_of d) (entries_tokens es) _ _ a ∙ b
+        ∙ ap (λ (xs : List (List ℕ × Datum)). Some (at (in_map xs) fs)) c)

@@ -1,11 +1,15 @@
 -- The tokens that lead to a state: what is read is spelled so.
-use Rattle.std.proofs.Common.{◌≡◌, ℕ, Bool, true, false, cond, Option, Some, None, List, [], ◌∷◌, ◌++◌, length, refl, sym, ap, ◌∙◌, append_assoc}
+use Rattle.std.proofs.Common.{◌≡◌, ℕ, Bool, true, false, cond, Option, Some, None, List, [], ◌∷◌, ◌++◌, length}
+use Rattle.std.proofs.Common.{refl, sym, ap, ◌∙◌, append_assoc}
 use Rattle.std.specs.Prelude.{option_map, nat_lt}
 use Rattle.std.proofs.lemmas.List.{append-nil}
 use Rattle.edn_reader.proofs.Strings.{some_is}
-use Rattle.edn_reader.specs.Datum.{Atom, nil, boolean, integer, string, keyword, Datum, atom, vector, dictionary, items_of, entries_of, max_open}
-use Rattle.edn_reader.specs.Token.{Token, open_vector, close_vector, open_map, close_map, leaf, tokens_of, items_tokens, entries_tokens}
-use Rattle.edn_reader.specs.Reading.{Frame, in_text, in_vector, in_map, in_pair, State, has_key, put_key, put, close_as, close_vector_at, close_map_at, takes_key, open_at, step}
+use Rattle.edn_reader.specs.Datum.{Atom, nil, boolean, integer, string, keyword, Datum, atom, vector, dictionary}
+use Rattle.edn_reader.specs.Datum.{items_of, entries_of, max_open}
+use Rattle.edn_reader.specs.Token.{Token, open_vector, close_vector, open_map, close_map, leaf, tokens_of}
+use Rattle.edn_reader.specs.Token.{items_tokens, entries_tokens}
+use Rattle.edn_reader.specs.Reading.{Frame, in_text, in_vector, in_map, in_pair, State, has_key, put_key, put}
+use Rattle.edn_reader.specs.Reading.{close_as, close_vector_at, close_map_at, takes_key, open_at, step}
 
 -- a test that led to a value
 pub kept_if_not : {A : Type 0} (b : Bool) (x y : A) → cond b None (Some x) ≡ Some y → (b ≡ false) × (x ≡ y)
@@ -20,7 +24,8 @@ pub unless_so : {A : Type 0} (b : Bool) (o : Option A) (y : A) → cond b None o
 unless_so true o y e = absurd cc
 unless_so false o y e = (refl, e)
 
-pub mapped : {A B : Type 0} (f : A → B) (o : Option A) (y : B) → option_map f o ≡ Some y → (x : A) × (o ≡ Some x) × (f x ≡ y)
+pub mapped : {A B : Type 0} (f : A → B) (o : Option A) (y : B) → option_map f o ≡ Some y
+    → (x : A) × (o ≡ Some x) × (f x ≡ y)
 mapped f None y e = absurd cc
 mapped f (Some x) y e = (x, refl, cc)
 
@@ -32,13 +37,17 @@ pairs_tokens es = entries_tokens (entries_of es)
 
 pub list_tokens-append : (ds : List Datum) (d : Datum) → list_tokens (ds ++ d ∷ []) ≡ list_tokens ds ++ tokens_of d
 list_tokens-append [] d = append-nil (tokens_of d)
-list_tokens-append (x ∷ ds) d = ap (λ (t : List Token). tokens_of x ++ t) (list_tokens-append ds d) ∙ sym (append_assoc (tokens_of x) (list_tokens ds) (tokens_of d))
+list_tokens-append (x ∷ ds) d =
+    ap (λ (t : List Token). tokens_of x ++ t) (list_tokens-append ds d)
+    ∙ sym (append_assoc (tokens_of x) (list_tokens ds) (tokens_of d))
 
-pub pairs_tokens-append : (es : List (List ℕ × Datum)) (k : List ℕ) (d : Datum) → pairs_tokens (es ++ (k, d) ∷ []) ≡ pairs_tokens es ++ leaf (atom (keyword k)) ∷ tokens_of d
+pub pairs_tokens-append : (es : List (List ℕ × Datum)) (k : List ℕ) (d : Datum)
+    → pairs_tokens (es ++ (k, d) ∷ []) ≡ pairs_tokens es ++ leaf (atom (keyword k)) ∷ tokens_of d
 pairs_tokens-append [] k d = ap (λ (t : List Token). leaf (atom (keyword k)) ∷ t) (append-nil (tokens_of d))
 pairs_tokens-append (e ∷ es) k d =
     ap (λ (t : List Token). leaf (atom (keyword e.0)) ∷ (tokens_of e.1 ++ t)) (pairs_tokens-append es k d)
-    ∙ ap (λ (t : List Token). leaf (atom (keyword e.0)) ∷ t) (sym (append_assoc (tokens_of e.1) (pairs_tokens es) (leaf (atom (keyword k)) ∷ tokens_of d)))
+    ∙ ap (λ (t : List Token). leaf (atom (keyword e.0)) ∷ t)
+      (sym (append_assoc (tokens_of e.1) (pairs_tokens es) (leaf (atom (keyword k)) ∷ tokens_of d)))
 
 abbrev pub frame_tokens : Frame → List Token
 frame_tokens (in_text ds) = list_tokens ds
@@ -53,7 +62,8 @@ stack_tokens (f ∷ fs) = stack_tokens fs ++ frame_tokens f
 abbrev pub consumed : State → List Token
 consumed s = stack_tokens s.outer ++ frame_tokens s.inner
 
-put_key_tokens : (es : List (List ℕ × Datum)) (a : Atom) (g : Frame) → put_key es a ≡ Some g → frame_tokens g ≡ frame_tokens (in_map es) ++ leaf (atom a) ∷ []
+put_key_tokens : (es : List (List ℕ × Datum)) (a : Atom) (g : Frame) → put_key es a ≡ Some g
+    → frame_tokens g ≡ frame_tokens (in_map es) ++ leaf (atom a) ∷ []
 put_key_tokens es nil g e = absurd cc
 put_key_tokens es (boolean b) g e = absurd cc
 put_key_tokens es (integer z) g e = absurd cc
@@ -62,13 +72,15 @@ put_key_tokens es (keyword k) g e = let h = kept_if_not (has_key k es) (in_pair 
 
 pub put_tokens : (f : Frame) (d : Datum) (g : Frame) → put f d ≡ Some g → frame_tokens g ≡ frame_tokens f ++ tokens_of d
 put_tokens (in_text ds) d g e = rw (← some_is (in_text (ds ++ d ∷ [])) g e) (list_tokens-append ds d)
-put_tokens (in_vector ds) d g e = rw (← some_is (in_vector (ds ++ d ∷ [])) g e) (ap (λ (t : List Token). open_vector ∷ t) (list_tokens-append ds d))
+put_tokens (in_vector ds) d g e =
+    rw (← some_is (in_vector (ds ++ d ∷ [])) g e) (ap (λ (t : List Token). open_vector ∷ t) (list_tokens-append ds d))
 put_tokens (in_map es) (atom a) g e = put_key_tokens es a g e
 put_tokens (in_map es) (vector ds) g e = absurd cc
 put_tokens (in_map es) (dictionary ds) g e = absurd cc
 put_tokens (in_pair es k) d g e =
     rw (← some_is (in_map (es ++ (k, d) ∷ [])) g e)
-    (ap (λ (t : List Token). open_map ∷ t) (pairs_tokens-append es k d ∙ sym (append_assoc (pairs_tokens es) (leaf (atom (keyword k)) ∷ []) (tokens_of d))))
+    (ap (λ (t : List Token). open_map ∷ t)
+      (pairs_tokens-append es k d ∙ sym (append_assoc (pairs_tokens es) (leaf (atom (keyword k)) ∷ []) (tokens_of d))))
 
 -- a leaf holds a single element
 abbrev pub IsPlain : Token → Type 0
@@ -78,18 +90,21 @@ IsPlain open_map = Unit {0}
 IsPlain close_map = Unit {0}
 IsPlain (leaf d) = (a : Atom) × (d ≡ atom a)
 
-open_tokens : (f : Frame) (t : Token) (s z : State) → frame_tokens f ≡ t ∷ [] → open_at f s ≡ Some z → consumed z ≡ consumed s ++ t ∷ []
+open_tokens : (f : Frame) (t : Token) (s z : State) → frame_tokens f ≡ t ∷ [] → open_at f s ≡ Some z
+    → consumed z ≡ consumed s ++ t ∷ []
 open_tokens f t s z one e =
     let a = unless_so (takes_key s.inner) _ z e in
     let b = kept_if (nat_lt (length s.outer) max_open) (record { inner = f; outer = s.inner ∷ s.outer }) z a.1 in
     rw (← b.1, one) refl
 
-close_tokens : (d : Datum) (t : Token) (i : Frame) (fs : List Frame) (z : State) → tokens_of d ≡ frame_tokens i ++ t ∷ [] → close_as d fs ≡ Some z
+close_tokens : (d : Datum) (t : Token) (i : Frame) (fs : List Frame) (z : State)
+    → tokens_of d ≡ frame_tokens i ++ t ∷ [] → close_as d fs ≡ Some z
     → consumed z ≡ (stack_tokens fs ++ frame_tokens i) ++ t ∷ []
 close_tokens d t i [] z whole e = absurd cc
 close_tokens d t i (f ∷ fs) z whole e =
     let m = mapped (λ (g : Frame). let x : State = record { inner = g; outer = fs } in x) (put f d) z e in
-    let p : frame_tokens m.0 ≡ frame_tokens f ++ (frame_tokens i ++ t ∷ []) = put_tokens f d m.0 m.1 ∙ ap (λ (x : List Token). frame_tokens f ++ x) whole in
+    let p : frame_tokens m.0 ≡ frame_tokens f ++ (frame_tokens i ++ t ∷ []) =
+      put_tokens f d m.0 m.1 ∙ ap (λ (x : List Token). frame_tokens f ++ x) whole in
     rw (← m.2, p) (simp append_assoc)
 
 pub step_tokens : (t : Token) (s z : State) → IsPlain t → step t s ≡ Some z → consumed z ≡ consumed s ++ t ∷ []
@@ -98,19 +113,23 @@ step_tokens open_vector s z h e = open_tokens (in_vector []) open_vector s z ref
 step_tokens open_map s z h e = open_tokens (in_map []) open_map s z refl e
 step_tokens close_vector s z h e = close_vector_tokens s.inner s.outer z e
   where
-    close_vector_tokens : (i : Frame) (fs : List Frame) (z : State) → close_vector_at i fs ≡ Some z → consumed z ≡ (stack_tokens fs ++ frame_tokens i) ++ close_vector ∷ []
+    close_vector_tokens : (i : Frame) (fs : List Frame) (z : State) → close_vector_at i fs ≡ Some z
+      → consumed z ≡ (stack_tokens fs ++ frame_tokens i) ++ close_vector ∷ []
     close_vector_tokens (in_text ds) fs z e = absurd cc
-    close_vector_tokens (in_vector ds) fs z e = close_tokens (vector (items_of ds)) close_vector (in_vector ds) fs z refl e
+    close_vector_tokens (in_vector ds) fs z e =
+      close_tokens (vector (items_of ds)) close_vector (in_vector ds) fs z refl e
     close_vector_tokens (in_map es) fs z e = absurd cc
     close_vector_tokens (in_pair es k) fs z e = absurd cc
 step_tokens close_map s z h e = close_map_tokens s.inner s.outer z e
   where
-    close_map_tokens : (i : Frame) (fs : List Frame) (z : State) → close_map_at i fs ≡ Some z → consumed z ≡ (stack_tokens fs ++ frame_tokens i) ++ close_map ∷ []
+    close_map_tokens : (i : Frame) (fs : List Frame) (z : State) → close_map_at i fs ≡ Some z
+      → consumed z ≡ (stack_tokens fs ++ frame_tokens i) ++ close_map ∷ []
     close_map_tokens (in_text ds) fs z e = absurd cc
     close_map_tokens (in_vector ds) fs z e = absurd cc
     close_map_tokens (in_map es) fs z e = close_tokens (dictionary (entries_of es)) close_map (in_map es) fs z refl e
     close_map_tokens (in_pair es k) fs z e = absurd cc
 step_tokens (leaf d) s z h e =
     let m = mapped (λ (f : Frame). let x : State = record s { inner = f } in x) (put s.inner d) z e in
-    let p : frame_tokens m.0 ≡ frame_tokens s.inner ++ leaf d ∷ [] = put_tokens s.inner d m.0 m.1 ∙ ap (λ (x : List Token). frame_tokens s.inner ++ x) (rw h.1 refl) in
+    let p : frame_tokens m.0 ≡ frame_tokens s.inner ++ leaf d ∷ [] =
+      put_tokens s.inner d m.0 m.1 ∙ ap (λ (x : List Token). frame_tokens s.inner ++ x) (rw h.1 refl) in
     rw (← m.2, p) (sym (append_assoc (stack_tokens s.outer) (frame_tokens s.inner) (leaf d ∷ [])))

@@ -1,5 +1,6 @@
 -- How a string is cut for writing.
-use Rattle.std.proofs.Common.{◌≡◌, ℕ, ◌-◌, ◌<◌, ◌≤◌, Bool, true, false, cond, List, [], ◌∷◌, ◌++◌, length, take, get_or, refl, ap, arith}
+use Rattle.std.proofs.Common.{◌≡◌, ℕ, ◌-◌, ◌<◌, ◌≤◌, Bool, true, false, cond, List, [], ◌∷◌, ◌++◌, length, take}
+use Rattle.std.proofs.Common.{get_or, refl, ap, arith}
 use Rattle.std.specs.Prelude.{◌==◌}
 use Rattle.std.proofs.lemmas.Bool.{not-true, or_parts}
 use Rattle.edn_reader.specs.Text.{escape_text, escaped}
@@ -16,7 +17,8 @@ after_plain_within t = rest_within (plain t) (after_plain t) t (plain_parts t)
 pub plain_is_front : (t : List ℕ) → take (length t - length (after_plain t)) t ≡ plain t
 plain_is_front t = front_is (plain t) (after_plain t) t (plain_parts t)
 
-pub after_plain_shorter : (t : List ℕ) → 0 < length t → is_plain (get_or t 0 0) ≡ true → length (after_plain t) < length t
+pub after_plain_shorter : (t : List ℕ) → 0 < length t → is_plain (get_or t 0 0) ≡ true
+    → length (after_plain t) < length t
 after_plain_shorter [] some h = absurd (omega arith)
 after_plain_shorter (b ∷ bs) some h = let p : is_plain b ≡ true = h in rw p (omega (arith, after_plain_within bs))
 

@@ -1,5 +1,6 @@
 -- Forms at the front of a text, one more after them, and what is sound after them.
-use Rattle.std.proofs.Common.{◌≡◌, ◌≢◌, ℕ, ◌+◌, Bool, true, false, cond, Option, Some, None, List, [], ◌∷◌, ◌++◌, length, refl, sym, ap, subst, ◌∙◌, append_assoc, arith}
+use Rattle.std.proofs.Common.{◌≡◌, ◌≢◌, ℕ, ◌+◌, Bool, true, false, cond, Option, Some, None, List, [], ◌∷◌, ◌++◌}
+use Rattle.std.proofs.Common.{length, refl, sym, ap, subst, ◌∙◌, append_assoc, arith}
 use Rattle.std.specs.Prelude.{ℤ}
 use Rattle.std.specs.Str.{IsUtf8}
 use Rattle.edn_reader.specs.Datum.{Datum}
@@ -16,19 +17,25 @@ use Rattle.edn_reader.proofs.Joined.{fits-append}
 
 lists_tokens : (ds es : List Datum) → list_tokens (ds ++ es) ≡ list_tokens ds ++ list_tokens es
 lists_tokens [] es = refl
-lists_tokens (d ∷ ds) es = ap (λ (t : List Token). tokens_of d ++ t) (lists_tokens ds es) ∙ sym (append_assoc (tokens_of d) (list_tokens ds) (list_tokens es))
+lists_tokens (d ∷ ds) es =
+    ap (λ (t : List Token). tokens_of d ++ t) (lists_tokens ds es)
+    ∙ sym (append_assoc (tokens_of d) (list_tokens ds) (list_tokens es))
 
-begin_both : (ts us : List Token) (text mid rest : List ℕ) → BeginWith ts text mid → BeginWith us mid rest → BeginWith (ts ++ us) text rest
+begin_both : (ts us : List Token) (text mid rest : List ℕ) → BeginWith ts text mid → BeginWith us mid rest
+    → BeginWith (ts ++ us) text rest
 begin_both [] us text mid rest b k = subst (λ (x : List ℕ). BeginWith us x rest) (sym b) k
 begin_both (t ∷ ts) us text mid rest (q, n, b) k = (q, n, begin_both ts us q mid rest b k)
 
 -- a front, and forms after it
-pub front_more : (text mid rest : List ℕ) (ds more : List Datum) → SpellsFront text ds mid → SpellsFront mid more rest → SpellsFront text (ds ++ more) rest
+pub front_more : (text mid rest : List ℕ) (ds more : List Datum) → SpellsFront text ds mid → SpellsFront mid more rest
+    → SpellsFront text (ds ++ more) rest
 front_more text mid rest ds more f g =
     record {
-      begins = subst (λ (ts : List Token). BeginWith ts text rest) (sym (lists_tokens ds more)) (begin_both (list_tokens ds) (list_tokens more) text mid rest f.begins g.begins);
+      begins = subst (λ (ts : List Token). BeginWith ts text rest) (sym (lists_tokens ds more))
+        (begin_both (list_tokens ds) (list_tokens more) text mid rest f.begins g.begins);
       fits = fits-append 16 ds more f.fits g.fits;
-      on = λ es k. subst (λ (xs : List Datum). Spells xs text) (sym (append_assoc ds more es)) (f.on (more ++ es) (g.on es k));
+      on = λ es k. subst (λ (xs : List Datum). Spells xs text) (sym (append_assoc ds more es))
+        (f.on (more ++ es) (g.on es k));
       only = λ es k. (
           let a = f.only es k in
           let b = g.only a.0 a.2 in
@@ -48,7 +55,8 @@ sound_after text rest ds start place u f l (n, e, s) =
       before = list_tokens ds ++ s.before;
       token = s.token;
       more = s.more;
-      are_first = lists_tokens ds s.forms ∙ ap (λ (ts : List Token). list_tokens ds ++ ts) first ∙ sym (append_assoc (list_tokens ds) s.before (s.token ∷ s.more));
+      are_first = lists_tokens ds s.forms ∙ ap (λ (ts : List Token). list_tokens ds ++ ts) first
+        ∙ sym (append_assoc (list_tokens ds) s.before (s.token ∷ s.more));
       gap = s.gap;
       here = s.here;
       rest = s.rest;
@@ -68,9 +76,12 @@ pub record Along (P : List Datum → Type 0) (text rest : List ℕ) (start : ℕ
   pub place : start + length rest ≡ length text
 
 -- one element more
-pub along_more : (keeping : Keeping) (P Q : List Datum → Type 0) (text mid rest : List ℕ) (before start : ℕ) (tokens : List Token)
-    (integer_vector : Option (List ℤ)) → ReadsElement keeping mid tokens integer_vector rest → start + length rest ≡ before + length mid
-    → ((ds : List Datum) (d : Datum) → tokens ≡ tokens_of (kept_of keeping.cuts d) → integer_vector ≡ integer_vector_kept keeping d → P ds
+pub along_more : (keeping : Keeping) (P Q : List Datum → Type 0) (text mid rest : List ℕ) (before start : ℕ)
+    (tokens : List Token)
+    (integer_vector : Option (List ℤ)) → ReadsElement keeping mid tokens integer_vector rest
+      → start + length rest ≡ before + length mid
+    → ((ds : List Datum) (d : Datum) → tokens ≡ tokens_of (kept_of keeping.cuts d)
+      → integer_vector ≡ integer_vector_kept keeping d → P ds
     → Q (ds ++ d ∷ [])) → Along P text mid before → Along Q text rest start
 along_more keeping P Q text mid rest before start tokens integer_vector e moves put a =
     record {
@@ -82,19 +93,25 @@ along_more keeping P Q text mid rest before start tokens integer_vector e moves 
     }
 
 -- the same place by another name
-pub along_moved : (P : List Datum → Type 0) (text rest other : List ℕ) (start from : ℕ) → other ≡ rest → from ≡ start → Along P text rest start → Along P text other from
-along_moved P text rest other start from e s a = subst (λ (n : ℕ). Along P text other n) (sym s) (subst (λ (x : List ℕ). Along P text x start) (sym e) a)
+pub along_moved : (P : List Datum → Type 0) (text rest other : List ℕ) (start from : ℕ) → other ≡ rest → from ≡ start
+    → Along P text rest start → Along P text other from
+along_moved P text rest other start from e s a =
+    subst (λ (n : ℕ). Along P text other n) (sym s) (subst (λ (x : List ℕ). Along P text x start) (sym e) a)
 
 -- no element more
-pub along_spells : (P : List Datum → Type 0) (text rest : List ℕ) (start : ℕ) (a : Along P text rest start) → SpellsNothing rest → Spells a.forms text
-along_spells P text rest start a n = subst (λ (xs : List Datum). Spells xs text) (append-nil a.forms) (a.front.on [] n.spelled)
+pub along_spells : (P : List Datum → Type 0) (text rest : List ℕ) (start : ℕ) (a : Along P text rest start)
+    → SpellsNothing rest → Spells a.forms text
+along_spells P text rest start a n =
+    subst (λ (xs : List Datum). Spells xs text) (append-nil a.forms) (a.front.on [] n.spelled)
 
 -- what the rest can't spell, the text can't
-pub along_none : (P : List Datum → Type 0) (text rest : List ℕ) (start : ℕ) → Along P text rest start → ((ds : List Datum) → Spells ds rest → ⊥) → (ds : List Datum) → Spells ds text → ⊥
+pub along_none : (P : List Datum → Type 0) (text rest : List ℕ) (start : ℕ) → Along P text rest start
+    → ((ds : List Datum) → Spells ds rest → ⊥) → (ds : List Datum) → Spells ds text → ⊥
 along_none P text rest start a none ds k = let b = a.front.only ds k in none b.0 b.2
 
 -- what the rest can't spell for a fault of its own
-pub unreadable_after : (P : List Datum → Type 0) (text rest : List ℕ) (start : ℕ) (e : EdnFault) → IsShort text → Along P text rest start → e.kind ≢ TooLong
+pub unreadable_after : (P : List Datum → Type 0) (text rest : List ℕ) (start : ℕ) (e : EdnFault) → IsShort text
+    → Along P text rest start → e.kind ≢ TooLong
     → (e.kind ≢ NoMemory → (ds : List Datum) → Spells ds rest → ⊥) → e.kind ≢ NoMemory → IsUnreadable text e
 unreadable_after P text rest start e short a not_long none not_memory =
     record {
@@ -103,12 +120,15 @@ unreadable_after P text rest start e short a not_long none not_memory =
       nothing = λ _. along_none P text rest start a (none not_memory);
     }
 
-pub reads_some : (keeping : Keeping) (b : Bool) (text : List ℕ) (tokens : List Token) (integer_vector : Option (List ℤ)) (rest : List ℕ) → b ≡ true
-    → ReadsNext keeping text tokens integer_vector (cond b (Some rest) None) → ReadsElement keeping text tokens integer_vector rest
+pub reads_some : (keeping : Keeping) (b : Bool) (text : List ℕ) (tokens : List Token)
+    (integer_vector : Option (List ℤ)) (rest : List ℕ) → b ≡ true
+    → ReadsNext keeping text tokens integer_vector (cond b (Some rest) None)
+    → ReadsElement keeping text tokens integer_vector rest
 reads_some keeping true text tokens integer_vector rest e h = h
 reads_some keeping false text tokens integer_vector rest e h = absurd cc
 
-pub reads_none : (keeping : Keeping) (b : Bool) (text : List ℕ) (tokens : List Token) (integer_vector : Option (List ℤ)) (rest : List ℕ) → b ≡ false
+pub reads_none : (keeping : Keeping) (b : Bool) (text : List ℕ) (tokens : List Token)
+    (integer_vector : Option (List ℤ)) (rest : List ℕ) → b ≡ false
     → ReadsNext keeping text tokens integer_vector (cond b (Some rest) None) → SpellsNothing text
 reads_none keeping true text tokens integer_vector rest e h = absurd cc
 reads_none keeping false text tokens integer_vector rest e h = h

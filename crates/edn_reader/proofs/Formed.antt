@@ -1,8 +1,11 @@
 -- Forms at the front of tokens.
-use Rattle.std.proofs.Common.{◌≡◌, ℕ, ◌<◌, true, false, List, [], ◌∷◌, ◌++◌, length, refl, sym, ap, ◌∙◌, subst, append_assoc, arith}
+use Rattle.std.proofs.Common.{◌≡◌, ℕ, ◌<◌, true, false, List, [], ◌∷◌, ◌++◌, length, refl, sym, ap, ◌∙◌, subst}
+use Rattle.std.proofs.Common.{append_assoc, arith}
 use Rattle.edn_reader.specs.Bytes.{is_name}
-use Rattle.edn_reader.specs.Datum.{Atom, nil, boolean, integer, string, keyword, Datum, atom, vector, dictionary, Items, no_items, item, Entries, no_entries, entry, items_of, entries_of}
-use Rattle.edn_reader.specs.Token.{Token, open_vector, close_vector, open_map, close_map, leaf, tokens_of, items_tokens, entries_tokens}
+use Rattle.edn_reader.specs.Datum.{Atom, nil, boolean, integer, string, keyword, Datum, atom, vector, dictionary}
+use Rattle.edn_reader.specs.Datum.{Items, no_items, item, Entries, no_entries, entry, items_of, entries_of}
+use Rattle.edn_reader.specs.Token.{Token, open_vector, close_vector, open_map, close_map, leaf, tokens_of}
+use Rattle.edn_reader.specs.Token.{items_tokens, entries_tokens}
 use Rattle.edn_reader.specs.Text.{InProfile, ItemsInProfile, EntriesInProfile, AtomInProfile}
 use Rattle.edn_reader.specs.Forming.{BeginsForm, BeginsItems, BeginsPairs}
 use Rattle.std.specs.Borrow.{Bor}
@@ -12,7 +15,8 @@ use Rattle.edn_reader.specs.View.{view, views, pair_views}
 use Rattle.edn_reader.specs.declared.form.Form.{Form}
 use Rattle.edn_reader.specs.declared.form.Name.{Name}
 use Rattle.edn_reader.specs.declared.piece.Piece.{Piece}
-use Rattle.edn_reader.specs.declared.piece.Piece.TheVariants.{OpenVector, CloseVector, OpenMap, CloseMap, Nil, True, False, Int, Str, Keyword}
+use Rattle.edn_reader.specs.declared.piece.Piece.TheVariants.{OpenVector, CloseVector, OpenMap, CloseMap, Nil, True}
+use Rattle.edn_reader.specs.declared.piece.Piece.TheVariants.{False, Int, Str, Keyword}
 use Rattle.edn_reader.proofs.Keys.{pair_views-append}
 use Rattle.edn_reader.proofs.Consumed.{list_tokens, pairs_tokens, list_tokens-append, pairs_tokens-append}
 use Rattle.edn_reader.proofs.Prefixes.{tails, same_datum}
@@ -87,7 +91,9 @@ vector_begins ts b = by_form b.form b.own b.are
   where
     by_form : (d : Datum) → InProfile d → open_vector ∷ ts ≡ tokens_of d ++ b.remains → BeginsItems ts
     by_form (atom x) p e = absurd cc
-    by_form (vector ds) p e = record { items = ds; remains = b.remains; own = p; are = tails open_vector open_vector _ _ e ∙ append_assoc (items_tokens ds) (close_vector ∷ []) b.remains }
+    by_form (vector ds) p e =
+      record { items = ds; remains = b.remains; own = p;
+      are = tails open_vector open_vector _ _ e ∙ append_assoc (items_tokens ds) (close_vector ∷ []) b.remains }
     by_form (dictionary es) p e = absurd cc
 
 pub map_begins : (ts : List Token) → BeginsForm (open_map ∷ ts) → BeginsPairs ts
@@ -96,7 +102,9 @@ map_begins ts b = by_form b.form b.own b.are
     by_form : (d : Datum) → InProfile d → open_map ∷ ts ≡ tokens_of d ++ b.remains → BeginsPairs ts
     by_form (atom x) p e = absurd cc
     by_form (vector ds) p e = absurd cc
-    by_form (dictionary es) p e = record { pairs = es; remains = b.remains; own = p; are = tails open_map open_map _ _ e ∙ append_assoc (entries_tokens es) (close_map ∷ []) b.remains }
+    by_form (dictionary es) p e =
+      record { pairs = es; remains = b.remains; own = p;
+      are = tails open_map open_map _ _ e ∙ append_assoc (entries_tokens es) (close_map ∷ []) b.remains }
 
 -- a leaf, without what follows it
 pub leaf_alone : (a : Atom) (ts : List Token) → BeginsForm (leaf (atom a) ∷ ts) → BeginsForm (leaf (atom a) ∷ [])
@@ -109,15 +117,19 @@ item_begins ts apart b = by_items b.items b.own b.are
   where
     by_items : (ds : Items) → ItemsInProfile ds → ts ≡ items_tokens ds ++ close_vector ∷ b.remains → BeginsForm ts
     by_items no_items p e = absurd (apart b.remains e)
-    by_items (item d ds) p e = record { form = d; remains = items_tokens ds ++ close_vector ∷ b.remains; own = p.0; are = e ∙ append_assoc (tokens_of d) (items_tokens ds) (close_vector ∷ b.remains) }
+    by_items (item d ds) p e =
+      record { form = d; remains = items_tokens ds ++ close_vector ∷ b.remains; own = p.0;
+      are = e ∙ append_assoc (tokens_of d) (items_tokens ds) (close_vector ∷ b.remains) }
 
-pub items_after : (ts us : List Token) (d : Datum) → ((vs : List Token) → ts ≡ close_vector ∷ vs → ⊥) → ts ≡ tokens_of d ++ us → BeginsItems ts → BeginsItems us
+pub items_after : (ts us : List Token) (d : Datum) → ((vs : List Token) → ts ≡ close_vector ∷ vs → ⊥)
+    → ts ≡ tokens_of d ++ us → BeginsItems ts → BeginsItems us
 items_after ts us d apart is b = by_items b.items b.own b.are
   where
     by_items : (ds : Items) → ItemsInProfile ds → ts ≡ items_tokens ds ++ close_vector ∷ b.remains → BeginsItems us
     by_items no_items p e = absurd (apart b.remains e)
     by_items (item x ds) p e =
-        let q = same_datum d x us (items_tokens ds ++ close_vector ∷ b.remains) (sym is ∙ e ∙ append_assoc (tokens_of x) (items_tokens ds) (close_vector ∷ b.remains)) in
+        let q = same_datum d x us (items_tokens ds ++ close_vector ∷ b.remains)
+          (sym is ∙ e ∙ append_assoc (tokens_of x) (items_tokens ds) (close_vector ∷ b.remains)) in
         record { items = ds; remains = b.remains; own = p.1; are = q.1 }
 
 -- ---- along the pairs of a map
@@ -126,14 +138,18 @@ items_after ts us d apart is b = by_items b.items b.own b.are
 pub key_own : (ts us : List Token) (k : List ℕ) → ts ≡ leaf (atom (keyword k)) ∷ us → BeginsPairs ts → is_name k ≡ true
 key_own ts us k q b = by_pairs b.pairs b.own (sym q ∙ b.are)
   where
-    by_pairs : (es : Entries) → EntriesInProfile es → leaf (atom (keyword k)) ∷ us ≡ entries_tokens es ++ close_map ∷ b.remains → is_name k ≡ true
+    by_pairs : (es : Entries) → EntriesInProfile es
+      → leaf (atom (keyword k)) ∷ us ≡ entries_tokens es ++ close_map ∷ b.remains → is_name k ≡ true
     by_pairs no_entries p e = absurd cc
-    by_pairs (entry l d es) p e = let h : keyword k ≡ keyword l = (same_leaf (keyword k) (keyword l) us _ e).0 in subst AtomInProfile (sym h) p.0
+    by_pairs (entry l d es) p e =
+        let h : keyword k ≡ keyword l = (same_leaf (keyword k) (keyword l) us _ e).0 in subst AtomInProfile (sym h) p.0
 
-pub value_begins : (ts us : List Token) (k : List ℕ) → ts ≡ leaf (atom (keyword k)) ∷ us → BeginsPairs ts → BeginsForm us
+pub value_begins : (ts us : List Token) (k : List ℕ) → ts ≡ leaf (atom (keyword k)) ∷ us → BeginsPairs ts
+    → BeginsForm us
 value_begins ts us k q b = by_pairs b.pairs b.own (sym q ∙ b.are)
   where
-    by_pairs : (es : Entries) → EntriesInProfile es → leaf (atom (keyword k)) ∷ us ≡ entries_tokens es ++ close_map ∷ b.remains → BeginsForm us
+    by_pairs : (es : Entries) → EntriesInProfile es
+      → leaf (atom (keyword k)) ∷ us ≡ entries_tokens es ++ close_map ∷ b.remains → BeginsForm us
     by_pairs no_entries p e = absurd cc
     by_pairs (entry l d es) p e =
         record {
@@ -144,14 +160,17 @@ value_begins ts us k q b = by_pairs b.pairs b.own (sym q ∙ b.are)
               ∙ append_assoc (tokens_of d) (entries_tokens es) (close_map ∷ b.remains);
         }
 
-pub pairs_after : (ts us vs : List Token) (k : List ℕ) (d : Datum) → ts ≡ leaf (atom (keyword k)) ∷ us → us ≡ tokens_of d ++ vs → BeginsPairs ts → BeginsPairs vs
+pub pairs_after : (ts us vs : List Token) (k : List ℕ) (d : Datum) → ts ≡ leaf (atom (keyword k)) ∷ us
+    → us ≡ tokens_of d ++ vs → BeginsPairs ts → BeginsPairs vs
 pairs_after ts us vs k d q is b = by_pairs b.pairs b.own (sym q ∙ b.are)
   where
-    by_pairs : (es : Entries) → EntriesInProfile es → leaf (atom (keyword k)) ∷ us ≡ entries_tokens es ++ close_map ∷ b.remains → BeginsPairs vs
+    by_pairs : (es : Entries) → EntriesInProfile es
+      → leaf (atom (keyword k)) ∷ us ≡ entries_tokens es ++ close_map ∷ b.remains → BeginsPairs vs
     by_pairs no_entries p e = absurd cc
     by_pairs (entry l x es) p e =
         let t = (same_leaf (keyword k) (keyword l) us _ e).1 in
-        let r = same_datum d x vs (entries_tokens es ++ close_map ∷ b.remains) (sym is ∙ t ∙ append_assoc (tokens_of x) (entries_tokens es) (close_map ∷ b.remains)) in
+        let r = same_datum d x vs (entries_tokens es ++ close_map ∷ b.remains)
+          (sym is ∙ t ∙ append_assoc (tokens_of x) (entries_tokens es) (close_map ∷ b.remains)) in
         record { pairs = es; remains = b.remains; own = p.2; are = r.1 }
 
 pub no_pairs : BeginsPairs [] → ⊥
@@ -175,11 +194,14 @@ pairs_end t ts apart b = by_pairs b.pairs b.are
 -- ---- the tokens so far
 
 -- one form more
-pub items_more : (all rest remains : List Token) (ds : List Datum) (d : Datum) → all ≡ list_tokens ds ++ rest → rest ≡ tokens_of d ++ remains → all ≡ list_tokens (ds ++ d ∷ []) ++ remains
+pub items_more : (all rest remains : List Token) (ds : List Datum) (d : Datum) → all ≡ list_tokens ds ++ rest
+    → rest ≡ tokens_of d ++ remains → all ≡ list_tokens (ds ++ d ∷ []) ++ remains
 items_more all rest remains ds d e f =
-    e ∙ ap (λ (t : List Token). list_tokens ds ++ t) f ∙ sym (append_assoc (list_tokens ds) (tokens_of d) remains) ∙ ap (λ (t : List Token). t ++ remains) (sym (list_tokens-append ds d))
+    e ∙ ap (λ (t : List Token). list_tokens ds ++ t) f ∙ sym (append_assoc (list_tokens ds) (tokens_of d) remains)
+      ∙ ap (λ (t : List Token). t ++ remains) (sym (list_tokens-append ds d))
 
-pub pairs_more : (all rest value remains : List Token) (es : List (List ℕ × Datum)) (k : List ℕ) (d : Datum) → all ≡ pairs_tokens es ++ rest
+pub pairs_more : (all rest value remains : List Token) (es : List (List ℕ × Datum)) (k : List ℕ) (d : Datum)
+    → all ≡ pairs_tokens es ++ rest
     → rest ≡ leaf (atom (keyword k)) ∷ value → value ≡ tokens_of d ++ remains
     → all ≡ pairs_tokens (es ++ (k, d) ∷ []) ++ remains
 pairs_more all rest value remains es k d e f g =
@@ -188,14 +210,20 @@ pairs_more all rest value remains es k d e f g =
     ∙ ap (λ (t : List Token). t ++ remains) (sym (pairs_tokens-append es k d))
 
 -- the whole vector, and the whole map
-pub vector_whole : (all rest remains : List Token) (ds : List Datum) → all ≡ list_tokens ds ++ rest → rest ≡ close_vector ∷ remains → open_vector ∷ all ≡ tokens_of (vector (items_of ds)) ++ remains
+pub vector_whole : (all rest remains : List Token) (ds : List Datum) → all ≡ list_tokens ds ++ rest
+    → rest ≡ close_vector ∷ remains → open_vector ∷ all ≡ tokens_of (vector (items_of ds)) ++ remains
 vector_whole all rest remains ds e f =
-    ap (λ (t : List Token). open_vector ∷ t) (e ∙ ap (λ (t : List Token). list_tokens ds ++ t) f ∙ sym (append_assoc (list_tokens ds) (close_vector ∷ []) remains))
+    ap (λ (t : List Token). open_vector ∷ t)
+      (e ∙ ap (λ (t : List Token). list_tokens ds ++ t) f
+      ∙ sym (append_assoc (list_tokens ds) (close_vector ∷ []) remains))
 
-pub map_whole : (all rest remains : List Token) (es : List (List ℕ × Datum)) → all ≡ pairs_tokens es ++ rest → rest ≡ close_map ∷ remains
+pub map_whole : (all rest remains : List Token) (es : List (List ℕ × Datum)) → all ≡ pairs_tokens es ++ rest
+    → rest ≡ close_map ∷ remains
     → open_map ∷ all ≡ tokens_of (dictionary (entries_of es)) ++ remains
 map_whole all rest remains es e f =
-    ap (λ (t : List Token). open_map ∷ t) (e ∙ ap (λ (t : List Token). pairs_tokens es ++ t) f ∙ sym (append_assoc (pairs_tokens es) (close_map ∷ []) remains))
+    ap (λ (t : List Token). open_map ∷ t)
+      (e ∙ ap (λ (t : List Token). pairs_tokens es ++ t) f
+      ∙ sym (append_assoc (pairs_tokens es) (close_map ∷ []) remains))
 
 -- ---- some tokens
 
@@ -221,10 +249,12 @@ no_key (Int z) h k e = cc
 no_key (Str raw) h k e = cc
 no_key (Keyword name) h k e = h name refl
 
-pub map_end : (p : Piece) (ts us : List Token) → ((name : Bor (List ℕ)) → p ≡ Keyword name → ⊥) → ts ≡ piece_token p ∷ us → BeginsPairs ts → ts ≡ close_map ∷ us
+pub map_end : (p : Piece) (ts us : List Token) → ((name : Bor (List ℕ)) → p ≡ Keyword name → ⊥)
+    → ts ≡ piece_token p ∷ us → BeginsPairs ts → ts ≡ close_map ∷ us
 map_end p ts us h e b = e ∙ pairs_end (piece_token p) us (no_key p h) (subst BeginsPairs e b)
 
-pub alone : (p : Piece) (ts us : List Token) → (p ≡ OpenVector → ⊥) → (p ≡ OpenMap → ⊥) → ts ≡ piece_token p ∷ us → BeginsForm ts → BeginsForm (piece_token p ∷ [])
+pub alone : (p : Piece) (ts us : List Token) → (p ≡ OpenVector → ⊥) → (p ≡ OpenMap → ⊥) → ts ≡ piece_token p ∷ us
+    → BeginsForm ts → BeginsForm (piece_token p ∷ [])
 alone OpenVector ts us h k e b = absurd (h refl)
 alone CloseVector ts us h k e b = absurd (close_vector_begins us (subst BeginsForm e b))
 alone OpenMap ts us h k e b = absurd (k refl)
@@ -245,5 +275,6 @@ views-append (y ∷ ys) x = ap (λ (r : List Datum). view y ∷ r) (views-append
 pub views_with : (xs ys : List Form) (x : Form) → ys ≡ xs ++ x ∷ [] → views ys ≡ views xs ++ view x ∷ []
 views_with xs ys x e = ap views e ∙ views-append xs x
 
-pub pairs_with : (xs ys : List (Name × Form)) (k : Name) (x : Form) → ys ≡ xs ++ (k, x) ∷ [] → pair_views ys ≡ pair_views xs ++ (name_bytes k, view x) ∷ []
+pub pairs_with : (xs ys : List (Name × Form)) (k : Name) (x : Form) → ys ≡ xs ++ (k, x) ∷ []
+    → pair_views ys ≡ pair_views xs ++ (name_bytes k, view x) ∷ []
 pairs_with xs ys k x e = ap pair_views e ∙ pair_views-append xs (k, x)

@@ -1,5 +1,6 @@
 -- Elements at the front of a text, from the tokens that it begins with.
-use Rattle.std.proofs.Common.{◌≡◌, ℕ, ◌<◌, ◌≤◌, Option, Some, None, List, [], ◌∷◌, ◌++◌, length, refl, sym, ap, subst, arith}
+use Rattle.std.proofs.Common.{◌≡◌, ℕ, ◌<◌, ◌≤◌, Option, Some, None, List, [], ◌∷◌, ◌++◌, length, refl, sym, ap}
+use Rattle.std.proofs.Common.{subst, arith}
 use Rattle.std.specs.Prelude.{option_and_then}
 use Rattle.std.specs.Str.{IsUtf8}
 use Rattle.std.proofs.lemmas.List.{append-nil}
@@ -29,7 +30,8 @@ pub begin_within : (ts : List Token) (text rest : List ℕ) → BeginWith ts tex
 begin_within [] text rest b = omega (arith, ap length b)
 begin_within (t ∷ ts) text rest (mid, n, b) = omega (arith, next_shorter text t mid n, begin_within ts mid rest b)
 
-pub begin_shorter : (ts : List Token) (text rest : List ℕ) → ([] ≡ ts → ⊥) → BeginWith ts text rest → length rest < length text
+pub begin_shorter : (ts : List Token) (text rest : List ℕ) → ([] ≡ ts → ⊥) → BeginWith ts text rest
+    → length rest < length text
 begin_shorter [] text rest h b = absurd (h refl)
 begin_shorter (t ∷ ts) text rest h (mid, n, b) = omega (arith, next_shorter text t mid n, begin_within ts mid rest b)
 
@@ -38,14 +40,18 @@ rest_shorter text rest p = begin_shorter (tokens_of p.element ++ []) text rest (
 
 -- ---- tokens that make a form
 
-pub both_begin : (ts us : List Token) (text mid rest : List ℕ) → BeginWith ts text mid → BeginWith us mid rest → BeginWith (ts ++ us) text rest
+pub both_begin : (ts us : List Token) (text mid rest : List ℕ) → BeginWith ts text mid → BeginWith us mid rest
+    → BeginWith (ts ++ us) text rest
 both_begin [] us text mid rest b k = subst (λ (x : List ℕ). BeginWith us x rest) (sym b) k
 both_begin (t ∷ ts) us text mid rest (q, n, b) k = (q, n, both_begin ts us q mid rest b k)
 
-progress : (ts : List Token) (text mid rest : List ℕ) (s z : State) → BeginWith ts mid rest → steps ts s ≡ Some z → Progress text mid s → Progress text rest z
-progress [] text mid rest s z b e p = subst (λ (x : List ℕ). Progress text x z) b (subst (λ (x : State). Progress text mid x) (some_is s z e) p)
+progress : (ts : List Token) (text mid rest : List ℕ) (s z : State) → BeginWith ts mid rest → steps ts s ≡ Some z
+    → Progress text mid s → Progress text rest z
+progress [] text mid rest s z b e p =
+    subst (λ (x : List ℕ). Progress text x z) b (subst (λ (x : State). Progress text mid x) (some_is s z e) p)
 progress (t ∷ ts) text mid rest s z (q, n, b) e p =
-    by_step (step t s) refl e (λ x h k. progress ts text q rest x z b k (goes_on text mid t q s x (next_from mid t q n) h p))
+    by_step (step t s) refl e
+      (λ x h k. progress ts text q rest x z b k (goes_on text mid t q s x (next_from mid t q n) h p))
   where
     by_step : (o : Option State) → step t s ≡ o → option_and_then (λ (x : State). steps ts x) o ≡ Some z
         → ((x : State) → step t s ≡ Some x → steps ts x ≡ Some z → Progress text rest z) → Progress text rest z
@@ -53,9 +59,12 @@ progress (t ∷ ts) text mid rest s z (q, n, b) e p =
     by_step (Some x) h k go = go x h k
 
 -- the tokens of a form whose keys are distinct and whose brackets are not too deep
-pub front_of : (text rest : List ℕ) (d : Datum) → IsUtf8 text → Fits max_open d → BeginWith (tokens_of d) text rest → SpellsFront text (d ∷ []) rest × IsUtf8 rest
+pub front_of : (text rest : List ℕ) (d : Datum) → IsUtf8 text → Fits max_open d → BeginWith (tokens_of d) text rest
+    → SpellsFront text (d ∷ []) rest × IsUtf8 rest
 front_of text rest d u f b =
-    let e : steps (tokens_of d ++ []) opening ≡ Some (closed (d ∷ [])) = steps_items (items_of (d ∷ [])) 16 in_text (λ xs x. refl) [] [] (f, tt) refl in
+    let e : steps (tokens_of d ++ []) opening ≡ Some (closed (d ∷ [])) =
+      steps_items (items_of (d ∷ [])) 16 in_text (λ xs x. refl) [] [] (f, tt) refl in
     let p : Progress text rest (closed (d ∷ [])) =
-    progress (tokens_of d ++ []) text text rest opening (closed (d ∷ [])) (subst (λ (ts : List Token). BeginWith ts text rest) (sym (append-nil (tokens_of d))) b) e (start text u) in
+    progress (tokens_of d ++ []) text text rest opening (closed (d ∷ []))
+      (subst (λ (ts : List Token). BeginWith ts text rest) (sym (append-nil (tokens_of d))) b) e (start text u) in
     (element_front text rest d p u, p.utf8)

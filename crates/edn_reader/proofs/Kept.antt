@@ -1,28 +1,35 @@
 -- What is read so far has distinct keys, and is not too deep.
-use Rattle.std.proofs.Common.{◌≡◌, ℕ, suc, ◌-◌, ◌<◌, ◌≤◌, true, false, Some, List, [], ◌∷◌, ◌++◌, length, sym, subst, arith}
+use Rattle.std.proofs.Common.{◌≡◌, ℕ, suc, ◌-◌, ◌<◌, ◌≤◌, true, false, Some, List, [], ◌∷◌, ◌++◌, length, sym}
+use Rattle.std.proofs.Common.{subst, arith}
 use Rattle.std.specs.Prelude.{nat_lt}
 use Rattle.std.proofs.lemmas.Bool.{ltb-true, both_ways, or_parts}
-use Rattle.edn_reader.specs.Datum.{Atom, nil, boolean, integer, string, keyword, Datum, atom, vector, dictionary, items_of, entries_of, max_open, Lacks, Fits, ItemsFit, EntriesFit}
+use Rattle.edn_reader.specs.Datum.{Atom, nil, boolean, integer, string, keyword, Datum, atom, vector, dictionary}
+use Rattle.edn_reader.specs.Datum.{items_of, entries_of, max_open, Lacks, Fits, ItemsFit, EntriesFit}
 use Rattle.edn_reader.specs.Token.{Token, open_vector, close_vector, open_map, close_map, leaf}
-use Rattle.edn_reader.specs.Reading.{Frame, in_text, in_vector, in_map, in_pair, State, has_key, put_key, put, close_as, close_vector_at, close_map_at, takes_key, open_at, step}
+use Rattle.edn_reader.specs.Reading.{Frame, in_text, in_vector, in_map, in_pair, State, has_key, put_key, put}
+use Rattle.edn_reader.specs.Reading.{close_as, close_vector_at, close_map_at, takes_key, open_at, step}
 use Rattle.std.specs.Str.{bytes_eq}
 use Rattle.edn_reader.proofs.Keys.{same_self}
 use Rattle.edn_reader.proofs.Consumed.{kept_if, kept_if_not, unless_so, mapped, IsPlain}
 use Rattle.edn_reader.proofs.Strings.{some_is}
 
-items_fit-append : (n : ℕ) (ds : List Datum) (d : Datum) → ItemsFit n (items_of ds) → Fits n d → ItemsFit n (items_of (ds ++ d ∷ []))
+items_fit-append : (n : ℕ) (ds : List Datum) (d : Datum) → ItemsFit n (items_of ds) → Fits n d
+    → ItemsFit n (items_of (ds ++ d ∷ []))
 items_fit-append n [] d h k = (k, tt)
 items_fit-append n (x ∷ ds) d h k = (h.0, items_fit-append n ds d h.1 k)
 
-Lacks-append : (l : List ℕ) (es : List (List ℕ × Datum)) (k : List ℕ) (d : Datum) → Lacks l (entries_of es) → (l ≡ k → ⊥) → Lacks l (entries_of (es ++ (k, d) ∷ []))
+Lacks-append : (l : List ℕ) (es : List (List ℕ × Datum)) (k : List ℕ) (d : Datum) → Lacks l (entries_of es)
+    → (l ≡ k → ⊥) → Lacks l (entries_of (es ++ (k, d) ∷ []))
 Lacks-append l [] k d h n = (n, tt)
 Lacks-append l (e ∷ es) k d h n = (h.0, Lacks-append l es k d h.1 n)
 
-pub entries_fit-append : (n : ℕ) (es : List (List ℕ × Datum)) (k : List ℕ) (d : Datum) → EntriesFit n (entries_of es) → has_key k es ≡ false → Fits n d → EntriesFit n (entries_of (es ++ (k, d) ∷ []))
+pub entries_fit-append : (n : ℕ) (es : List (List ℕ × Datum)) (k : List ℕ) (d : Datum) → EntriesFit n (entries_of es)
+    → has_key k es ≡ false → Fits n d → EntriesFit n (entries_of (es ++ (k, d) ∷ []))
 entries_fit-append n [] k d h new fit = (tt, fit, tt)
 entries_fit-append n (e ∷ es) k d h new fit =
     let p = or_parts (bytes_eq k e.0) (has_key k es) new in
-    let apart : e.0 ≡ k → ⊥ = λ q. both_ways (bytes_eq k e.0) p.0 (subst (λ (x : List ℕ). bytes_eq k x ≡ true) (sym q) (same_self k)) in
+    let apart : e.0 ≡ k → ⊥ =
+      λ q. both_ways (bytes_eq k e.0) p.0 (subst (λ (x : List ℕ). bytes_eq k x ≡ true) (sym q) (same_self k)) in
     (Lacks-append e.0 es k d h.0 apart, h.1, entries_fit-append n es k d h.2 p.1 fit)
 
 abbrev pub FrameFits : ℕ → Frame → Type 0
@@ -40,45 +47,59 @@ pub record StateFits (s : State) : Type 0 where
   pub inner : FrameFits (16 - length s.outer) s.inner
   pub outer : StackFits s.outer
 
-put_key_fits : (n : ℕ) (es : List (List ℕ × Datum)) (a : Atom) (g : Frame) → EntriesFit n (entries_of es) → put_key es a ≡ Some g → FrameFits n g
+put_key_fits : (n : ℕ) (es : List (List ℕ × Datum)) (a : Atom) (g : Frame) → EntriesFit n (entries_of es)
+    → put_key es a ≡ Some g → FrameFits n g
 put_key_fits n es nil g h e = absurd cc
 put_key_fits n es (boolean b) g h e = absurd cc
 put_key_fits n es (integer z) g h e = absurd cc
 put_key_fits n es (string s) g h e = absurd cc
-put_key_fits n es (keyword k) g h e = let p = kept_if_not (has_key k es) (in_pair es k) g e in subst (FrameFits n) p.1 (h, p.0)
+put_key_fits n es (keyword k) g h e =
+    let p = kept_if_not (has_key k es) (in_pair es k) g e in subst (FrameFits n) p.1 (h, p.0)
 
 pub put_fits : (n : ℕ) (f : Frame) (d : Datum) (g : Frame) → FrameFits n f → Fits n d → put f d ≡ Some g → FrameFits n g
-put_fits n (in_text ds) d g h k e = subst (FrameFits n) (some_is (in_text (ds ++ d ∷ [])) g e) (items_fit-append n ds d h k)
-put_fits n (in_vector ds) d g h k e = subst (FrameFits n) (some_is (in_vector (ds ++ d ∷ [])) g e) (items_fit-append n ds d h k)
+put_fits n (in_text ds) d g h k e =
+    subst (FrameFits n) (some_is (in_text (ds ++ d ∷ [])) g e) (items_fit-append n ds d h k)
+put_fits n (in_vector ds) d g h k e =
+    subst (FrameFits n) (some_is (in_vector (ds ++ d ∷ [])) g e) (items_fit-append n ds d h k)
 put_fits n (in_map es) (atom a) g h k e = put_key_fits n es a g h e
 put_fits n (in_map es) (vector ds) g h k e = absurd cc
 put_fits n (in_map es) (dictionary ds) g h k e = absurd cc
-put_fits n (in_pair es x) d g h k e = subst (FrameFits n) (some_is (in_map (es ++ (x, d) ∷ [])) g e) (entries_fit-append n es x d h.0 h.1 k)
+put_fits n (in_pair es x) d g h k e =
+    subst (FrameFits n) (some_is (in_map (es ++ (x, d) ∷ [])) g e) (entries_fit-append n es x d h.0 h.1 k)
 
 open_fits : (f : Frame) (s z : State) → ((n : ℕ) → FrameFits n f) → StateFits s → open_at f s ≡ Some z → StateFits z
 open_fits f s z any h e =
     let a = unless_so (takes_key s.inner) _ z e in
     let b = kept_if (nat_lt (length s.outer) max_open) (record { inner = f; outer = s.inner ∷ s.outer }) z a.1 in
     let lt : length s.outer < 16 = ltb-true (length s.outer) 16 b.0 in
-    subst StateFits b.1 (record { room = omega arith; inner = any (16 - suc (length s.outer)); outer = (h.inner, h.outer) })
+    subst StateFits b.1 (record { room = omega arith; inner = any (16 - suc (length s.outer));
+      outer = (h.inner, h.outer) })
 
-close_fits : (d : Datum) (fs : List Frame) (z : State) → ((n : ℕ) → 0 < n → n - 1 ≡ 16 - length fs → Fits n d) → length fs ≤ 16 → StackFits fs → close_as d fs ≡ Some z → StateFits z
+close_fits : (d : Datum) (fs : List Frame) (z : State) → ((n : ℕ) → 0 < n → n - 1 ≡ 16 - length fs → Fits n d)
+    → length fs ≤ 16 → StackFits fs → close_as d fs ≡ Some z → StateFits z
 close_fits d [] z fit room h e = absurd cc
 close_fits d (f ∷ fs) z fit room h e =
     let m = mapped (λ (g : Frame). let x : State = record { inner = g; outer = fs } in x) (put f d) z e in
     let k : Fits (16 - length fs) d = fit (16 - length fs) (omega arith) (omega arith) in
-    subst StateFits m.2 (record { room = omega arith; inner = put_fits (16 - length fs) f d m.0 h.0 k m.1; outer = h.1 })
+    subst StateFits m.2 (record { room = omega arith; inner = put_fits (16 - length fs) f d m.0 h.0 k m.1;
+      outer = h.1 })
 
-close_vector_fits : (i : Frame) (fs : List Frame) (z : State) → FrameFits (16 - length fs) i → length fs ≤ 16 → StackFits fs → close_vector_at i fs ≡ Some z → StateFits z
+close_vector_fits : (i : Frame) (fs : List Frame) (z : State) → FrameFits (16 - length fs) i → length fs ≤ 16
+    → StackFits fs → close_vector_at i fs ≡ Some z → StateFits z
 close_vector_fits (in_text ds) fs z fit room h e = absurd cc
-close_vector_fits (in_vector ds) fs z fit room h e = close_fits (vector (items_of ds)) fs z (λ n p q. (p, subst (λ (m : ℕ). ItemsFit m (items_of ds)) (sym q) fit)) room h e
+close_vector_fits (in_vector ds) fs z fit room h e =
+    close_fits (vector (items_of ds)) fs z
+    (λ n p q. (p, subst (λ (m : ℕ). ItemsFit m (items_of ds)) (sym q) fit)) room h e
 close_vector_fits (in_map es) fs z fit room h e = absurd cc
 close_vector_fits (in_pair es k) fs z fit room h e = absurd cc
 
-close_map_fits : (i : Frame) (fs : List Frame) (z : State) → FrameFits (16 - length fs) i → length fs ≤ 16 → StackFits fs → close_map_at i fs ≡ Some z → StateFits z
+close_map_fits : (i : Frame) (fs : List Frame) (z : State) → FrameFits (16 - length fs) i → length fs ≤ 16
+    → StackFits fs → close_map_at i fs ≡ Some z → StateFits z
 close_map_fits (in_text ds) fs z fit room h e = absurd cc
 close_map_fits (in_vector ds) fs z fit room h e = absurd cc
-close_map_fits (in_map es) fs z fit room h e = close_fits (dictionary (entries_of es)) fs z (λ n p q. (p, subst (λ (m : ℕ). EntriesFit m (entries_of es)) (sym q) fit)) room h e
+close_map_fits (in_map es) fs z fit room h e =
+    close_fits (dictionary (entries_of es)) fs z
+    (λ n p q. (p, subst (λ (m : ℕ). EntriesFit m (entries_of es)) (sym q) fit)) room h e
 close_map_fits (in_pair es k) fs z fit room h e = absurd cc
 
 pub step_fits : (t : Token) (s z : State) → IsPlain t → StateFits s → step t s ≡ Some z → StateFits z
@@ -90,4 +111,5 @@ step_fits close_map s z p h e = close_map_fits s.inner s.outer z h.inner h.room 
 step_fits (leaf d) s z p h e =
     let m = mapped (λ (f : Frame). let x : State = record s { inner = f } in x) (put s.inner d) z e in
     let k : Fits (16 - length s.outer) d = rw p.1 tt in
-    subst StateFits m.2 (record { room = h.room; inner = put_fits (16 - length s.outer) s.inner d m.0 h.inner k m.1; outer = h.outer })
+    subst StateFits m.2 (record { room = h.room; inner = put_fits (16 - length s.outer) s.inner d m.0 h.inner k m.1;
+      outer = h.outer })

@@ -28,7 +28,9 @@ pub same_comm : (a b : List ℕ) → bytes_eq a b ≡ bytes_eq b a
 same_comm a b = elim (cases_Bool (bytes_eq a b)) [
   | inl e ↦ e ∙ sym (rw (same_is a b e) (same_self b))
   | inr
-      e ↦ (let n : bytes_eq b a ≡ false = same_not b a (λ q. true_not_false (sym (same_self a) ∙ ap (λ (x : List ℕ). bytes_eq a x) (sym q) ∙ e)) in e ∙ sym n)
+      e ↦ (let n : bytes_eq b a ≡ false =
+        same_not b a (λ q. true_not_false (sym (same_self a) ∙ ap (λ (x : List ℕ). bytes_eq a x) (sym q) ∙ e)) in
+        e ∙ sym n)
 ]
   where
     true_not_false : true ≡ false → ⊥
@@ -40,6 +42,8 @@ if_or true false = refl
 if_or false true = refl
 if_or false false = refl
 
-pub pair_views-append : (xs : List (Name × Form)) (x : Name × Form) → pair_views (xs ++ x ∷ []) ≡ pair_views xs ++ (name_bytes x.0, view x.1) ∷ []
+pub pair_views-append : (xs : List (Name × Form)) (x : Name × Form)
+    → pair_views (xs ++ x ∷ []) ≡ pair_views xs ++ (name_bytes x.0, view x.1) ∷ []
 pair_views-append [] x = refl
-pair_views-append (y ∷ ys) x = ap (λ (r : List (List ℕ × Datum)). (name_bytes y.0, view y.1) ∷ r) (pair_views-append ys x)
+pair_views-append (y ∷ ys) x =
+    ap (λ (r : List (List ℕ × Datum)). (name_bytes y.0, view y.1) ∷ r) (pair_views-append ys x)

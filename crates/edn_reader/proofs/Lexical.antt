@@ -1,9 +1,11 @@
 -- What stands before a token, and how much is left remains it.
-use Rattle.std.proofs.Common.{◌≡◌, ℕ, suc, ◌<◌, ◌≤◌, Bool, true, false, cond, Option, Some, None, List, [], ◌∷◌, ◌++◌, length, refl, ap, subst, arith}
+use Rattle.std.proofs.Common.{◌≡◌, ℕ, suc, ◌<◌, ◌≤◌, Bool, true, false, cond, Option, Some, None, List, [], ◌∷◌}
+use Rattle.std.proofs.Common.{◌++◌, length, refl, ap, subst, arith}
 use Rattle.std.specs.Prelude.{◌==◌}
 use Rattle.std.proofs.lemmas.List.{length-append}
 use Rattle.edn_reader.specs.Bytes.{is_separator}
-use Rattle.edn_reader.specs.Reading.{skip, skip_comment, word, after_word, Next, end, bad, got, got_word, first, atom_of, got_string, string_at, State}
+use Rattle.edn_reader.specs.Reading.{skip, skip_comment, word, after_word, Next, end, bad, got, got_word, first}
+use Rattle.edn_reader.specs.Reading.{atom_of, got_string, string_at, State}
 use Rattle.edn_reader.specs.Datum.{Atom}
 use Rattle.edn_reader.specs.Token.{Token}
 use Rattle.edn_reader.proofs.Strings.{string_less}
@@ -21,7 +23,8 @@ mutual
       let s : length (skip bs) ≤ n = omega (arith, skip_within bs) in
       let c : length (skip_comment bs) ≤ n = omega (arith, skip_comment_within bs) in
       let h : n ≤ n = omega arith in
-      if_within (is_separator b) (skip bs) (cond (b == 59) (skip_comment bs) (b ∷ bs)) n s (if_within (b == 59) (skip_comment bs) (b ∷ bs) n c h)
+      if_within (is_separator b) (skip bs) (cond (b == 59) (skip_comment bs) (b ∷ bs)) n s
+        (if_within (b == 59) (skip_comment bs) (b ∷ bs) n c h)
 
   pub skip_comment_within : (t : List ℕ) → length (skip_comment t) ≤ length t
   skip_comment_within [] = omega arith
@@ -51,7 +54,8 @@ word_less t w a None e p = tt
 word_less t [] a (Some x) e p = absurd cc
 word_less t (c ∷ cs) a (Some x) e p = omega (arith, length-append (c ∷ cs) a, ap length p)
 
-string_leaves : (t bs : List ℕ) (o : Option (List ℕ × List ℕ)) → length bs < length t → string_at bs ≡ o → LeavesLess t (got_string o)
+string_leaves : (t bs : List ℕ) (o : Option (List ℕ × List ℕ)) → length bs < length t → string_at bs ≡ o
+    → LeavesLess t (got_string o)
 string_leaves t bs None h e = tt
 string_leaves t bs (Some p) h e = let l : length p.1 < length bs = string_less bs p.0 p.1 e in omega arith
 
@@ -63,7 +67,10 @@ first_less (b ∷ bs) =
     let h : length bs < length t = omega arith in
     let w : Next = got_word (atom_of (word t)) (after_word t) in
     let last : LeavesLess t w = word_less t (word t) (after_word t) (atom_of (word t)) refl (word_parts t) in
-    if_less t (b == 91) _ _ h (if_less t (b == 93) _ _ h (if_less t (b == 123) _ _ h (if_less t (b == 125) _ _ h (if_less t (b == 34) _ _ (string_leaves t bs (string_at bs) h refl) last))))
+    if_less t (b == 91) _ _ h
+      (if_less t (b == 93) _ _ h
+      (if_less t (b == 123) _ _ h
+      (if_less t (b == 125) _ _ h (if_less t (b == 34) _ _ (string_leaves t bs (string_at bs) h refl) last))))
 
 pub first_shorter : (t : List ℕ) (k : Token) (r : List ℕ) → first t ≡ got k r → length r < length t
 first_shorter t k r e = subst (LeavesLess t) e (first_less t)

@@ -17,7 +17,9 @@ name_byte_below b h = grind (arith, nat_tests)
 
 name_bytes_ascii : (bs : List ℕ) → list_all is_name_byte bs ≡ true → IsAscii bs
 name_bytes_ascii [] h = IsAscii-nil
-name_bytes_ascii (b ∷ bs) h = let p = and_parts (is_name_byte b) (list_all is_name_byte bs) h in IsAscii-cons b bs (name_byte_below b p.0) (name_bytes_ascii bs p.1)
+name_bytes_ascii (b ∷ bs) h =
+    let p = and_parts (is_name_byte b) (list_all is_name_byte bs) h in
+    IsAscii-cons b bs (name_byte_below b p.0) (name_bytes_ascii bs p.1)
 
 pub name_ascii : (k : List ℕ) → is_name k ≡ true → IsAscii k
 unfolding is_name

@@ -4,7 +4,8 @@ use Rattle.edn_reader.specs.declared.levels.Level.{Level}
 use Rattle.edn_reader.specs.Shapes.{Shape, a_vector}
 use Rattle.edn_reader.specs.Levels.{level_shape, levels_onto, vectors_in}
 
-pub levels_push : (acc : List Shape) (ls : List Level) (l : Level) → levels_onto acc (ls ++ l ∷ []) ≡ level_shape l ∷ levels_onto acc ls
+pub levels_push : (acc : List Shape) (ls : List Level) (l : Level)
+    → levels_onto acc (ls ++ l ∷ []) ≡ level_shape l ∷ levels_onto acc ls
 levels_push acc [] l = refl
 levels_push acc (k ∷ ls) l = levels_push (level_shape k ∷ acc) ls l
 

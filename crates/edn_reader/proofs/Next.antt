@@ -1,5 +1,6 @@
 -- The next token is the one that the text begins with.
-use Rattle.std.proofs.Common.{◌≡◌, ℕ, Bool, true, false, cond, Option, Some, None, List, [], ◌∷◌, ◌++◌, refl, sym, ap, subst, ◌∙◌, inl, inr}
+use Rattle.std.proofs.Common.{◌≡◌, ℕ, Bool, true, false, cond, Option, Some, None, List, [], ◌∷◌, ◌++◌, refl, sym}
+use Rattle.std.proofs.Common.{ap, subst, ◌∙◌, inl, inr}
 use Rattle.std.specs.Prelude.{◌==◌}
 use Rattle.std.proofs.lemmas.Bool.{eqb-true, eqb-false, ne_eqb, and_parts}
 use Rattle.std.specs.List.{list_all}
@@ -9,7 +10,8 @@ use Rattle.edn_reader.specs.Datum.{Atom, atom}
 use Rattle.edn_reader.proofs.Strings.{string_from, string_is}
 use Rattle.edn_reader.specs.Token.{Token, open_vector, close_vector, open_map, close_map, leaf}
 use Rattle.edn_reader.specs.Spells.{IsGap, EndsComment, IsEnding, EndsText, IsWord, EndsToken, Begins, IsNext}
-use Rattle.edn_reader.specs.Reading.{skip, skip_comment, word, after_word, atom_of, Next, end, bad, got, got_word, got_string, string_at, first, next}
+use Rattle.edn_reader.specs.Reading.{skip, skip_comment, word, after_word, atom_of, Next, end, bad, got, got_word}
+use Rattle.edn_reader.specs.Reading.{got_string, string_at, first, next}
 use Rattle.edn_reader.proofs.Words.{word_parts}
 use Rattle.edn_reader.proofs.Atoms.{not_byte, not_separator, word_run, word_of, after_word_ends, atom_from, atom_is}
 use Rattle.edn_reader.proofs.Written.{ends93, ends125}
@@ -22,33 +24,41 @@ GapBefore t after = (gap : List ℕ) × IsGap gap × (t ≡ gap ++ after)
 abbrev CommentBefore : List ℕ → List ℕ → Type 0
 CommentBefore t after = (gap : List ℕ) × EndsComment gap × (t ≡ gap ++ after)
 
-gap_by : (c : ℕ) (cs after : List ℕ) (s m : Bool) → is_separator c ≡ s → (c == 59) ≡ m → (skip cs ≡ after → GapBefore cs after) → (skip_comment cs ≡ after → CommentBefore cs after)
+gap_by : (c : ℕ) (cs after : List ℕ) (s m : Bool) → is_separator c ≡ s → (c == 59) ≡ m
+    → (skip cs ≡ after → GapBefore cs after) → (skip_comment cs ≡ after → CommentBefore cs after)
     → cond s (skip cs) (cond m (skip_comment cs) (c ∷ cs)) ≡ after → GapBefore (c ∷ cs) after
 gap_by c cs after true m hs hm ih jh e = let g = ih e in (c ∷ g.0, inl (hs, g.1), ap (λ (t : List ℕ). c ∷ t) g.2)
-gap_by c cs after false true hs hm ih jh e = let g = jh e in (c ∷ g.0, inr (eqb-true c 59 hm, g.1), ap (λ (t : List ℕ). c ∷ t) g.2)
+gap_by c cs after false true hs hm ih jh e =
+    let g = jh e in (c ∷ g.0, inr (eqb-true c 59 hm, g.1), ap (λ (t : List ℕ). c ∷ t) g.2)
 gap_by c cs after false false hs hm ih jh e = ([], tt, e)
 
-comment_by : (c : ℕ) (cs after : List ℕ) (m : Bool) → (c == 10) ≡ m → (skip cs ≡ after → GapBefore cs after) → (skip_comment cs ≡ after → CommentBefore cs after)
+comment_by : (c : ℕ) (cs after : List ℕ) (m : Bool) → (c == 10) ≡ m → (skip cs ≡ after → GapBefore cs after)
+    → (skip_comment cs ≡ after → CommentBefore cs after)
     → cond m (skip cs) (skip_comment cs) ≡ after → CommentBefore (c ∷ cs) after
-comment_by c cs after true hm ih jh e = let g = ih e in (c ∷ g.0, inl (eqb-true c 10 hm, g.1), ap (λ (t : List ℕ). c ∷ t) g.2)
-comment_by c cs after false hm ih jh e = let g = jh e in (c ∷ g.0, inr (eqb-false c 10 hm, g.1), ap (λ (t : List ℕ). c ∷ t) g.2)
+comment_by c cs after true hm ih jh e =
+    let g = ih e in (c ∷ g.0, inl (eqb-true c 10 hm, g.1), ap (λ (t : List ℕ). c ∷ t) g.2)
+comment_by c cs after false hm ih jh e =
+    let g = jh e in (c ∷ g.0, inr (eqb-false c 10 hm, g.1), ap (λ (t : List ℕ). c ∷ t) g.2)
 
 mutual
   pub gap_of : (t : List ℕ) (b : ℕ) (bs : List ℕ) → skip t ≡ b ∷ bs → GapBefore t (b ∷ bs)
   gap_of [] b bs e = absurd cc
-  gap_of (c ∷ cs) b bs e = gap_by c cs (b ∷ bs) (is_separator c) (c == 59) refl refl (gap_of cs b bs) (comment_of cs b bs) e
+  gap_of (c ∷ cs) b bs e =
+    gap_by c cs (b ∷ bs) (is_separator c) (c == 59) refl refl (gap_of cs b bs) (comment_of cs b bs) e
 
   pub comment_of : (t : List ℕ) (b : ℕ) (bs : List ℕ) → skip_comment t ≡ b ∷ bs → CommentBefore t (b ∷ bs)
   comment_of [] b bs e = absurd cc
   comment_of (c ∷ cs) b bs e = comment_by c cs (b ∷ bs) (c == 10) refl (gap_of cs b bs) (comment_of cs b bs) e
 
-ending_by : (c : ℕ) (cs : List ℕ) (s m : Bool) → is_separator c ≡ s → (c == 59) ≡ m → (skip cs ≡ [] → IsEnding cs) → (skip_comment cs ≡ [] → EndsText cs)
+ending_by : (c : ℕ) (cs : List ℕ) (s m : Bool) → is_separator c ≡ s → (c == 59) ≡ m → (skip cs ≡ [] → IsEnding cs)
+    → (skip_comment cs ≡ [] → EndsText cs)
     → cond s (skip cs) (cond m (skip_comment cs) (c ∷ cs)) ≡ [] → IsEnding (c ∷ cs)
 ending_by c cs true m hs hm ih jh e = inl (hs, ih e)
 ending_by c cs false true hs hm ih jh e = inr (eqb-true c 59 hm, jh e)
 ending_by c cs false false hs hm ih jh e = absurd cc
 
-text_by : (c : ℕ) (cs : List ℕ) (m : Bool) → (c == 10) ≡ m → (skip cs ≡ [] → IsEnding cs) → (skip_comment cs ≡ [] → EndsText cs)
+text_by : (c : ℕ) (cs : List ℕ) (m : Bool) → (c == 10) ≡ m → (skip cs ≡ [] → IsEnding cs)
+    → (skip_comment cs ≡ [] → EndsText cs)
     → cond m (skip cs) (skip_comment cs) ≡ [] → EndsText (c ∷ cs)
 text_by c cs true hm ih jh e = inl (eqb-true c 10 hm, ih e)
 text_by c cs false hm ih jh e = inr (eqb-false c 10 hm, jh e)
@@ -68,10 +78,12 @@ mutual
   skip_gap (c ∷ cs) after (inl p) h = let s : is_separator c ≡ true = p.0 in rw s (skip_gap cs after p.1 h)
   skip_gap (c ∷ cs) after (inr p) h = rw p.0 (skip_comment_gap cs after p.1 h)
 
-  pub skip_comment_gap : (gap after : List ℕ) → EndsComment gap → skip after ≡ after → skip_comment (gap ++ after) ≡ after
+  pub skip_comment_gap : (gap after : List ℕ) → EndsComment gap → skip after ≡ after
+      → skip_comment (gap ++ after) ≡ after
   skip_comment_gap [] after g h = absurd g
   skip_comment_gap (c ∷ cs) after (inl p) h = rw p.0 (skip_gap cs after p.1 h)
-  skip_comment_gap (c ∷ cs) after (inr p) h = let n : (c == 10) ≡ false = ne_eqb c 10 p.0 in rw n (skip_comment_gap cs after p.1 h)
+  skip_comment_gap (c ∷ cs) after (inr p) h =
+      let n : (c == 10) ≡ false = ne_eqb c 10 p.0 in rw n (skip_comment_gap cs after p.1 h)
 
 mutual
   pub skip_ending : (t : List ℕ) → IsEnding t → skip t ≡ []
@@ -103,7 +115,8 @@ unfolding is_token_byte
 mark123 = refl
 
 -- a text that begins with a byte of a word
-first_is_word : (b : ℕ) (bs : List ℕ) → is_token_byte b ≡ true → first (b ∷ bs) ≡ got_word (atom_of (word (b ∷ bs))) (after_word (b ∷ bs))
+first_is_word : (b : ℕ) (bs : List ℕ) → is_token_byte b ≡ true
+    → first (b ∷ bs) ≡ got_word (atom_of (word (b ∷ bs))) (after_word (b ∷ bs))
 unfolding first
 first_is_word b bs h =
     let n : (m : ℕ) → is_token_byte m ≡ false → (b == m) ≡ false = λ m k. not_byte b m h k in
@@ -125,17 +138,23 @@ pub record Reads (after : List ℕ) (t : Token) (rest : List ℕ) : Type 0 where
   pub stays : skip after ≡ after
   pub reads : first after ≡ got t rest
 
-leaf_reads : (a : Atom) (own rest : List ℕ) (b : ℕ) (bs : List ℕ) → IsWord a own → EndsToken rest → own ≡ b ∷ bs → is_token_byte b ≡ true
+leaf_reads : (a : Atom) (own rest : List ℕ) (b : ℕ) (bs : List ℕ) → IsWord a own → EndsToken rest → own ≡ b ∷ bs
+    → is_token_byte b ≡ true
     → list_all is_token_byte own ≡ true → Reads (own ++ rest) (leaf (atom a)) rest
 leaf_reads a own rest b bs w e q h all =
     let p = word_of own rest all e in
     let stays : skip (own ++ rest) ≡ own ++ rest = rw q (skip_token b (bs ++ rest) h) in
-    let f : first (own ++ rest) ≡ got_word (atom_of (word (own ++ rest))) (after_word (own ++ rest)) = rw q (first_is_word b (bs ++ rest) h) in
-    let g : got_word (atom_of (word (own ++ rest))) (after_word (own ++ rest)) ≡ got (leaf (atom a)) rest = rw (p.0, p.1, atom_from a own w) refl in
+    let f : first (own ++ rest) ≡ got_word (atom_of (word (own ++ rest))) (after_word (own ++ rest)) =
+      rw q (first_is_word b (bs ++ rest) h) in
+    let g : got_word (atom_of (word (own ++ rest))) (after_word (own ++ rest)) ≡ got (leaf (atom a)) rest =
+      rw (p.0, p.1, atom_from a own w) refl in
     record { stays = stays; reads = f ∙ g }
 
-run_head : (own : List ℕ) (b : ℕ) (bs : List ℕ) → own ≡ b ∷ bs → list_all is_token_byte own ≡ true → is_token_byte b ≡ true
-run_head own b bs q all = (and_parts (is_token_byte b) (list_all is_token_byte bs) (subst (λ (x : List ℕ). list_all is_token_byte x ≡ true) q all)).0
+run_head : (own : List ℕ) (b : ℕ) (bs : List ℕ) → own ≡ b ∷ bs → list_all is_token_byte own ≡ true
+    → is_token_byte b ≡ true
+run_head own b bs q all =
+    (and_parts (is_token_byte b) (list_all is_token_byte bs)
+    (subst (λ (x : List ℕ). list_all is_token_byte x ≡ true) q all)).0
 
 pub begins_reads : (after : List ℕ) (t : Token) (rest : List ℕ) → Begins after t rest → Reads after t rest
 unfolding first
@@ -177,7 +196,8 @@ word_begins t (Some a) e = inl (a, word t, refl, atom_is a (word t) e, after_wor
 
 string_begins : (bs : List ℕ) (o : Option (List ℕ × List ℕ)) → string_at bs ≡ o → FirstIs (34 ∷ bs) (got_string o)
 string_begins bs None e = tt
-string_begins bs (Some p) e = let q = string_is bs p.0 p.1 e in inr (p.0, q.0, refl, q.1, ap (λ (x : List ℕ). 34 ∷ x) q.2)
+string_begins bs (Some p) e =
+    let q = string_is bs p.0 p.1 e in inr (p.0, q.0, refl, q.1, ap (λ (x : List ℕ). 34 ∷ x) q.2)
 
 if_first : (t : List ℕ) (c : Bool) (x y : Next) → (c ≡ true → FirstIs t x) → FirstIs t y → FirstIs t (cond c x y)
 if_first t true x y h k = h refl
@@ -190,8 +210,11 @@ first_is (b ∷ bs) =
     let t : List ℕ = b ∷ bs in
     let m : (n : ℕ) → (b == n) ≡ true → t ≡ n ∷ bs = λ n e. ap (λ (x : ℕ). x ∷ bs) (eqb-true b n e) in
     let w : FirstIs t (got_word (atom_of (word t)) (after_word t)) = word_begins t (atom_of (word t)) refl in
-    let x : (b == 34) ≡ true → FirstIs t (got_string (string_at bs)) = λ e. rw (eqb-true b 34 e) (string_begins bs (string_at bs) refl) in
-    if_first t (b == 91) _ _ (m 91) (if_first t (b == 93) _ _ (m 93) (if_first t (b == 123) _ _ (m 123) (if_first t (b == 125) _ _ (m 125) (if_first t (b == 34) _ _ x w))))
+    let x : (b == 34) ≡ true → FirstIs t (got_string (string_at bs)) =
+      λ e. rw (eqb-true b 34 e) (string_begins bs (string_at bs) refl) in
+    if_first t (b == 91) _ _ (m 91)
+      (if_first t (b == 93) _ _ (m 93)
+      (if_first t (b == 123) _ _ (m 123) (if_first t (b == 125) _ _ (m 125) (if_first t (b == 34) _ _ x w))))
 
 -- a skipped text, and what comes first in the rest
 next_by : (bytes after : List ℕ) (n : Next) → skip bytes ≡ after → FirstIs after n → IsNextOf bytes n
@@ -205,7 +228,9 @@ next_by bytes [] (got t rest) e f = absurd (nothing_begins t rest f)
     nothing_begins open_map rest h = cc
     nothing_begins close_map rest h = cc
     nothing_begins (leaf d) rest (inr (s, own, dq, k, q)) = cc
-    nothing_begins (leaf d) rest (inl (a, own, dq, w, e, q)) = let r = word_run a own w in let z : [] ≡ r.head ∷ (r.tail ++ rest) = q ∙ ap (λ (x : List ℕ). x ++ rest) r.parts in cc
+    nothing_begins (leaf d) rest (inl (a, own, dq, w, e, q)) =
+        let r = word_run a own w in
+        let z : [] ≡ r.head ∷ (r.tail ++ rest) = q ∙ ap (λ (x : List ℕ). x ++ rest) r.parts in cc
 next_by bytes (b ∷ bs) (got t rest) e f = let g = gap_of bytes b bs e in (g.0, b ∷ bs, g.1, f, g.2)
 
 pub next_is : (bytes : List ℕ) → IsNextOf bytes (next bytes)

@@ -1,13 +1,18 @@
 -- What is noted of an element's tokens, one by one, is the integer vector of the element.
-use Rattle.std.proofs.Common.{◌≡◌, ℕ, suc, ◌+◌, ◌-◌, Bool, true, false, List, [], ◌∷◌, ◌++◌, Option, Some, None, refl, sym, ap, ◌∙◌, append_assoc, add-one, arith}
+use Rattle.std.proofs.Common.{◌≡◌, ℕ, suc, ◌+◌, ◌-◌, Bool, true, false, List, [], ◌∷◌, ◌++◌, Option, Some, None}
+use Rattle.std.proofs.Common.{refl, sym, ap, ◌∙◌, append_assoc, add-one, arith}
 use Rattle.std.specs.Prelude.{ℤ, ◌==◌, nat_le, if◌then◌else◌, option_map, option_and_then}
 use Rattle.std.specs.Str.{bytes_eq}
 use Rattle.std.proofs.lemmas.Bool.{ne_eqb}
 use Rattle.std.proofs.lemmas.List.{append-nil}
-use Rattle.edn_reader.specs.Datum.{nil, boolean, integer, string, keyword, Datum, atom, vector, dictionary, Items, no_items, item, Entries, no_entries, entry}
-use Rattle.edn_reader.specs.Token.{Token, open_vector, close_vector, open_map, close_map, tokens_of, items_tokens, entries_tokens}
-use Rattle.edn_reader.specs.Truncation.{integers_in, integer_vector_of, integer_vector_under, integer_vector_at, Keeping, integer_vector_kept, Keep, keep_all}
-use Rattle.edn_reader.specs.IntegerVectors.{IntegerVector, nothing_noted, after_other, note_all, noted, Held, nothing_held, hold, hold_all}
+use Rattle.edn_reader.specs.Datum.{nil, boolean, integer, string, keyword, Datum, atom, vector, dictionary, Items}
+use Rattle.edn_reader.specs.Datum.{no_items, item, Entries, no_entries, entry}
+use Rattle.edn_reader.specs.Token.{Token, open_vector, close_vector, open_map, close_map, tokens_of, items_tokens}
+use Rattle.edn_reader.specs.Token.{entries_tokens}
+use Rattle.edn_reader.specs.Truncation.{integers_in, integer_vector_of, integer_vector_under, integer_vector_at}
+use Rattle.edn_reader.specs.Truncation.{Keeping, integer_vector_kept, Keep, keep_all}
+use Rattle.edn_reader.specs.IntegerVectors.{IntegerVector, nothing_noted, after_other, note_all, noted, Held}
+use Rattle.edn_reader.specs.IntegerVectors.{nothing_held, hold, hold_all}
 use Rattle.edn_reader.specs.declared.integer_vector.Stage.{Stage}
 use Rattle.edn_reader.specs.declared.integer_vector.Stage.TheVariants.{Start, Key, Value, Other, Numbers, Whole, Over}
 
@@ -36,13 +41,16 @@ closed n =
     ap (λ (b : Bool). if b then Key else Other (suc (suc n) - 1)) z ∙ ap Other l
 
 within : (n : ℕ) → (if suc n == 0 then Key else Other (suc n)) ≡ Other (suc n)
-within n = let z : (suc n == 0) ≡ false = ne_eqb (suc n) 0 (λ e. absurd (omega (arith, e))) in ap (λ (b : Bool). if b then Key else Other (suc n)) z
+within n =
+    let z : (suc n == 0) ≡ false = ne_eqb (suc n) 0 (λ e. absurd (omega (arith, e))) in
+    ap (λ (b : Bool). if b then Key else Other (suc n)) z
 
 abbrev noted_from : List Token → List ℕ → Stage → IntegerVector
 noted_from ts key s = note_all ts (at key s [])
 
 -- what is between two brackets
-between_passed : (inner us : List Token) (key : List ℕ) (n : ℕ) (before remains : Token) → after_other (suc n) before ≡ Other (suc n + 1) → after_other (suc (suc n)) remains ≡ Other (suc n)
+between_passed : (inner us : List Token) (key : List ℕ) (n : ℕ) (before remains : Token)
+    → after_other (suc n) before ≡ Other (suc n + 1) → after_other (suc (suc n)) remains ≡ Other (suc n)
     → noted_from (inner ++ remains ∷ us) key (Other (suc (suc n))) ≡ noted_from (remains ∷ us) key (Other (suc (suc n)))
     → noted_from ((before ∷ (inner ++ remains ∷ [])) ++ us) key (Other (suc n)) ≡ noted_from us key (Other (suc n))
 between_passed inner us key n before remains a b h =
@@ -52,17 +60,25 @@ between_passed inner us key n before remains a b h =
     ∙ ap (noted_from us key) b
 
 mutual
-  value_passed : (d : Datum) (us : List Token) (key : List ℕ) (n : ℕ) → noted_from (tokens_of d ++ us) key (Other (suc n)) ≡ noted_from us key (Other (suc n))
+  value_passed : (d : Datum) (us : List Token) (key : List ℕ) (n : ℕ)
+    → noted_from (tokens_of d ++ us) key (Other (suc n)) ≡ noted_from us key (Other (suc n))
   value_passed (atom a) us key n = ap (noted_from us key) (within n)
-  value_passed (vector ds) us key n = between_passed (items_tokens ds) us key n open_vector close_vector refl (closed n) (items_passed ds (close_vector ∷ us) key (suc n))
-  value_passed (dictionary es) us key n = between_passed (entries_tokens es) us key n open_map close_map refl (closed n) (entries_passed es (close_map ∷ us) key (suc n))
+  value_passed (vector ds) us key n =
+    between_passed (items_tokens ds) us key n open_vector close_vector refl (closed n)
+    (items_passed ds (close_vector ∷ us) key (suc n))
+  value_passed (dictionary es) us key n =
+    between_passed (entries_tokens es) us key n open_map close_map refl (closed n)
+    (entries_passed es (close_map ∷ us) key (suc n))
 
-  items_passed : (ds : Items) (us : List Token) (key : List ℕ) (n : ℕ) → noted_from (items_tokens ds ++ us) key (Other (suc n)) ≡ noted_from us key (Other (suc n))
+  items_passed : (ds : Items) (us : List Token) (key : List ℕ) (n : ℕ)
+    → noted_from (items_tokens ds ++ us) key (Other (suc n)) ≡ noted_from us key (Other (suc n))
   items_passed no_items us key n = refl
   items_passed (item d ds) us key n =
-      ap (λ (vs : List Token). noted_from vs key (Other (suc n))) (append_assoc (tokens_of d) (items_tokens ds) us) ∙ value_passed d (items_tokens ds ++ us) key n ∙ items_passed ds us key n
+      ap (λ (vs : List Token). noted_from vs key (Other (suc n))) (append_assoc (tokens_of d) (items_tokens ds) us)
+        ∙ value_passed d (items_tokens ds ++ us) key n ∙ items_passed ds us key n
 
-  entries_passed : (es : Entries) (us : List Token) (key : List ℕ) (n : ℕ) → noted_from (entries_tokens es ++ us) key (Other (suc n)) ≡ noted_from us key (Other (suc n))
+  entries_passed : (es : Entries) (us : List Token) (key : List ℕ) (n : ℕ)
+    → noted_from (entries_tokens es ++ us) key (Other (suc n)) ≡ noted_from us key (Other (suc n))
   entries_passed no_entries us key n = refl
   entries_passed (entry k d es) us key n =
       ap (noted_from ((tokens_of d ++ entries_tokens es) ++ us) key) (within n)
@@ -71,50 +87,68 @@ mutual
       ∙ entries_passed es us key n
 
 -- after it comes a key
-other_passed : (d : Datum) (us : List Token) (key : List ℕ) → noted_from (tokens_of d ++ us) key (Other 0) ≡ noted_from us key Key
+other_passed : (d : Datum) (us : List Token) (key : List ℕ)
+    → noted_from (tokens_of d ++ us) key (Other 0) ≡ noted_from us key Key
 other_passed (atom a) us key = refl
-other_passed (vector ds) us key = ap (λ (vs : List Token). noted_from vs key (Other 1)) (append_assoc (items_tokens ds) (close_vector ∷ []) us) ∙ items_passed ds (close_vector ∷ us) key 0
-other_passed (dictionary es) us key = ap (λ (vs : List Token). noted_from vs key (Other 1)) (append_assoc (entries_tokens es) (close_map ∷ []) us) ∙ entries_passed es (close_map ∷ us) key 0
+other_passed (vector ds) us key =
+    ap (λ (vs : List Token). noted_from vs key (Other 1)) (append_assoc (items_tokens ds) (close_vector ∷ []) us)
+    ∙ items_passed ds (close_vector ∷ us) key 0
+other_passed (dictionary es) us key =
+    ap (λ (vs : List Token). noted_from vs key (Other 1)) (append_assoc (entries_tokens es) (close_map ∷ []) us)
+    ∙ entries_passed es (close_map ∷ us) key 0
 
 -- ---- the value of the key
 
 abbrev remains : List ℤ → Option (List ℤ) → Option (List ℤ)
 remains done o = option_map (λ zs. done ++ zs) o
 
-one_more : (done : List ℤ) (z : ℤ) (o : Option (List ℤ)) → remains (done ++ z ∷ []) o ≡ remains done (option_map (λ zs. z ∷ zs) o)
+one_more : (done : List ℤ) (z : ℤ) (o : Option (List ℤ))
+    → remains (done ++ z ∷ []) o ≡ remains done (option_map (λ zs. z ∷ zs) o)
 one_more done z None = refl
 one_more done z (Some zs) = ap Some (append_assoc done (z ∷ []) zs)
 
-integer_vector_noted : (ds : Items) (us : List Token) (key : List ℕ) (done : List ℤ) → noted (note_all (items_tokens ds ++ close_vector ∷ us) (at key Numbers done)) ≡ remains done (integers_in ds)
+integer_vector_noted : (ds : Items) (us : List Token) (key : List ℕ) (done : List ℤ)
+    → noted (note_all (items_tokens ds ++ close_vector ∷ us) (at key Numbers done)) ≡ remains done (integers_in ds)
 integer_vector_noted no_items us key done = whole_stays us key done ∙ ap Some (sym (append-nil done))
 integer_vector_noted (item (atom nil) ds) us key done = over_stays (items_tokens ds ++ close_vector ∷ us) key done
-integer_vector_noted (item (atom (boolean b)) ds) us key done = over_stays (items_tokens ds ++ close_vector ∷ us) key done
-integer_vector_noted (item (atom (integer z)) ds) us key done = integer_vector_noted ds us key (done ++ z ∷ []) ∙ one_more done z (integers_in ds)
-integer_vector_noted (item (atom (string s)) ds) us key done = over_stays (items_tokens ds ++ close_vector ∷ us) key done
-integer_vector_noted (item (atom (keyword k)) ds) us key done = over_stays (items_tokens ds ++ close_vector ∷ us) key done
-integer_vector_noted (item (vector es) ds) us key done = over_stays (((items_tokens es ++ close_vector ∷ []) ++ items_tokens ds) ++ close_vector ∷ us) key done
-integer_vector_noted (item (dictionary es) ds) us key done = over_stays (((entries_tokens es ++ close_map ∷ []) ++ items_tokens ds) ++ close_vector ∷ us) key done
+integer_vector_noted (item (atom (boolean b)) ds) us key done =
+    over_stays (items_tokens ds ++ close_vector ∷ us) key done
+integer_vector_noted (item (atom (integer z)) ds) us key done =
+    integer_vector_noted ds us key (done ++ z ∷ []) ∙ one_more done z (integers_in ds)
+integer_vector_noted (item (atom (string s)) ds) us key done =
+    over_stays (items_tokens ds ++ close_vector ∷ us) key done
+integer_vector_noted (item (atom (keyword k)) ds) us key done =
+    over_stays (items_tokens ds ++ close_vector ∷ us) key done
+integer_vector_noted (item (vector es) ds) us key done =
+    over_stays (((items_tokens es ++ close_vector ∷ []) ++ items_tokens ds) ++ close_vector ∷ us) key done
+integer_vector_noted (item (dictionary es) ds) us key done =
+    over_stays (((entries_tokens es ++ close_map ∷ []) ++ items_tokens ds) ++ close_vector ∷ us) key done
 
 none_before : (o : Option (List ℤ)) → remains [] o ≡ o
 none_before None = refl
 none_before (Some zs) = refl
 
-value_noted : (d : Datum) (us : List Token) (key : List ℕ) → noted (noted_from (tokens_of d ++ us) key Value) ≡ integer_vector_of d
+value_noted : (d : Datum) (us : List Token) (key : List ℕ)
+    → noted (noted_from (tokens_of d ++ us) key Value) ≡ integer_vector_of d
 value_noted (atom a) us key = over_stays us key []
-value_noted (vector ds) us key = ap (λ (vs : List Token). noted (noted_from vs key Numbers)) (append_assoc (items_tokens ds) (close_vector ∷ []) us)
+value_noted (vector ds) us key =
+    ap (λ (vs : List Token). noted (noted_from vs key Numbers)) (append_assoc (items_tokens ds) (close_vector ∷ []) us)
     ∙ integer_vector_noted ds us key [] ∙ none_before (integers_in ds)
 value_noted (dictionary es) us key = over_stays ((entries_tokens es ++ close_map ∷ []) ++ us) key []
 
 -- ---- an element
 
-entries_noted : (es : Entries) (us : List Token) (key : List ℕ) → noted (noted_from (entries_tokens es ++ close_map ∷ us) key Key) ≡ integer_vector_under key es
+entries_noted : (es : Entries) (us : List Token) (key : List ℕ)
+    → noted (noted_from (entries_tokens es ++ close_map ∷ us) key Key) ≡ integer_vector_under key es
 entries_noted no_entries us key = over_stays us key []
 entries_noted (entry k d es) us key =
     ap (λ (vs : List Token). noted (noted_from vs key (if bytes_eq key k then Value else Other 0)))
-    (append_assoc (tokens_of d) (entries_tokens es) (close_map ∷ us)) ∙ by_key (bytes_eq key k) (entries_noted es us key)
+    (append_assoc (tokens_of d) (entries_tokens es) (close_map ∷ us))
+      ∙ by_key (bytes_eq key k) (entries_noted es us key)
   where
     by_key : (b : Bool) → noted (noted_from (entries_tokens es ++ close_map ∷ us) key Key) ≡ integer_vector_under key es
-        → noted (noted_from (tokens_of d ++ (entries_tokens es ++ close_map ∷ us)) key (if b then Value else Other 0)) ≡ (if b then integer_vector_of d else integer_vector_under key es)
+        → noted (noted_from (tokens_of d ++ (entries_tokens es ++ close_map ∷ us)) key (if b then Value else Other 0))
+          ≡ (if b then integer_vector_of d else integer_vector_under key es)
     by_key true h = value_noted d (entries_tokens es ++ close_map ∷ us) key
     by_key false h = ap noted (other_passed d (entries_tokens es ++ close_map ∷ us) key) ∙ h
 
@@ -123,14 +157,18 @@ element_noted (atom a) key = refl
 element_noted (vector ds) key = over_stays (items_tokens ds ++ close_vector ∷ []) key []
 element_noted (dictionary es) key = entries_noted es [] key
 
-integer_vector_tokens : (o : Option (List ℕ)) (d : Datum) → noted (note_all (tokens_of d) (nothing_noted o)) ≡ option_and_then (λ key. integer_vector_at key d) o
+integer_vector_tokens : (o : Option (List ℕ)) (d : Datum)
+    → noted (note_all (tokens_of d) (nothing_noted o)) ≡ option_and_then (λ key. integer_vector_at key d) o
 integer_vector_tokens None d = over_stays (tokens_of d) [] []
 integer_vector_tokens (Some key) d = element_noted d key
 
 -- ---- both
 
-pub held_both : (k l : Keep) (r s : IntegerVector) → k ≡ l → r ≡ s → (let h : Held = record { kept = k; integer_vector = r } in h) ≡ record { kept = l; integer_vector = s }
-held_both k l r s e f = ap (λ (x : Keep). let h : Held = record { kept = x; integer_vector = r } in h) e ∙ ap (λ (x : IntegerVector). let h : Held = record { kept = l; integer_vector = x } in h) f
+pub held_both : (k l : Keep) (r s : IntegerVector) → k ≡ l → r ≡ s
+    → (let h : Held = record { kept = k; integer_vector = r } in h) ≡ record { kept = l; integer_vector = s }
+held_both k l r s e f =
+    ap (λ (x : Keep). let h : Held = record { kept = x; integer_vector = r } in h) e
+    ∙ ap (λ (x : IntegerVector). let h : Held = record { kept = l; integer_vector = x } in h) f
 
 pub hold_append : (ts us : List Token) (h : Held) → hold_all (ts ++ us) h ≡ hold_all us (hold_all ts h)
 hold_append [] us h = refl
@@ -144,5 +182,7 @@ held_integer_vector : (ts : List Token) (h : Held) → (hold_all ts h).integer_v
 held_integer_vector [] h = refl
 held_integer_vector (t ∷ ts) h = held_integer_vector ts (hold t h)
 
-pub integer_vector_held : (k : Keeping) (d : Datum) → noted (hold_all (tokens_of d) (nothing_held k)).integer_vector ≡ integer_vector_kept k d
-integer_vector_held k d = ap noted (held_integer_vector (tokens_of d) (nothing_held k)) ∙ integer_vector_tokens k.integer_vector_key d
+pub integer_vector_held : (k : Keeping) (d : Datum)
+    → noted (hold_all (tokens_of d) (nothing_held k)).integer_vector ≡ integer_vector_kept k d
+integer_vector_held k d =
+    ap noted (held_integer_vector (tokens_of d) (nothing_held k)) ∙ integer_vector_tokens k.integer_vector_key d

@@ -8,11 +8,16 @@ use Rattle.edn_reader.specs.Datum.{Datum, vector, dictionary, entry, items_of, e
 use Rattle.edn_reader.specs.Names.{name_bytes}
 use Rattle.edn_reader.specs.View.{view, views, pair_views}
 
-names_map : (es : List (Name × Form)) → entries_of (map (λ (e : Name × Datum). (name_bytes e.0, e.1)) (map (λ (e : Name × Form). (e.0, view e.1)) es)) ≡ entries_of (pair_views es)
+names_map : (es : List (Name × Form))
+    → entries_of (map (λ (e : Name × Datum). (name_bytes e.0, e.1)) (map (λ (e : Name × Form). (e.0, view e.1)) es))
+    ≡ entries_of (pair_views es)
 names_map [] = refl
 names_map (e ∷ es) = ap (λ r. entry (name_bytes e.0) (view e.1) r) (names_map es)
 
-by_level : (v : Vec (Name × Form)) → view (Map v) ≡ dictionary (entries_of (map (λ (e : Name × Datum). (name_bytes e.0, e.1)) (map (λ (e : Name × Form). (e.0, view e.1)) v.items)))
+by_level : (v : Vec (Name × Form))
+    → view (Map v) ≡ dictionary
+    (entries_of (map (λ (e : Name × Datum). (name_bytes e.0, e.1))
+    (map (λ (e : Name × Form). (e.0, view e.1)) v.items)))
 by_level v = search (rules, the_lemmas)
 
 pub map_view : (v : Vec (Name × Form)) → view (Map v) ≡ dictionary (entries_of (pair_views v.items))

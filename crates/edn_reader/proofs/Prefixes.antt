@@ -1,7 +1,9 @@
 -- No form's tokens are a beginning of another's.
 use Rattle.std.proofs.Common.{◌≡◌, List, [], ◌∷◌, ◌++◌, refl, sym, ap, ◌∙◌, append_assoc}
-use Rattle.edn_reader.specs.Datum.{keyword, Datum, atom, vector, dictionary, Items, no_items, item, Entries, no_entries, entry}
-use Rattle.edn_reader.specs.Token.{Token, open_vector, close_vector, open_map, close_map, leaf, tokens_of, items_tokens, entries_tokens}
+use Rattle.edn_reader.specs.Datum.{keyword, Datum, atom, vector, dictionary, Items, no_items, item, Entries}
+use Rattle.edn_reader.specs.Datum.{no_entries, entry}
+use Rattle.edn_reader.specs.Token.{Token, open_vector, close_vector, open_map, close_map, leaf, tokens_of}
+use Rattle.edn_reader.specs.Token.{items_tokens, entries_tokens}
 use Rattle.edn_reader.proofs.Consumed.{list_tokens}
 
 not_close_vector : (d : Datum) (us ts : List Token) → close_vector ∷ us ≡ tokens_of d ++ ts → ⊥
@@ -23,7 +25,8 @@ tails t u ts us h = cc
 same_leaf : (d e : Datum) (ts us : List Token) → leaf d ∷ ts ≡ leaf e ∷ us → (d ≡ e) × (ts ≡ us)
 same_leaf d e ts us h = (cc, cc)
 
-same_key : (j k : List _) (ts us : List Token) → leaf (atom (keyword j)) ∷ ts ≡ leaf (atom (keyword k)) ∷ us → (j ≡ k) × (ts ≡ us)
+same_key : (j k : List _) (ts us : List Token) → leaf (atom (keyword j)) ∷ ts ≡ leaf (atom (keyword k)) ∷ us
+    → (j ≡ k) × (ts ≡ us)
 same_key j k ts us h = (cc, cc)
 
 mutual
@@ -38,38 +41,49 @@ mutual
   same_datum (vector ds) (vector es) us vs h =
       let t = tails open_vector open_vector _ _ h in
       let k : items_tokens ds ++ close_vector ∷ us ≡ items_tokens es ++ close_vector ∷ vs =
-      sym (append_assoc (items_tokens ds) (close_vector ∷ []) us) ∙ t ∙ append_assoc (items_tokens es) (close_vector ∷ []) vs in
+      sym (append_assoc (items_tokens ds) (close_vector ∷ []) us) ∙ t
+        ∙ append_assoc (items_tokens es) (close_vector ∷ []) vs in
       let p = same_items ds es us vs k in
       (ap vector p.0, p.1)
   same_datum (dictionary ds) (dictionary es) us vs h =
       let t = tails open_map open_map _ _ h in
-      let k : entries_tokens ds ++ close_map ∷ us ≡ entries_tokens es ++ close_map ∷ vs = sym (append_assoc (entries_tokens ds) (close_map ∷ []) us)
+      let k : entries_tokens ds ++ close_map ∷ us ≡ entries_tokens es ++ close_map ∷ vs =
+        sym (append_assoc (entries_tokens ds) (close_map ∷ []) us)
       ∙ t ∙ append_assoc (entries_tokens es) (close_map ∷ []) vs in
       let p = same_entries ds es us vs k in
       (ap dictionary p.0, p.1)
 
-  pub same_items : (ds es : Items) (us vs : List Token) → items_tokens ds ++ close_vector ∷ us ≡ items_tokens es ++ close_vector ∷ vs → (ds ≡ es) × (us ≡ vs)
+  pub same_items : (ds es : Items) (us vs : List Token)
+      → items_tokens ds ++ close_vector ∷ us ≡ items_tokens es ++ close_vector ∷ vs → (ds ≡ es) × (us ≡ vs)
   same_items no_items no_items us vs h = (refl, tails close_vector close_vector us vs h)
-  same_items no_items (item e es) us vs h = absurd (not_close_vector e us (items_tokens es ++ close_vector ∷ vs) (h ∙ append_assoc (tokens_of e) (items_tokens es) (close_vector ∷ vs)))
-  same_items (item d ds) no_items us vs h = absurd (not_close_vector d vs (items_tokens ds ++ close_vector ∷ us) (sym h ∙ append_assoc (tokens_of d) (items_tokens ds) (close_vector ∷ us)))
+  same_items no_items (item e es) us vs h =
+    absurd (not_close_vector e us (items_tokens es ++ close_vector ∷ vs)
+    (h ∙ append_assoc (tokens_of e) (items_tokens es) (close_vector ∷ vs)))
+  same_items (item d ds) no_items us vs h =
+    absurd (not_close_vector d vs (items_tokens ds ++ close_vector ∷ us)
+    (sym h ∙ append_assoc (tokens_of d) (items_tokens ds) (close_vector ∷ us)))
   same_items (item d ds) (item e es) us vs h =
       let p = same_datum d e (items_tokens ds ++ close_vector ∷ us) (items_tokens es ++ close_vector ∷ vs)
-      (sym (append_assoc (tokens_of d) (items_tokens ds) (close_vector ∷ us)) ∙ h ∙ append_assoc (tokens_of e) (items_tokens es) (close_vector ∷ vs)) in
+      (sym (append_assoc (tokens_of d) (items_tokens ds) (close_vector ∷ us)) ∙ h
+        ∙ append_assoc (tokens_of e) (items_tokens es) (close_vector ∷ vs)) in
       let q = same_items ds es us vs p.1 in
       (ap (λ (x : Datum). item x ds) p.0 ∙ ap (item e) q.0, q.1)
 
-  pub same_entries : (ds es : Entries) (us vs : List Token) → entries_tokens ds ++ close_map ∷ us ≡ entries_tokens es ++ close_map ∷ vs → (ds ≡ es) × (us ≡ vs)
+  pub same_entries : (ds es : Entries) (us vs : List Token)
+      → entries_tokens ds ++ close_map ∷ us ≡ entries_tokens es ++ close_map ∷ vs → (ds ≡ es) × (us ≡ vs)
   same_entries no_entries no_entries us vs h = (refl, tails close_map close_map us vs h)
   same_entries no_entries (entry k e es) us vs h = absurd (not_close_map _ us _ h)
   same_entries (entry k d ds) no_entries us vs h = absurd (not_close_map _ vs _ (sym h))
   same_entries (entry j d ds) (entry k e es) us vs h =
       let a = same_key j k _ _ h in
       let p = same_datum d e (entries_tokens ds ++ close_map ∷ us) (entries_tokens es ++ close_map ∷ vs)
-      (sym (append_assoc (tokens_of d) (entries_tokens ds) (close_map ∷ us)) ∙ a.1 ∙ append_assoc (tokens_of e) (entries_tokens es) (close_map ∷ vs)) in
+      (sym (append_assoc (tokens_of d) (entries_tokens ds) (close_map ∷ us)) ∙ a.1
+        ∙ append_assoc (tokens_of e) (entries_tokens es) (close_map ∷ vs)) in
       let q = same_entries ds es us vs p.1 in
       (ap (λ (x : List _). entry x d ds) a.0 ∙ ap (λ (x : Datum). entry k x ds) p.0 ∙ ap (entry k e) q.0, q.1)
 
 -- forms whose tokens begin with those of a form
-pub same_front : (es : List Datum) (d : Datum) (us : List Token) → list_tokens es ≡ tokens_of d ++ us → (fs : List Datum) × (es ≡ d ∷ fs) × (list_tokens fs ≡ us)
+pub same_front : (es : List Datum) (d : Datum) (us : List Token) → list_tokens es ≡ tokens_of d ++ us
+    → (fs : List Datum) × (es ≡ d ∷ fs) × (list_tokens fs ≡ us)
 same_front [] d us h = absurd (not_nothing d us h)
 same_front (e ∷ fs) d us h = let p = same_datum e d (list_tokens fs) us h in (fs, ap (λ (x : Datum). x ∷ fs) p.0, p.1)

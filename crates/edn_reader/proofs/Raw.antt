@@ -1,5 +1,6 @@
 -- Strings as they are written, and where they end.
-use Rattle.std.proofs.Common.{◌≡◌, ℕ, ◌<◌, ◌-◌, false, Option, Some, None, List, [], ◌∷◌, ◌++◌, length, take, refl, sym, ap, ◌∙◌, arith, inl, inr}
+use Rattle.std.proofs.Common.{◌≡◌, ℕ, ◌<◌, ◌-◌, false, Option, Some, None, List, [], ◌∷◌, ◌++◌, length, take, refl}
+use Rattle.std.proofs.Common.{sym, ap, ◌∙◌, arith, inl, inr}
 use Rattle.std.specs.Prelude.{◌==◌, option_map}
 use Rattle.std.proofs.lemmas.Bool.{ne_eqb}
 use Rattle.edn_reader.specs.Spells.{escape_of, IsQuoted, IsEscaped}
@@ -11,7 +12,8 @@ use Rattle.edn_reader.specs.Datum.{string, atom}
 use Rattle.edn_reader.specs.Token.{leaf}
 use Rattle.edn_reader.specs.Reading.{got, got_string}
 
-same_end : (b : ℕ) (o : Option (List ℕ × List ℕ)) → option_map (λ (p : List ℕ × List ℕ). p.1) (with_byte b o) ≡ option_map (λ (p : List ℕ × List ℕ). p.1) o
+same_end : (b : ℕ) (o : Option (List ℕ × List ℕ))
+    → option_map (λ (p : List ℕ × List ℕ). p.1) (with_byte b o) ≡ option_map (λ (p : List ℕ × List ℕ). p.1) o
 same_end b None = refl
 same_end b (Some p) = refl
 
@@ -29,18 +31,22 @@ no_end_after c cs h = let x : escape_of c ≡ None = h in rw x refl
 mutual
   quoted_is : (own s : List ℕ) → IsQuoted own s → unquoted own ≡ s
   quoted_is [] s h = sym h
-  quoted_is (b ∷ bs) s (inl (q, m, t, e, h)) = let k : (b == 92) ≡ false = ne_eqb b 92 m in rw (k, e) (ap (λ (x : List ℕ). b ∷ x) (quoted_is bs t h))
+  quoted_is (b ∷ bs) s (inl (q, m, t, e, h)) =
+      let k : (b == 92) ≡ false = ne_eqb b 92 m in rw (k, e) (ap (λ (x : List ℕ). b ∷ x) (quoted_is bs t h))
   quoted_is (b ∷ bs) s (inr (e, h)) = rw e (escaped_is bs s h)
 
   escaped_is : (own s : List ℕ) → IsEscaped own s → unescaped own ≡ s
   escaped_is [] s h = absurd h
-  escaped_is (c ∷ cs) s (e, t, esc, q, h) = let x : escape_of c ≡ Some e = esc in rw (x, q) (ap (λ (y : List ℕ). e ∷ y) (quoted_is cs t h))
+  escaped_is (c ∷ cs) s (e, t, esc, q, h) =
+      let x : escape_of c ≡ Some e = esc in rw (x, q) (ap (λ (y : List ℕ). e ∷ y) (quoted_is cs t h))
 
 -- the bytes before the quote that ends a string
-pub raw_is : (text rest : List ℕ) → string_end text ≡ Some rest → string_at text ≡ Some (unquoted (take (length text - length rest - 1) text), rest)
+pub raw_is : (text rest : List ℕ) → string_end text ≡ Some rest
+    → string_at text ≡ Some (unquoted (take (length text - length rest - 1) text), rest)
 raw_is text rest h = by_string (string_at text) refl h
   where
-    by_string : (o : Option (List ℕ × List ℕ)) → string_at text ≡ o → option_map (λ (p : List ℕ × List ℕ). p.1) o ≡ Some rest
+    by_string : (o : Option (List ℕ × List ℕ)) → string_at text ≡ o
+      → option_map (λ (p : List ℕ × List ℕ). p.1) o ≡ Some rest
         → string_at text ≡ Some (unquoted (take (length text - length rest - 1) text), rest)
     by_string None e k = absurd cc
     by_string (Some p) e k =
@@ -48,13 +54,18 @@ raw_is text rest h = by_string (string_at text) refl h
         let q = string_is text p.0 p.1 e in
         let n : length text - length rest - 1 ≡ length text - length (34 ∷ rest) = omega arith in
         let w : q.0 ++ 34 ∷ rest ≡ text = ap (λ (x : List ℕ). q.0 ++ 34 ∷ x) (sym r) ∙ sym q.2 in
-        let f : take (length text - length rest - 1) text ≡ q.0 = ap (λ (m : ℕ). take m text) n ∙ front_is q.0 (34 ∷ rest) text w in
+        let f : take (length text - length rest - 1) text ≡ q.0 =
+          ap (λ (m : ℕ). take m text) n ∙ front_is q.0 (34 ∷ rest) text w in
         let u : unquoted (take (length text - length rest - 1) text) ≡ p.0 = ap unquoted f ∙ quoted_is q.0 p.0 q.1 in
         e ∙ ap (λ (x : List ℕ). let y : Option (List ℕ × List ℕ) = Some (x, p.1) in y) (sym u)
-        ∙ ap (λ (x : List ℕ). let y : Option (List ℕ × List ℕ) = Some (unquoted (take (length text - length rest - 1) text), x) in y) r
+        ∙ ap (λ (x : List ℕ). let y : Option (List ℕ × List ℕ) =
+          Some (unquoted (take (length text - length rest - 1) text), x) in y) r
 
-pub got_raw : (text rest : List ℕ) → string_end text ≡ Some rest → got_string (string_at text) ≡ got (leaf (atom (string (unquoted (take (length text - length rest - 1) text))))) rest
+pub got_raw : (text rest : List ℕ) → string_end text ≡ Some rest
+    → got_string (string_at text)
+    ≡ got (leaf (atom (string (unquoted (take (length text - length rest - 1) text))))) rest
 got_raw text rest h = rw (raw_is text rest h) refl
 
 pub end_shorter : (text rest : List ℕ) → string_end text ≡ Some rest → length rest < length text
-end_shorter text rest h = string_less text (unquoted (take (length text - length rest - 1) text)) rest (raw_is text rest h)
+end_shorter text rest h =
+    string_less text (unquoted (take (length text - length rest - 1) text)) rest (raw_is text rest h)

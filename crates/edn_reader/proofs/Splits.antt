@@ -1,12 +1,14 @@
 -- A text that is UTF-8 may be cut at its ASCII bytes, and its strings are UTF-8 too.
-use Rattle.std.proofs.Common.{◌≡◌, ℕ, ◌-◌, ◌<◌, ◌≤◌, suc, Bool, true, false, cond, Some, None, List, [], ◌∷◌, ◌++◌, length, get_or, refl, sym, ap, ◌∙◌, subst, append_assoc, arith, lit<, inl, inr}
+use Rattle.std.proofs.Common.{◌≡◌, ℕ, ◌-◌, ◌<◌, ◌≤◌, suc, Bool, true, false, cond, Some, None, List, [], ◌∷◌, ◌++◌}
+use Rattle.std.proofs.Common.{length, get_or, refl, sym, ap, ◌∙◌, subst, append_assoc, arith, lit<, inl, inr}
 use Rattle.std.specs.Prelude.{◌==◌, ◌⊎◌, nat_lt}
 use Rattle.std.specs.Str.{IsUtf8, IsCharBoundary}
 use lib.Utf8.{scalars, scalar, encodes, encode}
 use Rattle.std.proofs.lemmas.Bool.{and_parts, ltb-true, ne_eqb, cases_Bool}
 use Rattle.std.proofs.lemmas.Bool.Decides.{nat_tests}
 use Rattle.std.proofs.lemmas.List.{length-append, take_at, drop_at, get_or-append_right}
-use Rattle.std.proofs.lemmas.Str.{IsUtf8-append, IsUtf8-nil, IsUtf8-encode, IsUtf8-take, IsUtf8-drop, IsUtf8-past_char, IsUtf8-from_ascii, encode_ascii, length-encode}
+use Rattle.std.proofs.lemmas.Str.{IsUtf8-append, IsUtf8-nil, IsUtf8-encode, IsUtf8-take, IsUtf8-drop}
+use Rattle.std.proofs.lemmas.Str.{IsUtf8-past_char, IsUtf8-from_ascii, encode_ascii, length-encode}
 use Rattle.std.proofs.lemmas.Str.Ascii.{IsAscii-nil, IsAscii-cons}
 use Rattle.edn_reader.specs.Bytes.{is_separator, is_token_byte}
 use Rattle.edn_reader.specs.Spells.{IsGap, EndsComment, escape_of, IsQuoted, IsEscaped, EndsToken, Begins}
@@ -21,9 +23,12 @@ cut : (xs ys : List ℕ) (c : ℕ) → c < 128 → IsUtf8 (xs ++ c ∷ ys) → I
 cut xs ys c h u =
     let all : List ℕ = xs ++ c ∷ ys in
     let within : length xs ≤ length all = omega (arith, length-append xs (c ∷ ys)) in
-    let at : get_or all (length xs) 0 ≡ c = get_or-append_right xs (c ∷ ys) (length xs) (length xs) 0 refl (omega arith) ∙ ap (λ (i : ℕ). get_or (c ∷ ys) i 0) (sub_self (length xs)) in
+    let at : get_or all (length xs) 0 ≡ c =
+      get_or-append_right xs (c ∷ ys) (length xs) (length xs) 0 refl (omega arith)
+      ∙ ap (λ (i : ℕ). get_or (c ∷ ys) i 0) (sub_self (length xs)) in
     let starts : IsCharBoundary all (length xs) = (within, λ _ k. absurd (omega arith)) in
-    (subst IsUtf8 (take_at xs (c ∷ ys) (length xs) refl) (IsUtf8-take all (length xs) u starts), subst IsUtf8 (drop_at xs (c ∷ ys) (length xs) refl) (IsUtf8-drop all (length xs) u starts))
+    (subst IsUtf8 (take_at xs (c ∷ ys) (length xs) refl) (IsUtf8-take all (length xs) u starts),
+      subst IsUtf8 (drop_at xs (c ∷ ys) (length xs) refl) (IsUtf8-drop all (length xs) u starts))
   where
     sub_self : (n : ℕ) → n - n ≡ 0
     sub_self n = omega arith
@@ -91,14 +96,17 @@ after_begins bytes close_vector rest h u = remains 93 rest (lit< tt) (subst IsUt
 after_begins bytes open_map rest h u = remains 123 rest (lit< tt) (subst IsUtf8 h u)
 after_begins bytes close_map rest h u = remains 125 rest (lit< tt) (subst IsUtf8 h u)
 after_begins bytes (leaf d) rest (inl (a, own, q, w, e, p)) u = after_word_utf8 own rest e (subst IsUtf8 p u)
-after_begins bytes (leaf d) rest (inr (s, own, q, k, p)) u = remains 34 rest (lit< tt) (cut own rest 34 (lit< tt) (remains 34 (own ++ 34 ∷ rest) (lit< tt) (subst IsUtf8 p u))).1
+after_begins bytes (leaf d) rest (inr (s, own, q, k, p)) u =
+    remains 34 rest (lit< tt) (cut own rest 34 (lit< tt) (remains 34 (own ++ 34 ∷ rest) (lit< tt) (subst IsUtf8 p u))).1
 
 -- ---- what a string holds
 
 escape_low : (c e : ℕ) → escape_of c ≡ Some e → e < 128
 escape_low c e h = by_tests (c == 116) (c == 114) (c == 110) (c == 92) (c == 34) h
   where
-    by_tests : (t r n k q : Bool) → cond t (Some 9) (cond r (Some 13) (cond n (Some 10) (cond k (Some 92) (cond q (Some 34) None)))) ≡ Some e → e < 128
+    by_tests : (t r n k q : Bool)
+      → cond t (Some 9) (cond r (Some 13) (cond n (Some 10) (cond k (Some 92) (cond q (Some 34) None)))) ≡ Some e
+      → e < 128
     by_tests true r n k q h = let x : 9 ≡ e = cc in omega arith
     by_tests false true n k q h = let x : 13 ≡ e = cc in omega arith
     by_tests false false true k q h = let x : 10 ≡ e = cc in omega arith
@@ -117,14 +125,16 @@ escape_above c e h k =
     cc
 
 -- bytes past ASCII stand for themselves
-quoted_above : (xs rest s : List ℕ) → ((k : ℕ) → k < length xs → 128 ≤ get_or xs k 0) → IsQuoted (xs ++ rest) s → (t : List ℕ) × (s ≡ xs ++ t) × IsQuoted rest t
+quoted_above : (xs rest s : List ℕ) → ((k : ℕ) → k < length xs → 128 ≤ get_or xs k 0) → IsQuoted (xs ++ rest) s
+    → (t : List ℕ) × (s ≡ xs ++ t) × IsQuoted rest t
 quoted_above [] rest s h q = (s, refl, q)
 quoted_above (x ∷ xs) rest s h (inl (n, m, t, e, q)) =
     let p = quoted_above xs rest t (λ k lt. h (suc k) (omega arith)) q in
     (p.0, e ∙ ap (λ (y : List ℕ). x ∷ y) p.1, p.2)
 quoted_above (x ∷ xs) rest s h (inr (e, q)) = let low : 128 ≤ x = h 0 (omega arith) in absurd (omega arith)
 
-escaped_above : (xs rest s : List ℕ) → 0 < length xs → ((k : ℕ) → k < length xs → 128 ≤ get_or xs k 0) → IsEscaped (xs ++ rest) s → ⊥
+escaped_above : (xs rest s : List ℕ) → 0 < length xs → ((k : ℕ) → k < length xs → 128 ≤ get_or xs k 0)
+    → IsEscaped (xs ++ rest) s → ⊥
 escaped_above [] rest s some h q = omega arith
 escaped_above (x ∷ xs) rest s some h (e, t, k, p, q) = escape_above x e (h 0 (omega arith)) k
 
@@ -135,11 +145,16 @@ some_bytes : (c : ℕ) → 0 < length (encode c)
 some_bytes c = rw (length-encode c) (grind (arith, nat_tests))
 
 low_or_above : (c : ℕ) → (c < 128) ⊎ (128 ≤ c)
-low_or_above c = elim (cases_Bool (nat_lt c 128)) [ inl e ↦ inl (ltb-true c 128 e) | inr e ↦ inr (grind (arith, nat_tests)) ]
+low_or_above c = elim (cases_Bool (nat_lt c 128)) [
+  | inl e ↦ inl (ltb-true c 128 e)
+  | inr e ↦ inr (grind (arith, nat_tests))
+]
 
-quoted_char : (c : ℕ) (cs s : List ℕ) → (c < 128) ⊎ (128 ≤ c) → scalar c ≡ true → ((t : List ℕ) → IsQuoted (encodes cs) t → IsUtf8 t) → ((t : List ℕ) → IsEscaped (encodes cs) t → IsUtf8 t)
+quoted_char : (c : ℕ) (cs s : List ℕ) → (c < 128) ⊎ (128 ≤ c) → scalar c ≡ true
+    → ((t : List ℕ) → IsQuoted (encodes cs) t → IsUtf8 t) → ((t : List ℕ) → IsEscaped (encodes cs) t → IsUtf8 t)
     → IsQuoted (encode c ++ encodes cs) s → IsUtf8 s
-quoted_char c cs s (inl low) k ih jh q = by_byte (subst (λ (x : List ℕ). IsQuoted (x ++ encodes cs) s) (encode_ascii c low) q)
+quoted_char c cs s (inl low) k ih jh q =
+    by_byte (subst (λ (x : List ℕ). IsQuoted (x ++ encodes cs) s) (encode_ascii c low) q)
   where
     by_byte : IsQuoted (c ∷ encodes cs) s → IsUtf8 s
     by_byte (inl (n, m, t, e, p)) = subst IsUtf8 (sym e) (one_byte c t low (ih t p))
@@ -148,22 +163,27 @@ quoted_char c cs s (inr above) k ih jh q =
     let p = quoted_above (encode c) (encodes cs) s (bytes_above c above) q in
     subst IsUtf8 (sym p.1) (IsUtf8-append (encode c) p.0 (IsUtf8-encode c k) (ih p.0 p.2))
 
-escaped_char : (c : ℕ) (cs s : List ℕ) → (c < 128) ⊎ (128 ≤ c) → ((t : List ℕ) → IsQuoted (encodes cs) t → IsUtf8 t) → IsEscaped (encode c ++ encodes cs) s → IsUtf8 s
-escaped_char c cs s (inl low) ih q = by_byte (subst (λ (x : List ℕ). IsEscaped (x ++ encodes cs) s) (encode_ascii c low) q)
+escaped_char : (c : ℕ) (cs s : List ℕ) → (c < 128) ⊎ (128 ≤ c) → ((t : List ℕ) → IsQuoted (encodes cs) t → IsUtf8 t)
+    → IsEscaped (encode c ++ encodes cs) s → IsUtf8 s
+escaped_char c cs s (inl low) ih q =
+    by_byte (subst (λ (x : List ℕ). IsEscaped (x ++ encodes cs) s) (encode_ascii c low) q)
   where
     by_byte : IsEscaped (c ∷ encodes cs) s → IsUtf8 s
     by_byte (e, t, k, p, h) = subst IsUtf8 (sym p) (one_byte e t (escape_low c e k) (ih t h))
-escaped_char c cs s (inr above) ih q = absurd (escaped_above (encode c) (encodes cs) s (some_bytes c) (bytes_above c above) q)
+escaped_char c cs s (inr above) ih q =
+    absurd (escaped_above (encode c) (encodes cs) s (some_bytes c) (bytes_above c above) q)
 
 mutual
   quoted_chars : (cs s : List ℕ) → scalars cs ≡ true → IsQuoted (encodes cs) s → IsUtf8 s
   quoted_chars [] s h q = subst IsUtf8 (sym q) IsUtf8-nil
   quoted_chars (c ∷ cs) s h q = quoted_char c cs s (low_or_above c) (and_parts (scalar c) (scalars cs) h).0
-      (λ t k. quoted_chars cs t (and_parts (scalar c) (scalars cs) h).1 k) (λ t k. escaped_chars cs t (and_parts (scalar c) (scalars cs) h).1 k) q
+      (λ t k. quoted_chars cs t (and_parts (scalar c) (scalars cs) h).1 k)
+        (λ t k. escaped_chars cs t (and_parts (scalar c) (scalars cs) h).1 k) q
 
   escaped_chars : (cs s : List ℕ) → scalars cs ≡ true → IsEscaped (encodes cs) s → IsUtf8 s
   escaped_chars [] s h q = absurd q
-  escaped_chars (c ∷ cs) s h q = escaped_char c cs s (low_or_above c) (λ t k. quoted_chars cs t (and_parts (scalar c) (scalars cs) h).1 k) q
+  escaped_chars (c ∷ cs) s h q =
+    escaped_char c cs s (low_or_above c) (λ t k. quoted_chars cs t (and_parts (scalar c) (scalars cs) h).1 k) q
 
 string_utf8 : (own s : List ℕ) → IsQuoted own s → IsUtf8 own → IsUtf8 s
 string_utf8 own s q u = quoted_chars u.0 s u.1.0 (subst (λ (x : List ℕ). IsQuoted x s) (sym u.1.1) q)

@@ -1,14 +1,18 @@
--- The tokens that are in a text: their strings are text and their keywords names, and the first stands after separators and comments.
-use Rattle.std.proofs.Common.{◌≡◌, ℕ, suc, zero, ◌+◌, ◌-◌, ◌≤◌, List, [], ◌∷◌, ◌++◌, length, refl, sym, ap, ◌∙◌, subst, append_assoc, arith, lit<, inl, inr}
+-- The tokens that are in a text: their strings are text and their keywords names, and the first stands after
+-- separators and comments.
+use Rattle.std.proofs.Common.{◌≡◌, ℕ, suc, zero, ◌+◌, ◌-◌, ◌≤◌, List, [], ◌∷◌, ◌++◌, length, refl, sym, ap, ◌∙◌}
+use Rattle.std.proofs.Common.{subst, append_assoc, arith, lit<, inl, inr}
 use Rattle.std.specs.Prelude.{ℤ, ◌^◌}
 use Rattle.std.specs.Str.{IsUtf8}
-use Rattle.edn_reader.specs.Datum.{Atom, nil, boolean, integer, string, keyword, Datum, atom, vector, dictionary, Items, no_items, item, Entries, no_entries, entry}
+use Rattle.edn_reader.specs.Datum.{Atom, nil, boolean, integer, string, keyword, Datum, atom, vector, dictionary}
+use Rattle.edn_reader.specs.Datum.{Items, no_items, item, Entries, no_entries, entry}
 use Rattle.edn_reader.specs.Elements.{SpellsFront}
 use Rattle.edn_reader.specs.Reading.{skip}
 use Rattle.edn_reader.specs.Sound.{BeginWith, IsSoundFrom}
 use Rattle.edn_reader.specs.Spells.{IsWord, IsInteger, IsPositive, IsNegative, minus, Begins}
 use Rattle.edn_reader.specs.Text.{IsInt64, AtomInProfile, InProfile, ItemsInProfile, EntriesInProfile}
-use Rattle.edn_reader.specs.Token.{Token, open_vector, close_vector, open_map, close_map, leaf, tokens_of, items_tokens, entries_tokens}
+use Rattle.edn_reader.specs.Token.{Token, open_vector, close_vector, open_map, close_map, leaf, tokens_of}
+use Rattle.edn_reader.specs.Token.{items_tokens, entries_tokens}
 use Rattle.edn_reader.proofs.Lexical.{skip_within}
 use Rattle.edn_reader.proofs.Next.{skip_gap, begins_reads}
 use Rattle.edn_reader.proofs.Splits.{after_gap, after_begins, remains, string_at_utf8}
@@ -52,7 +56,9 @@ token_in open_map bytes rest u b = tt
 token_in close_map bytes rest u b = tt
 token_in (leaf d) bytes rest u (inl (a, own, e, w, k, p)) = subst InProfile (sym e) (word_in a own w)
 token_in (leaf d) bytes rest u (inr (s, own, e, q, p)) =
-    subst InProfile (sym e) (string_at_utf8 (own ++ 34 ∷ rest) s rest (string_from own s rest q) (remains 34 (own ++ 34 ∷ rest) (lit< tt) (subst IsUtf8 p u)))
+    subst InProfile (sym e)
+      (string_at_utf8 (own ++ 34 ∷ rest) s rest (string_from own s rest q)
+      (remains 34 (own ++ 34 ∷ rest) (lit< tt) (subst IsUtf8 p u)))
 
 -- ---- all tokens of a form
 
@@ -70,10 +76,12 @@ mutual
   datum_in : (d : Datum) (ts : List Token) → TokensIn (tokens_of d ++ ts) → InProfile d × TokensIn ts
   datum_in (atom a) ts h = (h.0, h.1)
   datum_in (vector ds) ts h =
-      let p = items_in ds (close_vector ∷ ts) (subst TokensIn (append_assoc (items_tokens ds) (close_vector ∷ []) ts) h.1) in
+      let p = items_in ds (close_vector ∷ ts)
+        (subst TokensIn (append_assoc (items_tokens ds) (close_vector ∷ []) ts) h.1) in
       (p.0, p.1.1)
   datum_in (dictionary es) ts h =
-      let p = entries_in es (close_map ∷ ts) (subst TokensIn (append_assoc (entries_tokens es) (close_map ∷ []) ts) h.1) in
+      let p = entries_in es (close_map ∷ ts)
+        (subst TokensIn (append_assoc (entries_tokens es) (close_map ∷ []) ts) h.1) in
       (p.0, p.1.1)
 
   items_in : (ds : Items) (ts : List Token) → TokensIn (items_tokens ds ++ ts) → ItemsInProfile ds × TokensIn ts
@@ -86,7 +94,8 @@ mutual
   entries_in : (es : Entries) (ts : List Token) → TokensIn (entries_tokens es ++ ts) → EntriesInProfile es × TokensIn ts
   entries_in no_entries ts h = (tt, h)
   entries_in (entry k d es) ts h =
-      let p = datum_in d (entries_tokens es ++ ts) (subst TokensIn (append_assoc (tokens_of d) (entries_tokens es) ts) h.1) in
+      let p = datum_in d (entries_tokens es ++ ts)
+        (subst TokensIn (append_assoc (tokens_of d) (entries_tokens es) ts) h.1) in
       let q = entries_in es ts p.1 in
       ((h.0, p.0, q.0), q.1)
 
@@ -101,12 +110,14 @@ first_token (atom a) = (leaf (atom a), [], refl)
 first_token (vector ds) = (open_vector, _, refl)
 first_token (dictionary es) = (open_map, _, refl)
 
-pub element_sound : (text rest : List ℕ) (d : Datum) (start place : ℕ) → IsUtf8 text → SpellsFront text (d ∷ []) rest → place + length (skip text) ≡ start + length text → IsSoundFrom start place text
+pub element_sound : (text rest : List ℕ) (d : Datum) (start place : ℕ) → IsUtf8 text → SpellsFront text (d ∷ []) rest
+    → place + length (skip text) ≡ start + length text → IsSoundFrom start place text
 element_sound text rest d start place u f e =
     let t = first_token d in
     by_first t.0 t.1 t.2 (subst (λ (ts : List Token). BeginWith ts text rest) t.2 f.begins)
   where
-    by_first : (t : Token) (ts : List Token) → tokens_of d ++ [] ≡ t ∷ ts → BeginWith (t ∷ ts) text rest → IsSoundFrom start place text
+    by_first : (t : Token) (ts : List Token) → tokens_of d ++ [] ≡ t ∷ ts → BeginWith (t ∷ ts) text rest
+      → IsSoundFrom start place text
     by_first t ts q (r, n, b) =
         let h : skip text ≡ n.1 = ap skip n.4 ∙ skip_gap n.0 n.1 n.2 (begins_reads n.1 t r n.3).stays in
         let l : length (skip text) ≡ length n.1 = ap length h in

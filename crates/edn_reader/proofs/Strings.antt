@@ -1,5 +1,6 @@
 -- Strings between their quotes.
-use Rattle.std.proofs.Common.{◌≡◌, ℕ, ◌<◌, Bool, true, false, cond, Option, Some, None, List, [], ◌∷◌, ◌++◌, length, refl, sym, ap, ◌∙◌, arith, inl, inr}
+use Rattle.std.proofs.Common.{◌≡◌, ℕ, ◌<◌, Bool, true, false, cond, Option, Some, None, List, [], ◌∷◌, ◌++◌, length}
+use Rattle.std.proofs.Common.{refl, sym, ap, ◌∙◌, arith, inl, inr}
 use Rattle.std.specs.Prelude.{◌==◌, option_and_then}
 use Rattle.std.proofs.lemmas.List.{length-append}
 use Rattle.std.proofs.lemmas.Bool.{eqb-true, eqb-false, ne_eqb}
@@ -41,8 +42,10 @@ same_pair s t r q e =
     let p = some_is {A = List ℕ × List ℕ} (s, r) (t, q) e in
     (ap (λ (x : List ℕ × List ℕ). x.0) p, ap (λ (x : List ℕ × List ℕ). x.1) p)
 
-plain_by : (b : ℕ) (bs s rest : List ℕ) (o : Option (List ℕ × List ℕ)) → string_at bs ≡ o → (b == 34) ≡ false → (b == 92) ≡ false
-    → ((t : List ℕ) → string_at bs ≡ Some (t, rest) → Quoted bs t rest) → with_byte b o ≡ Some (s, rest) → Quoted (b ∷ bs) s rest
+plain_by : (b : ℕ) (bs s rest : List ℕ) (o : Option (List ℕ × List ℕ)) → string_at bs ≡ o → (b == 34) ≡ false
+    → (b == 92) ≡ false
+    → ((t : List ℕ) → string_at bs ≡ Some (t, rest) → Quoted bs t rest) → with_byte b o ≡ Some (s, rest)
+    → Quoted (b ∷ bs) s rest
 plain_by b bs s rest None o n k ih e = absurd cc
 plain_by b bs s rest (Some p) o n k ih e =
     let q = same_pair (b ∷ p.0) s p.1 rest e in
@@ -50,23 +53,29 @@ plain_by b bs s rest (Some p) o n k ih e =
     (b ∷ h.0, inl (eqb-false b 34 n, eqb-false b 92 k, p.0, sym q.0, h.1), ap (λ (x : List ℕ). b ∷ x) h.2)
 
 quoted_by : (b : ℕ) (bs s rest : List ℕ) (m n : Bool) → (b == 34) ≡ m → (b == 92) ≡ n
-    → ((t : List ℕ) → string_at bs ≡ Some (t, rest) → Quoted bs t rest) → (escaped_at bs ≡ Some (s, rest) → Escaped bs s rest)
-    → cond m (Some ([], bs)) (cond n (escaped_at bs) (with_byte b (string_at bs))) ≡ Some (s, rest) → Quoted (b ∷ bs) s rest
+    → ((t : List ℕ) → string_at bs ≡ Some (t, rest) → Quoted bs t rest)
+    → (escaped_at bs ≡ Some (s, rest) → Escaped bs s rest)
+    → cond m (Some ([], bs)) (cond n (escaped_at bs) (with_byte b (string_at bs))) ≡ Some (s, rest)
+    → Quoted (b ∷ bs) s rest
 quoted_by b bs s rest true n hm hn ih jh e =
     let q = same_pair [] s bs rest e in
     ([], sym q.0, ap (λ (x : ℕ). x ∷ bs) (eqb-true b 34 hm) ∙ ap (λ (x : List ℕ). 34 ∷ x) q.1)
-quoted_by b bs s rest false true hm hn ih jh e = let h = jh e in (b ∷ h.0, inr (eqb-true b 92 hn, h.1), ap (λ (x : List ℕ). b ∷ x) h.2)
+quoted_by b bs s rest false true hm hn ih jh e =
+    let h = jh e in (b ∷ h.0, inr (eqb-true b 92 hn, h.1), ap (λ (x : List ℕ). b ∷ x) h.2)
 quoted_by b bs s rest false false hm hn ih jh e = plain_by b bs s rest (string_at bs) refl hm hn ih e
 
-with_escape : (c : ℕ) (cs s rest : List ℕ) (e : ℕ) (o : Option (List ℕ × List ℕ)) → escape_of c ≡ Some e → string_at cs ≡ o
-    → ((t : List ℕ) → string_at cs ≡ Some (t, rest) → Quoted cs t rest) → with_byte e o ≡ Some (s, rest) → Escaped (c ∷ cs) s rest
+with_escape : (c : ℕ) (cs s rest : List ℕ) (e : ℕ) (o : Option (List ℕ × List ℕ)) → escape_of c ≡ Some e
+    → string_at cs ≡ o
+    → ((t : List ℕ) → string_at cs ≡ Some (t, rest) → Quoted cs t rest) → with_byte e o ≡ Some (s, rest)
+    → Escaped (c ∷ cs) s rest
 with_escape c cs s rest e None x o ih h = absurd cc
 with_escape c cs s rest e (Some p) x o ih h =
     let q = same_pair (e ∷ p.0) s p.1 rest h in
     let k = ih p.0 (o ∙ ap (λ (y : List ℕ). found p.0 y) q.1) in
     (c ∷ k.0, (e, p.0, x, sym q.0, k.1), ap (λ (y : List ℕ). c ∷ y) k.2)
 
-escaped_by : (c : ℕ) (cs s rest : List ℕ) (x : Option ℕ) → escape_of c ≡ x → ((t : List ℕ) → string_at cs ≡ Some (t, rest) → Quoted cs t rest)
+escaped_by : (c : ℕ) (cs s rest : List ℕ) (x : Option ℕ) → escape_of c ≡ x
+    → ((t : List ℕ) → string_at cs ≡ Some (t, rest) → Quoted cs t rest)
     → option_and_then (λ e. with_byte e (string_at cs)) x ≡ Some (s, rest) → Escaped (c ∷ cs) s rest
 escaped_by c cs s rest None x ih h = absurd cc
 escaped_by c cs s rest (Some e) x ih h = with_escape c cs s rest e (string_at cs) x refl ih h
@@ -74,7 +83,8 @@ escaped_by c cs s rest (Some e) x ih h = with_escape c cs s rest e (string_at cs
 mutual
   pub string_is : (t s rest : List ℕ) → string_at t ≡ Some (s, rest) → Quoted t s rest
   string_is [] s rest e = absurd cc
-  string_is (b ∷ bs) s rest e = quoted_by b bs s rest (b == 34) (b == 92) refl refl (λ t h. string_is bs t rest h) (λ h. escaped_is bs s rest h) e
+  string_is (b ∷ bs) s rest e =
+    quoted_by b bs s rest (b == 34) (b == 92) refl refl (λ t h. string_is bs t rest h) (λ h. escaped_is bs s rest h) e
 
   pub escaped_is : (t s rest : List ℕ) → escaped_at t ≡ Some (s, rest) → Escaped t s rest
   escaped_is [] s rest e = absurd cc

@@ -1,5 +1,6 @@
 -- One turn of `TokenBuffer`: what holds of it after each token.
-use Rattle.std.proofs.Common.{◌≡◌, ◌⊎◌, ℕ, true, false, Option, Some, None, ◌<◌, List, [], ◌∷◌, ◌++◌, length, get_or, refl, sym, ap, subst, ◌∙◌, append_assoc, arith, inl, inr}
+use Rattle.std.proofs.Common.{◌≡◌, ◌⊎◌, ℕ, true, false, Option, Some, None, ◌<◌, List, [], ◌∷◌, ◌++◌, length}
+use Rattle.std.proofs.Common.{get_or, refl, sym, ap, subst, ◌∙◌, append_assoc, arith, inl, inr}
 use Rattle.std.specs.Prelude.{◌≤◌, option_map, option_and_then, IsSome, ◌==◌, nat_lt}
 use Rattle.std.proofs.lemmas.Bool.{eqb-true}
 use Rattle.std.proofs.lemmas.List.{append-nil}
@@ -7,9 +8,12 @@ use Rattle.std.specs.Str.{IsUtf8}
 use Rattle.edn_reader.specs.Datum.{Datum, ItemsFit, vector, dictionary, items_of, entries_of, max_open}
 use Rattle.edn_reader.specs.Token.{Token, open_vector, close_vector, open_map, close_map, leaf, tokens_of}
 use Rattle.edn_reader.specs.Spells.{Lexes, Spells}
-use Rattle.edn_reader.specs.Reading.{Next, after_token, end, bad, got, got_string, string_at, skip, first, next, Frame, in_text, in_vector, in_map}
-use Rattle.edn_reader.specs.Reading.{in_pair, put, takes_key, close_as, close_vector_at, close_map_at, open_at, State, step, steps, opening, closed}
-use Rattle.edn_reader.specs.Shapes.{Shape, whole_text, a_vector, a_map, Shapes, shape_list, shapes_of, shape_step, after_piece, nothing_open, waits_for_key, put_in}
+use Rattle.edn_reader.specs.Reading.{Next, after_token, end, bad, got, got_string, string_at, skip, first, next}
+use Rattle.edn_reader.specs.Reading.{Frame, in_text, in_vector, in_map}
+use Rattle.edn_reader.specs.Reading.{in_pair, put, takes_key, close_as, close_vector_at, close_map_at, open_at}
+use Rattle.edn_reader.specs.Reading.{State, step, steps, opening, closed}
+use Rattle.edn_reader.specs.Shapes.{Shape, whole_text, a_vector, a_map, Shapes, shape_list, shapes_of, shape_step}
+use Rattle.edn_reader.specs.Shapes.{after_piece, nothing_open, waits_for_key, put_in}
 use Rattle.edn_reader.specs.Elements.{SpellsFront, SpellsNothing, ReadsElement, HoldsToken}
 use Rattle.edn_reader.specs.Truncation.{Keeping, Keep}
 use Rattle.edn_reader.specs.IntegerVectors.{Held, nothing_held, hold, hold_all, noted}
@@ -19,13 +23,15 @@ use Rattle.edn_reader.proofs.Strings.{some_is}
 use Rattle.edn_reader.proofs.Consumed.{consumed, step_tokens, list_tokens, mapped, kept_if, unless_so}
 use Rattle.edn_reader.proofs.Lexical.{first_shorter, skip_within}
 use Rattle.edn_reader.specs.TokenBuffers.{IsSoundAfter}
-use Rattle.edn_reader.proofs.Progress.{Progress, plain, left, is_next, goes_on, next_at, at_end, ends_there, spells_there, closed_are, stops, sound}
+use Rattle.edn_reader.proofs.Progress.{Progress, plain, left, is_next, goes_on, next_at, at_end, ends_there}
+use Rattle.edn_reader.proofs.Progress.{spells_there, closed_are, stops, sound}
 use Rattle.edn_reader.proofs.Prefixes.{same_front}
 use Rattle.edn_reader.proofs.Shaped.{step_shape}
 
 -- ---- what was read is one element of the text
 
-pub lexed_consumed : (us : List Token) (rest : List ℕ) (s z : State) → Lexes us rest → steps us s ≡ Some z → consumed z ≡ consumed s ++ us
+pub lexed_consumed : (us : List Token) (rest : List ℕ) (s z : State) → Lexes us rest → steps us s ≡ Some z
+    → consumed z ≡ consumed s ++ us
 lexed_consumed [] rest s z l h = ap consumed (sym (some_is s z h)) ∙ sym (append-nil (consumed s))
 lexed_consumed (u ∷ us) rest s z (q, n, l) h = by_step (step u s) refl h (λ x k. lexed_consumed us q x z l k)
   where
@@ -36,19 +42,22 @@ lexed_consumed (u ∷ us) rest s z (q, n, l) h = by_step (step u s) refl h (λ x
         let a : consumed x ≡ consumed s ++ u ∷ [] = step_tokens u s x (plain n.1 u q n.3) e in
         ih x k ∙ ap (λ (ts : List Token). ts ++ us) a ∙ append_assoc (consumed s) (u ∷ []) us
 
-pub element_front : (text rest : List ℕ) (d : Datum) → Progress text rest (closed (d ∷ [])) → IsUtf8 text → SpellsFront text (d ∷ []) rest
+pub element_front : (text rest : List ℕ) (d : Datum) → Progress text rest (closed (d ∷ [])) → IsUtf8 text
+    → SpellsFront text (d ∷ []) rest
 element_front text rest d p u =
     record {
       begins = p.begins;
       fits = p.fits.inner;
       on = λ es h. record {
         utf8 = u;
-        tokens = subst (λ (ts : List Token). Lexes (ts ++ list_tokens es) text) (append-nil (tokens_of d)) (p.spelled (list_tokens es) h.tokens);
+        tokens = subst (λ (ts : List Token). Lexes (ts ++ list_tokens es) text) (append-nil (tokens_of d))
+          (p.spelled (list_tokens es) h.tokens);
         fits = (p.fits.inner.0, h.fits);
       };
       only = λ es h. (
           let a = left text rest (closed (d ∷ [])) es p h in
-          let c : list_tokens es ≡ (tokens_of d ++ []) ++ a.0 = lexed_consumed a.0 rest (closed (d ∷ [])) (closed es) a.1 a.2 in
+          let c : list_tokens es ≡ (tokens_of d ++ []) ++ a.0 =
+            lexed_consumed a.0 rest (closed (d ∷ [])) (closed es) a.1 a.2 in
           let b = same_front es d a.0 (c ∙ ap (λ (ts : List Token). ts ++ a.0) (append-nil (tokens_of d))) in (
             b.0,
             b.1,
@@ -88,7 +97,8 @@ close_going : (d : Datum) (fs : List Frame) (z : State) → close_as d fs ≡ So
 close_going d [] z e h = absurd h
 close_going d (f ∷ []) z e h =
     let m = mapped (λ (g : Frame). let x : State = record { inner = g; outer = [] } in x) (put f d) z e in
-    inr (d, sym m.2 ∙ ap (λ (g : Frame). let x : State = record { inner = g; outer = [] } in x) (put_last f d m.0 h m.1))
+    inr (d, sym m.2 ∙ ap (λ (g : Frame). let x : State = record { inner = g; outer = [] } in x)
+      (put_last f d m.0 h m.1))
 close_going d (f ∷ g ∷ fs) z e h =
     let m = mapped (λ (x : Frame). let y : State = record { inner = x; outer = g ∷ fs } in y) (put f d) z e in
     inl (subst (λ (x : State). IsInside x.outer) m.2 h)
@@ -141,12 +151,15 @@ pub record Taken (s : State) (n : Next) (now_open : Shapes) (r : List ℕ) : Typ
   pub steps_to : step token s ≡ Some after
   pub shaped : shapes_of after ≡ now_open
 
-pub taken : (s : State) (n : Next) (now_open : Shapes) (r : List ℕ) → after_piece (shapes_of s) n ≡ Some (now_open, r) → Taken s n now_open r
+pub taken : (s : State) (n : Next) (now_open : Shapes) (r : List ℕ) → after_piece (shapes_of s) n ≡ Some (now_open, r)
+    → Taken s n now_open r
 taken s end now_open r e = absurd cc
 taken s bad now_open r e = absurd cc
 taken s (got t q) now_open r e = by_shape (shape_step t (shapes_of s)) (step_shape t s) e
   where
-    by_shape : (o : Option Shapes) → option_map shapes_of (step t s) ≡ o → option_map (λ (z : Shapes). let x : Shapes × List ℕ = (z, q) in x) o ≡ Some (now_open, r) → Taken s (got t q) now_open r
+    by_shape : (o : Option Shapes) → option_map shapes_of (step t s) ≡ o
+      → option_map (λ (z : Shapes). let x : Shapes × List ℕ = (z, q) in x) o ≡ Some (now_open, r)
+      → Taken s (got t q) now_open r
     by_shape None h k = absurd cc
     by_shape (Some z) h k =
         let p = some_is {A = Shapes × List ℕ} (z, q) (now_open, r) k in
@@ -160,9 +173,11 @@ not_taken s end e = refl
 not_taken s bad e = refl
 not_taken s (got t q) e = by_step (step t s) (step_shape t s)
   where
-    by_step : (o : Option State) → option_map shapes_of o ≡ shape_step t (shapes_of s) → option_map (λ (z : State). let x : State × List ℕ = (z, q) in x) o ≡ None
+    by_step : (o : Option State) → option_map shapes_of o ≡ shape_step t (shapes_of s)
+      → option_map (λ (z : State). let x : State × List ℕ = (z, q) in x) o ≡ None
     by_step None h = refl
-    by_step (Some z) h = let none : option_map (λ (y : Shapes). let x : Shapes × List ℕ = (y, q) in x) (Some (shapes_of z)) ≡ None =
+    by_step (Some z) h =
+        let none : option_map (λ (y : Shapes). let x : Shapes × List ℕ = (y, q) in x) (Some (shapes_of z)) ≡ None =
         ap (option_map (λ (y : Shapes). let x : Shapes × List ℕ = (y, q) in x)) h ∙ e in absurd cc
 
 -- a token that the shapes take, the reader takes
@@ -171,18 +186,22 @@ taken_too s end e = absurd cc
 taken_too s bad e = absurd cc
 taken_too s (got t q) e = by_step (step t s) (step_shape t s)
   where
-    by_step : (o : Option State) → option_map shapes_of o ≡ shape_step t (shapes_of s) → IsSome (option_map (λ (z : State). let x : State × List ℕ = (z, q) in x) o)
+    by_step : (o : Option State) → option_map shapes_of o ≡ shape_step t (shapes_of s)
+      → IsSome (option_map (λ (z : State). let x : State × List ℕ = (z, q) in x) o)
     by_step None h = let none : IsSome (option_map (λ (y : Shapes). let x : Shapes × List ℕ = (y, q) in x) None) =
-        subst (λ (o : Option Shapes). IsSome (option_map (λ (y : Shapes). let x : Shapes × List ℕ = (y, q) in x) o)) (sym h) e in absurd cc
+        subst (λ (o : Option Shapes). IsSome (option_map (λ (y : Shapes). let x : Shapes × List ℕ = (y, q) in x) o))
+          (sym h) e in absurd cc
     by_step (Some z) h = refl
 
-step_consumed : (rest : List ℕ) (t : Token) (r : List ℕ) (s z : State) → next rest ≡ got t r → step t s ≡ Some z → consumed z ≡ consumed s ++ t ∷ []
+step_consumed : (rest : List ℕ) (t : Token) (r : List ℕ) (s z : State) → next rest ≡ got t r → step t s ≡ Some z
+    → consumed z ≡ consumed s ++ t ∷ []
 step_consumed rest t r s z e f = let n = is_next rest t r e in step_tokens t s z (plain n.1 t r n.3) f
 
 -- where something is open the element is not whole
 inside_of : (s : State) (old : Shapes) → shapes_of s ≡ old → (old.outer ≡ [] → ⊥) → IsGoing s → IsInside s.outer
 inside_of s old e h (inl i) = i
-inside_of s old e h (inr (d, q)) = absurd (h (sym (ap (λ (x : Shapes). x.outer) e) ∙ ap (λ (x : State). shape_list x.outer) q))
+inside_of s old e h (inr (d, q)) =
+    absurd (h (sym (ap (λ (x : Shapes). x.outer) e) ∙ ap (λ (x : State). shape_list x.outer) q))
 
 pub start : (text : List ℕ) → IsUtf8 text → Progress text text opening
 start text u = record {
@@ -197,8 +216,10 @@ start text u = record {
 }
 
 -- the first token of an element
-pub first_turn : (keeping : Keeping) (text here r : List ℕ) (now_open : Shapes) (kept : Held) → IsUtf8 text → here ≡ skip text
-    → after_piece nothing_open (first here) ≡ Some (now_open, r) → HoldsToken (nothing_held keeping) (first here) kept → Midway keeping text r now_open kept
+pub first_turn : (keeping : Keeping) (text here r : List ℕ) (now_open : Shapes) (kept : Held) → IsUtf8 text
+    → here ≡ skip text
+    → after_piece nothing_open (first here) ≡ Some (now_open, r) → HoldsToken (nothing_held keeping) (first here) kept
+    → Midway keeping text r now_open kept
 first_turn keeping text here r now_open kept u h e k =
     let t = taken opening (first here) now_open r e in
     let n : next text ≡ got t.token r = next_at text here h ∙ t.is in
@@ -207,16 +228,19 @@ first_turn keeping text here r now_open kept u h e k =
       state = t.after;
       progress = p;
       shaped = t.shaped;
-      kept = ap (λ (ts : List Token). hold_all ts (nothing_held keeping)) (step_consumed text t.token r opening t.after n t.steps_to) ∙ sym (k t.token r t.is);
+      kept = ap (λ (ts : List Token). hold_all ts (nothing_held keeping))
+        (step_consumed text t.token r opening t.after n t.steps_to) ∙ sym (k t.token r t.is);
       going = step_first t.token t.after t.steps_to;
     }
 
 -- a token after others
-pub next_turn : (keeping : Keeping) (text rest here r : List ℕ) (old new : Shapes) (kept more : Held) → here ≡ skip rest → (old.outer ≡ [] → ⊥)
+pub next_turn : (keeping : Keeping) (text rest here r : List ℕ) (old new : Shapes) (kept more : Held)
+    → here ≡ skip rest → (old.outer ≡ [] → ⊥)
     → after_piece old (first here) ≡ Some (new, r) → HoldsToken kept (first here) more
     → Midway keeping text rest old kept → Midway keeping text r new more
 next_turn keeping text rest here r old new kept more h inside e k m =
-    let e' : after_piece (shapes_of m.state) (first here) ≡ Some (new, r) = ap (λ (s : Shapes). after_piece s (first here)) m.shaped ∙ e in
+    let e' : after_piece (shapes_of m.state) (first here) ≡ Some (new, r) =
+      ap (λ (s : Shapes). after_piece s (first here)) m.shaped ∙ e in
     let t = taken m.state (first here) new r e' in
     let n : next rest ≡ got t.token r = next_at rest here h ∙ t.is in
     record {
@@ -224,7 +248,8 @@ next_turn keeping text rest here r old new kept more h inside e k m =
       progress = goes_on text rest t.token r m.state t.after n t.steps_to m.progress;
       shaped = t.shaped;
       kept =
-          ap (λ (ts : List Token). hold_all ts (nothing_held keeping)) (step_consumed rest t.token r m.state t.after n t.steps_to)
+          ap (λ (ts : List Token). hold_all ts (nothing_held keeping))
+            (step_consumed rest t.token r m.state t.after n t.steps_to)
           ∙ hold_append (consumed m.state) (t.token ∷ []) (nothing_held keeping)
           ∙ ap (hold t.token) m.kept
           ∙ sym (k t.token r t.is);
@@ -232,8 +257,10 @@ next_turn keeping text rest here r old new kept more h inside e k m =
     }
 
 -- nothing is open: the element is whole
-pub whole : (keeping : Keeping) (text rest : List ℕ) (now_open : Shapes) (kept : Held) → IsUtf8 text → now_open.outer ≡ []
-    → Midway keeping text rest now_open kept → ReadsElement keeping text kept.kept.tokens (noted kept.integer_vector) rest
+pub whole : (keeping : Keeping) (text rest : List ℕ) (now_open : Shapes) (kept : Held) → IsUtf8 text
+    → now_open.outer ≡ []
+    → Midway keeping text rest now_open kept
+    → ReadsElement keeping text kept.kept.tokens (noted kept.integer_vector) rest
 whole keeping text rest now_open kept u e m = by_going m.going
   where
     by_going : IsGoing m.state → ReadsElement keeping text kept.kept.tokens (noted kept.integer_vector) rest
@@ -244,17 +271,21 @@ whole keeping text rest now_open kept u e m = by_going m.going
         not_inside (f ∷ fs) i h = cc
     by_going (inr (d, q)) =
         let p : Progress text rest (closed (d ∷ [])) = subst (λ (s : State). Progress text rest s) q m.progress in
-        let held : kept ≡ hold_all (tokens_of d) (nothing_held keeping) = sym m.kept ∙ ap (λ (ts : List Token). hold_all ts (nothing_held keeping)) (ap consumed q ∙ append-nil (tokens_of d)) in
+        let held : kept ≡ hold_all (tokens_of d) (nothing_held keeping) =
+          sym m.kept ∙ ap (λ (ts : List Token). hold_all ts (nothing_held keeping))
+          (ap consumed q ∙ append-nil (tokens_of d)) in
         record {
           element = d;
-          own = ap (λ (k : Held). k.kept.tokens) held ∙ ap (λ (k : Keep). k.tokens) (held_kept (tokens_of d) (nothing_held keeping)) ∙ kept_tokens keeping.cuts d;
+          own = ap (λ (k : Held). k.kept.tokens) held
+            ∙ ap (λ (k : Keep). k.tokens) (held_kept (tokens_of d) (nothing_held keeping)) ∙ kept_tokens keeping.cuts d;
           own_integer_vector = ap (λ (k : Held). noted k.integer_vector) held ∙ integer_vector_held keeping d;
           front = element_front text rest d p u;
           utf8 = p.utf8;
         }
 
 -- then nothing is open but the text
-pub whole_open : (keeping : Keeping) (text rest : List ℕ) (now_open : Shapes) (kept : Held) → now_open.outer ≡ [] → Midway keeping text rest now_open kept → now_open ≡ nothing_open
+pub whole_open : (keeping : Keeping) (text rest : List ℕ) (now_open : Shapes) (kept : Held) → now_open.outer ≡ []
+    → Midway keeping text rest now_open kept → now_open ≡ nothing_open
 whole_open keeping text rest now_open kept e m = by_going m.going
   where
     by_going : IsGoing m.state → now_open ≡ nothing_open
@@ -267,38 +298,50 @@ whole_open keeping text rest now_open kept e m = by_going m.going
 
 -- ---- where reading stops
 
-pub none_first : (text here : List ℕ) → IsUtf8 text → here ≡ skip text → 0 < length here → after_piece nothing_open (first here) ≡ None → (ds : List Datum) → Spells ds text → ⊥
+pub none_first : (text here : List ℕ) → IsUtf8 text → here ≡ skip text → 0 < length here
+    → after_piece nothing_open (first here) ≡ None → (ds : List Datum) → Spells ds text → ⊥
 none_first text here u h some e = stops text text here opening h some (not_taken opening (first here) e) (start text u)
 
-pub none_next : (keeping : Keeping) (text rest here : List ℕ) (now_open : Shapes) (kept : Held) → here ≡ skip rest → 0 < length here
-    → after_piece now_open (first here) ≡ None → Midway keeping text rest now_open kept → (ds : List Datum) → Spells ds text → ⊥
+pub none_next : (keeping : Keeping) (text rest here : List ℕ) (now_open : Shapes) (kept : Held) → here ≡ skip rest
+    → 0 < length here
+    → after_piece now_open (first here) ≡ None → Midway keeping text rest now_open kept → (ds : List Datum)
+    → Spells ds text → ⊥
 none_next keeping text rest here now_open kept h some e m =
-    stops text rest here m.state h some (not_taken m.state (first here) (ap (λ (s : Shapes). after_piece s (first here)) m.shaped ∙ e)) m.progress
+    stops text rest here m.state h some
+      (not_taken m.state (first here) (ap (λ (s : Shapes). after_piece s (first here)) m.shaped ∙ e)) m.progress
 
 -- nothing is wrong up to a token that would be taken
-pub sound_next : (keeping : Keeping) (text rest here : List ℕ) (now_open : Shapes) (kept : Held) → IsUtf8 text → here ≡ skip rest
-    → IsSome (after_piece now_open (first here)) → Midway keeping text rest now_open kept → IsSoundAfter (length here) text
+pub sound_next : (keeping : Keeping) (text rest here : List ℕ) (now_open : Shapes) (kept : Held) → IsUtf8 text
+    → here ≡ skip rest
+    → IsSome (after_piece now_open (first here)) → Midway keeping text rest now_open kept
+    → IsSoundAfter (length here) text
 sound_next keeping text rest here now_open kept u h e m =
     let within : length here ≤ length text = omega (arith, ap length h, skip_within rest, m.progress.within) in
-    (within, sound text rest here m.state h u m.progress (taken_too m.state (first here) (subst (λ (s : Shapes). IsSome (after_piece s (first here))) (sym m.shaped) e)))
+    (within, sound text rest here m.state h u m.progress
+      (taken_too m.state (first here) (subst (λ (s : Shapes). IsSome (after_piece s (first here))) (sym m.shaped) e)))
 
-pub sound_first : (text here : List ℕ) (old : Shapes) → IsUtf8 text → here ≡ skip text → old ≡ nothing_open → IsSome (after_piece old (first here)) → IsSoundAfter (length here) text
+pub sound_first : (text here : List ℕ) (old : Shapes) → IsUtf8 text → here ≡ skip text → old ≡ nothing_open
+    → IsSome (after_piece old (first here)) → IsSoundAfter (length here) text
 sound_first text here old u h o e =
     let within : length here ≤ length text = omega (arith, ap length h, skip_within text) in
-    (within, sound text text here opening h u (start text u) (taken_too opening (first here) (subst (λ (s : Shapes). IsSome (after_piece s (first here))) o e)))
+    (within, sound text text here opening h u (start text u)
+      (taken_too opening (first here) (subst (λ (s : Shapes). IsSome (after_piece s (first here))) o e)))
 
 -- the text ends inside an element
-pub none_at_end : (keeping : Keeping) (text rest here : List ℕ) (now_open : Shapes) (kept : Held) → here ≡ skip rest → true ≡ (length here == 0)
+pub none_at_end : (keeping : Keeping) (text rest here : List ℕ) (now_open : Shapes) (kept : Held) → here ≡ skip rest
+    → true ≡ (length here == 0)
     → (now_open.outer ≡ [] → ⊥) → Midway keeping text rest now_open kept → (ds : List Datum) → Spells ds text → ⊥
 none_at_end keeping text rest here now_open kept h e inside m ds k =
     let q : m.state ≡ closed ds = ends_there text rest m.state (at_end rest here h e) m.progress ds k in
     inside (sym (ap (λ (x : Shapes). x.outer) m.shaped) ∙ ap (λ (x : State). shape_list x.outer) q)
 
 -- the text ends before an element
-pub nothing_more : (text here : List ℕ) → IsUtf8 text → here ≡ skip text → true ≡ (length here == 0) → SpellsNothing text
+pub nothing_more : (text here : List ℕ) → IsUtf8 text → here ≡ skip text → true ≡ (length here == 0)
+    → SpellsNothing text
 nothing_more text here u h e =
     let n = at_end text here h e in
-    record { spelled = spells_there text text [] n (start text u) u; only = λ es k. sym (closed_are [] es (ends_there text text opening n (start text u) es k)) }
+    record { spelled = spells_there text text [] n (start text u) u;
+        only = λ es k. sym (closed_are [] es (ends_there text text opening n (start text u) es k)) }
 
 -- ---- as the loop has them
 
@@ -309,32 +352,47 @@ nothing_in : (fs : List Shape) → true ≡ (length fs == 0) → fs ≡ []
 nothing_in [] h = refl
 nothing_in (f ∷ fs) h = let z : length (f ∷ fs) ≡ 0 = eqb-true (length (f ∷ fs)) 0 (sym h) in absurd (omega arith)
 
-pub loop_init : (keeping : Keeping) (text here r : List ℕ) (old new : Shapes) (kept more : Held) → IsUtf8 text → here ≡ skip text → old ≡ nothing_open
-    → kept ≡ nothing_held keeping → after_piece old (first here) ≡ Some (new, r) → HoldsToken kept (first here) more → Midway keeping text r new more
+pub loop_init : (keeping : Keeping) (text here r : List ℕ) (old new : Shapes) (kept more : Held) → IsUtf8 text
+    → here ≡ skip text → old ≡ nothing_open
+    → kept ≡ nothing_held keeping → after_piece old (first here) ≡ Some (new, r) → HoldsToken kept (first here) more
+    → Midway keeping text r new more
 loop_init keeping text here r old new kept more u h o z e k =
-    first_turn keeping text here r new more u h (ap (λ (s : Shapes). after_piece s (first here)) (sym o) ∙ e) (λ t q n. k t q n ∙ ap (hold t) z)
+    first_turn keeping text here r new more u h (ap (λ (s : Shapes). after_piece s (first here)) (sym o) ∙ e)
+      (λ t q n. k t q n ∙ ap (hold t) z)
 
 pub loop_turn : (keeping : Keeping) (text rest here r : List ℕ) (old new : Shapes) (kept more : Held) → here ≡ skip rest
     → false ≡ (length old.outer == 0) → after_piece old (first here) ≡ Some (new, r) → HoldsToken kept (first here) more
     → Midway keeping text rest old kept → Midway keeping text r new more
-loop_turn keeping text rest here r old new kept more h o e k m = next_turn keeping text rest here r old new kept more h (is_open old o) e k m
+loop_turn keeping text rest here r old new kept more h o e k m =
+    next_turn keeping text rest here r old new kept more h (is_open old o) e k m
 
-pub loop_whole : (keeping : Keeping) (text rest : List ℕ) (now_open : Shapes) (kept : Held) → IsUtf8 text → true ≡ (length now_open.outer == 0)
-    → Midway keeping text rest now_open kept → ReadsElement keeping text kept.kept.tokens (noted kept.integer_vector) rest
-loop_whole keeping text rest now_open kept u o m = whole keeping text rest now_open kept u (nothing_in now_open.outer o) m
+pub loop_whole : (keeping : Keeping) (text rest : List ℕ) (now_open : Shapes) (kept : Held) → IsUtf8 text
+    → true ≡ (length now_open.outer == 0)
+    → Midway keeping text rest now_open kept
+    → ReadsElement keeping text kept.kept.tokens (noted kept.integer_vector) rest
+loop_whole keeping text rest now_open kept u o m =
+    whole keeping text rest now_open kept u (nothing_in now_open.outer o) m
 
-pub loop_fresh : (keeping : Keeping) (text rest : List ℕ) (now_open : Shapes) (kept : Held) → true ≡ (length now_open.outer == 0) → Midway keeping text rest now_open kept → now_open ≡ nothing_open
-loop_fresh keeping text rest now_open kept o m = whole_open keeping text rest now_open kept (nothing_in now_open.outer o) m
+pub loop_fresh : (keeping : Keeping) (text rest : List ℕ) (now_open : Shapes) (kept : Held)
+    → true ≡ (length now_open.outer == 0) → Midway keeping text rest now_open kept → now_open ≡ nothing_open
+loop_fresh keeping text rest now_open kept o m =
+    whole_open keeping text rest now_open kept (nothing_in now_open.outer o) m
 
-pub loop_none_first : (text here : List ℕ) (old : Shapes) → IsUtf8 text → here ≡ skip text → 0 < length here → old ≡ nothing_open
+pub loop_none_first : (text here : List ℕ) (old : Shapes) → IsUtf8 text → here ≡ skip text → 0 < length here
+    → old ≡ nothing_open
     → after_piece old (first here) ≡ None → (ds : List Datum) → Spells ds text → ⊥
-loop_none_first text here old u h some o e = none_first text here u h some (ap (λ (s : Shapes). after_piece s (first here)) (sym o) ∙ e)
+loop_none_first text here old u h some o e =
+    none_first text here u h some (ap (λ (s : Shapes). after_piece s (first here)) (sym o) ∙ e)
 
-pub loop_none_at_end : (keeping : Keeping) (text rest here : List ℕ) (now_open : Shapes) (kept : Held) → here ≡ skip rest → true ≡ (length here == 0)
-    → false ≡ (length now_open.outer == 0) → Midway keeping text rest now_open kept → (ds : List Datum) → Spells ds text → ⊥
-loop_none_at_end keeping text rest here now_open kept h e o m = none_at_end keeping text rest here now_open kept h e (is_open now_open o) m
+pub loop_none_at_end : (keeping : Keeping) (text rest here : List ℕ) (now_open : Shapes) (kept : Held)
+    → here ≡ skip rest → true ≡ (length here == 0)
+    → false ≡ (length now_open.outer == 0) → Midway keeping text rest now_open kept → (ds : List Datum)
+    → Spells ds text → ⊥
+loop_none_at_end keeping text rest here now_open kept h e o m =
+    none_at_end keeping text rest here now_open kept h e (is_open now_open o) m
 
-pub after_piece_shorter : (t : List ℕ) (s z : Shapes) (r : List ℕ) → after_piece s (first t) ≡ Some (z, r) → length r < length t
+pub after_piece_shorter : (t : List ℕ) (s z : Shapes) (r : List ℕ) → after_piece s (first t) ≡ Some (z, r)
+    → length r < length t
 after_piece_shorter t s z r e = by_next (first t) refl e
   where
     by_next : (n : Next) → first t ≡ n → after_piece s n ≡ Some (z, r) → length r < length t
@@ -342,9 +400,12 @@ after_piece_shorter t s z r e = by_next (first t) refl e
     by_next bad f k = absurd cc
     by_next (got u q) f k = let p = first_shorter t u q f in by_step (shape_step u s) k
       where
-        by_step : (o : Option Shapes) → option_map (λ (y : Shapes). let x : Shapes × List ℕ = (y, q) in x) o ≡ Some (z, r) → length r < length t
+        by_step : (o : Option Shapes)
+          → option_map (λ (y : Shapes). let x : Shapes × List ℕ = (y, q) in x) o ≡ Some (z, r) → length r < length t
         by_step None h = absurd cc
-        by_step (Some y) h = let a = some_is {A = Shapes × List ℕ} (y, q) (z, r) h in subst (λ (x : List ℕ). length x < length t) (ap (λ (x : Shapes × List ℕ). x.1) a) (first_shorter t u q f)
+        by_step (Some y) h =
+            let a = some_is {A = Shapes × List ℕ} (y, q) (z, r) h in
+            subst (λ (x : List ℕ). length x < length t) (ap (λ (x : Shapes × List ℕ). x.1) a) (first_shorter t u q f)
 
 -- ---- a string is no key
 
@@ -354,12 +415,14 @@ not_put_in a_vector e = absurd cc
 not_put_in (a_map true ks) e = absurd cc
 not_put_in (a_map false ks) e = refl
 
-quote_not_taken : (s : Shapes) (o : Option (List ℕ × List ℕ)) → waits_for_key s.inner ≡ true → after_piece s (got_string o) ≡ None
+quote_not_taken : (s : Shapes) (o : Option (List ℕ × List ℕ)) → waits_for_key s.inner ≡ true
+    → after_piece s (got_string o) ≡ None
 unfolding shape_step
 quote_not_taken s None e = refl
 quote_not_taken s (Some p) e = rw (not_put_in s.inner e) refl
 
-pub no_string_key : (bytes : List ℕ) (s : Shapes) → true ≡ waits_for_key s.inner → get_or bytes 0 0 ≡ 34 → after_piece s (first bytes) ≡ None
+pub no_string_key : (bytes : List ℕ) (s : Shapes) → true ≡ waits_for_key s.inner → get_or bytes 0 0 ≡ 34
+    → after_piece s (first bytes) ≡ None
 unfolding first
 no_string_key [] s e q = absurd cc
 no_string_key (b ∷ bs) s e q = let h : b ≡ 34 = q in rw h (quote_not_taken s (string_at bs) (sym e))

@@ -1,5 +1,6 @@
 -- The text that is written for a form is UTF-8.
-use Rattle.std.proofs.Common.{◌≡◌, ℕ, suc, ◌<◌, ◌≤◌, Bool, true, false, cond, List, [], ◌∷◌, ◌++◌, length, get_or, refl, sym, ap, ◌∙◌, subst, append_assoc, arith, inl, inr}
+use Rattle.std.proofs.Common.{◌≡◌, ℕ, suc, ◌<◌, ◌≤◌, Bool, true, false, cond, List, [], ◌∷◌, ◌++◌, length, get_or}
+use Rattle.std.proofs.Common.{refl, sym, ap, ◌∙◌, subst, append_assoc, arith, inl, inr}
 use Rattle.std.specs.Prelude.{◌==◌, nat_lt, codes, ℤ, pos, negsuc}
 use Rattle.std.specs.Fmt.{decimal, signed_decimal}
 use Rattle.std.specs.List.{list_all}
@@ -11,8 +12,10 @@ use Rattle.std.proofs.lemmas.Bool.Decides.{nat_tests}
 use Rattle.std.proofs.lemmas.Str.{IsUtf8-append, IsUtf8-from_ascii, IsUtf8-encode, IsUtf8-nil, encode_ascii, inside_one}
 use Rattle.std.proofs.lemmas.Str.Ascii.{IsAscii-nil, IsAscii-cons}
 use Rattle.edn_reader.specs.Bytes.{is_digit}
-use Rattle.edn_reader.specs.Datum.{Atom, nil, boolean, integer, string, keyword, Datum, atom, vector, dictionary, Items, no_items, item, Entries, no_entries, entry}
-use Rattle.edn_reader.specs.Text.{escape_text, escaped, atom_text, between, text_of, items_text, entries_text, IsInt64, AtomInProfile, InProfile, ItemsInProfile, EntriesInProfile}
+use Rattle.edn_reader.specs.Datum.{Atom, nil, boolean, integer, string, keyword, Datum, atom, vector, dictionary}
+use Rattle.edn_reader.specs.Datum.{Items, no_items, item, Entries, no_entries, entry}
+use Rattle.edn_reader.specs.Text.{escape_text, escaped, atom_text, between, text_of, items_text, entries_text}
+use Rattle.edn_reader.specs.Text.{IsInt64, AtomInProfile, InProfile, ItemsInProfile, EntriesInProfile}
 use Rattle.edn_reader.specs.Writing.{is_plain}
 use Rattle.edn_reader.proofs.Decimals.{decimal_is}
 use Rattle.edn_reader.proofs.Escapes.{plain_text}
@@ -25,7 +28,8 @@ below b = nat_lt b 128
 
 ascii : (bs : List ℕ) → list_all below bs ≡ true → IsAscii bs
 ascii [] h = IsAscii-nil
-ascii (b ∷ bs) h = let p = and_parts (below b) (list_all below bs) h in IsAscii-cons b bs (ltb-true b 128 p.0) (ascii bs p.1)
+ascii (b ∷ bs) h =
+    let p = and_parts (below b) (list_all below bs) h in IsAscii-cons b bs (ltb-true b 128 p.0) (ascii bs p.1)
 
 pub ascii_utf8 : (bs : List ℕ) → list_all below bs ≡ true → IsUtf8 bs
 ascii_utf8 bs h = IsUtf8-from_ascii bs (ascii bs h)
@@ -35,16 +39,20 @@ digit_below b h = grind (arith, nat_tests)
 
 digits_below : (ds : List ℕ) → list_all is_digit ds ≡ true → list_all below ds ≡ true
 digits_below [] h = refl
-digits_below (b ∷ bs) h = let p = and_parts (is_digit b) (list_all is_digit bs) h in and_from (below b) (list_all below bs) (digit_below b p.0) (digits_below bs p.1)
+digits_below (b ∷ bs) h =
+    let p = and_parts (is_digit b) (list_all is_digit bs) h in
+    and_from (below b) (list_all below bs) (digit_below b p.0) (digits_below bs p.1)
 
 integer_utf8 : (z : ℤ) → IsInt64 z → IsUtf8 (signed_decimal z)
 integer_utf8 (pos n) h = ascii_utf8 (decimal n) (digits_below (decimal n) (decimal_is n (omega arith)).digits)
-integer_utf8 (negsuc n) h = ascii_utf8 (45 ∷ decimal (suc n)) (digits_below (decimal (suc n)) (decimal_is (suc n) (omega arith)).digits)
+integer_utf8 (negsuc n) h =
+    ascii_utf8 (45 ∷ decimal (suc n)) (digits_below (decimal (suc n)) (decimal_is (suc n) (omega arith)).digits)
 
 -- ---- strings
 
 escape_by : (b : ℕ) (t r n k q : Bool) → list_all below (b ∷ []) ≡ true
-    → list_all below (cond t (codes "\\t") (cond r (codes "\\r") (cond n (codes "\\n") (cond k (codes "\\\\") (cond q (codes "\\\"") (b ∷ [])))))) ≡ true
+    → list_all below (cond t (codes "\\t")
+      (cond r (codes "\\r") (cond n (codes "\\n") (cond k (codes "\\\\") (cond q (codes "\\\"") (b ∷ [])))))) ≡ true
 escape_by b true r n k q h = refl
 escape_by b false true n k q h = refl
 escape_by b false false true k q h = refl
@@ -53,11 +61,14 @@ escape_by b false false false false true h = refl
 escape_by b false false false false false h = h
 
 escape_utf8 : (b : ℕ) → b < 128 → IsUtf8 (escape_text b)
-escape_utf8 b h = ascii_utf8 (escape_text b) (escape_by b (b == 9) (b == 13) (b == 10) (b == 92) (b == 34) (and_from (below b) true (lt-ltb b 128 h) refl))
+escape_utf8 b h = ascii_utf8 (escape_text b)
+    (escape_by b (b == 9) (b == 13) (b == 10) (b == 92) (b == 34) (and_from (below b) true (lt-ltb b 128 h) refl))
 
 escaped-append : (xs ys : List ℕ) → escaped (xs ++ ys) ≡ escaped xs ++ escaped ys
 escaped-append [] ys = refl
-escaped-append (x ∷ xs) ys = ap (λ (t : List ℕ). escape_text x ++ t) (escaped-append xs ys) ∙ sym (append_assoc (escape_text x) (escaped xs) (escaped ys))
+escaped-append (x ∷ xs) ys =
+    ap (λ (t : List ℕ). escape_text x ++ t) (escaped-append xs ys)
+    ∙ sym (append_assoc (escape_text x) (escaped xs) (escaped ys))
 
 above_plain : (b : ℕ) → 128 ≤ b → is_plain b ≡ true
 above_plain b h =
@@ -76,22 +87,27 @@ escaped_above (x ∷ xs) h =
 
 pub bytes_above : (c : ℕ) → 128 ≤ c → (k : ℕ) → k < length (encode c) → 128 ≤ get_or (encode c) k 0
 bytes_above c h k lt = elim (cases_Bool (nat_lt (get_or (encode c) k 0) 128)) [
-  | inl e ↦ (let b : get_or (encode c) k 0 < 128 = ltb-true (get_or (encode c) k 0) 128 e in let s : c ≡ get_or (encode c) k 0 =
+  | inl e ↦ (let b : get_or (encode c) k 0 < 128 = ltb-true (get_or (encode c) k 0) 128 e in
+    let s : c ≡ get_or (encode c) k 0 =
       inside_one c [] (encode c) k (sym (append-nil (encode c))) lt b in absurd (omega arith))
   | inr e ↦ grind (arith, nat_tests)
 ]
 
 character_utf8 : (c : ℕ) → scalar c ≡ true → IsUtf8 (escaped (encode c))
 character_utf8 c h = elim (cases_Bool (nat_lt c 128)) [
-  | inl e ↦ (let b : c < 128 = ltb-true c 128 e in let q : escaped (encode c) ≡ escape_text c = ap escaped (encode_ascii c b) ∙ append-nil (escape_text c) in subst IsUtf8 (sym q) (escape_utf8 c b))
-  | inr e ↦ (let b : 128 ≤ c = grind (arith, nat_tests) in subst IsUtf8 (sym (escaped_above (encode c) (bytes_above c b))) (IsUtf8-encode c h))
+  | inl e ↦ (let b : c < 128 = ltb-true c 128 e in
+    let q : escaped (encode c) ≡ escape_text c = ap escaped (encode_ascii c b) ∙ append-nil (escape_text c) in
+    subst IsUtf8 (sym q) (escape_utf8 c b))
+  | inr e ↦ (let b : 128 ≤ c = grind (arith, nat_tests) in
+    subst IsUtf8 (sym (escaped_above (encode c) (bytes_above c b))) (IsUtf8-encode c h))
 ]
 
 characters_utf8 : (cs : List ℕ) → scalars cs ≡ true → IsUtf8 (escaped (encodes cs))
 characters_utf8 [] h = IsUtf8-nil
 characters_utf8 (c ∷ cs) h =
     let p = and_parts (scalar c) (scalars cs) h in
-    subst IsUtf8 (sym (escaped-append (encode c) (encodes cs))) (IsUtf8-append (escaped (encode c)) (escaped (encodes cs)) (character_utf8 c p.0) (characters_utf8 cs p.1))
+    subst IsUtf8 (sym (escaped-append (encode c) (encodes cs)))
+      (IsUtf8-append (escaped (encode c)) (escaped (encodes cs)) (character_utf8 c p.0) (characters_utf8 cs p.1))
 
 escaped_utf8 : (s : List ℕ) → IsUtf8 s → IsUtf8 (escaped s)
 escaped_utf8 s u = subst (λ (x : List ℕ). IsUtf8 (escaped x)) u.1.1 (characters_utf8 u.0 u.1.0)
@@ -103,7 +119,9 @@ atom_utf8 nil p = ascii_utf8 (codes "nil") refl
 atom_utf8 (boolean true) p = ascii_utf8 (codes "true") refl
 atom_utf8 (boolean false) p = ascii_utf8 (codes "false") refl
 atom_utf8 (integer z) p = integer_utf8 z p
-atom_utf8 (string s) p = IsUtf8-append (34 ∷ []) (escaped s ++ 34 ∷ []) (ascii_utf8 (34 ∷ []) refl) (IsUtf8-append (escaped s) (34 ∷ []) (escaped_utf8 s p) (ascii_utf8 (34 ∷ []) refl))
+atom_utf8 (string s) p =
+    IsUtf8-append (34 ∷ []) (escaped s ++ 34 ∷ []) (ascii_utf8 (34 ∷ []) refl)
+    (IsUtf8-append (escaped s) (34 ∷ []) (escaped_utf8 s p) (ascii_utf8 (34 ∷ []) refl))
 atom_utf8 (keyword k) p = IsUtf8-append (58 ∷ []) k (ascii_utf8 (58 ∷ []) refl) (name_utf8 k p)
 
 between_utf8 : (first : Bool) (s : List ℕ) → IsUtf8 s → IsUtf8 (between first s)
@@ -115,20 +133,25 @@ mutual
   text_utf8 (atom a) p = atom_utf8 a p
   text_utf8 (vector ds) p = IsUtf8-append (codes "[") (items_text true ds ++ codes "]") (ascii_utf8 (codes "[") refl)
       (IsUtf8-append (items_text true ds) (codes "]") (items_utf8 true ds p) (ascii_utf8 (codes "]") refl))
-  text_utf8 (dictionary es) p = IsUtf8-append (codes "{") (entries_text true es ++ codes "}") (ascii_utf8 (codes "{") refl)
+  text_utf8 (dictionary es) p =
+    IsUtf8-append (codes "{") (entries_text true es ++ codes "}") (ascii_utf8 (codes "{") refl)
       (IsUtf8-append (entries_text true es) (codes "}") (entries_utf8 true es p) (ascii_utf8 (codes "}") refl))
 
   items_utf8 : (first : Bool) (ds : Items) → ItemsInProfile ds → IsUtf8 (items_text first ds)
   items_utf8 first no_items p = IsUtf8-nil
   items_utf8 first (item d ds) p =
       IsUtf8-append (between first (codes " ") ++ text_of d) (items_text false ds)
-      (IsUtf8-append (between first (codes " ")) (text_of d) (between_utf8 first (codes " ") (ascii_utf8 (codes " ") refl)) (text_utf8 d p.0)) (items_utf8 false ds p.1)
+      (IsUtf8-append (between first (codes " ")) (text_of d)
+        (between_utf8 first (codes " ") (ascii_utf8 (codes " ") refl)) (text_utf8 d p.0)) (items_utf8 false ds p.1)
 
   entries_utf8 : (first : Bool) (es : Entries) → EntriesInProfile es → IsUtf8 (entries_text first es)
   entries_utf8 first no_entries p = IsUtf8-nil
   entries_utf8 first (entry k d es) p =
       let key : IsUtf8 (58 ∷ k) = IsUtf8-append (58 ∷ []) k (ascii_utf8 (58 ∷ []) refl) (name_utf8 k p.0) in
-      let value : IsUtf8 (32 ∷ text_of d) = IsUtf8-append (32 ∷ []) (text_of d) (ascii_utf8 (32 ∷ []) refl) (text_utf8 d p.1) in
+      let value : IsUtf8 (32 ∷ text_of d) =
+        IsUtf8-append (32 ∷ []) (text_of d) (ascii_utf8 (32 ∷ []) refl) (text_utf8 d p.1) in
       IsUtf8-append (between first (codes ", ") ++ ((58 ∷ k) ++ (32 ∷ text_of d))) (entries_text false es)
-      (IsUtf8-append (between first (codes ", ")) ((58 ∷ k) ++ (32 ∷ text_of d)) (between_utf8 first (codes ", ") (ascii_utf8 (codes ", ") refl)) (IsUtf8-append (58 ∷ k) (32 ∷ text_of d) key value))
+      (IsUtf8-append (between first (codes ", ")) ((58 ∷ k) ++ (32 ∷ text_of d))
+        (between_utf8 first (codes ", ") (ascii_utf8 (codes ", ") refl))
+        (IsUtf8-append (58 ∷ k) (32 ∷ text_of d) key value))
       (entries_utf8 false es p.2)

@@ -1,25 +1,37 @@
 -- The text that is written for a form spells it.
-use Rattle.std.proofs.Common.{◌≡◌, ℕ, Bool, true, false, cond, List, [], ◌∷◌, ◌++◌, refl, sym, ap, ◌∙◌, subst, append_assoc, inl, inr}
+use Rattle.std.proofs.Common.{◌≡◌, ℕ, Bool, true, false, cond, List, [], ◌∷◌, ◌++◌, refl, sym, ap, ◌∙◌, subst}
+use Rattle.std.proofs.Common.{append_assoc, inl, inr}
 use Rattle.std.specs.Prelude.{◌==◌, codes}
 use Rattle.std.specs.Fmt.{signed_decimal}
 use Rattle.std.proofs.lemmas.Bool.{eqb-true, eqb-false}
 use Rattle.edn_reader.specs.Bytes.{is_separator, is_token_byte}
-use Rattle.edn_reader.specs.Datum.{Atom, nil, boolean, integer, string, keyword, Datum, atom, vector, dictionary, Items, no_items, item, Entries, no_entries, entry}
-use Rattle.edn_reader.specs.Token.{Token, open_vector, close_vector, open_map, close_map, leaf, tokens_of, items_tokens, entries_tokens}
+use Rattle.edn_reader.specs.Datum.{Atom, nil, boolean, integer, string, keyword, Datum, atom, vector, dictionary}
+use Rattle.edn_reader.specs.Datum.{Items, no_items, item, Entries, no_entries, entry}
+use Rattle.edn_reader.specs.Token.{Token, open_vector, close_vector, open_map, close_map, leaf, tokens_of}
+use Rattle.edn_reader.specs.Token.{items_tokens, entries_tokens}
 use Rattle.edn_reader.specs.Spells.{IsWord, IsQuoted, EndsToken, Begins, Lexes}
-use Rattle.edn_reader.specs.Text.{escaped, atom_text, between, text_of, items_text, entries_text, AtomInProfile, InProfile, ItemsInProfile, EntriesInProfile}
+use Rattle.edn_reader.specs.Text.{escaped, atom_text, between, text_of, items_text, entries_text, AtomInProfile}
+use Rattle.edn_reader.specs.Text.{InProfile, ItemsInProfile, EntriesInProfile}
 use Rattle.edn_reader.proofs.Decimals.{integer_text}
 
 -- ---- strings
 
-quoted_by : (b : ℕ) (bs : List ℕ) (t r n k q : Bool) → (b == 9) ≡ t → (b == 13) ≡ r → (b == 10) ≡ n → (b == 92) ≡ k → (b == 34) ≡ q → IsQuoted (escaped bs) bs
-    → IsQuoted (cond t (codes "\\t") (cond r (codes "\\r") (cond n (codes "\\n") (cond k (codes "\\\\") (cond q (codes "\\\"") (b ∷ []))))) ++ escaped bs) (b ∷ bs)
+quoted_by : (b : ℕ) (bs : List ℕ) (t r n k q : Bool) → (b == 9) ≡ t → (b == 13) ≡ r → (b == 10) ≡ n → (b == 92) ≡ k
+    → (b == 34) ≡ q → IsQuoted (escaped bs) bs
+    → IsQuoted (cond t (codes "\\t")
+      (cond r (codes "\\r") (cond n (codes "\\n") (cond k (codes "\\\\") (cond q (codes "\\\"") (b ∷ [])))))
+      ++ escaped bs) (b ∷ bs)
 quoted_by b bs true r n k q ht hr hn hk hq ih = inr (refl, (9, bs, refl, ap (λ (x : ℕ). x ∷ bs) (eqb-true b 9 ht), ih))
-quoted_by b bs false true n k q ht hr hn hk hq ih = inr (refl, (13, bs, refl, ap (λ (x : ℕ). x ∷ bs) (eqb-true b 13 hr), ih))
-quoted_by b bs false false true k q ht hr hn hk hq ih = inr (refl, (10, bs, refl, ap (λ (x : ℕ). x ∷ bs) (eqb-true b 10 hn), ih))
-quoted_by b bs false false false true q ht hr hn hk hq ih = inr (refl, (92, bs, refl, ap (λ (x : ℕ). x ∷ bs) (eqb-true b 92 hk), ih))
-quoted_by b bs false false false false true ht hr hn hk hq ih = inr (refl, (34, bs, refl, ap (λ (x : ℕ). x ∷ bs) (eqb-true b 34 hq), ih))
-quoted_by b bs false false false false false ht hr hn hk hq ih = inl (eqb-false b 34 hq, eqb-false b 92 hk, bs, refl, ih)
+quoted_by b bs false true n k q ht hr hn hk hq ih =
+    inr (refl, (13, bs, refl, ap (λ (x : ℕ). x ∷ bs) (eqb-true b 13 hr), ih))
+quoted_by b bs false false true k q ht hr hn hk hq ih =
+    inr (refl, (10, bs, refl, ap (λ (x : ℕ). x ∷ bs) (eqb-true b 10 hn), ih))
+quoted_by b bs false false false true q ht hr hn hk hq ih =
+    inr (refl, (92, bs, refl, ap (λ (x : ℕ). x ∷ bs) (eqb-true b 92 hk), ih))
+quoted_by b bs false false false false true ht hr hn hk hq ih =
+    inr (refl, (34, bs, refl, ap (λ (x : ℕ). x ∷ bs) (eqb-true b 34 hq), ih))
+quoted_by b bs false false false false false ht hr hn hk hq ih =
+    inl (eqb-false b 34 hq, eqb-false b 92 hk, bs, refl, ih)
 
 quoted : (s : List ℕ) → IsQuoted (escaped s) s
 quoted [] = refl
@@ -27,23 +39,29 @@ quoted (b ∷ bs) = quoted_by b bs (b == 9) (b == 13) (b == 10) (b == 92) (b == 
 
 -- ---- tokens in front of a text
 
-pub sep_first : (b : ℕ) (ts : List Token) (bytes : List ℕ) → is_separator b ≡ true → Lexes ts bytes → Lexes ts (b ∷ bytes)
+pub sep_first : (b : ℕ) (ts : List Token) (bytes : List ℕ) → is_separator b ≡ true → Lexes ts bytes
+    → Lexes ts (b ∷ bytes)
 sep_first b [] bytes h l = inl (h, l)
-sep_first b (t ∷ ts) bytes h (rest, (gap, after, g, k, q), l) = (rest, (b ∷ gap, after, inl (h, g), k, ap (λ (x : List ℕ). b ∷ x) q), l)
+sep_first b (t ∷ ts) bytes h (rest, (gap, after, g, k, q), l) =
+    (rest, (b ∷ gap, after, inl (h, g), k, ap (λ (x : List ℕ). b ∷ x) q), l)
 
-token_first : (bytes : List ℕ) (t : Token) (rest : List ℕ) (ts : List Token) → Begins bytes t rest → Lexes ts rest → Lexes (t ∷ ts) bytes
+token_first : (bytes : List ℕ) (t : Token) (rest : List ℕ) (ts : List Token) → Begins bytes t rest → Lexes ts rest
+    → Lexes (t ∷ ts) bytes
 token_first bytes t rest ts k l = (rest, ([], bytes, tt, k, refl), l)
 
-word_first : (a : Atom) (own rest : List ℕ) (ts : List Token) → IsWord a own → EndsToken rest → Lexes ts rest → Lexes (leaf (atom a) ∷ ts) (own ++ rest)
+word_first : (a : Atom) (own rest : List ℕ) (ts : List Token) → IsWord a own → EndsToken rest → Lexes ts rest
+    → Lexes (leaf (atom a) ∷ ts) (own ++ rest)
 word_first a own rest ts w e l = token_first (own ++ rest) (leaf (atom a)) rest ts (inl (a, own, refl, w, e, refl)) l
 
-lexes_atom : (a : Atom) (ts : List Token) (rest : List ℕ) → AtomInProfile a → EndsToken rest → Lexes ts rest → Lexes (leaf (atom a) ∷ ts) (atom_text a ++ rest)
+lexes_atom : (a : Atom) (ts : List Token) (rest : List ℕ) → AtomInProfile a → EndsToken rest → Lexes ts rest
+    → Lexes (leaf (atom a) ∷ ts) (atom_text a ++ rest)
 lexes_atom nil ts rest p e l = word_first nil (codes "nil") rest ts refl e l
 lexes_atom (boolean true) ts rest p e l = word_first (boolean true) (codes "true") rest ts refl e l
 lexes_atom (boolean false) ts rest p e l = word_first (boolean false) (codes "false") rest ts refl e l
 lexes_atom (integer z) ts rest p e l = word_first (integer z) (signed_decimal z) rest ts (integer_text z p) e l
 lexes_atom (string s) ts rest p e l =
-    token_first _ (leaf (atom (string s))) rest ts (inr (s, escaped s, refl, quoted s, ap (λ (x : List ℕ). 34 ∷ x) (append_assoc (escaped s) (34 ∷ []) rest))) l
+    token_first _ (leaf (atom (string s))) rest ts
+      (inr (s, escaped s, refl, quoted s, ap (λ (x : List ℕ). 34 ∷ x) (append_assoc (escaped s) (34 ∷ []) rest))) l
 lexes_atom (keyword k) ts rest p e l = word_first (keyword k) (58 ∷ k) rest ts (refl, p) e l
 
 ends32 : is_token_byte 32 ≡ false
@@ -70,11 +88,13 @@ entries_end : (es : Entries) (rest : List ℕ) → EndsToken rest → EndsToken 
 entries_end no_entries rest e = e
 entries_end (entry k d es) rest e = ends44
 
-between_items : (first : Bool) (ts : List Token) (text : List ℕ) → Lexes ts text → Lexes ts (between first (codes " ") ++ text)
+between_items : (first : Bool) (ts : List Token) (text : List ℕ) → Lexes ts text
+    → Lexes ts (between first (codes " ") ++ text)
 between_items true ts text l = l
 between_items false ts text l = sep_first 32 ts text refl l
 
-between_entries : (first : Bool) (ts : List Token) (text : List ℕ) → Lexes ts text → Lexes ts (between first (codes ", ") ++ text)
+between_entries : (first : Bool) (ts : List Token) (text : List ℕ) → Lexes ts text
+    → Lexes ts (between first (codes ", ") ++ text)
 between_entries true ts text l = l
 between_entries false ts text l = sep_first 44 ts (32 ∷ text) refl (sep_first 32 ts text refl l)
 
@@ -82,17 +102,22 @@ between_entries false ts text l = sep_first 44 ts (32 ∷ text) refl (sep_first 
 regrouped : (ts us : List Token) (a b : List ℕ) → ts ≡ us → a ≡ b → Lexes us b → Lexes ts a
 regrouped ts us a b p q l = subst (λ (x : List Token). Lexes x a) (sym p) (subst (λ (x : List ℕ). Lexes us x) (sym q) l)
 
-enclosed : (o z : Token) (b c : ℕ) (inner ts : List Token) (text rest : List ℕ) → Begins (b ∷ (text ++ c ∷ rest)) o (text ++ c ∷ rest)
-    → Lexes (inner ++ z ∷ ts) (text ++ c ∷ rest) → Lexes ((o ∷ (inner ++ z ∷ [])) ++ ts) ((b ∷ (text ++ c ∷ [])) ++ rest)
+enclosed : (o z : Token) (b c : ℕ) (inner ts : List Token) (text rest : List ℕ)
+    → Begins (b ∷ (text ++ c ∷ rest)) o (text ++ c ∷ rest)
+    → Lexes (inner ++ z ∷ ts) (text ++ c ∷ rest)
+    → Lexes ((o ∷ (inner ++ z ∷ [])) ++ ts) ((b ∷ (text ++ c ∷ [])) ++ rest)
 enclosed o z b c inner ts text rest k l =
-    regrouped _ (o ∷ (inner ++ z ∷ ts)) _ (b ∷ (text ++ c ∷ rest)) (ap (λ (x : List Token). o ∷ x) (append_assoc inner (z ∷ []) ts)) (ap (λ (x : List ℕ). b ∷ x) (append_assoc text (c ∷ []) rest))
+    regrouped _ (o ∷ (inner ++ z ∷ ts)) _ (b ∷ (text ++ c ∷ rest))
+      (ap (λ (x : List Token). o ∷ x) (append_assoc inner (z ∷ []) ts))
+      (ap (λ (x : List ℕ). b ∷ x) (append_assoc text (c ∷ []) rest))
     (token_first _ o (text ++ c ∷ rest) (inner ++ z ∷ ts) k l)
 
 text_grouped : (s t u v : List ℕ) → ((s ++ t) ++ u) ++ v ≡ s ++ (t ++ (u ++ v))
 text_grouped s t u v = append_assoc (s ++ t) u v ∙ append_assoc s t (u ++ v)
 
 mutual
-  pub lexes_datum : (d : Datum) (ts : List Token) (rest : List ℕ) → InProfile d → EndsToken rest → Lexes ts rest → Lexes (tokens_of d ++ ts) (text_of d ++ rest)
+  pub lexes_datum : (d : Datum) (ts : List Token) (rest : List ℕ) → InProfile d → EndsToken rest → Lexes ts rest
+      → Lexes (tokens_of d ++ ts) (text_of d ++ rest)
   lexes_datum (atom a) ts rest p e l = lexes_atom a ts rest p e l
   lexes_datum (vector ds) ts rest p e l =
       enclosed open_vector close_vector 91 93 (items_tokens ds) ts (items_text true ds) rest refl
@@ -101,27 +126,39 @@ mutual
       enclosed open_map close_map 123 125 (entries_tokens es) ts (entries_text true es) rest refl
       (lexes_entries true es (close_map ∷ ts) (125 ∷ rest) p ends125 (token_first _ close_map rest ts refl l))
 
-  lexes_items : (first : Bool) (ds : Items) (ts : List Token) (rest : List ℕ) → ItemsInProfile ds → EndsToken rest → Lexes ts rest → Lexes (items_tokens ds ++ ts) (items_text first ds ++ rest)
+  lexes_items : (first : Bool) (ds : Items) (ts : List Token) (rest : List ℕ) → ItemsInProfile ds → EndsToken rest
+    → Lexes ts rest → Lexes (items_tokens ds ++ ts) (items_text first ds ++ rest)
   lexes_items first no_items ts rest p e l = l
   lexes_items first (item d ds) ts rest p e l =
       let more : Lexes (items_tokens ds ++ ts) (items_text false ds ++ rest) = lexes_items false ds ts rest p.1 e l in
       let here : Lexes (tokens_of d ++ (items_tokens ds ++ ts)) (text_of d ++ (items_text false ds ++ rest)) =
       lexes_datum d (items_tokens ds ++ ts) (items_text false ds ++ rest) p.0 (items_end ds rest e) more in
-      regrouped _ (tokens_of d ++ (items_tokens ds ++ ts)) _ (between first (codes " ") ++ (text_of d ++ (items_text false ds ++ rest)))
-      (append_assoc (tokens_of d) (items_tokens ds) ts) (text_grouped (between first (codes " ")) (text_of d) (items_text false ds) rest) (between_items first _ _ here)
+      regrouped _ (tokens_of d ++ (items_tokens ds ++ ts)) _
+        (between first (codes " ") ++ (text_of d ++ (items_text false ds ++ rest)))
+      (append_assoc (tokens_of d) (items_tokens ds) ts)
+        (text_grouped (between first (codes " ")) (text_of d) (items_text false ds) rest) (between_items first _ _ here)
 
-  lexes_entries : (first : Bool) (es : Entries) (ts : List Token) (rest : List ℕ) → EntriesInProfile es → EndsToken rest → Lexes ts rest
+  lexes_entries : (first : Bool) (es : Entries) (ts : List Token) (rest : List ℕ) → EntriesInProfile es
+    → EndsToken rest → Lexes ts rest
       → Lexes (entries_tokens es ++ ts) (entries_text first es ++ rest)
   lexes_entries first no_entries ts rest p e l = l
   lexes_entries first (entry k d es) ts rest p e l =
-      let more : Lexes (entries_tokens es ++ ts) (entries_text false es ++ rest) = lexes_entries false es ts rest p.2 e l in
+      let more : Lexes (entries_tokens es ++ ts) (entries_text false es ++ rest) =
+        lexes_entries false es ts rest p.2 e l in
       let us : List Token = tokens_of d ++ (entries_tokens es ++ ts) in
-      let value : Lexes us (text_of d ++ (entries_text false es ++ rest)) = lexes_datum d (entries_tokens es ++ ts) (entries_text false es ++ rest) p.1 (entries_end es rest e) more in
-      let here : Lexes (leaf (atom (keyword k)) ∷ us) ((58 ∷ k) ++ (32 ∷ (text_of d ++ (entries_text false es ++ rest)))) =
-      word_first (keyword k) (58 ∷ k) (32 ∷ (text_of d ++ (entries_text false es ++ rest))) us (refl, p.0) ends32 (sep_first 32 us _ refl value) in
+      let value : Lexes us (text_of d ++ (entries_text false es ++ rest)) =
+        lexes_datum d (entries_tokens es ++ ts) (entries_text false es ++ rest) p.1 (entries_end es rest e) more in
+      let here : Lexes (leaf (atom (keyword k)) ∷ us)
+        ((58 ∷ k) ++ (32 ∷ (text_of d ++ (entries_text false es ++ rest)))) =
+      word_first (keyword k) (58 ∷ k) (32 ∷ (text_of d ++ (entries_text false es ++ rest))) us (refl, p.0) ends32
+        (sep_first 32 us _ refl value) in
       let pair : ((58 ∷ k) ++ (32 ∷ text_of d)) ++ (entries_text false es ++ rest) ≡ (58 ∷ k)
-      ++ (32 ∷ (text_of d ++ (entries_text false es ++ rest))) = append_assoc (58 ∷ k) (32 ∷ text_of d) (entries_text false es ++ rest) in
-      regrouped _ (leaf (atom (keyword k)) ∷ us) _ (between first (codes ", ") ++ ((58 ∷ k) ++ (32 ∷ (text_of d ++ (entries_text false es ++ rest)))))
+      ++ (32 ∷ (text_of d ++ (entries_text false es ++ rest))) =
+        append_assoc (58 ∷ k) (32 ∷ text_of d) (entries_text false es ++ rest) in
+      regrouped _ (leaf (atom (keyword k)) ∷ us) _
+        (between first (codes ", ") ++ ((58 ∷ k) ++ (32 ∷ (text_of d ++ (entries_text false es ++ rest)))))
       (ap (λ (x : List Token). leaf (atom (keyword k)) ∷ x) (append_assoc (tokens_of d) (entries_tokens es) ts))
-      (text_grouped (between first (codes ", ")) ((58 ∷ k) ++ (32 ∷ text_of d)) (entries_text false es) rest ∙ ap (λ (x : List ℕ). between first (codes ", ") ++ x) pair)
-      (between_entries first (leaf (atom (keyword k)) ∷ us) ((58 ∷ k) ++ (32 ∷ (text_of d ++ (entries_text false es ++ rest)))) here)
+      (text_grouped (between first (codes ", ")) ((58 ∷ k) ++ (32 ∷ text_of d)) (entries_text false es) rest
+        ∙ ap (λ (x : List ℕ). between first (codes ", ") ++ x) pair)
+      (between_entries first (leaf (atom (keyword k)) ∷ us)
+        ((58 ∷ k) ++ (32 ∷ (text_of d ++ (entries_text false es ++ rest)))) here)

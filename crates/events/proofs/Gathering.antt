@@ -1,5 +1,6 @@
 -- Operations gathered by object, from the last event back.
-use Rattle.std.proofs.Common.{◌≡◌, ◌≢◌, ℕ, pos, ◌==◌, ◌+◌, ◌-◌, ◌<◌, ◌≤◌, Bool, true, false, cond, List, [], ◌∷◌, ◌++◌, length, drop, reverse}
+use Rattle.std.proofs.Common.{◌≡◌, ◌≢◌, ℕ, pos, ◌==◌, ◌+◌, ◌-◌, ◌<◌, ◌≤◌, Bool, true, false, cond, List, [], ◌∷◌}
+use Rattle.std.proofs.Common.{◌++◌, length, drop, reverse}
 use Rattle.std.proofs.Common.{unwrap_or, Option, Some, None, get_or, refl, ap, sym, ◌∙◌, subst, arith}
 use Rattle.std.proofs.lemmas.List.{reverse-append, drop_more}
 use Rattle.std.proofs.lemmas.Bool.{eqb-true, eqb-false}
@@ -14,20 +15,22 @@ use Rattle.events.specs.declared.operations.Invocation.{Invocation}
 use Rattle.events.specs.Events.{next_event}
 use Rattle.events.specs.Operations.{end_by, end_at, begun, operations_on, IsGathered}
 
--- What is known before the event at place k: how the next event of each process ends an operation, and the operations of
--- each object.
+-- What is known before the event at place k: how the next event of each process ends an operation, and the operations
+-- of each object.
 pub record IsAhead (ends : ℕ → End) (kept : ℕ → Option (List Invocation)) (later : List Event) : Type 0 where
   pub ahead : (p : ℕ) → ends p ≡ end_at (next_event p later)
   pub gathered : (x : ℕ) → IsGathered (kept x) (operations_on x later)
 
-pub nothing_ahead : (ends : ℕ → End) (kept : ℕ → Option (List Invocation)) → ((p : ℕ) → ends p ≡ Pending) → ((x : ℕ) → kept x ≡ None) → IsAhead ends kept []
+pub nothing_ahead : (ends : ℕ → End) (kept : ℕ → Option (List Invocation)) → ((p : ℕ) → ends p ≡ Pending)
+    → ((x : ℕ) → kept x ≡ None) → IsAhead ends kept []
 nothing_ahead ends kept n k = record { ahead = n; gathered = λ x. subst (λ o. IsGathered o []) (sym (k x)) refl }
 
 -- one event more
 abbrev pub WithEnd : (ends ends' : ℕ → End) → Event → Type 0
 WithEnd ends ends' e = (p : ℕ) → ends' p ≡ cond (e.process == p) (end_by e.number e.action) (ends p)
 
-ends_more : (ends ends' : ℕ → End) (e : Event) (later : List Event) → ((p : ℕ) → ends p ≡ end_at (next_event p later)) → WithEnd ends ends' e → (p : ℕ) → ends' p ≡ end_at (next_event p (e ∷ later))
+ends_more : (ends ends' : ℕ → End) (e : Event) (later : List Event) → ((p : ℕ) → ends p ≡ end_at (next_event p later))
+    → WithEnd ends ends' e → (p : ℕ) → ends' p ≡ end_at (next_event p (e ∷ later))
 ends_more ends ends' e later h step p = step p ∙ go (e.process == p)
   where
     go : (b : Bool) → cond b (end_by e.number e.action) (ends p) ≡ end_at (cond b (Some e) (next_event p later))
@@ -35,11 +38,13 @@ ends_more ends ends' e later h step p = step p ∙ go (e.process == p)
     go false = h p
 
 -- an event that begins no operation
-pub ahead_other : (ends ends' : ℕ → End) (kept : ℕ → Option (List Invocation)) (e : Event) (later : List Event) → IsAhead ends kept later
+pub ahead_other : (ends ends' : ℕ → End) (kept : ℕ → Option (List Invocation)) (e : Event) (later : List Event)
+    → IsAhead ends kept later
     → ((how : End) → begun e.number e.action how ≡ []) → WithEnd ends ends' e → IsAhead ends' kept (e ∷ later)
 ahead_other ends ends' kept e later h none step = record {
   ahead = ends_more ends ends' e later h.ahead step;
-  gathered = λ x. subst (λ t. IsGathered (kept x) (t ++ operations_on x later)) (sym (nothing (e.object == x))) (h.gathered x);
+  gathered = λ x. subst (λ t. IsGathered (kept x) (t ++ operations_on x later)) (sym (nothing (e.object == x)))
+    (h.gathered x);
 }
   where
     nothing : (b : Bool) → cond b (begun e.number e.action (end_at (next_event e.process later))) [] ≡ []
@@ -47,9 +52,11 @@ ahead_other ends ends' kept e later h none step = record {
     nothing false = refl
 
 -- an event that begins one
-pub ahead_begun : (ends ends' : ℕ → End) (kept kept' : ℕ → Option (List Invocation)) (e : Event) (op : AnyOp) (o : Invocation) (later : List Event)
+pub ahead_begun : (ends ends' : ℕ → End) (kept kept' : ℕ → Option (List Invocation)) (e : Event) (op : AnyOp)
+    (o : Invocation) (later : List Event)
     → IsAhead ends kept later → e.action ≡ Invoke op → o ≡ record { number = e.number; op = op; «end» = ends e.process }
-    → kept' e.object ≡ Some (unwrap_or (kept e.object) [] ++ o ∷ []) → ((x : ℕ) → x ≢ e.object → kept' x ≡ kept x) → WithEnd ends ends' e → IsAhead ends' kept' (e ∷ later)
+    → kept' e.object ≡ Some (unwrap_or (kept e.object) [] ++ o ∷ []) → ((x : ℕ) → x ≢ e.object → kept' x ≡ kept x)
+    → WithEnd ends ends' e → IsAhead ends' kept' (e ∷ later)
 ahead_begun ends ends' kept kept' e op o later h invokes is own_kept others_kept step = record {
   ahead = ends_more ends ends' e later h.ahead step;
   gathered = λ x. go x (e.object == x) refl;
@@ -57,24 +64,31 @@ ahead_begun ends ends' kept kept' e op o later h invokes is own_kept others_kept
   where
     begins : begun e.number e.action (end_at (next_event e.process later)) ≡ o ∷ []
     begins = ap (λ a. begun e.number a (end_at (next_event e.process later))) invokes
-        ∙ ap (λ (x : Invocation). x ∷ []) (ap (λ (n : End). record { number = e.number; op = op; «end» = n }) (sym (h.ahead e.process)) ∙ sym is)
+        ∙ ap (λ (x : Invocation). x ∷ [])
+          (ap (λ (n : End). record { number = e.number; op = op; «end» = n }) (sym (h.ahead e.process)) ∙ sym is)
 
-    one_more : (k : Option (List Invocation)) (ops : List Invocation) → IsGathered k ops → IsGathered (Some (unwrap_or k [] ++ o ∷ [])) (o ∷ ops)
+    one_more : (k : Option (List Invocation)) (ops : List Invocation) → IsGathered k ops
+      → IsGathered (Some (unwrap_or k [] ++ o ∷ [])) (o ∷ ops)
     one_more None ops g = (ap (λ xs. reverse (o ∷ xs)) (sym g), λ q. cc q)
     one_more (Some xs) ops g = (ap (λ ys. ys ++ o ∷ []) g.0 ∙ sym (reverse-append (o ∷ []) ops), λ q. cc q)
 
-    go : (x : ℕ) (b : Bool) → (e.object == x) ≡ b → IsGathered (kept' x) (cond b (begun e.number e.action (end_at (next_event e.process later))) [] ++ operations_on x later)
+    go : (x : ℕ) (b : Bool) → (e.object == x) ≡ b
+      → IsGathered (kept' x) (cond b (begun e.number e.action (end_at (next_event e.process later))) []
+        ++ operations_on x later)
     go x true q = subst (λ t. IsGathered (kept' x) (t ++ operations_on x later)) (sym begins)
         (subst (λ n. IsGathered (kept' n) (o ∷ operations_on n later)) (eqb-true e.object x q)
-        (subst (λ k. IsGathered k (o ∷ operations_on e.object later)) (sym own_kept) (one_more (kept e.object) (operations_on e.object later) (h.gathered e.object))))
-    go x false q = subst (λ k. IsGathered k (operations_on x later)) (sym (others_kept x (λ s. eqb-false e.object x q (sym s)))) (h.gathered x)
+        (subst (λ k. IsGathered k (o ∷ operations_on e.object later)) (sym own_kept)
+          (one_more (kept e.object) (operations_on e.object later) (h.gathered e.object))))
+    go x false q = subst (λ k. IsGathered k (operations_on x later))
+      (sym (others_kept x (λ s. eqb-false e.object x q (sym s)))) (h.gathered x)
 
 -- an event, for a default that nothing reads
 abbrev pub placeholder_event : Event
 placeholder_event = record { number = 0; process = 0; object = 0; action = Invoke (Enqueue (pos 0)) }
 
 -- one place back
-pub drop_back : {X : Type 0} (es : List X) (k : ℕ) (d : X) → 0 < k → k ≤ length es → drop (k - 1) es ≡ get_or es (k - 1) d ∷ drop k es
+pub drop_back : {X : Type 0} (es : List X) (k : ℕ) (d : X) → 0 < k → k ≤ length es
+    → drop (k - 1) es ≡ get_or es (k - 1) d ∷ drop k es
 drop_back es k d some fits =
     let l : k - 1 < length es = omega arith in
     let same : k - 1 + 1 ≡ k = omega arith in

@@ -1,5 +1,6 @@
 -- What proper events denote is a well-formed history.
-use Rattle.std.proofs.Common.{◌≡◌, ℕ, ◌==◌, ◌<◌, ◌&&◌, Bool, true, false, cond, IsTrue, ◌⊎◌, inl, inr, List, [], ◌∷◌, ◌++◌, map, Some, refl, ap, sym, ◌∙◌, subst, arith}
+use Rattle.std.proofs.Common.{◌≡◌, ℕ, ◌==◌, ◌<◌, ◌&&◌, Bool, true, false, cond, IsTrue, ◌⊎◌, inl, inr, List, []}
+use Rattle.std.proofs.Common.{◌∷◌, ◌++◌, map, Some, refl, ap, sym, ◌∙◌, subst, arith}
 use Rattle.std.proofs.lemmas.Bool.{eqb-true, eq-eqb}
 use Rattle.std.proofs.lemmas.List.Elements.{filter-append}
 use Rattle.model.specs.declared.AnyOp.{AnyOp}
@@ -26,7 +27,8 @@ map-append : {X Y : Type 0} (f : X → Y) (xs ys : List X) → map f (xs ++ ys) 
 map-append f [] ys = refl
 map-append f (x ∷ xs) ys = ap (λ zs. f x ∷ zs) (map-append f xs ys)
 
-own_cons : (p : ℕ) (e : Event) (es : List Event) → own p (e ∷ es) ≡ own_first p e (fails (next_event e.process es)) ++ own p es
+own_cons : (p : ℕ) (e : Event) (es : List Event)
+    → own p (e ∷ es) ≡ own_first p e (fails (next_event e.process es)) ++ own p es
 own_cons p e es =
     let first = denoted_by e.number e.process e.object e.action (fails (next_event e.process es)) in
     ap (by_process p) (map-append (λ (m : Numbered). m.event) first (denoted es))
@@ -80,15 +82,19 @@ own_response : (n p x : ℕ) (r : AnyReply) (failed : Bool) → own_first p (eve
 own_response n p x r failed = ap (λ b. cond b (Res p x r ∷ []) []) (eq-eqb p p refl)
 
 -- an idle process that invokes
-leaves_invoked : (n p x : ℕ) (op : AnyOp) (es : List Event) → Leaves p (busy x op) es → IsSequential (own p (event_at n p x (Invoke op) ∷ es))
-leaves_invoked n p x op es rest = subst IsSequential (sym (own_cons p (event_at n p x (Invoke op)) es)) (go (fails (next_event p es)) rest)
+leaves_invoked : (n p x : ℕ) (op : AnyOp) (es : List Event) → Leaves p (busy x op) es
+    → IsSequential (own p (event_at n p x (Invoke op) ∷ es))
+leaves_invoked n p x op es rest =
+    subst IsSequential (sym (own_cons p (event_at n p x (Invoke op)) es)) (go (fails (next_event p es)) rest)
   where
-    go : (b : Bool) → LeavesBusy p x b (own p es) → IsSequential (own_first p (event_at n p x (Invoke op)) b ++ own p es)
+    go : (b : Bool) → LeavesBusy p x b (own p es)
+      → IsSequential (own_first p (event_at n p x (Invoke op)) b ++ own p es)
     go true h = h
     go false h = subst (λ t. IsSequential (t ++ own p es)) (sym (own_invocation n p x op)) (invoked p x op (own p es) h)
 
 -- a process that does what it may, from its own event on
-leaves_own : (n p x : ℕ) (a : Action) (es : List Event) (s : State) → MayDo s x a → Leaves p (state_by x a) es → Leaves p s (event_at n p x a ∷ es)
+leaves_own : (n p x : ℕ) (a : Action) (es : List Event) (s : State) → MayDo s x a → Leaves p (state_by x a) es
+    → Leaves p s (event_at n p x a ∷ es)
 leaves_own n p x (Invoke op) es idle may rest = leaves_invoked n p x op es rest
 leaves_own n p x (Ok r) es idle may rest = absurd may
 leaves_own n p x Fail es idle may rest = absurd may
@@ -97,18 +103,22 @@ leaves_own n p x (Invoke o) es (busy y op) may rest = absurd may
 leaves_own n p x (Ok r) es (busy y op) may rest =
     let e = event_at n p x (Ok r) in
     let failed = fails (next_event p es) in
-    let is : own p (e ∷ es) ≡ Res p x r ∷ own p es = own_cons p e es ∙ ap (λ t. t ++ own p es) (own_response n p x r failed) in
-    subst (λ b. LeavesBusy p y b (own p (e ∷ es))) (sym (next_is_own n p x (Ok r) es)) (inr (r, own p es, subst (λ z. own p (e ∷ es) ≡ Res p z r ∷ own p es) may.0 is, rest))
+    let is : own p (e ∷ es) ≡ Res p x r ∷ own p es =
+      own_cons p e es ∙ ap (λ t. t ++ own p es) (own_response n p x r failed) in
+    subst (λ b. LeavesBusy p y b (own p (e ∷ es))) (sym (next_is_own n p x (Ok r) es))
+      (inr (r, own p es, subst (λ z. own p (e ∷ es) ≡ Res p z r ∷ own p es) may.0 is, rest))
 leaves_own n p x Fail es (busy y op) may rest =
     let e = event_at n p x Fail in
-    subst (λ b. LeavesBusy p y b (own p (e ∷ es))) (sym (next_is_own n p x Fail es)) (subst IsSequential (sym (own_cons p e es)) rest)
+    subst (λ b. LeavesBusy p y b (own p (e ∷ es))) (sym (next_is_own n p x Fail es))
+      (subst IsSequential (sym (own_cons p e es)) rest)
 leaves_own n p x Info es (busy y op) may rest =
     let e = event_at n p x Info in
     subst (λ b. LeavesBusy p y b (own p (e ∷ es))) (sym (next_is_own n p x Info es)) (inl (own_cons p e es ∙ rest))
 leaves_own n p x a es closed may rest = absurd may
 
 -- and from another's
-leaves_other : (p : ℕ) (e : Event) (es : List Event) (s : State) → (e.process == p) ≡ false → Leaves p s es → Leaves p s (e ∷ es)
+leaves_other : (p : ℕ) (e : Event) (es : List Event) (s : State) → (e.process == p) ≡ false → Leaves p s es
+    → Leaves p s (e ∷ es)
 leaves_other p e es s q rest = go s rest
   where
     same : own p (e ∷ es) ≡ own p es
@@ -119,7 +129,8 @@ leaves_other p e es s q rest = go s rest
 
     go : (s : State) → Leaves p s es → Leaves p s (e ∷ es)
     go idle h = subst IsSequential (sym same) h
-    go (busy x op) h = subst (λ t. LeavesBusy p x (fails (next_event p (e ∷ es))) t) (sym same) (subst (λ b. LeavesBusy p x b (own p es)) (sym next_same) h)
+    go (busy x op) h = subst (λ t. LeavesBusy p x (fails (next_event p (e ∷ es))) t) (sym same)
+      (subst (λ b. LeavesBusy p x b (own p es)) (sym next_same) h)
     go closed h = same ∙ h
 
 leaves : (p : ℕ) (es : List Event) (s : State) → Runs p s es → Leaves p s es
@@ -140,7 +151,9 @@ leaves p (e ∷ es) s h = go (e.process == p) refl (λ t. leaves p es t)
 -- each number denoted is that of an event
 denoted_number : (es : List Event) (m : Numbered) → In m (denoted es) → (e : Event) × In e es × (e.number ≡ m.number)
 denoted_number [] m i = absurd i
-denoted_number (e ∷ es) m i = elim (in_append m (denoted_by e.number e.process e.object e.action (fails (next_event e.process es))) (denoted es) i) [
+denoted_number (e ∷ es) m i =
+    elim (in_append m (denoted_by e.number e.process e.object e.action (fails (next_event e.process es)))
+    (denoted es) i) [
   | inl j ↦ (e, inl refl, here e.action (fails (next_event e.process es)) j)
   | inr j ↦ let d = denoted_number es m j in (d.0, inr d.1, d.2)
 ]
@@ -152,14 +165,16 @@ denoted_number (e ∷ es) m i = elim (in_append m (denoted_by e.number e.process
     here Fail b j = absurd j
     here Info b j = absurd j
 
-denoted_rising : (es : List Event) → Pairs (λ a b. a.number < b.number) es → Pairs (λ a b. a.number < b.number) (denoted es)
+denoted_rising : (es : List Event) → Pairs (λ a b. a.number < b.number) es
+    → Pairs (λ a b. a.number < b.number) (denoted es)
 denoted_rising [] h = tt
 denoted_rising (e ∷ es) h = go e.action (fails (next_event e.process es)) (denoted_rising es h.1)
   where
     above : (m : Numbered) → In m (denoted es) → e.number < m.number
     above m i = let d = denoted_number es m i in let l = h.0 d.0 d.1 in let q = d.2 in omega arith
 
-    go : (a : Action) (b : Bool) → Pairs (λ a b. a.number < b.number) (denoted es) → Pairs (λ a b. a.number < b.number) (denoted_by e.number e.process e.object a b ++ denoted es)
+    go : (a : Action) (b : Bool) → Pairs (λ a b. a.number < b.number) (denoted es)
+      → Pairs (λ a b. a.number < b.number) (denoted_by e.number e.process e.object a b ++ denoted es)
     go (Invoke op) true rest = rest
     go (Invoke op) false rest = (above, rest)
     go (Ok r) b rest = (above, rest)
@@ -168,6 +183,7 @@ denoted_rising (e ∷ es) h = go e.action (fails (next_event e.process es)) (den
 
 pub denoted_is_history : (es : List Event) → IsProper es → IsHistory (denoted es)
 denoted_is_history es h = record {
-  rising = all_from_pairs (λ a b. a.number < b.number) (denoted es) (denoted_rising es (pairs_from_all (λ a b. a.number < b.number) es h.rising));
+  rising = all_from_pairs (λ a b. a.number < b.number) (denoted es)
+    (denoted_rising es (pairs_from_all (λ a b. a.number < b.number) es h.rising));
   well_formed = λ p. leaves p es idle (runs_from_start es p h);
 }

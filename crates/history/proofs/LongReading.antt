@@ -1,6 +1,7 @@
 -- One map more of a history of any length: its events, and its fault. That is the first fault, since the maps before it
 -- have none, and one of the map itself is none of its place.
-use Rattle.std.proofs.Common.{◌≡◌, ℕ, ◌+◌, inl, inr, List, [], ◌∷◌, ◌++◌, length, refl, ap, sym, ◌∙◌, subst, zero-add, arith}
+use Rattle.std.proofs.Common.{◌≡◌, ℕ, ◌+◌, inl, inr, List, [], ◌∷◌, ◌++◌, length, refl, ap, sym, ◌∙◌, subst}
+use Rattle.std.proofs.Common.{zero-add, arith}
 use Rattle.std.proofs.lemmas.List.{length-append}
 use Rattle.edn_reader.specs.Datum.{Datum}
 use Rattle.edn_fields.specs.FirstFaults.{IsFirstFaultBy}

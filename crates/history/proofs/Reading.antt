@@ -1,5 +1,6 @@
 -- The forms read so far.
-use Rattle.std.proofs.Common.{◌≡◌, ℕ, ◌+◌, ◌<◌, ◌≤◌, ◌⊎◌, inl, inr, List, [], ◌∷◌, ◌++◌, length, take, drop, get_or, zero, suc, append_assoc, zero-add, refl, ap, sym, ◌∙◌, subst, arith}
+use Rattle.std.proofs.Common.{◌≡◌, ℕ, ◌+◌, ◌<◌, ◌≤◌, ◌⊎◌, inl, inr, List, [], ◌∷◌, ◌++◌, length, take, drop, get_or}
+use Rattle.std.proofs.Common.{zero, suc, append_assoc, zero-add, refl, ap, sym, ◌∙◌, subst, arith}
 use Rattle.std.proofs.lemmas.List.{append-nil, length-append, map-append, take_more, take_all}
 use Rattle.edn_reader.specs.Datum.{Datum}
 use Rattle.edn_reader.specs.View.{view, views}
@@ -16,15 +17,20 @@ use Rattle.history.specs.Seen.{IsSeen, HasNoFault, HasFirst, IsRead}
 use Rattle.history.specs.Texts.{AreRead}
 use Rattle.history.proofs.MapLimit.{IsSmall, none_within}
 
-pub events_push : (n : ℕ) (ds : List Datum) (d : Datum) → events_from n (ds ++ d ∷ []) ≡ events_from n ds ++ event_of (n + length ds) (client_of d)
-events_push n [] d = append-nil (event_of n (client_of d)) ∙ ap (λ k. event_of k (client_of d)) (let e : n ≡ n + 0 = omega arith in e)
+pub events_push : (n : ℕ) (ds : List Datum) (d : Datum)
+    → events_from n (ds ++ d ∷ []) ≡ events_from n ds ++ event_of (n + length ds) (client_of d)
+events_push n [] d = append-nil (event_of n (client_of d))
+    ∙ ap (λ k. event_of k (client_of d)) (let e : n ≡ n + 0 = omega arith in e)
 events_push n (x ∷ ds) d =
     ap (λ es. event_of n (client_of x) ++ es) (events_push (n + 1) ds d)
-    ∙ (sym (append_assoc (event_of n (client_of x)) (events_from (n + 1) ds) (event_of (n + 1 + length ds) (client_of d)))
-    ∙ ap (λ k. (event_of n (client_of x) ++ events_from (n + 1) ds) ++ event_of k (client_of d)) (let e : n + 1 + length ds ≡ n + length (x ∷ ds) = omega arith in e))
+    ∙ (sym (append_assoc (event_of n (client_of x)) (events_from (n + 1) ds)
+      (event_of (n + 1 + length ds) (client_of d)))
+    ∙ ap (λ k. (event_of n (client_of x) ++ events_from (n + 1) ds) ++ event_of k (client_of d))
+      (let e : n + 1 + length ds ≡ n + length (x ∷ ds) = omega arith in e))
 
 -- a split of a longer list
-split_push : (ds : List Datum) (d : Datum) (earlier later : List Datum) (e : Datum) → ds ++ d ∷ [] ≡ earlier ++ e ∷ later → ((earlier ≡ ds) × (e ≡ d))
+split_push : (ds : List Datum) (d : Datum) (earlier later : List Datum) (e : Datum)
+    → ds ++ d ∷ [] ≡ earlier ++ e ∷ later → ((earlier ≡ ds) × (e ≡ d))
     ⊎ ((rest : List Datum) × (ds ≡ earlier ++ e ∷ rest))
 split_push [] d [] later e q = inl (refl, let s : d ≡ e = cc in sym s)
 split_push [] d (x ∷ earlier) later e q = absurd (no_tail earlier (let s : [] ≡ earlier ++ e ∷ later = cc in s))
@@ -102,7 +108,8 @@ one_read old new fs i f es more l is few small h r =
     subst (λ xs. AreRead new (i + 1) xs (es ++ more)) (sym (one_form fs i f l is))
     (one_more old new i (views (take i fs)) (view f) es more h few small r)
 
-pub first_fault : (seen : Seen) (fs : List Form) (i : ℕ) (f : Form) (es : List Event) (k : HistoryFaultKind) → i < length fs → f ≡ get_or fs i f
+pub first_fault : (seen : Seen) (fs : List Form) (i : ℕ) (f : Form) (es : List Event) (k : HistoryFaultKind)
+    → i < length fs → f ≡ get_or fs i f
     → AreRead seen i (views (take i fs)) es → HasFirst IsFault (views (take i fs)) (view f) k → IsFirstFault
     (views fs) (record { kind = k; map = i })
 first_fault seen fs i f es k l is h first = record {
@@ -116,15 +123,18 @@ first_fault seen fs i f es k l is h first = record {
   first = first.first;
 }
   where
-    reads : (gs : List Form) (j : ℕ) → j < length gs → views gs ≡ views (take j gs) ++ view (get_or gs j f) ∷ views (drop (suc j) gs)
+    reads : (gs : List Form) (j : ℕ) → j < length gs
+      → views gs ≡ views (take j gs) ++ view (get_or gs j f) ∷ views (drop (suc j) gs)
     reads [] j m = absurd (omega arith)
     reads (g ∷ gs) zero m = refl
     reads (g ∷ gs) (suc j) m = ap (λ t. view g ∷ t) (reads gs j (omega arith))
 
 -- a fault refutes that the forms denote anything
-pub fault_refutes : (ds : List Datum) (fault : HistoryFault) (es : List Event) → IsFirstFault ds fault → Denotes ds es → ⊥
+pub fault_refutes : (ds : List Datum) (fault : HistoryFault) (es : List Event) → IsFirstFault ds fault
+    → Denotes ds es → ⊥
 fault_refutes ds fault es h d = d.faultless h.earlier h.later h.form fault.kind h.split h.stands
 
 pub all_read : (seen : Seen) (fs : List Form) (i : ℕ) (es : List Event) → length fs ≤ i → AreRead seen i
     (views (take i fs)) es → Denotes (views fs) es
-all_read seen fs i es l h = subst (λ x. Denotes (views x) es) (take_all i fs l) (record { faultless = h.faultless; events = h.events })
+all_read seen fs i es l h =
+    subst (λ x. Denotes (views x) es) (take_all i fs l) (record { faultless = h.faultless; events = h.events })

@@ -67,7 +67,8 @@ taken_more {V} old own now new key later k t h = elim (cases_eq k key) [
 
 -- ---- a piece that fits
 
-pub fits : (read : ReadPiece) (es : List Datum) (processes : ℕ → Option Process) (kinds : ℕ → Option Kind) → IsOfForms read es
+pub fits : (read : ReadPiece) (es : List Datum) (processes : ℕ → Option Process) (kinds : ℕ → Option Kind)
+    → IsOfForms read es
     → All (IsAllowed processes) read.firsts.items → All
     (λ x. IsOneKind (kinds x) (value_of read.seen.kinds x)) read.objects.items → FitsAfter read processes kinds
 fits read es processes kinds h allowed one = record {

@@ -1,5 +1,6 @@
 -- The maps of a text, one by one: what was found stays found, whatever follows.
-use Rattle.std.proofs.Common.{◌≡◌, ◌≢◌, ℕ, ◌+◌, ◌<◌, ◌≤◌, true, Option, Some, None, List, [], ◌∷◌, ◌++◌, length, take, refl, sym, subst, ◌∙◌, arith}
+use Rattle.std.proofs.Common.{◌≡◌, ◌≢◌, ℕ, ◌+◌, ◌<◌, ◌≤◌, true, Option, Some, None, List, [], ◌∷◌, ◌++◌, length}
+use Rattle.std.proofs.Common.{take, refl, sym, subst, ◌∙◌, arith}
 use Rattle.std.specs.Option.{is_some}
 use Rattle.std.proofs.lemmas.List.{length-append, take_all, take-append-le}
 use Rattle.edn_reader.specs.Datum.{Datum}
@@ -27,34 +28,42 @@ found_more ds d f h = (
   λ m. (
       let a = h.1 m in
       let lt : f.map < length ds = a.0 in
-      (omega (arith, lt, length-append ds (d ∷ [])), subst IsFaultless (sym (take_front (f.map + 1) ds d (omega (arith, lt)))) a.1)
+      (omega (arith, lt, length-append ds (d ∷ [])),
+        subst IsFaultless (sym (take_front (f.map + 1) ds d (omega (arith, lt)))) a.1)
       ),
 )
   where
     take_front : (n : ℕ) (xs : List Datum) (d : Datum) → n ≤ length xs → take n (xs ++ d ∷ []) ≡ take n xs
     take_front n xs d le = rw take-append-le refl
 
-faulty_more : (r : Reading) (f : HistoryFault) (ds : List Datum) (d : Datum) → r.fault ≡ Some f → IsReading r ds → IsReading r (ds ++ d ∷ [])
+faulty_more : (r : Reading) (f : HistoryFault) (ds : List Datum) (d : Datum) → r.fault ≡ Some f → IsReading r ds
+    → IsReading r (ds ++ d ∷ [])
 faulty_more r f ds d e h =
     let a : IsFoundIn ds f = subst (λ (o : Option HistoryFault). IsReadOrFaulty o r.seen r.map ds r.events.items) e h in
-    subst (λ (o : Option HistoryFault). IsReadOrFaulty o r.seen r.map (ds ++ d ∷ []) r.events.items) (sym e) (found_more ds d f a)
+    subst (λ (o : Option HistoryFault). IsReadOrFaulty o r.seen r.map (ds ++ d ∷ []) r.events.items) (sym e)
+      (found_more ds d f a)
 
-pub faulty_stays : (r : Reading) (ds : List Datum) (d : Datum) → is_some r.fault ≡ true → IsReading r ds → IsReading r (ds ++ d ∷ [])
+pub faulty_stays : (r : Reading) (ds : List Datum) (d : Datum) → is_some r.fault ≡ true → IsReading r ds
+    → IsReading r (ds ++ d ∷ [])
 faulty_stays r ds d e h = by_fault r.fault refl e
   where
     by_fault : (o : Option HistoryFault) → r.fault ≡ o → is_some o ≡ true → IsReading r (ds ++ d ∷ [])
     by_fault None q k = absurd cc
     by_fault (Some f) q k = faulty_more r f ds d q h
 
-pub are_read : (r : Reading) (ds : List Datum) → r.fault ≡ None → IsReading r ds → AreRead r.seen r.map ds r.events.items
+pub are_read : (r : Reading) (ds : List Datum) → r.fault ≡ None → IsReading r ds
+    → AreRead r.seen r.map ds r.events.items
 are_read r ds e h = subst (λ (o : Option HistoryFault). IsReadOrFaulty o r.seen r.map ds r.events.items) e h
 
 -- what is wrong with the map after those that were read
-pub found : (seen : Seen) (number : ℕ) (ds : List Datum) (d : Datum) (es : List Event) (k : HistoryFaultKind) → AreRead seen number ds es
+pub found : (seen : Seen) (number : ℕ) (ds : List Datum) (d : Datum) (es : List Event) (k : HistoryFaultKind)
+    → AreRead seen number ds es
     → (k ≢ NoMemory → HasFirst IsFault ds d k) → (k ≡ NoMemory → HasNoFault IsFault ds d) → IsFoundIn (ds ++ d ∷ [])
     (record { kind = k; map = number })
 found seen number ds d es k h first none = (
-  λ n. (let f = first n in record { earlier = ds; form = d; later = []; split = refl; place = h.count; stands = f.stands; least = h.faultless; first = f.first }),
+  λ n. (let f = first n in
+    record { earlier = ds; form = d; later = []; split = refl; place = h.count; stands = f.stands;
+    least = h.faultless; first = f.first }),
   λ m. (
       let long = length-append ds (d ∷ []) in
       let count : length ds ≡ number = h.count in (

@@ -1,18 +1,23 @@
 -- The parts of an operation map in the usual form, and the map that they make.
-use Rattle.std.proofs.Common.{◌≡◌, ℕ, ◌⊎◌, true, false, Bool, cond, Some, Option, List, [], ◌∷◌, ◌++◌, codes, refl, sym, ap, subst, ◌∙◌, append_assoc, arith}
+use Rattle.std.proofs.Common.{◌≡◌, ℕ, ◌⊎◌, true, false, Bool, cond, Some, Option, List, [], ◌∷◌, ◌++◌, codes, refl}
+use Rattle.std.proofs.Common.{sym, ap, subst, ◌∙◌, append_assoc, arith}
 use Rattle.std.specs.Prelude.{ℤ, pos}
 use Rattle.std.specs.Str.{IsUtf8, bytes_eq}
 use Rattle.std.proofs.lemmas.Slice.Eq.{bytes_eq-Decides}
 use Rattle.edn_reader.specs.Bytes.{is_name}
-use Rattle.edn_reader.specs.Datum.{Atom, nil, boolean, integer, keyword, Datum, atom, vector, dictionary, no_items, item, Entries, no_entries, entry, Fits, EntriesFit}
+use Rattle.edn_reader.specs.Datum.{Atom, nil, boolean, integer, keyword, Datum, atom, vector, dictionary, no_items}
+use Rattle.edn_reader.specs.Datum.{item, Entries, no_entries, entry, Fits, EntriesFit}
 use Rattle.edn_reader.specs.Token.{Token, close_vector, open_map, close_map, leaf, tokens_of, entries_tokens}
 use Rattle.edn_reader.specs.Reading.{first, got}
 use Rattle.edn_reader.specs.Spells.{EndsToken}
 use Rattle.edn_reader.specs.Sound.{BeginWith}
 use Rattle.edn_reader.proofs.Fronts.{both_begin, front_of}
-use Rattle.edn_reader.proofs.UsualFronts.{here, spaced, word_here, first_here, after_one, field, form_field, first_field}
+use Rattle.edn_reader.proofs.UsualFronts.{here, spaced, word_here, first_here, after_one, field, form_field}
+use Rattle.edn_reader.proofs.UsualFronts.{first_field}
 use Rattle.seq_objects.specs.declared.function.Function.{Function}
-use Rattle.seq_objects.specs.declared.function.Function.TheVariants.{Enqueue, Dequeue, Push, Pop, Insert, ExtractMin, Write, Read, Cas, Put, Get, Del, Acquire, Release}
+use Rattle.seq_objects.specs.declared.function.Function.TheVariants.{Enqueue, Dequeue, Push, Pop, Insert}
+use Rattle.seq_objects.specs.declared.function.Function.TheVariants.{ExtractMin, Write, Read, Cas, Put, Get, Del}
+use Rattle.seq_objects.specs.declared.function.Function.TheVariants.{Acquire, Release}
 use Rattle.seq_objects.specs.declared.function.Function.TheVariants.{Clear, Create, PutIfAbsent, Replace, Assoc}
 use Rattle.seq_objects.specs.declared.function.Function.TheVariants.{Dissoc, Add, Remove, Has}
 use Rattle.seq_objects.specs.declared.function.Function.TheVariants.{FetchAdd, GetCount, LockBy, UnlockBy}
@@ -24,7 +29,8 @@ use Rattle.edn_fields.proofs.Finding.{same_bytes_is}
 use Rattle.history.specs.Maps as spec
 use Rattle.history.specs.Maps.{type_named, short_in, object_at, client_with}
 use Rattle.history.specs.Views.{map_type, client_map}
-use Rattle.history.specs.UsualForms.{ReadsUsual, type_name, ReadsValue, LackEach, operation_keys, keys_to_object, keys_to_index, IsNoneOf, ReadsLast}
+use Rattle.history.specs.UsualForms.{ReadsUsual, type_name, ReadsValue, LackEach, operation_keys, keys_to_object}
+use Rattle.history.specs.UsualForms.{keys_to_index, IsNoneOf, ReadsLast}
 use Rattle.history.specs.declared.client_map.MapType.{MapType}
 use Rattle.history.specs.declared.client_map.MapType.TheVariants.{Invoke, Ok, Fail, Info}
 use Rattle.history.specs.declared.client_map.ClientMap.{ClientMap}
@@ -39,7 +45,8 @@ is_name_type Ok = refl
 is_name_type Fail = refl
 is_name_type Info = refl
 
-pub type_here : (t : MapType) (text rest : List ℕ) → EndsToken rest → text ≡ 58 ∷ (type_name t ++ rest) → BeginWith (leaf (atom (keyword (type_name t))) ∷ []) text rest
+pub type_here : (t : MapType) (text rest : List ℕ) → EndsToken rest → text ≡ 58 ∷ (type_name t ++ rest)
+    → BeginWith (leaf (atom (keyword (type_name t))) ∷ []) text rest
 type_here t text rest e q = word_here (keyword (type_name t)) (58 ∷ type_name t) text rest (refl, is_name_type t) e q
 
 is_name_function : (f : Function) → is_name (name_of f) ≡ true
@@ -72,16 +79,21 @@ is_name_function GetCount = refl
 is_name_function LockBy = refl
 is_name_function UnlockBy = refl
 
-pub function_here : (f : Function) (text rest : List ℕ) → EndsToken rest → text ≡ 58 ∷ (name_of f ++ rest) → BeginWith (leaf (atom (keyword (name_of f))) ∷ []) text rest
-function_here f text rest e q = word_here (keyword (name_of f)) (58 ∷ name_of f) text rest (refl, is_name_function f) e q
+pub function_here : (f : Function) (text rest : List ℕ) → EndsToken rest → text ≡ 58 ∷ (name_of f ++ rest)
+    → BeginWith (leaf (atom (keyword (name_of f))) ∷ []) text rest
+function_here f text rest e q =
+    word_here (keyword (name_of f)) (58 ∷ name_of f) text rest (refl, is_name_function f) e q
 
 -- ---- values
 
 pub nil_here : (text rest : List ℕ) → EndsToken rest → text ≡ codes "nil" ++ rest → ReadsValue text Nil rest
-nil_here text rest e q = record { form = atom nil; plain = refl; fits = tt; begins = word_here nil (codes "nil") text rest refl e q }
+nil_here text rest e q =
+    record { form = atom nil; plain = refl; fits = tt; begins = word_here nil (codes "nil") text rest refl e q }
 
 pub false_here : (text rest : List ℕ) → EndsToken rest → text ≡ codes "false" ++ rest → ReadsValue text False rest
-false_here text rest e q = record { form = atom (boolean false); plain = refl; fits = tt; begins = word_here (boolean false) (codes "false") text rest refl e q }
+false_here text rest e q =
+    record { form = atom (boolean false); plain = refl; fits = tt;
+    begins = word_here (boolean false) (codes "false") text rest refl e q }
 
 pub true_here : (text rest : List ℕ) → EndsToken rest → text ≡ codes "true" ++ rest → ReadsValue text True rest
 true_here text rest e q = record {
@@ -92,18 +104,24 @@ true_here text rest e q = record {
       (boolean true) (codes "true") text rest refl e q;
 }
 
-pub integer_here : (z : ℤ) (text rest : List ℕ) → BeginWith (leaf (atom (integer z)) ∷ []) text rest → ReadsValue text (Int z) rest
+pub integer_here : (z : ℤ) (text rest : List ℕ) → BeginWith (leaf (atom (integer z)) ∷ []) text rest
+    → ReadsValue text (Int z) rest
 integer_here z text rest b = record { form = atom (integer z); plain = refl; fits = tt; begins = b }
 
-pub pair_here : (y z : ℤ) (inside after_y from_z after_z rest : List ℕ) → BeginWith (leaf (atom (integer y)) ∷ []) inside after_y → after_y ≡ codes " " ++ from_z
-    → BeginWith (leaf (atom (integer z)) ∷ []) from_z after_z → after_z ≡ codes "]" ++ rest → ReadsValue (91 ∷ inside) (Pair y z) rest
+pub pair_here : (y z : ℤ) (inside after_y from_z after_z rest : List ℕ)
+    → BeginWith (leaf (atom (integer y)) ∷ []) inside after_y → after_y ≡ codes " " ++ from_z
+    → BeginWith (leaf (atom (integer z)) ∷ []) from_z after_z → after_z ≡ codes "]" ++ rest
+    → ReadsValue (91 ∷ inside) (Pair y z) rest
 pair_here y z inside after_y from_z after_z rest b q c r =
     let close : BeginWith (close_vector ∷ []) after_z rest = here after_z rest close_vector r in
-    let second : BeginWith (leaf (atom (integer z)) ∷ close_vector ∷ []) from_z rest = both_begin (leaf (atom (integer z)) ∷ []) (close_vector ∷ []) from_z after_z rest c close in
+    let second : BeginWith (leaf (atom (integer z)) ∷ close_vector ∷ []) from_z rest =
+      both_begin (leaf (atom (integer z)) ∷ []) (close_vector ∷ []) from_z after_z rest c close in
     let behind : BeginWith (leaf (atom (integer z)) ∷ close_vector ∷ []) after_y rest =
-    subst (λ (x : List ℕ). BeginWith (leaf (atom (integer z)) ∷ close_vector ∷ []) x rest) (sym q) (spaced 32 (leaf (atom (integer z))) (close_vector ∷ []) from_z rest refl second) in
+    subst (λ (x : List ℕ). BeginWith (leaf (atom (integer z)) ∷ close_vector ∷ []) x rest) (sym q)
+      (spaced 32 (leaf (atom (integer z))) (close_vector ∷ []) from_z rest refl second) in
     let all : BeginWith (leaf (atom (integer y)) ∷ leaf (atom (integer z)) ∷ close_vector ∷ []) inside rest =
-    both_begin (leaf (atom (integer y)) ∷ []) (leaf (atom (integer z)) ∷ close_vector ∷ []) inside after_y rest b behind in
+    both_begin (leaf (atom (integer y)) ∷ [])
+      (leaf (atom (integer z)) ∷ close_vector ∷ []) inside after_y rest b behind in
     record {
       form = vector (item (atom (integer y)) (item (atom (integer z)) no_items));
       plain = refl;
@@ -118,7 +136,8 @@ lack_none [] = tt
 lack_none (k ∷ ks) = (tt, lack_none ks)
 
 pub none_last : (ks : List (List ℕ)) (text rest : List ℕ) → text ≡ codes "}" ++ rest → ReadsLast ks text 0 rest
-none_last ks text rest q = record { pairs = no_entries; lack = lack_none ks; object_is = refl; fits = tt; begins = here text rest close_map q }
+none_last ks text rest q =
+    record { pairs = no_entries; lack = lack_none ks; object_is = refl; fits = tt; begins = here text rest close_map q }
 
 -- a key is none of these
 abbrev pub IsOther : List ℕ → List (List ℕ) → Type 0
@@ -128,37 +147,48 @@ IsOther k (l ∷ ls) = (bytes_eq l k ≡ false) × IsOther k ls
 apart : (l k : List ℕ) → bytes_eq l k ≡ false → l ≡ k → ⊥
 apart l k e q = let t : bytes_eq l k ≡ true = (bytes_eq-Decides l k).1 q in absurd cc
 
-lack_more : (k : List ℕ) (d : Datum) (ks : List (List ℕ)) (es : Entries) → IsOther k ks → LackEach ks es → LackEach ks (entry k d es)
+lack_more : (k : List ℕ) (d : Datum) (ks : List (List ℕ)) (es : Entries) → IsOther k ks → LackEach ks es
+    → LackEach ks (entry k d es)
 lack_more k d [] es o l = tt
 lack_more k d (j ∷ ks) es o l = ((apart j k o.0, l.0), lack_more k d ks es o.1 l.1)
 
-integer_pair : (k : List ℕ) (z : ℤ) (ts : List Token) (text mid after rest : List ℕ) → is_name k ≡ true → text ≡ 44 ∷ 32 ∷ 58 ∷ (k ++ 32 ∷ mid)
-    → BeginWith (leaf (atom (integer z)) ∷ []) mid after → BeginWith ts after rest → BeginWith (leaf (atom (keyword k)) ∷ leaf (atom (integer z)) ∷ ts) text rest
-integer_pair k z ts text mid after rest n q b c = field k (leaf (atom (integer z))) ts text mid rest n q (both_begin (leaf (atom (integer z)) ∷ []) ts mid after rest b c)
+integer_pair : (k : List ℕ) (z : ℤ) (ts : List Token) (text mid after rest : List ℕ) → is_name k ≡ true
+    → text ≡ 44 ∷ 32 ∷ 58 ∷ (k ++ 32 ∷ mid)
+    → BeginWith (leaf (atom (integer z)) ∷ []) mid after → BeginWith ts after rest
+    → BeginWith (leaf (atom (keyword k)) ∷ leaf (atom (integer z)) ∷ ts) text rest
+integer_pair k z ts text mid after rest n q b c =
+    field k (leaf (atom (integer z))) ts text mid rest n q
+    (both_begin (leaf (atom (integer z)) ∷ []) ts mid after rest b c)
 
 -- one more pair, which is not of the object
-pub other_pair : (k : List ℕ) (ks : List (List ℕ)) (z : ℤ) (text mid after rest : List ℕ) → is_name k ≡ true → same_bytes (codes "object") k ≡ false → IsOther k ks
-    → text ≡ 44 ∷ 32 ∷ 58 ∷ (k ++ 32 ∷ mid) → BeginWith (leaf (atom (integer z)) ∷ []) mid after → ReadsLast (k ∷ ks) after 0 rest → ReadsLast ks text 0 rest
+pub other_pair : (k : List ℕ) (ks : List (List ℕ)) (z : ℤ) (text mid after rest : List ℕ) → is_name k ≡ true
+    → same_bytes (codes "object") k ≡ false → IsOther k ks
+    → text ≡ 44 ∷ 32 ∷ 58 ∷ (k ++ 32 ∷ mid) → BeginWith (leaf (atom (integer z)) ∷ []) mid after
+    → ReadsLast (k ∷ ks) after 0 rest → ReadsLast ks text 0 rest
 other_pair k ks z text mid after rest n s o q b r =
     record {
       pairs = entry k (atom (integer z)) r.pairs;
       lack = lack_more k (atom (integer z)) ks r.pairs o r.lack.1;
-      object_is = ap (λ (c : Bool). object_at (cond c (Some (atom (integer z))) (value_at (codes "object") r.pairs))) s ∙ r.object_is;
+      object_is = ap (λ (c : Bool). object_at (cond c (Some (atom (integer z))) (value_at (codes "object") r.pairs)))
+        s ∙ r.object_is;
       fits = (r.lack.0, tt, r.fits);
       begins = integer_pair k z (entries_tokens r.pairs ++ close_map ∷ []) text mid after rest n q b r.begins;
     }
 
 -- the pair of the object
-pub object_pair : (n x : ℕ) (text mid after rest : List ℕ) → Some x ≡ short_in (Some n) → text ≡ codes ", :object " ++ mid → BeginWith (leaf (atom (integer (pos n))) ∷ []) mid after
+pub object_pair : (n x : ℕ) (text mid after rest : List ℕ) → Some x ≡ short_in (Some n)
+    → text ≡ codes ", :object " ++ mid → BeginWith (leaf (atom (integer (pos n))) ∷ []) mid after
     → ReadsLast keys_to_object after 0 rest → ReadsLast operation_keys text x rest
 unfolding is_name
 object_pair n x text mid after rest e q b r =
     record {
       pairs = entry (codes "object") (atom (integer (pos n))) r.pairs;
-      lack = lack_more (codes "object") (atom (integer (pos n))) operation_keys r.pairs (refl, (refl, (refl, (refl, tt)))) r.lack.1;
+      lack = lack_more (codes "object") (atom (integer (pos n))) operation_keys r.pairs
+        (refl, (refl, (refl, (refl, tt)))) r.lack.1;
       object_is = sym e;
       fits = (r.lack.0, tt, r.fits);
-      begins = integer_pair (codes "object") (pos n) (entries_tokens r.pairs ++ close_map ∷ []) text mid after rest refl q b r.begins;
+      begins = integer_pair (codes "object") (pos n)
+        (entries_tokens r.pairs ++ close_map ∷ []) text mid after rest refl q b r.begins;
     }
 
 differs : (k : List ℕ) → (codes "object" ≡ k → ⊥) → same_bytes (codes "object") k ≡ false
@@ -169,23 +199,31 @@ differs k h = by_same (same_bytes (codes "object") k) refl
     by_same true e = absurd (h ((bytes_eq-Decides (codes "object") k).0 (same_bytes_is (codes "object") k ∙ e)))
 
 -- one more pair of a key without a meaning, and a value that has no elements
-pub note_pair : (k : List ℕ) (a : Atom) (text at_key after_key at_value after_value rest : List ℕ) → IsNoneOf k keys_to_index
-    → text ≡ codes ", :" ++ at_key → first (58 ∷ at_key) ≡ got (leaf (atom (keyword k))) after_key → after_key ≡ codes " " ++ at_value
-    → BeginWith (leaf (atom a) ∷ []) at_value after_value → after_value ≡ codes "}" ++ rest → ReadsLast keys_to_index text 0 rest
+pub note_pair : (k : List ℕ) (a : Atom) (text at_key after_key at_value after_value rest : List ℕ)
+    → IsNoneOf k keys_to_index
+    → text ≡ codes ", :" ++ at_key → first (58 ∷ at_key) ≡ got (leaf (atom (keyword k))) after_key
+    → after_key ≡ codes " " ++ at_value
+    → BeginWith (leaf (atom a) ∷ []) at_value after_value → after_value ≡ codes "}" ++ rest
+    → ReadsLast keys_to_index text 0 rest
 note_pair k a text at_key after_key at_value after_value rest o q e s b z =
     let key : Token = leaf (atom (keyword k)) in
-    let value : BeginWith (leaf (atom a) ∷ close_map ∷ []) at_value rest = both_begin (leaf (atom a) ∷ []) (close_map ∷ []) at_value after_value rest b (here after_value rest close_map z) in
+    let value : BeginWith (leaf (atom a) ∷ close_map ∷ []) at_value rest =
+      both_begin (leaf (atom a) ∷ []) (close_map ∷ []) at_value after_value rest b
+      (here after_value rest close_map z) in
     let behind : BeginWith (leaf (atom a) ∷ close_map ∷ []) after_key rest =
-    subst (λ (x : List ℕ). BeginWith (leaf (atom a) ∷ close_map ∷ []) x rest) (sym s) (spaced 32 (leaf (atom a)) (close_map ∷ []) at_value rest refl value) in
+    subst (λ (x : List ℕ). BeginWith (leaf (atom a) ∷ close_map ∷ []) x rest) (sym s)
+      (spaced 32 (leaf (atom a)) (close_map ∷ []) at_value rest refl value) in
     let own : BeginWith (key ∷ leaf (atom a) ∷ close_map ∷ []) (58 ∷ at_key) rest =
-    both_begin (key ∷ []) (leaf (atom a) ∷ close_map ∷ []) (58 ∷ at_key) after_key rest (first_here (58 ∷ at_key) after_key key e) behind in
+    both_begin (key ∷ []) (leaf (atom a) ∷ close_map ∷ []) (58 ∷ at_key) after_key rest
+      (first_here (58 ∷ at_key) after_key key e) behind in
     let more : List Token = leaf (atom a) ∷ close_map ∷ [] in
     let all : BeginWith (key ∷ more) (44 ∷ 32 ∷ 58 ∷ at_key) rest =
     spaced 44 key more (32 ∷ 58 ∷ at_key) rest refl (spaced 32 key more (58 ∷ at_key) rest refl own) in
     record {
       pairs = entry k (atom a) no_entries;
       lack = note_lacks keys_to_index o;
-      object_is = ap (λ (c : Bool). object_at (cond c (Some (atom a)) (value_at (codes "object") no_entries))) (differs k o.1.1.0);
+      object_is = ap (λ (c : Bool). object_at (cond c (Some (atom a)) (value_at (codes "object") no_entries)))
+        (differs k o.1.1.0);
       fits = (tt, tt, tt);
       begins = subst (λ (x : List ℕ). BeginWith (key ∷ more) x rest) (sym q) all;
     }
@@ -194,8 +232,10 @@ note_pair k a text at_key after_key at_value after_value rest o q e s b z =
     note_lacks [] h = tt
     note_lacks (l ∷ ls) h = ((h.0, tt), note_lacks ls h.1)
 
-pub fewer_keys : (k : List ℕ) (ks : List (List ℕ)) (text : List ℕ) (x : ℕ) (rest : List ℕ) → ReadsLast (k ∷ ks) text x rest → ReadsLast ks text x rest
-fewer_keys k ks text x rest r = record { pairs = r.pairs; lack = r.lack.1; object_is = r.object_is; fits = r.fits; begins = r.begins }
+pub fewer_keys : (k : List ℕ) (ks : List (List ℕ)) (text : List ℕ) (x : ℕ) (rest : List ℕ)
+    → ReadsLast (k ∷ ks) text x rest → ReadsLast ks text x rest
+fewer_keys k ks text x rest r =
+    record { pairs = r.pairs; lack = r.lack.1; object_is = r.object_is; fits = r.fits; begins = r.begins }
 
 -- ---- the whole map
 
@@ -213,11 +253,13 @@ form_with n t f d es =
 abbrev map_with : ℕ → MapType → Function → ℕ → Value → ClientMap
 map_with n t f x v = record { process = n; map_type = t; function = Some f; object = x; value = Some v }
 
-fits_with : (n : ℕ) (t : MapType) (f : Function) (d : Datum) (es : Entries) → Fits 15 d → LackEach operation_keys es → EntriesFit 15 es → Fits 16 (form_with n t f d es)
+fits_with : (n : ℕ) (t : MapType) (f : Function) (d : Datum) (es : Entries) → Fits 15 d → LackEach operation_keys es
+    → EntriesFit 15 es → Fits 16 (form_with n t f d es)
 fits_with n t f d es h l e = (
   omega arith,
   (
-    (apart (codes "process") (codes "type") refl, (apart (codes "process") (codes "f") refl, (apart (codes "process") (codes "value") refl, l.0))),
+    (apart (codes "process") (codes "type") refl,
+      (apart (codes "process") (codes "f") refl, (apart (codes "process") (codes "value") refl, l.0))),
     tt,
     (
       (apart (codes "type") (codes "f") refl, (apart (codes "type") (codes "value") refl, l.1.0)),
@@ -227,7 +269,8 @@ fits_with n t f d es h l e = (
   ),
 )
 
-client_is : (n : ℕ) (t : MapType) (f : Function) (x : ℕ) (v : Value) (d : Datum) (es : Entries) → object_at (value_at (codes "object") es) ≡ Some x
+client_is : (n : ℕ) (t : MapType) (f : Function) (x : ℕ) (v : Value) (d : Datum) (es : Entries)
+    → object_at (value_at (codes "object") es) ≡ Some x
     → spec.client_of (form_with n t f d es) ≡ Some (client_map (map_with n t f x v) d)
 client_is n t f x v d es e =
     ap (λ y. client_with (Some n) y (Some (name_of f)) (object_at (value_at (codes "object") es)) d) (type_is t)
@@ -237,33 +280,46 @@ client_is n t f x v d es e =
     client_with_function : Option Function → Option spec.ClientMap
     client_with_function g = Some (record { process = n; type = map_type t; function = g; object = x; value = d })
 
-pub usual_is : (n : ℕ) (t : MapType) (f : Function) (x : ℕ) (v : Value) (text own from_n after_n from_t after_t from_f after_f from_v after_v rest : List ℕ) → IsUtf8 text
-    → (text ≡ own) ⊎ (text ≡ 10 ∷ own) → own ≡ codes "{:process " ++ from_n → BeginWith (leaf (atom (integer (pos n))) ∷ []) from_n after_n
+pub usual_is : (n : ℕ) (t : MapType) (f : Function) (x : ℕ) (v : Value)
+    (text own from_n after_n from_t after_t from_f after_f from_v after_v rest : List ℕ) → IsUtf8 text
+    → (text ≡ own) ⊎ (text ≡ 10 ∷ own) → own ≡ codes "{:process " ++ from_n
+    → BeginWith (leaf (atom (integer (pos n))) ∷ []) from_n after_n
     → after_n ≡ codes ", :type " ++ from_t → BeginWith (leaf (atom (keyword (type_name t))) ∷ []) from_t after_t
     → after_t ≡ codes ", :f " ++ from_f → BeginWith (leaf (atom (keyword (name_of f))) ∷ []) from_f after_f
     → after_f ≡ codes ", :value " ++ from_v → ReadsValue from_v v after_v → ReadsLast operation_keys after_v x rest
     → ReadsUsual text (record { process = n; map_type = t; function = Some f; object = x; value = Some v }) rest
 unfolding is_name
-usual_is n t f x v text own from_n after_n from_t after_t from_f after_f from_v after_v rest u feed qn bn qt bt qf bf qv value last =
+usual_is n t f x v text own from_n after_n from_t after_t from_f after_f from_v after_v rest u feed qn bn qt bt qf bf
+    qv value last =
     let last_tokens : List Token = entries_tokens last.pairs ++ close_map ∷ [] in
     let ts_v : List Token = tokens_of value.form ++ last_tokens in
-    let v1 : BeginWith ts_v from_v rest = both_begin (tokens_of value.form) last_tokens from_v after_v rest value.begins last.begins in
-    let v2 : BeginWith (leaf (atom (keyword (codes "value"))) ∷ ts_v) after_f rest = form_field value.form (codes "value") last_tokens after_f from_v rest refl qv v1 in
+    let v1 : BeginWith ts_v from_v rest =
+      both_begin (tokens_of value.form) last_tokens from_v after_v rest value.begins last.begins in
+    let v2 : BeginWith (leaf (atom (keyword (codes "value"))) ∷ ts_v) after_f rest =
+      form_field value.form (codes "value") last_tokens after_f from_v rest refl qv v1 in
     let ts_f : List Token = leaf (atom (keyword (codes "value"))) ∷ ts_v in
-    let f1 : BeginWith (leaf (atom (keyword (name_of f))) ∷ ts_f) from_f rest = both_begin (leaf (atom (keyword (name_of f))) ∷ []) ts_f from_f after_f rest bf v2 in
+    let f1 : BeginWith (leaf (atom (keyword (name_of f))) ∷ ts_f) from_f rest =
+      both_begin (leaf (atom (keyword (name_of f))) ∷ []) ts_f from_f after_f rest bf v2 in
     let f2 = field (codes "f") (leaf (atom (keyword (name_of f)))) ts_f after_t from_f rest refl qf f1 in
     let ts_t : List Token = leaf (atom (keyword (codes "f"))) ∷ leaf (atom (keyword (name_of f))) ∷ ts_f in
-    let t1 : BeginWith (leaf (atom (keyword (type_name t))) ∷ ts_t) from_t rest = both_begin (leaf (atom (keyword (type_name t))) ∷ []) ts_t from_t after_t rest bt f2 in
+    let t1 : BeginWith (leaf (atom (keyword (type_name t))) ∷ ts_t) from_t rest =
+      both_begin (leaf (atom (keyword (type_name t))) ∷ []) ts_t from_t after_t rest bt f2 in
     let t2 = field (codes "type") (leaf (atom (keyword (type_name t)))) ts_t after_n from_t rest refl qt t1 in
     let ts_n : List Token = leaf (atom (keyword (codes "type"))) ∷ leaf (atom (keyword (type_name t))) ∷ ts_t in
-    let n1 : BeginWith (leaf (atom (integer (pos n))) ∷ ts_n) from_n rest = both_begin (leaf (atom (integer (pos n))) ∷ []) ts_n from_n after_n rest bn t2 in
+    let n1 : BeginWith (leaf (atom (integer (pos n))) ∷ ts_n) from_n rest =
+      both_begin (leaf (atom (integer (pos n))) ∷ []) ts_n from_n after_n rest bn t2 in
     let n2 = first_field (codes "process") (leaf (atom (integer (pos n)))) ts_n own from_n rest refl qn n1 in
-    let all = after_one 10 open_map (leaf (atom (keyword (codes "process"))) ∷ leaf (atom (integer (pos n))) ∷ ts_n) text own rest refl feed n2 in
+    let all = after_one 10 open_map
+      (leaf (atom (keyword (codes "process"))) ∷ leaf (atom (integer (pos n))) ∷ ts_n) text own rest refl feed n2 in
     let begins : BeginWith (tokens_of (form_with n t f value.form last.pairs)) text rest =
-    subst (λ (ts : List Token). BeginWith (open_map ∷ leaf (atom (keyword (codes "process"))) ∷ leaf (atom (integer (pos n))) ∷ leaf (atom (keyword (codes "type")))
-    ∷ leaf (atom (keyword (type_name t))) ∷ leaf (atom (keyword (codes "f"))) ∷ leaf (atom (keyword (name_of f))) ∷ leaf (atom (keyword (codes "value"))) ∷ ts) text rest)
+    subst (λ (ts : List Token). BeginWith
+      (open_map ∷ leaf (atom (keyword (codes "process"))) ∷ leaf (atom (integer (pos n)))
+      ∷ leaf (atom (keyword (codes "type")))
+    ∷ leaf (atom (keyword (type_name t))) ∷ leaf (atom (keyword (codes "f"))) ∷ leaf (atom (keyword (name_of f)))
+      ∷ leaf (atom (keyword (codes "value"))) ∷ ts) text rest)
     (sym (append_assoc (tokens_of value.form) (entries_tokens last.pairs) (close_map ∷ []))) all in
-    let front = front_of text rest (form_with n t f value.form last.pairs) u (fits_with n t f value.form last.pairs value.fits last.lack last.fits) begins in
+    let front = front_of text rest (form_with n t f value.form last.pairs) u
+      (fits_with n t f value.form last.pairs value.fits last.lack last.fits) begins in
     record {
       form = form_with n t f value.form last.pairs;
       front = front.0;
@@ -274,19 +330,25 @@ usual_is n t f x v text own from_n after_n from_t after_t from_f after_f from_v 
 -- ---- the same with the index and the time first
 
 -- a pair of any form before others
-form_pair : (k : List ℕ) (d : Datum) (es : Entries) (text mid after rest : List ℕ) → is_name k ≡ true → text ≡ 44 ∷ 32 ∷ 58 ∷ (k ++ 32 ∷ mid) → BeginWith (tokens_of d) mid after
-    → BeginWith (entries_tokens es ++ close_map ∷ []) after rest → BeginWith (entries_tokens (entry k d es) ++ close_map ∷ []) text rest
+form_pair : (k : List ℕ) (d : Datum) (es : Entries) (text mid after rest : List ℕ) → is_name k ≡ true
+    → text ≡ 44 ∷ 32 ∷ 58 ∷ (k ++ 32 ∷ mid) → BeginWith (tokens_of d) mid after
+    → BeginWith (entries_tokens es ++ close_map ∷ []) after rest
+    → BeginWith (entries_tokens (entry k d es) ++ close_map ∷ []) text rest
 form_pair k d es text mid after rest n q b c =
     let ts : List Token = entries_tokens es ++ close_map ∷ [] in
-    subst (λ (us : List Token). BeginWith (leaf (atom (keyword k)) ∷ us) text rest) (sym (append_assoc (tokens_of d) (entries_tokens es) (close_map ∷ [])))
+    subst (λ (us : List Token). BeginWith (leaf (atom (keyword k)) ∷ us) text rest)
+      (sym (append_assoc (tokens_of d) (entries_tokens es) (close_map ∷ [])))
     (form_field d k ts text mid rest n q (both_begin (tokens_of d) ts mid after rest b c))
 
 abbrev indexed_with : ℤ → ℤ → ℕ → MapType → Function → Datum → Entries
 indexed_with i j n t f d =
-    entry (codes "index") (atom (integer i)) (entry (codes "time") (atom (integer j)) (entry (codes "type") (atom (keyword (type_name t)))
-    (entry (codes "process") (atom (integer (pos n))) (entry (codes "f") (atom (keyword (name_of f))) (entry (codes "value") d no_entries)))))
+    entry (codes "index") (atom (integer i))
+      (entry (codes "time") (atom (integer j)) (entry (codes "type") (atom (keyword (type_name t)))
+    (entry (codes "process") (atom (integer (pos n)))
+      (entry (codes "f") (atom (keyword (name_of f))) (entry (codes "value") d no_entries)))))
 
-indexed_fits : (i j : ℤ) (n : ℕ) (t : MapType) (f : Function) (d : Datum) → Fits 15 d → Fits 16 (dictionary (indexed_with i j n t f d))
+indexed_fits : (i j : ℤ) (n : ℕ) (t : MapType) (f : Function) (d : Datum) → Fits 15 d
+    → Fits 16 (dictionary (indexed_with i j n t f d))
 indexed_fits i j n t f d h = (
   omega arith,
   (
@@ -302,10 +364,13 @@ indexed_fits i j n t f d h = (
     ),
     tt,
     (
-      (apart (codes "time") (codes "type") refl, (apart (codes "time") (codes "process") refl, (apart (codes "time") (codes "f") refl, (apart (codes "time") (codes "value") refl, tt)))),
+      (apart (codes "time") (codes "type") refl,
+        (apart (codes "time") (codes "process") refl,
+        (apart (codes "time") (codes "f") refl, (apart (codes "time") (codes "value") refl, tt)))),
       tt,
       (
-        (apart (codes "type") (codes "process") refl, (apart (codes "type") (codes "f") refl, (apart (codes "type") (codes "value") refl, tt))),
+        (apart (codes "type") (codes "process") refl,
+          (apart (codes "type") (codes "f") refl, (apart (codes "type") (codes "value") refl, tt))),
         tt,
         (
           (apart (codes "process") (codes "f") refl, (apart (codes "process") (codes "value") refl, tt)),
@@ -327,8 +392,10 @@ indexed_client i j n t f v d =
     client_with_function g = Some (record { process = n; type = map_type t; function = g; object = 0; value = d })
 
 pub index_first_is : (i j : ℤ) (n : ℕ) (t : MapType) (f : Function) (v : Value)
-    (text own from_i after_i from_j after_j from_t after_t from_n after_n from_f after_f from_v after_v rest : List ℕ) → IsUtf8 text
-    → (text ≡ own) ⊎ (text ≡ 10 ∷ own) → own ≡ codes "{:index " ++ from_i → BeginWith (leaf (atom (integer i)) ∷ []) from_i after_i
+    (text own from_i after_i from_j after_j from_t after_t from_n after_n from_f after_f from_v after_v rest : List ℕ)
+      → IsUtf8 text
+    → (text ≡ own) ⊎ (text ≡ 10 ∷ own) → own ≡ codes "{:index " ++ from_i
+    → BeginWith (leaf (atom (integer i)) ∷ []) from_i after_i
     → after_i ≡ codes ", :time " ++ from_j → BeginWith (leaf (atom (integer j)) ∷ []) from_j after_j
     → after_j ≡ codes ", :type " ++ from_t → BeginWith (leaf (atom (keyword (type_name t))) ∷ []) from_t after_t
     → after_t ≡ codes ", :process " ++ from_n → BeginWith (leaf (atom (integer (pos n))) ∷ []) from_n after_n
@@ -336,7 +403,8 @@ pub index_first_is : (i j : ℤ) (n : ℕ) (t : MapType) (f : Function) (v : Val
     → after_f ≡ codes ", :value " ++ from_v → ReadsValue from_v v after_v → after_v ≡ codes "}" ++ rest
     → ReadsUsual text (record { process = n; map_type = t; function = Some f; object = 0; value = Some v }) rest
 unfolding is_name
-index_first_is i j n t f v text own from_i after_i from_j after_j from_t after_t from_n after_n from_f after_f from_v after_v rest u feed qi bi qj bj qt bt qn bn qf bf qv value q =
+index_first_is i j n t f v text own from_i after_i from_j after_j from_t after_t from_n after_n from_f after_f from_v
+    after_v rest u feed qi bi qj bj qt bt qn bn qf bf qv value q =
     let d : Datum = value.form in
     let end : BeginWith (close_map ∷ []) after_v rest = here after_v rest close_map q in
     let es_v : Entries = entry (codes "value") d no_entries in
@@ -350,9 +418,12 @@ index_first_is i j n t f v text own from_i after_i from_j after_j from_t after_t
     let es_j : Entries = entry (codes "time") (atom (integer j)) es_t in
     let j1 = form_pair (codes "time") (atom (integer j)) es_t after_i from_j after_j rest refl qj bj t1 in
     let ts : List Token = entries_tokens es_j ++ close_map ∷ [] in
-    let i1 = first_field (codes "index") (leaf (atom (integer i))) ts own from_i rest refl qi (both_begin (leaf (atom (integer i)) ∷ []) ts from_i after_i rest bi j1) in
-    let all = after_one 10 open_map (leaf (atom (keyword (codes "index"))) ∷ leaf (atom (integer i)) ∷ ts) text own rest refl feed i1 in
-    let front = front_of text rest (dictionary (indexed_with i j n t f d)) u (indexed_fits i j n t f d value.fits) all in
+    let i1 = first_field (codes "index") (leaf (atom (integer i))) ts own from_i rest refl qi
+      (both_begin (leaf (atom (integer i)) ∷ []) ts from_i after_i rest bi j1) in
+    let all = after_one 10 open_map
+      (leaf (atom (keyword (codes "index"))) ∷ leaf (atom (integer i)) ∷ ts) text own rest refl feed i1 in
+    let front = front_of text rest (dictionary (indexed_with i j n t f d)) u
+      (indexed_fits i j n t f d value.fits) all in
     record {
       form = dictionary (indexed_with i j n t f d);
       front = front.0;

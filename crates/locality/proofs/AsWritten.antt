@@ -1,5 +1,6 @@
--- What is linearizable is so as the text of Herlihy and Wing reads: an operation with both events in a history is one of
--- its completion, since a completion drops no invocation that a response answers. By counting the events of a process.
+-- What is linearizable is so as the text of Herlihy and Wing reads: an operation with both events in a history is one
+-- of its completion, since a completion drops no invocation that a response answers. By counting the events of a
+-- process.
 use Rattle.std.proofs.Common.{◌≡◌, ℕ, ◌<◌, ◌≤◌, ◌==◌, Bool, true, false, cond, List, [], ◌∷◌, ◌++◌, length}
 use Rattle.std.proofs.Common.{filter, refl, ap, sym, ◌∙◌, subst, arith}
 use Rattle.std.proofs.Common.{pos, zero, suc, ◌⊎◌, inl, inr, Some}
@@ -106,8 +107,8 @@ as_written_lem objects h lin = record {
       (is_of_completion h lin.completion lin.completes f j) p;
 }
 
--- A history that is linearizable as the text reads, and not here: process 1 takes effect before process 0, though it was
--- invoked after process 0 returned.
+-- A history that is linearizable as the text reads, and not here: process 1 takes effect before process 0, though it
+-- was invoked after process 0 returned.
 abbrev overtaken : List Event
 overtaken = events pending_overtakes_returned
 

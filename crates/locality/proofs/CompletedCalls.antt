@@ -1,11 +1,13 @@
 -- What each process completed in a linearizable history, and the one line of it all.
-use Rattle.std.proofs.Common.{◌≡◌, ℕ, ◌==◌, Bool, true, false, cond, inl, inr, List, [], ◌∷◌, ◌++◌, map, filter, Some, None, refl, ap, sym, ◌∙◌, subst}
+use Rattle.std.proofs.Common.{◌≡◌, ℕ, ◌==◌, Bool, true, false, cond, inl, inr, List, [], ◌∷◌, ◌++◌, map, filter}
+use Rattle.std.proofs.Common.{Some, None, refl, ap, sym, ◌∙◌, subst}
 use Rattle.std.specs.List.{flat_map, AllByRecursion}
 use Rattle.std.proofs.lemmas.Option.{same_Some}
 use Rattle.std.proofs.lemmas.Bool.{eqb-true, eqb-false, ne_eqb, eq-eqb, and_parts}
 use Rattle.model.specs.declared.AnyOp.{AnyOp}
 use Rattle.model.specs.declared.AnyReply.{AnyReply}
-use Rattle.model.specs.Histories.{Event, Inv, Res, process_of, is_invocation, by_process, matches, complete, IsSequential}
+use Rattle.model.specs.Histories.{Event, Inv, Res, process_of, is_invocation, by_process, matches, complete}
+use Rattle.model.specs.Histories.{IsSequential}
 use Rattle.model.specs.Orders.{Numbered, events, Return, ProcessCall, calls_in}
 use Rattle.model.proofs.Lists.{In}
 use Rattle.locality.proofs.ProcessHistories.{Turns, none, last, call, at, first, calls_in-call, complete-call}
@@ -32,7 +34,8 @@ pub record Completed (h : List Numbered) (c : List Event) : Type 0 where
   pub rest : List ProcessCall
   pub front : calls_in h ≡ ops_of list ++ rest
   pub recorded : (e : Ended) (r : Return) → In e list → e.made.call.returned ≡ Some r → e.reply ≡ r.reply
-  pub whole : (o : ProcessCall) (r : Return) → In o (calls_in h) → o.call.returned ≡ Some r → (e : Ended) × In e list × (e.made ≡ o)
+  pub whole : (o : ProcessCall) (r : Return) → In o (calls_in h) → o.call.returned ≡ Some r
+      → (e : Ended) × In e list × (e.made ≡ o)
 
 abbrev pub Responses : List Event → Type 0
 Responses es = AllByRecursion (λ e. is_invocation e ≡ false) es
@@ -47,7 +50,8 @@ no_more (e ∷ []) r s = let n = r.0 in absurd (cc (n, s))
 no_more (e ∷ f ∷ es) r s = absurd (no_match e f r.0 s.0)
 
 -- the last operation, pending or with its late response
-last_ended : (p n x : ℕ) (op : AnyOp) (es : List Event) → Responses es → IsSequential (Inv p x op ∷ es) → Completed (at n (Inv p x op) ∷ []) (complete (Inv p x op ∷ es))
+last_ended : (p n x : ℕ) (op : AnyOp) (es : List Event) → Responses es → IsSequential (Inv p x op ∷ es)
+    → Completed (at n (Inv p x op) ∷ []) (complete (Inv p x op ∷ es))
 last_ended p n x op [] r s = record {
   list = [];
   events_are = refl;
@@ -59,7 +63,10 @@ last_ended p n x op [] r s = record {
 }
   where
     pending : (o : ProcessCall) (r : Return) → In o (calls_in (at n (Inv p x op) ∷ [])) → o.call.returned ≡ Some r → ⊥
-    pending o r i q = elim i [ inl e ↦ let no : None ≡ Some r = sym (ap (λ (y : ProcessCall). y.call.returned) e) ∙ q in cc no | inr j ↦ j ]
+    pending o r i q = elim i [
+      | inl e ↦ let no : None ≡ Some r = sym (ap (λ (y : ProcessCall). y.call.returned) e) ∙ q in cc no
+      | inr j ↦ j
+    ]
 last_ended p n x op (Inv q y o ∷ es) r s = let n = r.0 in absurd (cc n)
 last_ended p n x op (Res q y v ∷ es) r s =
     let both = and_parts (p == q) (x == y) s.0 in
@@ -69,41 +76,58 @@ last_ended p n x op (Res q y v ∷ es) r s =
     let o : ProcessCall = record { process = p; object = x; call = record { number = n; op = op; returned = None } } in
     subst (λ k. Completed (at n (Inv p x op) ∷ []) (complete (Inv p x op ∷ Res k y v ∷ es))) (sym a)
     (subst (λ k. Completed (at n (Inv p x op) ∷ []) (complete (Inv p x op ∷ Res p k v ∷ es))) (sym b)
-    (subst (λ (k : List Event). Completed (at n (Inv p x op) ∷ []) (complete (Inv p x op ∷ Res p x v ∷ k))) (sym none_left)
+    (subst (λ (k : List Event). Completed (at n (Inv p x op) ∷ []) (complete (Inv p x op ∷ Res p x v ∷ k)))
+      (sym none_left)
     (record {
       list = record { made = o; reply = v } ∷ [];
       events_are = complete-call p x op v [];
       rest = [];
       front = refl;
-      recorded = λ e r i q. elim i [ inl t ↦ let no : None ≡ Some r = sym (ap (λ (y : Ended). y.made.call.returned) t) ∙ q in absurd (cc no) | inr j ↦ absurd j ];
-      whole = λ w r i q. elim i [ inl t ↦ let no : None ≡ Some r = sym (ap (λ (y : ProcessCall). y.call.returned) t) ∙ q in absurd (cc no) | inr j ↦ absurd j ];
+      recorded = λ e r i q. elim i [
+        | inl t ↦ let no : None ≡ Some r = sym (ap (λ (y : Ended). y.made.call.returned) t) ∙ q in absurd (cc no)
+        | inr j ↦ absurd j
+      ];
+      whole = λ w r i q. elim i [
+        | inl t ↦ let no : None ≡ Some r = sym (ap (λ (y : ProcessCall). y.call.returned) t) ∙ q in absurd (cc no)
+        | inr j ↦ absurd j
+      ];
     })))
 
-pub completed_any : (p : ℕ) (h : List Numbered) (es : List Event) → Turns p h → Responses es → IsSequential (events h ++ es) → Completed h (complete (events h ++ es))
+pub completed_any : (p : ℕ) (h : List Numbered) (es : List Event) → Turns p h → Responses es
+    → IsSequential (events h ++ es) → Completed h (complete (events h ++ es))
 completed_any p h es none r s =
     subst (λ (k : List Event). Completed [] (complete k)) (sym (no_more es r s))
-    (record { list = []; events_are = refl; rest = []; front = refl; recorded = λ e r i q. absurd i; whole = λ o r i q. absurd i })
+    (record { list = []; events_are = refl; rest = []; front = refl; recorded = λ e r i q. absurd i;
+      whole = λ o r i q. absurd i })
 completed_any p h es (last n x op) r s = last_ended p n x op es r s
 completed_any p h es (call n x op m v rest t) r s =
     let below = completed_any p rest es t r s.1 in
     let o : ProcessCall = first p n x op m v in
-    let os : calls_in (at n (Inv p x op) ∷ at m (Res p x v) ∷ rest) ≡ o ∷ calls_in rest = calls_in-call p n x op m v rest in
+    let os : calls_in (at n (Inv p x op) ∷ at m (Res p x v) ∷ rest) ≡ o ∷ calls_in rest =
+      calls_in-call p n x op m v rest in
     record {
       list = record { made = o; reply = v } ∷ below.list;
       events_are = complete-call p x op v (events rest ++ es) ∙ ap (λ es. Inv p x op ∷ Res p x v ∷ es) below.events_are;
       rest = below.rest;
       front = os ∙ ap (λ ys. o ∷ ys) below.front;
       recorded = λ e r i q. elim i [
-        | inl t ↦ let same : Some (record { at = m; reply = v }) ≡ Some r = sym (ap (λ (y : Ended). y.made.call.returned) t) ∙ q in
-            ap (λ (y : Ended). y.reply) t ∙ ap (λ (y : Return). y.reply) (same_Some (record { at = m; reply = v }) r same)
+        | inl t ↦
+            let same : Some (record { at = m; reply = v }) ≡ Some r =
+              sym (ap (λ (y : Ended). y.made.call.returned) t) ∙ q in
+            ap (λ (y : Ended). y.reply) t
+              ∙ ap (λ (y : Return). y.reply) (same_Some (record { at = m; reply = v }) r same)
         | inr j ↦ below.recorded e r j q
       ];
       whole = λ w r i q. found o w r (subst (In w) os i) q below;
     }
   where
     found : (o w : ProcessCall) (r : Return) → In w (o ∷ calls_in rest) → w.call.returned ≡ Some r
-        → (b : Completed rest (complete (events rest ++ es))) → (e : Ended) × In e (record { made = o; reply = v } ∷ b.list) × (e.made ≡ w)
-    found o w r i q b = elim i [ inl t ↦ (record { made = o; reply = v }, inl refl, sym t) | inr j ↦ let e = b.whole w r j q in (e.0, inr e.1, e.2) ]
+        → (b : Completed rest (complete (events rest ++ es)))
+        → (e : Ended) × In e (record { made = o; reply = v } ∷ b.list) × (e.made ≡ w)
+    found o w r i q b = elim i [
+      | inl t ↦ (record { made = o; reply = v }, inl refl, sym t)
+      | inr j ↦ let e = b.whole w r j q in (e.0, inr e.1, e.2)
+    ]
 
 ended_nil : (es : List Ended) → ended_events es ≡ [] → es ≡ []
 ended_nil [] e = refl
@@ -119,10 +143,14 @@ pub record Lined (s : List Event) (q : ℕ → List Ended) : Type 0 where
 abbrev popped : ℕ → List Ended → (ℕ → List Ended) → ℕ → List Ended
 popped p es q k = cond (k == p) es (q k)
 
-lined_step : (e f : Event) (s : List Event) (q : ℕ → List Ended) (o : Ended) (os : List Ended) → q (process_of e) ≡ o ∷ os
-    → e ∷ f ∷ by_process (process_of e) s ≡ ended_events (o ∷ os) → o.made.process ≡ process_of e → process_of f ≡ process_of e
-    → ((q : ℕ → List Ended) → ((p : ℕ) → by_process p s ≡ ended_events (q p)) → ((p : ℕ) (o : Ended) → In o (q p) → o.made.process ≡ p) → Lined s q)
-    → ((p : ℕ) → by_process p (e ∷ f ∷ s) ≡ ended_events (q p)) → ((p : ℕ) (o : Ended) → In o (q p) → o.made.process ≡ p) → Lined (e ∷ f ∷ s) q
+lined_step : (e f : Event) (s : List Event) (q : ℕ → List Ended) (o : Ended) (os : List Ended)
+    → q (process_of e) ≡ o ∷ os
+    → e ∷ f ∷ by_process (process_of e) s ≡ ended_events (o ∷ os) → o.made.process ≡ process_of e
+    → process_of f ≡ process_of e
+    → ((q : ℕ → List Ended) → ((p : ℕ) → by_process p s ≡ ended_events (q p))
+      → ((p : ℕ) (o : Ended) → In o (q p) → o.made.process ≡ p) → Lined s q)
+    → ((p : ℕ) → by_process p (e ∷ f ∷ s) ≡ ended_events (q p))
+    → ((p : ℕ) (o : Ended) → In o (q p) → o.made.process ≡ p) → Lined (e ∷ f ∷ s) q
 lined_step e f s q o os head same mine pair below all owned =
     let p : ℕ = process_of e in
     let q' : ℕ → List Ended = popped p os q in
@@ -135,7 +163,8 @@ lined_step e f s q o os head same mine pair below all owned =
       | false ↦ λ t.
           let ne : (p == k) ≡ false = ne_eqb p k (λ u. eqb-false k p t (sym u)) in
           let nf : (process_of f == k) ≡ false = ap (λ j. j == k) pair ∙ ne in
-          sym (ap (λ b. cond b (f ∷ by_process k s) (by_process k s)) nf) ∙ (sym (ap (λ b. cond b (e ∷ by_process k (f ∷ s)) (by_process k (f ∷ s))) ne) ∙ all k)
+          sym (ap (λ b. cond b (f ∷ by_process k s) (by_process k s)) nf)
+            ∙ (sym (ap (λ b. cond b (e ∷ by_process k (f ∷ s)) (by_process k (f ∷ s))) ne) ∙ all k)
     ] in
     let owns : (k : ℕ) (b : Bool) → (k == p) ≡ b → (x : Ended) → In x (cond b os (q k)) → x.made.process ≡ k =
     λ k. elim [
@@ -144,14 +173,18 @@ lined_step e f s q o os head same mine pair below all owned =
     ] in
     let rest = below q' (λ k. here k (k == p) refl) (λ k x i. owns k (k == p) refl x i) in
     let whole : (k : ℕ) (b : Bool) → (k == p) ≡ b → filter (λ e. e.made.process == k) rest.line ≡ cond b os (q k)
-    → cond (o.made.process == k) (o ∷ filter (λ e. e.made.process == k) rest.line) (filter (λ e. e.made.process == k) rest.line) ≡ q k =
+    → cond (o.made.process == k) (o ∷ filter (λ e. e.made.process == k) rest.line)
+      (filter (λ e. e.made.process == k) rest.line) ≡ q k =
     λ k. elim [
       | true ↦ λ t r.
           let at_k : (o.made.process == k) ≡ true = eq-eqb o.made.process k (mine ∙ sym (eqb-true k p t)) in
-          ap (λ b. cond b (o ∷ filter (λ e. e.made.process == k) rest.line) (filter (λ e. e.made.process == k) rest.line)) at_k ∙ (ap (λ ys. o ∷ ys) r ∙ (sym head ∙ ap q (sym (eqb-true k p t))))
+          ap (λ b. cond b (o ∷ filter (λ e. e.made.process == k) rest.line)
+            (filter (λ e. e.made.process == k) rest.line)) at_k
+            ∙ (ap (λ ys. o ∷ ys) r ∙ (sym head ∙ ap q (sym (eqb-true k p t))))
       | false ↦ λ t r.
           let off_k : (o.made.process == k) ≡ false = ne_eqb o.made.process k (λ u. eqb-false k p t (sym u ∙ mine)) in
-          ap (λ b. cond b (o ∷ filter (λ e. e.made.process == k) rest.line) (filter (λ e. e.made.process == k) rest.line)) off_k ∙ r
+          ap (λ b. cond b (o ∷ filter (λ e. e.made.process == k) rest.line)
+            (filter (λ e. e.made.process == k) rest.line)) off_k ∙ r
     ] in
     record {
       line = o ∷ rest.line;
@@ -164,13 +197,16 @@ same_process (Inv p x op) (Res q y r) m = let both = and_parts (p == q) (x == y)
 same_process (Inv p x op) (Inv q y o) m = absurd (cc m)
 same_process (Res p x r) f m = absurd (cc m)
 
-own_events : (e f : Event) (s : List Event) → process_of f ≡ process_of e → by_process (process_of e) (e ∷ f ∷ s) ≡ e ∷ f ∷ by_process (process_of e) s
+own_events : (e f : Event) (s : List Event) → process_of f ≡ process_of e
+    → by_process (process_of e) (e ∷ f ∷ s) ≡ e ∷ f ∷ by_process (process_of e) s
 own_events e f s q =
     let a : (process_of e == process_of e) ≡ true = eq-eqb (process_of e) (process_of e) refl in
     let b : (process_of f == process_of e) ≡ true = eq-eqb (process_of f) (process_of e) q in
-    ap (λ t. cond t (e ∷ by_process (process_of e) (f ∷ s)) (by_process (process_of e) (f ∷ s))) a ∙ ap (λ t. e ∷ cond t (f ∷ by_process (process_of e) s) (by_process (process_of e) s)) b
+    ap (λ t. cond t (e ∷ by_process (process_of e) (f ∷ s)) (by_process (process_of e) (f ∷ s))) a
+      ∙ ap (λ t. e ∷ cond t (f ∷ by_process (process_of e) s) (by_process (process_of e) s)) b
 
-pub lined : (s : List Event) → IsSequential s → (q : ℕ → List Ended) → ((p : ℕ) → by_process p s ≡ ended_events (q p)) → ((p : ℕ) (o : Ended) → In o (q p) → o.made.process ≡ p) → Lined s q
+pub lined : (s : List Event) → IsSequential s → (q : ℕ → List Ended) → ((p : ℕ) → by_process p s ≡ ended_events (q p))
+    → ((p : ℕ) (o : Ended) → In o (q p) → o.made.process ≡ p) → Lined s q
 lined [] sq q all owned = record { line = []; events_are = refl; parts = λ p. sym (ended_nil (q p) (sym (all p))) }
 lined (e ∷ []) sq q all owned =
     let a : (process_of e == process_of e) ≡ true = eq-eqb (process_of e) (process_of e) refl in
@@ -182,7 +218,11 @@ lined (e ∷ []) sq q all owned =
 lined (e ∷ f ∷ s) sq q all owned = go (q (process_of e)) refl (λ q. lined s sq.1 q)
   where
     go : (os : List Ended) → q (process_of e) ≡ os
-        → ((q : ℕ → List Ended) → ((p : ℕ) → by_process p s ≡ ended_events (q p)) → ((p : ℕ) (o : Ended) → In o (q p) → o.made.process ≡ p) → Lined s q) → Lined (e ∷ f ∷ s) q
-    go [] h below = let bad : e ∷ f ∷ by_process (process_of e) s ≡ [] = sym (own_events e f s (same_process e f sq.0)) ∙ (all (process_of e) ∙ ap ended_events h) in absurd (cc bad)
-    go (o ∷ os) h below = lined_step e f s q o os h (sym (own_events e f s (same_process e f sq.0)) ∙ (all (process_of e) ∙ ap ended_events h))
+        → ((q : ℕ → List Ended) → ((p : ℕ) → by_process p s ≡ ended_events (q p))
+          → ((p : ℕ) (o : Ended) → In o (q p) → o.made.process ≡ p) → Lined s q) → Lined (e ∷ f ∷ s) q
+    go [] h below =
+        let bad : e ∷ f ∷ by_process (process_of e) s ≡ [] =
+          sym (own_events e f s (same_process e f sq.0)) ∙ (all (process_of e) ∙ ap ended_events h) in absurd (cc bad)
+    go (o ∷ os) h below = lined_step e f s q o os h
+      (sym (own_events e f s (same_process e f sq.0)) ∙ (all (process_of e) ∙ ap ended_events h))
         (owned (process_of e) o (subst (In o) (sym h) (inl refl))) (same_process e f sq.0) below all owned

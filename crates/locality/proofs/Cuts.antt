@@ -1,14 +1,17 @@
 -- Cutting histories: to a process or an object, and at a moment.
-use Rattle.std.proofs.Common.{◌≡◌, ℕ, suc, ◌<◌, ◌≤◌, ◌==◌, ◌&&◌, ◌||◌, nat_lt, Bool, true, false, not, cond, inl, inr, List, [], ◌∷◌, ◌++◌, length}
+use Rattle.std.proofs.Common.{◌≡◌, ℕ, suc, ◌<◌, ◌≤◌, ◌==◌, ◌&&◌, ◌||◌, nat_lt, Bool, true, false, not, cond, inl}
+use Rattle.std.proofs.Common.{inr, List, [], ◌∷◌, ◌++◌, length}
 use Rattle.std.proofs.Common.{filter, Option, Some, None, is_some, refl, ap, sym, ◌∙◌, subst, arith}
 use Rattle.std.specs.List.{flat_map, list_any}
 use Rattle.std.proofs.lemmas.List.{append-nil}
 use Rattle.std.proofs.lemmas.List.Elements.{filter-append}
 use Rattle.std.proofs.lemmas.Bool.{eqb-true, eqb-false, ne_eqb, and_left, and_right, lt-ltb, le-ltb}
 use Rattle.model.specs.declared.AnyReply.{AnyReply}
-use Rattle.model.specs.Histories.{Event, Inv, Res, process_of, object_of, is_invocation, by_process, by_object, matches, is_pending, complete, invokes, responds}
+use Rattle.model.specs.Histories.{Event, Inv, Res, process_of, object_of, is_invocation, by_process, by_object}
+use Rattle.model.specs.Histories.{matches, is_pending, complete, invokes, responds}
 use Rattle.model.specs.Orders.{Numbered, events, Return, ProcessCall}
-use Rattle.model.proofs.Lists.{In, Pairs, in_filter_passes, filter-filter, filter_same, filter_all, filter_none, filter-flat_map, flat_map_same, flat_map_filter, in_right}
+use Rattle.model.proofs.Lists.{In, Pairs, in_filter_passes, filter-filter, filter_same, filter_all, filter_none}
+use Rattle.model.proofs.Lists.{filter-flat_map, flat_map_same, flat_map_filter, in_right}
 use Rattle.locality.proofs.Entries.{done}
 use Rattle.locality.proofs.ProcessHistories.{part, late, added, dones}
 
@@ -27,12 +30,17 @@ and_true : (a b : Bool) → b ≡ true → (a && b) ≡ a
 and_true true b e = e
 and_true false b e = refl
 
-not_less : (a b : List Numbered) (m x : Numbered) → Pairs (λ x y. x.number < y.number) (a ++ m ∷ b) → In x (m ∷ b) → m.number ≤ x.number
-not_less [] b m x u i = elim i [ inl e ↦ omega (arith, ap (λ (k : Numbered). k.number) e) | inr j ↦ let g = u.0 x j in omega arith ]
+not_less : (a b : List Numbered) (m x : Numbered) → Pairs (λ x y. x.number < y.number) (a ++ m ∷ b) → In x (m ∷ b)
+    → m.number ≤ x.number
+not_less [] b m x u i = elim i [
+  | inl e ↦ omega (arith, ap (λ (k : Numbered). k.number) e)
+  | inr j ↦ let g = u.0 x j in omega arith
+]
 not_less (y ∷ a) b m x u i = not_less a b m x u.1 i
 
 -- where a test keeps all of what f gives of some elements, and nothing of the others
-pub filter_pieces : {X Y : Type 0} (q : Y → Bool) (s : X → Bool) (f : X → List Y) (xs : List X) → ((x : X) → s x ≡ true → filter q (f x) ≡ f x)
+pub filter_pieces : {X Y : Type 0} (q : Y → Bool) (s : X → Bool) (f : X → List Y) (xs : List X)
+    → ((x : X) → s x ≡ true → filter q (f x) ≡ f x)
     → ((x : X) → s x ≡ false → filter q (f x) ≡ []) → filter q (flat_map f xs) ≡ flat_map f (filter s xs)
 filter_pieces {X} q s f xs all none =
     filter-flat_map q f xs
@@ -43,35 +51,53 @@ filter_pieces {X} q s f xs all none =
     passes x xs i = in_filter_passes s x xs i
 
 both_kept : (q : Event → Bool) (e : ProcessCall) (g : Option AnyReply) (b : Bool)
-    → ((v : Event) → process_of v ≡ e.process → object_of v ≡ e.object → q v ≡ b) → filter q (done e g) ≡ cond b (done e g) []
+    → ((v : Event) → process_of v ≡ e.process → object_of v ≡ e.object → q v ≡ b)
+    → filter q (done e g) ≡ cond b (done e g) []
 both_kept q e None true h = refl
 both_kept q e None false h = refl
 both_kept q e (Some r) true h =
-    filter_all q (done e (Some r)) (λ v i. elim i [ inl s ↦ h v (ap process_of s) (ap object_of s) | inr j ↦ elim j [ inl s ↦ h v (ap process_of s) (ap object_of s) | inr k ↦ absurd k ] ])
+    filter_all q (done e (Some r)) (λ v i. elim i [
+      | inl s ↦ h v (ap process_of s) (ap object_of s)
+      | inr j ↦ elim j [ inl s ↦ h v (ap process_of s) (ap object_of s) | inr k ↦ absurd k ]
+    ])
 both_kept q e (Some r) false h =
-    filter_none q (done e (Some r)) (λ v i. elim i [ inl s ↦ h v (ap process_of s) (ap object_of s) | inr j ↦ elim j [ inl s ↦ h v (ap process_of s) (ap object_of s) | inr k ↦ absurd k ] ])
+    filter_none q (done e (Some r)) (λ v i. elim i [
+      | inl s ↦ h v (ap process_of s) (ap object_of s)
+      | inr j ↦ elim j [ inl s ↦ h v (ap process_of s) (ap object_of s) | inr k ↦ absurd k ]
+    ])
 
 late_kept : (q : Event → Bool) (e : ProcessCall) (o : Option Return) (g : Option AnyReply) (b : Bool)
-    → ((v : Event) → process_of v ≡ e.process → object_of v ≡ e.object → q v ≡ b) → filter q (late e o g) ≡ cond b (late e o g) []
+    → ((v : Event) → process_of v ≡ e.process → object_of v ≡ e.object → q v ≡ b)
+    → filter q (late e o g) ≡ cond b (late e o g) []
 late_kept q e (Some r) g true h = refl
 late_kept q e (Some r) g false h = refl
 late_kept q e None None true h = refl
 late_kept q e None None false h = refl
-late_kept q e None (Some r) true h = filter_all q (late e None (Some r)) (λ v i. elim i [ inl s ↦ h v (ap process_of s) (ap object_of s) | inr k ↦ absurd k ])
-late_kept q e None (Some r) false h = filter_none q (late e None (Some r)) (λ v i. elim i [ inl s ↦ h v (ap process_of s) (ap object_of s) | inr k ↦ absurd k ])
+late_kept q e None (Some r) true h = filter_all q (late e None (Some r)) (λ v i. elim i [
+  | inl s ↦ h v (ap process_of s) (ap object_of s)
+  | inr k ↦ absurd k
+])
+late_kept q e None (Some r) false h = filter_none q (late e None (Some r)) (λ v i. elim i [
+  | inl s ↦ h v (ap process_of s) (ap object_of s)
+  | inr k ↦ absurd k
+])
 
-pub dones_of_process : (p : ℕ) (give : ProcessCall → Option AnyReply) (os : List ProcessCall) → by_process p (dones give os) ≡ dones give (filter (λ e. e.process == p) os)
+pub dones_of_process : (p : ℕ) (give : ProcessCall → Option AnyReply) (os : List ProcessCall)
+    → by_process p (dones give os) ≡ dones give (filter (λ e. e.process == p) os)
 dones_of_process p give os = filter_pieces (λ v. process_of v == p) (λ e. e.process == p) (λ e. done e (give e)) os
     (λ e t. both_kept (λ v. process_of v == p) e (give e) true (λ v a b. ap (λ k. k == p) a ∙ t))
     (λ e t. both_kept (λ v. process_of v == p) e (give e) false (λ v a b. ap (λ k. k == p) a ∙ t))
 
-pub dones_of_object : (x : ℕ) (give : ProcessCall → Option AnyReply) (os : List ProcessCall) → by_object x (dones give os) ≡ dones give (filter (λ e. e.object == x) os)
+pub dones_of_object : (x : ℕ) (give : ProcessCall → Option AnyReply) (os : List ProcessCall)
+    → by_object x (dones give os) ≡ dones give (filter (λ e. e.object == x) os)
 dones_of_object x give os = filter_pieces (λ v. object_of v == x) (λ e. e.object == x) (λ e. done e (give e)) os
     (λ e t. both_kept (λ v. object_of v == x) e (give e) true (λ v a b. ap (λ k. k == x) b ∙ t))
     (λ e t. both_kept (λ v. object_of v == x) e (give e) false (λ v a b. ap (λ k. k == x) b ∙ t))
 
-pub added_of_process : (p : ℕ) (give : ProcessCall → Option AnyReply) (os : List ProcessCall) → by_process p (added give os) ≡ added give (filter (λ e. e.process == p) os)
-added_of_process p give os = filter_pieces (λ v. process_of v == p) (λ e. e.process == p) (λ e. late e e.call.returned (give e)) os
+pub added_of_process : (p : ℕ) (give : ProcessCall → Option AnyReply) (os : List ProcessCall)
+    → by_process p (added give os) ≡ added give (filter (λ e. e.process == p) os)
+added_of_process p give os =
+    filter_pieces (λ v. process_of v == p) (λ e. e.process == p) (λ e. late e e.call.returned (give e)) os
     (λ e t. late_kept (λ v. process_of v == p) e e.call.returned (give e) true (λ v a b. ap (λ k. k == p) a ∙ t))
     (λ e t. late_kept (λ v. process_of v == p) e e.call.returned (give e) false (λ v a b. ap (λ k. k == p) a ∙ t))
 
@@ -84,12 +110,17 @@ other_matches p (Inv q x op) (Res q' y r) t n =
     and_left (q == q') (x == y) (ne_eqb q q' (λ s. b (sym s ∙ a)))
 other_matches p (Res q x r) f t n = refl
 
-pub any_of_process : (p : ℕ) (e : Event) (h : List Event) → (process_of e == p) ≡ true → list_any (matches e) (by_process p h) ≡ list_any (matches e) h
+pub any_of_process : (p : ℕ) (e : Event) (h : List Event) → (process_of e == p) ≡ true
+    → list_any (matches e) (by_process p h) ≡ list_any (matches e) h
 any_of_process p e [] t = refl
 any_of_process p e (f ∷ h) t =
     let rest = any_of_process p e h t in
-    let here : (b : Bool) → (process_of f == p) ≡ b → list_any (matches e) (cond b (f ∷ by_process p h) (by_process p h)) ≡ matches e f || list_any (matches e) h =
-    elim [ true ↦ λ s. ap (λ b. matches e f || b) rest | false ↦ λ s. rest ∙ sym (ap (λ b. b || list_any (matches e) h) (other_matches p e f t s)) ] in
+    let here : (b : Bool) → (process_of f == p) ≡ b
+      → list_any (matches e) (cond b (f ∷ by_process p h) (by_process p h)) ≡ matches e f || list_any (matches e) h =
+    elim [
+      | true ↦ λ s. ap (λ b. matches e f || b) rest
+      | false ↦ λ s. rest ∙ sym (ap (λ b. b || list_any (matches e) h) (other_matches p e f t s))
+    ] in
     here (process_of f == p) refl
 
 -- a process's part of a completed history is its completed part
@@ -97,16 +128,20 @@ pub complete_of_process : (p : ℕ) (h : List Event) → by_process p (complete 
 complete_of_process p [] = refl
 complete_of_process p (e ∷ h) =
     let rest = complete_of_process p h in
-    let here : (b : Bool) → (process_of e == p) ≡ b → (c : Bool) → is_pending e h ≡ c → by_process p (cond c (complete h) (e ∷ complete h)) ≡ complete (cond b (e ∷ by_process p h) (by_process p h)) =
+    let here : (b : Bool) → (process_of e == p) ≡ b → (c : Bool) → is_pending e h ≡ c
+      → by_process p (cond c (complete h) (e ∷ complete h)) ≡ complete (cond b (e ∷ by_process p h) (by_process p h)) =
     elim [
       | true ↦ λ s. elim [
         | true ↦ λ d.
-            let d' : is_pending e (by_process p h) ≡ true = ap (λ b. is_invocation e && not b) (any_of_process p e h s) ∙ d in
+            let d' : is_pending e (by_process p h) ≡ true =
+              ap (λ b. is_invocation e && not b) (any_of_process p e h s) ∙ d in
             rest ∙ sym (ap (λ b. cond b (complete (by_process p h)) (e ∷ complete (by_process p h))) d')
         | false ↦ λ d.
-            let d' : is_pending e (by_process p h) ≡ false = ap (λ b. is_invocation e && not b) (any_of_process p e h s) ∙ d in
+            let d' : is_pending e (by_process p h) ≡ false =
+              ap (λ b. is_invocation e && not b) (any_of_process p e h s) ∙ d in
             ap (λ b. cond b (e ∷ by_process p (complete h)) (by_process p (complete h))) s
-            ∙ (ap (λ es. e ∷ es) rest ∙ sym (ap (λ b. cond b (complete (by_process p h)) (e ∷ complete (by_process p h))) d'))
+            ∙ (ap (λ es. e ∷ es) rest
+              ∙ sym (ap (λ b. cond b (complete (by_process p h)) (e ∷ complete (by_process p h))) d'))
       ]
       | false ↦ λ s. elim [
         | true ↦ λ d. rest
@@ -116,71 +151,98 @@ complete_of_process p (e ∷ h) =
     here (process_of e == p) refl (is_pending e h) refl
 
 -- a numbered history is cut where its events are
-pub cut_numbered : (h : List Numbered) (a b : List Event) → events h ≡ a ++ b → (c d : List Numbered) × (h ≡ c ++ d) × (events c ≡ a) × (events d ≡ b)
+pub cut_numbered : (h : List Numbered) (a b : List Event) → events h ≡ a ++ b
+    → (c d : List Numbered) × (h ≡ c ++ d) × (events c ≡ a) × (events d ≡ b)
 cut_numbered h [] b q = ([], h, refl, refl, q)
 cut_numbered [] (e ∷ a) b q = absurd cc
 cut_numbered (m ∷ h) (e ∷ a) b q =
     let rest = cut_numbered h a b (cc q) in
     (m ∷ rest.0, rest.1, cc (rest.2), cc (q, rest.3), rest.4)
 
-pub length_filter_events : (q : Event → Bool) (h : List Numbered) → length (filter q (events h)) ≡ length (filter (λ m. q m.event) h)
+pub length_filter_events : (q : Event → Bool) (h : List Numbered)
+    → length (filter q (events h)) ≡ length (filter (λ m. q m.event) h)
 length_filter_events q [] = refl
 length_filter_events q (m ∷ h) =
     let rest = length_filter_events q h in
     elim (q m.event) as (λ b. length (cond b (m.event ∷ filter q (events h)) (filter q (events h)))
     ≡ length (cond b (m ∷ filter (λ m. q m.event) h) (filter (λ m. q m.event) h))) [ true ↦ ap suc rest | false ↦ rest ]
 
-pairs_across : (R : Numbered → Numbered → Type 0) (a b : List Numbered) (x y : Numbered) → Pairs R (a ++ b) → In x a → In y b → R x y
+pairs_across : (R : Numbered → Numbered → Type 0) (a b : List Numbered) (x y : Numbered) → Pairs R (a ++ b) → In x a
+    → In y b → R x y
 pairs_across R [] b x y h i j = absurd i
-pairs_across R (z ∷ a) b x y h i j = elim i [ inl e ↦ subst (λ w. R w y) (sym e) (h.0 y (in_right y a b j)) | inr k ↦ pairs_across R a b x y h.1 k j ]
+pairs_across R (z ∷ a) b x y h i j = elim i [
+  | inl e ↦ subst (λ w. R w y) (sym e) (h.0 y (in_right y a b j))
+  | inr k ↦ pairs_across R a b x y h.1 k j
+]
 
 -- what stands before an event is what has a lesser number
-pub filter_before : (q : Numbered → Bool) (a : List Numbered) (m : Numbered) (b : List Numbered) → Pairs (λ x y. x.number < y.number) (a ++ m ∷ b)
+pub filter_before : (q : Numbered → Bool) (a : List Numbered) (m : Numbered) (b : List Numbered)
+    → Pairs (λ x y. x.number < y.number) (a ++ m ∷ b)
     → filter q a ≡ filter (λ k. q k && nat_lt k.number m.number) (a ++ m ∷ b)
 filter_before q a m b u =
     let r : Numbered → Bool = λ k. q k && nat_lt k.number m.number in
     let low : filter q a ≡ filter r a =
-    filter_same q r a (λ x i. sym (and_true (q x) (nat_lt x.number m.number) (lt-ltb x.number m.number (pairs_across (λ x y. x.number < y.number) a (m ∷ b) x m u i (inl refl))))) in
-    let high : filter r (m ∷ b) ≡ [] = filter_none r (m ∷ b) (λ x i. and_right (q x) (nat_lt x.number m.number) (le-ltb x.number m.number (not_less a b m x u i))) in
+    filter_same q r a (λ x i.
+      sym (and_true (q x) (nat_lt x.number m.number)
+      (lt-ltb x.number m.number (pairs_across (λ x y. x.number < y.number) a (m ∷ b) x m u i (inl refl))))) in
+    let high : filter r (m ∷ b) ≡ [] =
+      filter_none r (m ∷ b) (λ x i.
+      and_right (q x) (nat_lt x.number m.number) (le-ltb x.number m.number (not_less a b m x u i))) in
     low ∙ (sym (append-nil (filter r a)) ∙ (ap (λ ks. filter r a ++ ks) (sym high) ∙ sym (filter-append r a (m ∷ b))))
 
 -- the invocations of a process, and its responses, are in its part
 pub invokes_of_process : (p : ℕ) (h : List Event) → filter (invokes p) (by_process p h) ≡ filter (invokes p) h
 invokes_of_process p h = filter-filter (invokes p) (λ e. process_of e == p) h
-    ∙ filter_same (λ e. (process_of e == p) && invokes p e) (invokes p) h (λ e i. absorbs (process_of e == p) (is_invocation e))
+    ∙ filter_same (λ e. (process_of e == p) && invokes p e) (invokes p) h
+      (λ e i. absorbs (process_of e == p) (is_invocation e))
 
-pub responds_in_part : (p t : ℕ) (h : List Numbered) → filter (λ m. responds p m.event && nat_lt m.number t) (part p h) ≡ filter (λ m. responds p m.event && nat_lt m.number t) h
+pub responds_in_part : (p t : ℕ) (h : List Numbered)
+    → filter (λ m. responds p m.event && nat_lt m.number t) (part p h)
+    ≡ filter (λ m. responds p m.event && nat_lt m.number t) h
 responds_in_part p t h = filter-filter (λ m. responds p m.event && nat_lt m.number t) (λ m. process_of m.event == p) h
-    ∙ filter_same (λ m. (process_of m.event == p) && (responds p m.event && nat_lt m.number t)) (λ m. responds p m.event && nat_lt m.number t) h
+    ∙ filter_same (λ m. (process_of m.event == p) && (responds p m.event && nat_lt m.number t))
+      (λ m. responds p m.event && nat_lt m.number t) h
     (λ m i. absorbs_more (process_of m.event == p) (not (is_invocation m.event)) (nat_lt m.number t))
 
 -- each operation that is given a reply invokes once and responds once
-pub invokes_dones : (p : ℕ) (give : ProcessCall → Option AnyReply) (os : List ProcessCall) → ((e : ProcessCall) → In e os → is_some (give e) ≡ true)
+pub invokes_dones : (p : ℕ) (give : ProcessCall → Option AnyReply) (os : List ProcessCall)
+    → ((e : ProcessCall) → In e os → is_some (give e) ≡ true)
     → length (filter (invokes p) (dones give os)) ≡ length (filter (λ e. e.process == p) os)
 invokes_dones p give [] f = refl
 invokes_dones p give (e ∷ os) f =
     let rest = invokes_dones p give os (λ y i. f y (inr i)) in
     let here : (g : Option AnyReply) → is_some g ≡ true
-    → length (filter (invokes p) (done e g ++ dones give os)) ≡ length (cond (e.process == p) (e ∷ filter (λ e. e.process == p) os) (filter (λ e. e.process == p) os)) =
+    → length (filter (invokes p) (done e g ++ dones give os))
+      ≡ length (cond (e.process == p) (e ∷ filter (λ e. e.process == p) os) (filter (λ e. e.process == p) os)) =
     elim [
       | None ↦ λ s. absurd (cc s)
       | Some r ↦ λ s. elim (e.process == p) as
-          (λ b. length (cond b (Inv e.process e.object e.call.op ∷ filter (invokes p) (dones give os)) (filter (invokes p) (dones give os)))
-          ≡ length (cond b (e ∷ filter (λ e. e.process == p) os) (filter (λ e. e.process == p) os))) [ true ↦ ap suc rest | false ↦ rest ]
+          (λ b. length (cond b (Inv e.process e.object e.call.op ∷ filter (invokes p) (dones give os))
+            (filter (invokes p) (dones give os)))
+          ≡ length (cond b (e ∷ filter (λ e. e.process == p) os) (filter (λ e. e.process == p) os))) [
+            | true ↦ ap suc rest
+            | false ↦ rest
+          ]
     ] in
     here (give e) (f e (inl refl))
 
-pub responds_dones : (p : ℕ) (give : ProcessCall → Option AnyReply) (os : List ProcessCall) → ((e : ProcessCall) → In e os → is_some (give e) ≡ true)
+pub responds_dones : (p : ℕ) (give : ProcessCall → Option AnyReply) (os : List ProcessCall)
+    → ((e : ProcessCall) → In e os → is_some (give e) ≡ true)
     → length (filter (responds p) (dones give os)) ≡ length (filter (λ e. e.process == p) os)
 responds_dones p give [] f = refl
 responds_dones p give (e ∷ os) f =
     let rest = responds_dones p give os (λ y i. f y (inr i)) in
     let here : (g : Option AnyReply) → is_some g ≡ true
-    → length (filter (responds p) (done e g ++ dones give os)) ≡ length (cond (e.process == p) (e ∷ filter (λ e. e.process == p) os) (filter (λ e. e.process == p) os)) =
+    → length (filter (responds p) (done e g ++ dones give os))
+      ≡ length (cond (e.process == p) (e ∷ filter (λ e. e.process == p) os) (filter (λ e. e.process == p) os)) =
     elim [
       | None ↦ λ s. absurd (cc s)
       | Some r ↦ λ s. elim (e.process == p) as
-          (λ b. length (cond b (Res e.process e.object r ∷ filter (responds p) (dones give os)) (filter (responds p) (dones give os)))
-          ≡ length (cond b (e ∷ filter (λ e. e.process == p) os) (filter (λ e. e.process == p) os))) [ true ↦ ap suc rest | false ↦ rest ]
+          (λ b. length (cond b (Res e.process e.object r ∷ filter (responds p) (dones give os))
+            (filter (responds p) (dones give os)))
+          ≡ length (cond b (e ∷ filter (λ e. e.process == p) os) (filter (λ e. e.process == p) os))) [
+            | true ↦ ap suc rest
+            | false ↦ rest
+          ]
     ] in
     here (give e) (f e (inl refl))

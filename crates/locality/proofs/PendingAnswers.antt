@@ -1,11 +1,14 @@
 -- A history goes on with responses into a well-formed one exactly where they answer pending invocations of their own.
-use Rattle.std.proofs.Common.{◌≡◌, ◌≢◌, ◌↔◌, ℕ, ◌==◌, Bool, true, false, not, cond, inl, inr, List, [], ◌∷◌, ◌++◌, filter, All, refl, ap, sym, ◌∙◌, subst}
+use Rattle.std.proofs.Common.{◌≡◌, ◌≢◌, ◌↔◌, ℕ, ◌==◌, Bool, true, false, not, cond, inl, inr, List, [], ◌∷◌, ◌++◌}
+use Rattle.std.proofs.Common.{filter, All, refl, ap, sym, ◌∙◌, subst}
 use Rattle.std.specs.List.{list_any}
 use Rattle.std.proofs.lemmas.List.{append-nil}
 use Rattle.std.proofs.lemmas.List.Elements.{filter-append, recursion_from_All}
 use Rattle.std.proofs.lemmas.Bool.{eqb-true, eq-eqb, and_parts, and_from, or_parts, not_from_false}
-use Rattle.model.specs.Histories.{Event, Inv, Res, process_of, is_invocation, by_process, matches, is_pending, IsSequential, IsWellFormed}
-use Rattle.model.proofs.Lists.{In, Pairs, in_filter, in_filter_passes, in_filter_from, pairs_filter, all_from_in, all_at, all_from_pairs, pairs_from_all}
+use Rattle.model.specs.Histories.{Event, Inv, Res, process_of, is_invocation, by_process, matches, is_pending}
+use Rattle.model.specs.Histories.{IsSequential, IsWellFormed}
+use Rattle.model.proofs.Lists.{In, Pairs, in_filter, in_filter_passes, in_filter_from, pairs_filter, all_from_in}
+use Rattle.model.proofs.Lists.{all_at, all_from_pairs, pairs_from_all}
 use Rattle.locality.specs.Completions.{IsPendingIn, AnswersPending}
 use Rattle.locality.proofs.Cuts.{any_of_process}
 use Rattle.locality.proofs.CompletedCalls.{Responses, no_more, same_process}
@@ -28,28 +31,34 @@ record Answered (s : List Event) (response : Event) : Type 0 where
   matching : matches invocation response ≡ true
 
 -- a sequential history goes on with one response at most
-answered : (s : List Event) (r : Event) (rs : List Event) → IsSequential s → Responses (r ∷ rs) → IsSequential (s ++ r ∷ rs) → Answered s r × (rs ≡ [])
+answered : (s : List Event) (r : Event) (rs : List Event) → IsSequential s → Responses (r ∷ rs)
+    → IsSequential (s ++ r ∷ rs) → Answered s r × (rs ≡ [])
 answered [] r rs q a b = let none : r ∷ rs ≡ [] = no_more (r ∷ rs) a b in absurd (cc none)
 answered (e ∷ []) r rs q a b = (record { front = []; invocation = e; last = refl; matching = b.0 }, no_more rs a.1 b.1)
 answered (e ∷ f ∷ s) r rs q a b =
     let rest = answered s r rs q.1 a b.1 in
-    (record { front = e ∷ f ∷ rest.0.front; invocation = rest.0.invocation; last = ap (λ es. e ∷ f ∷ es) rest.0.last; matching = rest.0.matching }, rest.1)
+    (record { front = e ∷ f ∷ rest.0.front; invocation = rest.0.invocation; last = ap (λ es. e ∷ f ∷ es) rest.0.last;
+      matching = rest.0.matching }, rest.1)
 
 -- and with a response to an invocation that nothing matches yet
-goes_on : (a b : List Event) (i r : Event) → IsSequential (a ++ i ∷ b) → list_any (matches i) b ≡ false → matches i r ≡ true → IsSequential ((a ++ i ∷ b) ++ r ∷ [])
+goes_on : (a b : List Event) (i r : Event) → IsSequential (a ++ i ∷ b) → list_any (matches i) b ≡ false
+    → matches i r ≡ true → IsSequential ((a ++ i ∷ b) ++ r ∷ [])
 goes_on [] [] i r s none m = (m, tt)
-goes_on [] (f ∷ b) i r s none m = let n = (or_parts (matches i f) (list_any (matches i) b) none).0 in let t = s.0 in absurd (cc (n, t))
+goes_on [] (f ∷ b) i r s none m =
+    let n = (or_parts (matches i f) (list_any (matches i) b) none).0 in let t = s.0 in absurd (cc (n, t))
 goes_on (e ∷ []) b i r s none m = absurd (matching_response e i s.0 (matched_invocation i r m))
 goes_on (e ∷ f ∷ a) b i r s none m = (s.0, goes_on a b i r s.1 none m)
 
 -- a list is cut where what a test keeps of it is
-filter_cut : {X : Type 0} (q : X → Bool) (xs a b : List X) (y : X) → filter q xs ≡ a ++ y ∷ b → (before after : List X) × (xs ≡ before ++ y ∷ after) × (filter q after ≡ b)
+filter_cut : {X : Type 0} (q : X → Bool) (xs a b : List X) (y : X) → filter q xs ≡ a ++ y ∷ b
+    → (before after : List X) × (xs ≡ before ++ y ∷ after) × (filter q after ≡ b)
 filter_cut q [] [] b y e = absurd (cc e)
 filter_cut q [] (z ∷ a) b y e = absurd (cc e)
 filter_cut {X} q (x ∷ xs) a b y e = here (q x) a e (λ a. filter_cut q xs a b y)
   where
     here : (t : Bool) (a : List X) → cond t (x ∷ filter q xs) (filter q xs) ≡ a ++ y ∷ b
-        → ((a : List X) → filter q xs ≡ a ++ y ∷ b → (before after : List X) × (xs ≡ before ++ y ∷ after) × (filter q after ≡ b))
+        → ((a : List X) → filter q xs ≡ a ++ y ∷ b
+          → (before after : List X) × (xs ≡ before ++ y ∷ after) × (filter q after ≡ b))
         → (before after : List X) × (x ∷ xs ≡ before ++ y ∷ after) × (filter q after ≡ b)
     here true [] e f = ([], xs, cc e, cc e)
     here true (z ∷ a) e f = let r = f a (cc e) in (x ∷ r.0, r.1, ap (λ ys. x ∷ ys) r.2, r.3)
@@ -63,12 +72,14 @@ apart_from : (es : List Event) → ((p : ℕ) → Pairs (λ r s. ⊥) (by_proces
 apart_from [] f = tt
 apart_from (e ∷ es) f =
     let p : ℕ = process_of e in
-    let own : Pairs (λ r s. ⊥) (e ∷ by_process p es) = subst (λ b. Pairs (λ r s. ⊥) (cond b (e ∷ by_process p es) (by_process p es))) (eq-eqb p p refl) (f p) in (
+    let own : Pairs (λ r s. ⊥) (e ∷ by_process p es) =
+      subst (λ b. Pairs (λ r s. ⊥) (cond b (e ∷ by_process p es) (by_process p es))) (eq-eqb p p refl) (f p) in (
       λ y i same. own.0 y (in_filter_from (λ v. process_of v == p) y es i (eq-eqb (process_of y) p (sym same))),
       apart_from es (λ p. tail p (process_of e == p) (f p)),
     )
   where
-    tail : (p : ℕ) (b : Bool) → Pairs (λ r s. ⊥) (cond b (e ∷ by_process p es) (by_process p es)) → Pairs (λ r s. ⊥) (by_process p es)
+    tail : (p : ℕ) (b : Bool) → Pairs (λ r s. ⊥) (cond b (e ∷ by_process p es) (by_process p es))
+      → Pairs (λ r s. ⊥) (by_process p es)
     tail p true h = h.1
     tail p false h = h
 
@@ -78,7 +89,8 @@ module _ (h added : List Event) (sequential : IsWellFormed h) where
 
   module _ (responses : Responses added) (whole : IsWellFormed (h ++ added)) where
     goes : (p : ℕ) (rs : List Event) → by_process p added ≡ rs → IsSequential (by_process p h ++ rs)
-    goes p rs e = subst (λ (es : List Event). IsSequential (by_process p h ++ es)) e (subst IsSequential (split p) (whole p))
+    goes p rs e = subst (λ (es : List Event). IsSequential (by_process p h ++ es)) e
+      (subst IsSequential (split p) (whole p))
 
     own_responses : (p : ℕ) (rs : List Event) → by_process p added ≡ rs → Responses rs
     own_responses p rs e = subst Responses e (filter_responses (λ v. process_of v == p) added responses)
@@ -89,22 +101,27 @@ module _ (h added : List Event) (sequential : IsWellFormed h) where
         let none = (answered (by_process p h) r rs (sequential p) (own_responses p (r ∷ rs) e) (goes p (r ∷ rs) e)).1 in
         subst (λ (es : List Event). Pairs (λ r s. ⊥) (r ∷ es)) (sym none) (λ y i. absurd i, tt)
 
-    answers : (r : Event) (p : ℕ) (rs : List Event) → process_of r ≡ p → by_process p added ≡ rs → In r rs → (i : Event) × IsPendingIn h i × (matches i r ≡ true)
+    answers : (r : Event) (p : ℕ) (rs : List Event) → process_of r ≡ p → by_process p added ≡ rs → In r rs
+      → (i : Event) × IsPendingIn h i × (matches i r ≡ true)
     answers r p [] own e i = absurd i
     answers r p (s ∷ rs) own e i =
         let a = answered (by_process p h) s rs (sequential p) (own_responses p (s ∷ rs) e) (goes p (s ∷ rs) e) in
         let only : r ≡ s = elim (subst (λ (es : List Event). In r (s ∷ es)) a.1 i) [ inl q ↦ q | inr n ↦ absurd n ] in
-        let m : matches a.0.invocation r ≡ true = subst (λ v. matches a.0.invocation v ≡ true) (sym only) a.0.matching in
+        let m : matches a.0.invocation r ≡ true =
+          subst (λ v. matches a.0.invocation v ≡ true) (sym only) a.0.matching in
         let cut = filter_cut (λ v. process_of v == p) h a.0.front [] a.0.invocation a.0.last in
-        let mine : (process_of a.0.invocation == p) ≡ true = eq-eqb (process_of a.0.invocation) p (sym (same_process a.0.invocation r m) ∙ own) in
-        let none : list_any (matches a.0.invocation) cut.1 ≡ false = sym (any_of_process p a.0.invocation cut.1 mine) ∙ ap (list_any (matches a.0.invocation)) cut.3 in (
+        let mine : (process_of a.0.invocation == p) ≡ true =
+          eq-eqb (process_of a.0.invocation) p (sym (same_process a.0.invocation r m) ∙ own) in
+        let none : list_any (matches a.0.invocation) cut.1 ≡ false =
+          sym (any_of_process p a.0.invocation cut.1 mine) ∙ ap (list_any (matches a.0.invocation)) cut.3 in (
           a.0.invocation,
           record {
             before = cut.0;
             after = cut.1;
             whole = cut.2;
             pending =
-                and_from (is_invocation a.0.invocation) (not (list_any (matches a.0.invocation) cut.1)) (matched_invocation a.0.invocation r m)
+                and_from (is_invocation a.0.invocation) (not (list_any (matches a.0.invocation) cut.1))
+                  (matched_invocation a.0.invocation r m)
                 (not_from_false (list_any (matches a.0.invocation) cut.1) none);
           },
           m,
@@ -113,8 +130,10 @@ module _ (h added : List Event) (sequential : IsWellFormed h) where
     pub to_answers : AnswersPending h added
     to_answers = record {
       each = all_from_in (λ r. (i : Event) × IsPendingIn h i × (matches i r ≡ true)) added
-          (λ r i. answers r (process_of r) (by_process (process_of r) added) refl refl (in_filter_from (λ v. process_of v == process_of r) r added i (eq-eqb (process_of r) (process_of r) refl)));
-      apart = all_from_pairs (λ r s. process_of r ≢ process_of s) added (apart_from added (λ p. single p (by_process p added) refl));
+          (λ r i. answers r (process_of r) (by_process (process_of r) added) refl refl
+            (in_filter_from (λ v. process_of v == process_of r) r added i (eq-eqb (process_of r) (process_of r) refl)));
+      apart = all_from_pairs (λ r s. process_of r ≢ process_of s) added
+        (apart_from added (λ p. single p (by_process p added) refl));
     }
 
   module _ (a : AnswersPending h added) where
@@ -125,22 +144,30 @@ module _ (h added : List Event) (sequential : IsWellFormed h) where
     extended p [] e = subst IsSequential (sym (append-nil (by_process p h))) (sequential p)
     extended p (r ∷ s ∷ rs) e =
         let apart : Apart (r ∷ s ∷ rs) =
-        subst Apart e (pairs_filter (λ r s. process_of r ≢ process_of s) (λ v. process_of v == p) added (pairs_from_all (λ r s. process_of r ≢ process_of s) added a.apart)) in
-        absurd (apart.0 s (inl refl) (own_process p r (subst (In r) (sym e) (inl refl)) ∙ sym (own_process p s (subst (In s) (sym e) (inr (inl refl))))))
+        subst Apart e (pairs_filter (λ r s. process_of r ≢ process_of s) (λ v. process_of v == p) added
+          (pairs_from_all (λ r s. process_of r ≢ process_of s) added a.apart)) in
+        absurd (apart.0 s (inl refl)
+          (own_process p r (subst (In r) (sym e) (inl refl))
+          ∙ sym (own_process p s (subst (In s) (sym e) (inr (inl refl))))))
     extended p (r ∷ []) e =
         let i : In r (by_process p added) = subst (In r) (sym e) (inl refl) in
-        let answer = all_at (λ r. (i : Event) × IsPendingIn h i × (matches i r ≡ true)) added a.each r (in_filter (λ v. process_of v == p) r added i) in
-        let mine : (process_of answer.0 == p) ≡ true = eq-eqb (process_of answer.0) p (sym (same_process answer.0 r answer.2) ∙ own_process p r i) in
+        let answer = all_at (λ r. (i : Event) × IsPendingIn h i × (matches i r ≡ true)) added a.each r
+          (in_filter (λ v. process_of v == p) r added i) in
+        let mine : (process_of answer.0 == p) ≡ true =
+          eq-eqb (process_of answer.0) p (sym (same_process answer.0 r answer.2) ∙ own_process p r i) in
         let pend = answer.1 in
         let parts : by_process p h ≡ by_process p pend.before ++ answer.0 ∷ by_process p pend.after =
         ap (by_process p) pend.whole ∙ (filter-append (λ v. process_of v == p) pend.before (answer.0 ∷ pend.after)
-        ∙ ap (λ b. by_process p pend.before ++ cond b (answer.0 ∷ by_process p pend.after) (by_process p pend.after)) mine) in
+        ∙ ap (λ b. by_process p pend.before ++ cond b (answer.0 ∷ by_process p pend.after) (by_process p pend.after))
+          mine) in
         let none : list_any (matches answer.0) pend.after ≡ false = unmatched answer.0 pend.after pend.pending in
         subst (λ (es : List Event). IsSequential (es ++ r ∷ [])) (sym parts)
-        (goes_on (by_process p pend.before) (by_process p pend.after) answer.0 r (subst IsSequential parts (sequential p)) (any_of_process p answer.0 pend.after mine ∙ none) answer.2)
+        (goes_on (by_process p pend.before) (by_process p pend.after) answer.0 r
+          (subst IsSequential parts (sequential p)) (any_of_process p answer.0 pend.after mine ∙ none) answer.2)
       where
         unmatched : (i : Event) (later : List Event) → is_pending i later ≡ true → list_any (matches i) later ≡ false
-        unmatched i later e = off (list_any (matches i) later) (and_parts (is_invocation i) (not (list_any (matches i) later)) e).1
+        unmatched i later e = off (list_any (matches i) later)
+          (and_parts (is_invocation i) (not (list_any (matches i) later)) e).1
           where
             off : (b : Bool) → not b ≡ true → b ≡ false
             off true e = sym e
@@ -149,5 +176,7 @@ module _ (h added : List Event) (sequential : IsWellFormed h) where
     pub to_well_formed : IsWellFormed (h ++ added)
     to_well_formed p = subst IsSequential (sym (split p)) (extended p (by_process p added) refl)
 
-pub completion_in_words_lem : (h added : List Event) → IsWellFormed h → All (λ e. is_invocation e ≡ false) added → (IsWellFormed (h ++ added) ↔ AnswersPending h added)
-completion_in_words_lem h added w r = (to_answers h added w (recursion_from_All (λ e. is_invocation e ≡ false) added r), to_well_formed h added w)
+pub completion_in_words_lem : (h added : List Event) → IsWellFormed h → All (λ e. is_invocation e ≡ false) added
+    → (IsWellFormed (h ++ added) ↔ AnswersPending h added)
+completion_in_words_lem h added w r =
+    (to_answers h added w (recursion_from_All (λ e. is_invocation e ≡ false) added r), to_well_formed h added w)

@@ -1,13 +1,16 @@
 -- The history of one process: its operations one after another, the last perhaps pending.
-use Rattle.std.proofs.Common.{◌≡◌, ℕ, suc, ◌<◌, ◌≤◌, ◌==◌, ◌&&◌, ◌||◌, nat_lt, Bool, true, false, not, cond, inl, inr, List, [], ◌∷◌, ◌++◌, length}
+use Rattle.std.proofs.Common.{◌≡◌, ℕ, suc, ◌<◌, ◌≤◌, ◌==◌, ◌&&◌, ◌||◌, nat_lt, Bool, true, false, not, cond, inl}
+use Rattle.std.proofs.Common.{inr, List, [], ◌∷◌, ◌++◌, length}
 use Rattle.std.proofs.Common.{filter, Option, Some, None, refl, ap, sym, ◌∙◌, subst, arith}
 use Rattle.std.specs.List.{flat_map, list_any}
 use Rattle.std.specs.Option.{option_or}
 use Rattle.std.proofs.lemmas.Bool.{eqb-true, eqb-false, ne_eqb, eq-eqb, and_from, and_parts}
 use Rattle.model.specs.declared.AnyOp.{AnyOp}
 use Rattle.model.specs.declared.AnyReply.{AnyReply}
-use Rattle.model.specs.Histories.{Event, Inv, Res, process_of, is_invocation, by_process, matches, complete, IsSequential, invokes, responds}
-use Rattle.model.specs.Orders.{Numbered, events, Return, ProcessCall, response_in, response_of, begins, calls_in, IsHistory}
+use Rattle.model.specs.Histories.{Event, Inv, Res, process_of, is_invocation, by_process, matches, complete}
+use Rattle.model.specs.Histories.{IsSequential, invokes, responds}
+use Rattle.model.specs.Orders.{Numbered, events, Return, ProcessCall, response_in, response_of, begins, calls_in}
+use Rattle.model.specs.Orders.{IsHistory}
 use Rattle.model.proofs.Lists.{In, Pairs, pairs_filter, pairs_from_all, in_filter_passes}
 use Rattle.locality.proofs.Entries.{number_of, done}
 
@@ -18,13 +21,15 @@ at n e = record { number = n; event = e }
 pub data Turns (p : ℕ) : List Numbered → Type 0 where
   none : Turns p []
   last : (n x : ℕ) (op : AnyOp) → Turns p (at n (Inv p x op) ∷ [])
-  call : (n x : ℕ) (op : AnyOp) (m : ℕ) (r : AnyReply) (rest : List Numbered) → Turns p rest → Turns p (at n (Inv p x op) ∷ at m (Res p x r) ∷ rest)
+  call : (n x : ℕ) (op : AnyOp) (m : ℕ) (r : AnyReply) (rest : List Numbered) → Turns p rest
+    → Turns p (at n (Inv p x op) ∷ at m (Res p x r) ∷ rest)
 
 turns_last : (p n : ℕ) (e : Event) → is_invocation e ≡ true → process_of e ≡ p → Turns p (at n e ∷ [])
 turns_last p n (Inv q x op) i e = subst (λ q. Turns p (at n (Inv q x op) ∷ [])) (sym e) (last n x op)
 turns_last p n (Res q x r) i e = absurd cc
 
-turns_call : (p n m : ℕ) (e f : Event) (rest : List Numbered) → matches e f ≡ true → process_of e ≡ p → Turns p rest → Turns p (at n e ∷ at m f ∷ rest)
+turns_call : (p n m : ℕ) (e f : Event) (rest : List Numbered) → matches e f ≡ true → process_of e ≡ p → Turns p rest
+    → Turns p (at n e ∷ at m f ∷ rest)
 turns_call p n m (Inv q x op) (Res q' y r) rest t e h =
     let both = and_parts (q == q') (x == y) t in
     let pq : q' ≡ p = sym (eqb-true q q' both.0) ∙ e in
@@ -35,10 +40,13 @@ turns_call p n m (Inv q x op) (Res q' y r) rest t e h =
 turns_call p n m (Inv q x op) (Inv q' y o) rest t e h = absurd cc
 turns_call p n m (Res q x op) f rest t e h = absurd cc
 
-pub turns : (p : ℕ) (h : List Numbered) → IsSequential (events h) → ((m : Numbered) → In m h → process_of m.event ≡ p) → Turns p h
+pub turns : (p : ℕ) (h : List Numbered) → IsSequential (events h) → ((m : Numbered) → In m h → process_of m.event ≡ p)
+    → Turns p h
 turns p [] s a = none
 turns p (m ∷ []) s a = turns_last p m.number m.event s (a m (inl refl))
-turns p (m ∷ n ∷ rest) s a = turns_call p m.number n.number m.event n.event rest s.0 (a m (inl refl)) (turns p rest s.1 (λ k i. a k (inr (inr i))))
+turns p (m ∷ n ∷ rest) s a =
+    turns_call p m.number n.number m.event n.event rest s.0 (a m (inl refl))
+    (turns p rest s.1 (λ k i. a k (inr (inr i))))
 
 -- the numbered events of one process
 abbrev pub part : ℕ → List Numbered → List Numbered
@@ -48,7 +56,8 @@ pub events-part : (p : ℕ) (h : List Numbered) → events (part p h) ≡ by_pro
 events-part p [] = refl
 events-part p (m ∷ h) =
     let rest = events-part p h in
-    let here : (b : Bool) → events (cond b (m ∷ part p h) (part p h)) ≡ cond b (m.event ∷ by_process p (events h)) (by_process p (events h)) =
+    let here : (b : Bool) → events (cond b (m ∷ part p h) (part p h))
+      ≡ cond b (m.event ∷ by_process p (events h)) (by_process p (events h)) =
     elim [ true ↦ ap (λ es. m.event ∷ es) rest | false ↦ rest ] in
     here (process_of m.event == p)
 
@@ -63,27 +72,40 @@ response_of-part : (p x : ℕ) (h : List Numbered) → response_of p x (part p h
 response_of-part p x [] = refl
 response_of-part p x (m ∷ h) =
     let rest = response_of-part p x h in
-    let here : (b : Bool) → (process_of m.event == p) ≡ b → response_of p x (cond b (m ∷ part p h) (part p h)) ≡ option_or (response_in p x m.number m.event) (response_of p x h) =
-    elim [ true ↦ λ e. ap (option_or (response_in p x m.number m.event)) rest | false ↦ λ e. rest ∙ sym (ap (λ r. option_or r (response_of p x h)) (response_in_other p x m.number m.event e)) ] in
+    let here : (b : Bool) → (process_of m.event == p) ≡ b
+      → response_of p x (cond b (m ∷ part p h) (part p h))
+      ≡ option_or (response_in p x m.number m.event) (response_of p x h) =
+    elim [
+      | true ↦ λ e. ap (option_or (response_in p x m.number m.event)) rest
+      | false ↦ λ e. rest ∙ sym (ap (λ r. option_or r (response_of p x h)) (response_in_other p x m.number m.event e))
+    ] in
     here (process_of m.event == p) refl
 
-begins-part : (p n : ℕ) (e : Event) (later : List Numbered) → calls_in (part p later) ≡ filter (λ o. o.process == p) (calls_in later)
-    → calls_in (cond (process_of e == p) (at n e ∷ part p later) (part p later)) ≡ filter (λ o. o.process == p) (begins n e later (calls_in later))
+begins-part : (p n : ℕ) (e : Event) (later : List Numbered)
+    → calls_in (part p later) ≡ filter (λ o. o.process == p) (calls_in later)
+    → calls_in (cond (process_of e == p) (at n e ∷ part p later) (part p later))
+      ≡ filter (λ o. o.process == p) (begins n e later (calls_in later))
 begins-part p n (Inv q x op) later h =
     let here : (b : Bool) → (q == p) ≡ b
     → calls_in (cond b (at n (Inv q x op) ∷ part p later) (part p later))
-    ≡ cond b (record { process = q; object = x; call = record { number = n; op = op; returned = response_of q x later } }
+    ≡ cond b (record { process = q; object = x;
+      call = record { number = n; op = op; returned = response_of q x later } }
     ∷ filter (λ o. o.process == p) (calls_in later)) (filter (λ o. o.process == p) (calls_in later)) =
     elim [
       | true ↦ λ e.
-          let same : response_of q x (part p later) ≡ response_of q x later = subst (λ k. response_of q x (part k later) ≡ response_of q x later) (eqb-true q p e) (response_of-part q x later) in
-          ap (λ r. record { process = q; object = x; call = record { number = n; op = op; returned = r } } ∷ calls_in (part p later)) same
-          ∙ ap (λ os. record { process = q; object = x; call = record { number = n; op = op; returned = response_of q x later } } ∷ os) h
+          let same : response_of q x (part p later) ≡ response_of q x later =
+            subst (λ k. response_of q x (part k later) ≡ response_of q x later) (eqb-true q p e)
+            (response_of-part q x later) in
+          ap (λ r. record { process = q; object = x; call = record { number = n; op = op; returned = r } }
+            ∷ calls_in (part p later)) same
+          ∙ ap (λ os. record { process = q; object = x;
+            call = record { number = n; op = op; returned = response_of q x later } } ∷ os) h
       | false ↦ λ e. h
     ] in
     here (q == p) refl
 begins-part p n (Res q x r) later h =
-    let here : (b : Bool) → calls_in (cond b (at n (Res q x r) ∷ part p later) (part p later)) ≡ filter (λ o. o.process == p) (calls_in later) =
+    let here : (b : Bool) → calls_in (cond b (at n (Res q x r) ∷ part p later) (part p later))
+      ≡ filter (λ o. o.process == p) (calls_in later) =
     elim [ true ↦ h | false ↦ h ] in
     here (q == p)
 
@@ -106,29 +128,35 @@ dones give os = flat_map (λ e. done e (give e)) os
 
 -- the first operation, returned
 abbrev pub first : ℕ → ℕ → ℕ → AnyOp → ℕ → AnyReply → ProcessCall
-first p n x op m r = record { process = p; object = x; call = record { number = n; op = op; returned = Some (record { at = m; reply = r }) } }
+first p n x op m r = record { process = p; object = x;
+    call = record { number = n; op = op; returned = Some (record { at = m; reply = r }) } }
 
-pub calls_in-call : (p n x : ℕ) (op : AnyOp) (m : ℕ) (r : AnyReply) (rest : List Numbered) → calls_in (at n (Inv p x op) ∷ at m (Res p x r) ∷ rest) ≡ first p n x op m r ∷ calls_in rest
+pub calls_in-call : (p n x : ℕ) (op : AnyOp) (m : ℕ) (r : AnyReply) (rest : List Numbered)
+    → calls_in (at n (Inv p x op) ∷ at m (Res p x r) ∷ rest) ≡ first p n x op m r ∷ calls_in rest
 calls_in-call p n x op m r rest =
     let e : ((p == p) && (x == x)) ≡ true = and_from (p == p) (x == x) (eq-eqb p p refl) (eq-eqb x x refl) in
     ap (λ (b : Bool). record {
       process = p;
       object = x;
       call =
-          record { number = n; op = op; returned = option_or (cond b (Some (record { at = m; reply = r })) None) (response_of p x rest) };
+          record { number = n; op = op;
+              returned = option_or (cond b (Some (record { at = m; reply = r })) None) (response_of p x rest) };
     } ∷ calls_in rest) e
 
-pub complete-call : (p x : ℕ) (op : AnyOp) (r : AnyReply) (es : List Event) → complete (Inv p x op ∷ Res p x r ∷ es) ≡ Inv p x op ∷ Res p x r ∷ complete es
+pub complete-call : (p x : ℕ) (op : AnyOp) (r : AnyReply) (es : List Event)
+    → complete (Inv p x op ∷ Res p x r ∷ es) ≡ Inv p x op ∷ Res p x r ∷ complete es
 complete-call p x op r es =
     let e : ((p == p) && (x == x)) ≡ true = and_from (p == p) (x == x) (eq-eqb p p refl) (eq-eqb x x refl) in
-    ap (λ (b : Bool). cond (not (b || list_any (matches (Inv p x op)) es)) (Res p x r ∷ complete es) (Inv p x op ∷ Res p x r ∷ complete es)) e
+    ap (λ (b : Bool). cond (not (b || list_any (matches (Inv p x op)) es)) (Res p x r ∷ complete es)
+      (Inv p x op ∷ Res p x r ∷ complete es)) e
 
 -- the recorded replies are given
 abbrev pub Agrees : (ProcessCall → Option AnyReply) → List ProcessCall → Type 0
 Agrees give os = (e : ProcessCall) (r : Return) → In e os → e.call.returned ≡ Some r → give e ≡ Some r.reply
 
 -- with the late responses and without what is still pending, each operation that is given a reply stands with it
-pub completed : (p : ℕ) (h : List Numbered) (give : ProcessCall → Option AnyReply) → Turns p h → Agrees give (calls_in h) → complete (events h ++ added give (calls_in h)) ≡ dones give (calls_in h)
+pub completed : (p : ℕ) (h : List Numbered) (give : ProcessCall → Option AnyReply) → Turns p h
+    → Agrees give (calls_in h) → complete (events h ++ added give (calls_in h)) ≡ dones give (calls_in h)
 completed p h give none a = refl
 completed p h give (last n x op) a =
     let e : ProcessCall = record { process = p; object = x; call = record { number = n; op = op; returned = None } } in
@@ -140,13 +168,15 @@ completed p h give (call n x op m r rest t) a =
     let e : ProcessCall = first p n x op m r in
     let given : give e ≡ Some r = a e (record { at = m; reply = r }) (subst (In e) (sym os) (inl refl)) refl in
     let below = completed p rest give t (λ f q i. a f q (subst (In f) (sym os) (inr i))) in
-    subst (λ (os : List ProcessCall). complete (Inv p x op ∷ Res p x r ∷ (events rest ++ added give os)) ≡ dones give os) (sym os)
+    subst (λ (os : List ProcessCall). complete (Inv p x op ∷ Res p x r ∷ (events rest ++ added give os))
+      ≡ dones give os) (sym os)
     (complete-call p x op r (events rest ++ added give (calls_in rest))
     ∙ (ap (λ es. Inv p x op ∷ Res p x r ∷ es) below
     ∙ ap (λ g. done e g ++ dones give (calls_in rest)) (sym given)))
 
 -- and with the late responses it is sequential still
-pub extended : (p : ℕ) (h : List Numbered) (give : ProcessCall → Option AnyReply) → Turns p h → IsSequential (events h ++ added give (calls_in h))
+pub extended : (p : ℕ) (h : List Numbered) (give : ProcessCall → Option AnyReply) → Turns p h
+    → IsSequential (events h ++ added give (calls_in h))
 extended p h give none = tt
 extended p h give (last n x op) =
     let e : ProcessCall = record { process = p; object = x; call = record { number = n; op = op; returned = None } } in
@@ -159,25 +189,30 @@ extended p h give (call n x op m r rest t) =
     (and_from (p == p) (x == x) (eq-eqb p p refl) (eq-eqb x x refl), extended p rest give t)
 
 -- the number of an operation is that of an event
-pub call_event : (h : List Numbered) (e : ProcessCall) → In e (calls_in h) → (m : Numbered) × In m h × (m.number ≡ number_of e) × (m.event ≡ Inv e.process e.object e.call.op)
+pub call_event : (h : List Numbered) (e : ProcessCall) → In e (calls_in h)
+    → (m : Numbered) × In m h × (m.number ≡ number_of e) × (m.event ≡ Inv e.process e.object e.call.op)
 call_event [] e i = absurd i
 call_event (m ∷ h) e i = here m.event refl i (call_event h e)
   where
     here : (v : Event) → m.event ≡ v → In e (begins m.number v h (calls_in h))
-        → (In e (calls_in h) → (k : Numbered) × In k h × (k.number ≡ number_of e) × (k.event ≡ Inv e.process e.object e.call.op)) → (k : Numbered)
+        → (In e (calls_in h) → (k : Numbered) × In k h × (k.number ≡ number_of e)
+          × (k.event ≡ Inv e.process e.object e.call.op)) → (k : Numbered)
         × In k (m ∷ h) × (k.number ≡ number_of e) × (k.event ≡ Inv e.process e.object e.call.op)
     here (Inv p x op) q i f = elim i [
-      | inl s ↦ (m, inl refl, sym (ap number_of s), q ∙ sym (ap (λ (o : ProcessCall). Inv o.process o.object o.call.op) s))
+      | inl s ↦ (m, inl refl, sym (ap number_of s),
+        q ∙ sym (ap (λ (o : ProcessCall). Inv o.process o.object o.call.op) s))
       | inr j ↦ let k = f j in (k.0, inr k.1, k.2, k.3)
     ]
     here (Res p x r) q i f = let k = f i in (k.0, inr k.1, k.2, k.3)
 
 -- operations are in the order of their invocations
-pub calls_rise : (h : List Numbered) → Pairs (λ a b. a.number < b.number) h → Pairs (λ a b. number_of a < number_of b) (calls_in h)
+pub calls_rise : (h : List Numbered) → Pairs (λ a b. a.number < b.number) h
+    → Pairs (λ a b. number_of a < number_of b) (calls_in h)
 calls_rise [] u = tt
 calls_rise (m ∷ h) u = here m.event (calls_rise h u.1)
   where
-    here : (v : Event) → Pairs (λ a b. number_of a < number_of b) (calls_in h) → Pairs (λ a b. number_of a < number_of b) (begins m.number v h (calls_in h))
+    here : (v : Event) → Pairs (λ a b. number_of a < number_of b) (calls_in h)
+      → Pairs (λ a b. number_of a < number_of b) (begins m.number v h (calls_in h))
     here (Inv p x op) r = (λ y i. let k = call_event h y i in let g = u.0 k.0 k.1 in let e = k.2 in omega arith, r)
     here (Res p x r') r = r
 
@@ -186,7 +221,8 @@ at_of None = 0
 at_of (Some r) = r.at
 
 -- an operation returns after its invocation
-pub returns_after : (p : ℕ) (h : List Numbered) (e : ProcessCall) (r : Return) → Turns p h → Pairs (λ a b. a.number < b.number) h → In e (calls_in h) → e.call.returned ≡ Some r → number_of e ≤ r.at
+pub returns_after : (p : ℕ) (h : List Numbered) (e : ProcessCall) (r : Return) → Turns p h
+    → Pairs (λ a b. a.number < b.number) h → In e (calls_in h) → e.call.returned ≡ Some r → number_of e ≤ r.at
 returns_after p h e r none u i q = absurd i
 returns_after p h e r (last n x op) u i q = elim i [
   | inl s ↦ let no : None ≡ Some r = sym (ap (λ (o : ProcessCall). o.call.returned) s) ∙ q in absurd (cc (no))
@@ -198,7 +234,8 @@ returns_after p h e r (call n x op m r' rest t) u i q =
     elim i' [
       | inl s ↦
           let g : n < m = u.0 (at m (Res p x r')) (inl refl) in
-          let is : Some (record { at = m; reply = r' }) ≡ Some r = sym (ap (λ (o : ProcessCall). o.call.returned) s) ∙ q in
+          let is : Some (record { at = m; reply = r' }) ≡ Some r =
+            sym (ap (λ (o : ProcessCall). o.call.returned) s) ∙ q in
           let a : m ≡ r.at = ap (λ (o : Option Return). at_of o) is in
           let b : number_of e ≡ n = ap number_of s in
           omega arith
@@ -209,7 +246,8 @@ returns_after p h e r (call n x op m r' rest t) u i q =
 abbrev pub Before : ProcessCall → ProcessCall → Type 0
 Before a b = (r : Return) × (a.call.returned ≡ Some r) × (r.at < number_of b)
 
-pub one_after_another : (p : ℕ) (h : List Numbered) → Turns p h → Pairs (λ a b. a.number < b.number) h → Pairs Before (calls_in h)
+pub one_after_another : (p : ℕ) (h : List Numbered) → Turns p h → Pairs (λ a b. a.number < b.number) h
+    → Pairs Before (calls_in h)
 one_after_another p h none u = tt
 one_after_another p h (last n x op) u = (λ y i. absurd i, tt)
 one_after_another p h (call n x op m r rest t) u =
@@ -227,7 +265,9 @@ is_back t None = false
 is_back t (Some r) = nat_lt r.at t
 
 -- the responses before t are those of operations that are back
-pub responses_before : (p t : ℕ) (h : List Numbered) → Turns p h → length (filter (λ e. is_back t e.call.returned) (calls_in h)) ≡ length (filter (λ m. responds p m.event && nat_lt m.number t) h)
+pub responses_before : (p t : ℕ) (h : List Numbered) → Turns p h
+    → length (filter (λ e. is_back t e.call.returned) (calls_in h))
+    ≡ length (filter (λ m. responds p m.event && nat_lt m.number t) h)
 responses_before p t h none = refl
 responses_before p t h (last n x op) = refl
 responses_before p t h (call n x op m r rest s) =
@@ -236,23 +276,39 @@ responses_before p t h (call n x op m r rest s) =
     let e : (p == p) ≡ true = eq-eqb p p refl in
     let rs : List Numbered = filter (λ m. responds p m.event && nat_lt m.number t) rest in
     let bs : List ProcessCall = filter (λ e. is_back t e.call.returned) (calls_in rest) in
-    subst (λ (os : List ProcessCall). length (filter (λ e. is_back t e.call.returned) os) ≡ length (cond ((p == p) && nat_lt m t) (at m (Res p x r) ∷ rs) rs)) (sym os)
-    (subst (λ (b : Bool). length (cond (nat_lt m t) (first p n x op m r ∷ bs) bs) ≡ length (cond (b && nat_lt m t) (at m (Res p x r) ∷ rs) rs)) (sym e)
-    (elim (nat_lt m t) as (λ b. length (cond b (first p n x op m r ∷ bs) bs) ≡ length (cond b (at m (Res p x r) ∷ rs) rs)) [ true ↦ ap suc below | false ↦ below ]))
+    subst (λ (os : List ProcessCall). length (filter (λ e. is_back t e.call.returned) os)
+      ≡ length (cond ((p == p) && nat_lt m t) (at m (Res p x r) ∷ rs) rs)) (sym os)
+    (subst (λ (b : Bool). length (cond (nat_lt m t) (first p n x op m r ∷ bs) bs)
+      ≡ length (cond (b && nat_lt m t) (at m (Res p x r) ∷ rs) rs)) (sym e)
+    (elim (nat_lt m t) as (λ b. length (cond b (first p n x op m r ∷ bs) bs)
+      ≡ length (cond b (at m (Res p x r) ∷ rs) rs)) [
+      | true ↦ ap suc below
+      | false ↦ below
+    ]))
 
 -- the invocations before t are those of the operations below t
 pub invocations_before : (p t : ℕ) (h : List Numbered)
-    → length (filter (λ m. invokes p m.event && nat_lt m.number t) h) ≡ length (filter (λ e. (e.process == p) && nat_lt (number_of e) t) (calls_in h))
+    → length (filter (λ m. invokes p m.event && nat_lt m.number t) h)
+      ≡ length (filter (λ e. (e.process == p) && nat_lt (number_of e) t) (calls_in h))
 invocations_before p t [] = refl
 invocations_before p t (m ∷ h) = here m.event refl (invocations_before p t h)
   where
-    here : (v : Event) → m.event ≡ v → length (filter (λ m. invokes p m.event && nat_lt m.number t) h) ≡ length (filter (λ e. (e.process == p) && nat_lt (number_of e) t) (calls_in h)) →
+    here : (v : Event) → m.event ≡ v
+      → length (filter (λ m. invokes p m.event && nat_lt m.number t) h)
+      ≡ length (filter (λ e. (e.process == p) && nat_lt (number_of e) t) (calls_in h)) →
         length (cond (invokes p v && nat_lt m.number t) (m ∷ filter (λ m. invokes p m.event && nat_lt m.number t) h)
-        (filter (λ m. invokes p m.event && nat_lt m.number t) h)) ≡ length (filter (λ e. (e.process == p) && nat_lt (number_of e) t) (begins m.number v h (calls_in h)))
+        (filter (λ m. invokes p m.event && nat_lt m.number t) h))
+          ≡ length (filter (λ e. (e.process == p) && nat_lt (number_of e) t) (begins m.number v h (calls_in h)))
     here (Inv q x op) s f = elim ((q == p) && nat_lt m.number t) as
-        (λ b. length (cond b (m ∷ filter (λ m. invokes p m.event && nat_lt m.number t) h) (filter (λ m. invokes p m.event && nat_lt m.number t) h))
-        ≡ length (cond b (record { process = q; object = x; call = record { number = m.number; op = op; returned = response_of q x h } }
-        ∷ filter (λ e. (e.process == p) && nat_lt (number_of e) t) (calls_in h)) (filter (λ e. (e.process == p) && nat_lt (number_of e) t) (calls_in h)))) [ true ↦ ap suc f | false ↦ f ]
+        (λ b. length (cond b (m ∷ filter (λ m. invokes p m.event && nat_lt m.number t) h)
+          (filter (λ m. invokes p m.event && nat_lt m.number t) h))
+        ≡ length (cond b (record { process = q; object = x;
+          call = record { number = m.number; op = op; returned = response_of q x h } }
+        ∷ filter (λ e. (e.process == p) && nat_lt (number_of e) t) (calls_in h))
+          (filter (λ e. (e.process == p) && nat_lt (number_of e) t) (calls_in h)))) [
+          | true ↦ ap suc f
+          | false ↦ f
+        ]
     here (Res q x r) s f = f
 
 -- in a history: numbers rise, also those of a process and those of operations, and each process has its turns
@@ -264,7 +320,8 @@ module _ (h : List Numbered) (hist : IsHistory h) where
   part_up p = pairs_filter (λ (a b : Numbered). a.number < b.number) (λ m. process_of m.event == p) h up
 
   pub turn_view : (p : ℕ) → Turns p (part p h)
-  turn_view p = turns p (part p h) (subst IsSequential (sym (events-part p h)) (hist.well_formed p)) (λ m i. eqb-true (process_of m.event) p (in_filter_passes (λ m. process_of m.event == p) m h i))
+  turn_view p = turns p (part p h) (subst IsSequential (sym (events-part p h)) (hist.well_formed p))
+    (λ m i. eqb-true (process_of m.event) p (in_filter_passes (λ m. process_of m.event == p) m h i))
 
   pub rise : Pairs (λ a b. number_of a < number_of b) (calls_in h)
   rise = calls_rise h up

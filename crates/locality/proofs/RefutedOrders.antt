@@ -1,5 +1,6 @@
 -- What is refused of the worked histories.
-use Rattle.std.proofs.Common.{◌&&◌, ◌≢◌, ◌≡◌, ℤ, pos, ◌<◌, ◌⊎◌, true, false, inl, inr, List, [], ◌∷◌, ◌++◌, map, Option, Some, None, IfSome, IsSome}
+use Rattle.std.proofs.Common.{◌&&◌, ◌≢◌, ◌≡◌, ℤ, pos, ◌<◌, ◌⊎◌, true, false, inl, inr, List, [], ◌∷◌, ◌++◌, map}
+use Rattle.std.proofs.Common.{Option, Some, None, IfSome, IsSome}
 use Rattle.std.proofs.Common.{Contains, lit<, refl, ap, sym, ◌∙◌, subst, arith, Bool, int_eq}
 use Rattle.std.specs.List.{AllByRecursion}
 use Rattle.std.proofs.lemmas.Bool.{and_from}
@@ -14,17 +15,21 @@ use Rattle.model.specs.declared.AnyReply.{AnyReply}
 use Rattle.model.specs.declared.AnyReply.TheVariants.{Value, Swapped, NotSwapped, Flag}
 use Rattle.model.specs.Objects.{Content, queue, next, empty}
 use Rattle.model.specs.Linearizable.{IsLinearizable}
-use Rattle.model.specs.Orders.{Numbered, events, Return, Call, calls_on, IsHistory, ReturnsBefore, RepliesAlong, IsValidOrder}
+use Rattle.model.specs.Orders.{Numbered, events, Return, Call, calls_on, IsHistory, ReturnsBefore, RepliesAlong}
+use Rattle.model.specs.Orders.{IsValidOrder}
 use Rattle.model.proofs.Lists.{In, Pairs, in_from_contains, all_at, pairs_from_all, in_map_from, in_map}
-use Rattle.locality.specs.WorkedHistories.{invoke, invoked_while_pending, returned_unasked, returned_elsewhere, numbered_backwards}
-use Rattle.locality.specs.WorkedHistories.{enqueued_then_dequeued, overlapping_enqueues, dequeued_out_of_turn, pending_overtakes_returned}
+use Rattle.locality.specs.WorkedHistories.{invoke, invoked_while_pending, returned_unasked, returned_elsewhere}
+use Rattle.locality.specs.WorkedHistories.{numbered_backwards}
+use Rattle.locality.specs.WorkedHistories.{enqueued_then_dequeued, overlapping_enqueues, dequeued_out_of_turn}
+use Rattle.locality.specs.WorkedHistories.{pending_overtakes_returned}
 use Rattle.locality.specs.WorkedHistories.{mutex_passed_on}
 use Rattle.locality.proofs.OneKind.{orders_of_kinds}
 use Rattle.locality.proofs.WrittenOut.{history, linearizable, in_order, ordered}
 use Rattle.locality.proofs.WorkedOrders.{returned, pending}
 
 -- what returned before all others were invoked comes first
-first_is : (a : Call) (es : List Call) → In a es → ((e : Call) → In e es → (e ≡ a) ⊎ ReturnsBefore a e) → Pairs (λ (a b : Call). ReturnsBefore b a → ⊥) es → (rest : List Call) × (es ≡ a ∷ rest)
+first_is : (a : Call) (es : List Call) → In a es → ((e : Call) → In e es → (e ≡ a) ⊎ ReturnsBefore a e)
+    → Pairs (λ (a b : Call). ReturnsBefore b a → ⊥) es → (rest : List Call) × (es ≡ a ∷ rest)
 first_is a [] i f p = absurd i
 first_is a (e ∷ es) i f p = elim (f e (inl refl)) [
   | inl q ↦ (es, ap (λ x. x ∷ es) q)
@@ -35,7 +40,8 @@ abbrev IsEnqueue : AnyOp → Type 0
 IsEnqueue op = (v : ℤ) × (op ≡ Enqueue v)
 
 -- what a step leaves and replies, where its operation and content are known
-step : (c : Content) (op o : AnyOp) (made : Content × AnyReply) → op ≡ o → (after : Content) (reply : AnyReply) → next c op ≡ Some (after, reply)
+step : (c : Content) (op o : AnyOp) (made : Content × AnyReply) → op ≡ o → (after : Content) (reply : AnyReply)
+    → next c op ≡ Some (after, reply)
     → next c o ≡ Some made → (after ≡ made.0) × (reply ≡ made.1)
 step c op o made same after reply e m =
     let pair : (after, reply) ≡ made = same_Some (after, reply) made (sym e ∙ (ap (next c) same ∙ m)) in
@@ -43,36 +49,49 @@ step c op o made same after reply e m =
 
 -- while all others are enqueues, a dequeue has the first value
 first_out : (v : ℤ) (vs : List ℤ) (es : List Call) (d : Call) (r : Return) → d.op ≡ Dequeue → d.returned ≡ Some r
-    → ((e : Call) → In e es → (e ≡ d) ⊎ IsEnqueue e.op) → In d es → RepliesAlong (queue (v ∷ vs)) es → r.reply ≡ Value (Some v)
+    → ((e : Call) → In e es → (e ≡ d) ⊎ IsEnqueue e.op) → In d es → RepliesAlong (queue (v ∷ vs)) es
+    → r.reply ≡ Value (Some v)
 first_out v vs [] d r op back f i h = absurd i
 first_out v vs (e ∷ es) d r op back f i h = elim (f e (inl refl)) [
   | inl q ↦
-      let s = step (queue (v ∷ vs)) e.op Dequeue (queue vs, Value (Some v)) (ap (λ (c : Call). c.op) q ∙ op) h.0 h.1 h.2 refl in
-      let said : r.reply ≡ h.1 = subst (λ (o : Option Return). IfSome o (λ r. r.reply ≡ h.1)) (ap (λ (c : Call). c.returned) q ∙ back) h.3 in
+      let s = step (queue (v ∷ vs)) e.op Dequeue (queue vs, Value (Some v))
+        (ap (λ (c : Call). c.op) q ∙ op) h.0 h.1 h.2 refl in
+      let said : r.reply ≡ h.1 =
+        subst (λ (o : Option Return). IfSome o (λ r. r.reply ≡ h.1)) (ap (λ (c : Call). c.returned) q ∙ back) h.3 in
       said ∙ s.1
   | inr w ↦
-      let s = step (queue (v ∷ vs)) e.op (Enqueue w.0) (queue (v ∷ (vs ++ w.0 ∷ [])), Value (Some w.0)) w.1 h.0 h.1 h.2 refl in
+      let s = step (queue (v ∷ vs)) e.op (Enqueue w.0)
+        (queue (v ∷ (vs ++ w.0 ∷ [])), Value (Some w.0)) w.1 h.0 h.1 h.2 refl in
       elim i [
         | inl q ↦ let clash : Dequeue ≡ Enqueue w.0 = sym op ∙ (ap (λ (c : Call). c.op) q ∙ w.1) in absurd (cc clash)
-        | inr j ↦ first_out v (vs ++ w.0 ∷ []) es d r op back (λ e i. f e (inr i)) j (subst (λ c. RepliesAlong c es) s.0 h.4)
+        | inr j ↦ first_out v (vs ++ w.0 ∷ []) es d r op back (λ e i. f e (inr i)) j
+            (subst (λ c. RepliesAlong c es) s.0 h.4)
       ]
 ]
 
 -- An enqueue returned before all other operations were invoked, and one of these is a dequeue: it has the value.
-first_in_first_out : (calls : List Call) (a d : Call) (v : ℤ) (r s : Return) (order : List ℤ) → a.op ≡ Enqueue v → a.returned ≡ Some s
-    → d.op ≡ Dequeue → d.returned ≡ Some r → In a calls → In d calls → ((e : Call) → In e calls → (e ≡ a) ⊎ ReturnsBefore a e)
+first_in_first_out : (calls : List Call) (a d : Call) (v : ℤ) (r s : Return) (order : List ℤ) → a.op ≡ Enqueue v
+    → a.returned ≡ Some s
+    → d.op ≡ Dequeue → d.returned ≡ Some r → In a calls → In d calls
+    → ((e : Call) → In e calls → (e ≡ a) ⊎ ReturnsBefore a e)
     → ((e : Call) → In e calls → (e ≡ d) ⊎ IsEnqueue e.op) → IsValidOrder Queue calls order → r.reply ≡ Value (Some v)
 first_in_first_out calls a d v r s order a_op a_back d_op d_back a_in d_in first other valid =
-    let known : (e : Call) → In e valid.entries → In e calls = λ e i. in_from_contains calls e (all_at (Contains calls) valid.entries valid.known e i) in
+    let known : (e : Call) → In e valid.entries → In e calls =
+      λ e i. in_from_contains calls e (all_at (Contains calls) valid.entries valid.known e i) in
     let stands : (e : Call) (r : Return) → In e calls → e.returned ≡ Some r → In e valid.entries =
-    λ e r i q. in_from_contains valid.entries e (all_at (λ (e : Call). IsSome e.returned → Contains valid.entries e) calls valid.whole e i (subst (λ (o : Option Return). IsSome o) (sym q) refl)) in
-    let front = first_is a valid.entries (stands a s a_in a_back) (λ e i. first e (known e i)) (pairs_from_all (λ (a b : Call). ReturnsBefore b a → ⊥) valid.entries valid.in_order) in
+    λ e r i q. in_from_contains valid.entries e
+      (all_at (λ (e : Call). IsSome e.returned → Contains valid.entries e) calls valid.whole e i
+      (subst (λ (o : Option Return). IsSome o) (sym q) refl)) in
+    let front = first_is a valid.entries (stands a s a_in a_back) (λ e i. first e (known e i))
+      (pairs_from_all (λ (a b : Call). ReturnsBefore b a → ⊥) valid.entries valid.in_order) in
     let along : RepliesAlong (queue []) (a ∷ front.0) = subst (RepliesAlong (queue [])) front.1 valid.replies in
     let s0 = step (queue []) a.op (Enqueue v) (queue (v ∷ []), Value (Some v)) a_op along.0 along.1 along.2 refl in
     let d_later : In d (a ∷ front.0) = subst (In d) front.1 (stands d r d_in d_back) in
     elim d_later [
       | inl q ↦ let clash : Dequeue ≡ Enqueue v = sym d_op ∙ (ap (λ (c : Call). c.op) q ∙ a_op) in absurd (cc clash)
-      | inr j ↦ first_out v [] front.0 d r d_op d_back (λ e i. other e (known e (subst (In e) (sym front.1) (inr i)))) j (subst (λ c. RepliesAlong c front.0) s0.0 along.4)
+      | inr j ↦ first_out v [] front.0 d r d_op d_back
+          (λ e i. other e (known e (subst (In e) (sym front.1) (inr i)))) j
+          (subst (λ c. RepliesAlong c front.0) s0.0 along.4)
     ]
 
 two_not_one : Value (Some (pos 2)) ≡ Value (Some (pos 1)) → ⊥
@@ -87,12 +106,15 @@ abbrev first : Call
 first = returned 0 (Enqueue (pos 1)) 1 (Some (pos 1))
 
 -- after it another value is enqueued, and no dequeue gives 2
-overtaken : (h : List Numbered) (b d : Call) (v : ℤ) (r : Return) → IsHistory h → calls_on 0 h ≡ first ∷ b ∷ d ∷ [] → b.op ≡ Enqueue v → 1 < b.number
-    → d.op ≡ Dequeue → 1 < d.number → d.returned ≡ Some r → r.reply ≡ Value (Some (pos 2)) → ¬ IsLinearizable (λ x. Queue) (events h)
+overtaken : (h : List Numbered) (b d : Call) (v : ℤ) (r : Return) → IsHistory h → calls_on 0 h ≡ first ∷ b ∷ d ∷ []
+    → b.op ≡ Enqueue v → 1 < b.number
+    → d.op ≡ Dequeue → 1 < d.number → d.returned ≡ Some r → r.reply ≡ Value (Some (pos 2))
+    → ¬ IsLinearizable (λ x. Queue) (events h)
 overtaken h b d v r hist is b_op b_later d_op d_later d_back two lin =
     let order = orders_of_kinds (λ x. Queue) h hist lin 0 in
     let returns : Return = record { at = 1; reply = Value (Some (pos 1)) } in
-    let one = first_in_first_out (first ∷ b ∷ d ∷ []) first d (pos 1) r returns order.0 refl refl d_op d_back (inl refl) (inr (inr (inl refl)))
+    let one = first_in_first_out (first ∷ b ∷ d ∷ []) first d (pos 1) r returns order.0 refl refl d_op d_back
+      (inl refl) (inr (inr (inl refl)))
     (λ e i. elim i [
       | inl q ↦ inl q
       | inr j ↦ elim j [
@@ -104,7 +126,10 @@ overtaken h b d v r hist is b_op b_later d_op d_later d_back two lin =
     (λ e i. elim i [
       | inl q ↦ inr (pos 1, ap (λ (c : Call). c.op) q)
       | inr j ↦ elim j
-          [ inl q ↦ inr (v, ap (λ (c : Call). c.op) q ∙ b_op) | inr k ↦ elim k [ inl q ↦ inl q | inr none ↦ absurd none ] ]
+          [
+            | inl q ↦ inr (v, ap (λ (c : Call). c.op) q ∙ b_op)
+            | inr k ↦ elim k [ inl q ↦ inl q | inr none ↦ absurd none ]
+          ]
     ])
     (subst (λ cs. IsValidOrder Queue cs order.0) is order.1) in
     two_not_one (sym two ∙ one)
@@ -113,8 +138,10 @@ pub dequeued_out_of_turn-history : IsHistory dequeued_out_of_turn
 dequeued_out_of_turn-history = history 2 dequeued_out_of_turn refl
 
 pub dequeued_out_of_turn-refuted : ¬ IsLinearizable (λ x. Queue) (events dequeued_out_of_turn)
-dequeued_out_of_turn-refuted = overtaken dequeued_out_of_turn (returned 2 (Enqueue (pos 2)) 3 (Some (pos 2))) (returned 4 Dequeue 5 (Some (pos 2)))
-    (pos 2) (record { at = 5; reply = Value (Some (pos 2)) }) dequeued_out_of_turn-history refl refl (lit< tt) refl (lit< tt) refl refl
+dequeued_out_of_turn-refuted =
+    overtaken dequeued_out_of_turn (returned 2 (Enqueue (pos 2)) 3 (Some (pos 2))) (returned 4 Dequeue 5 (Some (pos 2)))
+    (pos 2) (record { at = 5; reply = Value (Some (pos 2)) }) dequeued_out_of_turn-history refl refl (lit< tt) refl
+      (lit< tt) refl refl
 
 pub pending_overtakes_returned-history : IsHistory pending_overtakes_returned
 pending_overtakes_returned-history = history 3 pending_overtakes_returned refl
@@ -122,30 +149,41 @@ pending_overtakes_returned-history = history 3 pending_overtakes_returned refl
 pub pending_overtakes_returned-refuted : ¬ IsLinearizable (λ x. Queue) (events pending_overtakes_returned)
 pending_overtakes_returned-refuted =
     overtaken pending_overtakes_returned (pending 2 (Enqueue (pos 2))) (returned 3 Dequeue 4 (Some (pos 2))) (pos 2)
-    (record { at = 4; reply = Value (Some (pos 2)) }) pending_overtakes_returned-history refl refl (lit< tt) refl (lit< tt) refl refl
+    (record { at = 4; reply = Value (Some (pos 2)) }) pending_overtakes_returned-history refl refl (lit< tt) refl
+      (lit< tt) refl refl
 
 pub dequeued_out_of_turn-no_order : (order : List ℤ) → ¬ IsValidOrder Queue (calls_on 0 dequeued_out_of_turn) order
-dequeued_out_of_turn-no_order order v = dequeued_out_of_turn-refuted (linearizable (λ x. Queue) dequeued_out_of_turn dequeued_out_of_turn-history refl (order, v))
+dequeued_out_of_turn-no_order order v =
+    dequeued_out_of_turn-refuted
+    (linearizable (λ x. Queue) dequeued_out_of_turn dequeued_out_of_turn-history refl (order, v))
 
-pub enqueued_then_dequeued-repeated : ¬ IsValidOrder Queue (calls_on 0 enqueued_then_dequeued) (pos 0 ∷ pos 0 ∷ pos 2 ∷ [])
+pub enqueued_then_dequeued-repeated : ¬ IsValidOrder Queue (calls_on 0 enqueued_then_dequeued)
+    (pos 0 ∷ pos 0 ∷ pos 2 ∷ [])
 enqueued_then_dequeued-repeated v = v.once 0 1 (pos 0) (lit< tt) (lit< tt) refl
 
 pub enqueued_then_dequeued-omitted : ¬ IsValidOrder Queue (calls_on 0 enqueued_then_dequeued) (pos 0 ∷ [])
 enqueued_then_dequeued-omitted v =
     let omitted : Call = returned 2 Dequeue 3 (Some (pos 1)) in
     let stands : In omitted v.entries = in_from_contains v.entries omitted (v.whole 1 omitted (lit< tt) refl) in
-    let listed : In (pos 2) (pos 0 ∷ []) = subst (In (pos 2)) (sym v.numbers) (in_map_from (λ (e : Call). pos e.number) omitted v.entries stands) in
+    let listed : In (pos 2) (pos 0 ∷ []) =
+      subst (In (pos 2)) (sym v.numbers) (in_map_from (λ (e : Call). pos e.number) omitted v.entries stands) in
     elim listed [ inl q ↦ omega (arith, ints, q) | inr none ↦ absurd none ]
 
-pub enqueued_then_dequeued-unknown : ¬ IsValidOrder Queue (calls_on 0 enqueued_then_dequeued) (pos 0 ∷ pos 2 ∷ pos 3 ∷ [])
+pub enqueued_then_dequeued-unknown : ¬ IsValidOrder Queue (calls_on 0 enqueued_then_dequeued)
+    (pos 0 ∷ pos 2 ∷ pos 3 ∷ [])
 enqueued_then_dequeued-unknown v =
-    let e = in_map (λ (e : Call). pos e.number) (pos 3) v.entries (subst (In (pos 3)) v.numbers (inr (inr (inl refl)))) in
-    unknown e.0 (in_from_contains (calls_on 0 enqueued_then_dequeued) e.0 (all_at (Contains (calls_on 0 enqueued_then_dequeued)) v.entries v.known e.0 e.1)) e.2
+    let e = in_map (λ (e : Call). pos e.number) (pos 3) v.entries
+      (subst (In (pos 3)) v.numbers (inr (inr (inl refl)))) in
+    unknown e.0 (in_from_contains (calls_on 0 enqueued_then_dequeued) e.0
+      (all_at (Contains (calls_on 0 enqueued_then_dequeued)) v.entries v.known e.0 e.1)) e.2
   where
     unknown : (c : Call) → In c (calls_on 0 enqueued_then_dequeued) → pos 3 ≡ pos c.number → ⊥
     unknown c i n = elim i [
       | inl q ↦ let m : c.number ≡ 0 = ap (λ (c : Call). c.number) q in omega (arith, ints)
-      | inr j ↦ elim j [ inl q ↦ let m : c.number ≡ 2 = ap (λ (c : Call). c.number) q in omega (arith, ints) | inr none ↦ absurd none ]
+      | inr j ↦ elim j [
+        | inl q ↦ let m : c.number ≡ 2 = ap (λ (c : Call). c.number) q in omega (arith, ints)
+        | inr none ↦ absurd none
+      ]
     ]
 
 -- no two values that differ
@@ -189,11 +227,15 @@ one_call : (cs : List Call) (a b : Call) → Ordered cs → In a cs → In b cs 
 one_call [] a b o i j e = absurd i
 one_call (c ∷ cs) a b o i j e = elim i [
   | inl p ↦ elim j [ inl q ↦ p ∙ sym q | inr k ↦ absurd ((o.0 b k).0 (ap (λ (c : Call). c.number) (sym p) ∙ e)) ]
-  | inr k ↦ elim j [ inl q ↦ absurd ((o.0 a k).0 (ap (λ (c : Call). c.number) (sym q) ∙ sym e)) | inr l ↦ one_call cs a b o.1 k l e ]
+  | inr k ↦ elim j [
+    | inl q ↦ absurd ((o.0 a k).0 (ap (λ (c : Call). c.number) (sym q) ∙ sym e))
+    | inr l ↦ one_call cs a b o.1 k l e
+  ]
 ]
 
 -- the calls that have these numbers
-entries_are : (calls cs es : List Call) → Ordered calls → ((e : Call) → In e es → In e calls) → AllByRecursion (λ c. In c calls) cs
+entries_are : (calls cs es : List Call) → Ordered calls → ((e : Call) → In e es → In e calls)
+    → AllByRecursion (λ c. In c calls) cs
     → map (λ (e : Call). pos e.number) cs ≡ map (λ (e : Call). pos e.number) es → es ≡ cs
 entries_are calls [] [] up known these n = refl
 entries_are calls [] (e ∷ es) up known these n = absurd (cc n)
@@ -205,19 +247,28 @@ entries_are calls (c ∷ cs) (e ∷ es) up known these n =
     cc (here, rest)
 
 -- an order whose calls could not reply so
-not_replied : (kind : Kind) (calls cs : List Call) → in_order calls ≡ true → AllByRecursion (λ c. In c calls) cs → may_reply cs (empty kind) ≡ false
+not_replied : (kind : Kind) (calls cs : List Call) → in_order calls ≡ true → AllByRecursion (λ c. In c calls) cs
+    → may_reply cs (empty kind) ≡ false
     → ¬ IsValidOrder kind calls (map (λ (e : Call). pos e.number) cs)
 not_replied kind calls cs apart these fails v =
-    let known : (e : Call) → In e v.entries → In e calls = λ e i. in_from_contains calls e (all_at (Contains calls) v.entries v.known e i) in
-    let along : RepliesAlong (empty kind) cs = subst (RepliesAlong (empty kind)) (entries_are calls cs v.entries (ordered calls apart) known these v.numbers) v.replies in
+    let known : (e : Call) → In e v.entries → In e calls =
+      λ e i. in_from_contains calls e (all_at (Contains calls) v.entries v.known e i) in
+    let along : RepliesAlong (empty kind) cs =
+      subst (RepliesAlong (empty kind))
+      (entries_are calls cs v.entries (ordered calls apart) known these v.numbers) v.replies in
     let holds = along_may_reply cs (empty kind) along in
     cc (fails, holds)
 
-pub overlapping_enqueues-wrong_reply : ¬ IsValidOrder Queue (calls_on 0 overlapping_enqueues) (pos 0 ∷ pos 1 ∷ pos 4 ∷ [])
-overlapping_enqueues-wrong_reply = not_replied Queue (calls_on 0 overlapping_enqueues) (calls_on 0 overlapping_enqueues) refl (inl refl, (inr (inl refl), (inr (inr (inl refl)), tt))) refl
+pub overlapping_enqueues-wrong_reply : ¬ IsValidOrder Queue (calls_on 0 overlapping_enqueues)
+    (pos 0 ∷ pos 1 ∷ pos 4 ∷ [])
+overlapping_enqueues-wrong_reply =
+    not_replied Queue (calls_on 0 overlapping_enqueues) (calls_on 0 overlapping_enqueues) refl
+    (inl refl, (inr (inl refl), (inr (inr (inl refl)), tt))) refl
 
 pub mutex_passed_on-acquire_of_held : ¬ IsValidOrder Mutex (calls_on 0 mutex_passed_on) (pos 0 ∷ pos 2 ∷ pos 3 ∷ [])
-mutex_passed_on-acquire_of_held = not_replied Mutex (calls_on 0 mutex_passed_on) (calls_on 0 mutex_passed_on) refl (inl refl, (inr (inl refl), (inr (inr (inl refl)), tt))) refl
+mutex_passed_on-acquire_of_held =
+    not_replied Mutex (calls_on 0 mutex_passed_on) (calls_on 0 mutex_passed_on) refl
+    (inl refl, (inr (inl refl), (inr (inr (inl refl)), tt))) refl
 
 pub invoked_while_pending-refused : ¬ IsHistory invoked_while_pending
 invoked_while_pending-refused h = let s = h.well_formed 0 in let m = s.0 in cc m

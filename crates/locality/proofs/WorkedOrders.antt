@@ -9,7 +9,8 @@ use Rattle.model.specs.Objects.{queue, mutex}
 use Rattle.model.specs.Linearizable.{IsLinearizable}
 use Rattle.model.specs.Orders.{events, Call, calls_on, IsHistory, IsValidOrder, ProcessCall, calls_in}
 use Rattle.locality.specs.Locality.{HasValidOrder}
-use Rattle.locality.specs.WorkedHistories.{enqueued_then_dequeued, overlapping_enqueues, dequeued_while_pending, mutex_passed_on, found_empty_while_pending, two_queues}
+use Rattle.locality.specs.WorkedHistories.{enqueued_then_dequeued, overlapping_enqueues, dequeued_while_pending}
+use Rattle.locality.specs.WorkedHistories.{mutex_passed_on, found_empty_while_pending, two_queues}
 use Rattle.locality.proofs.OneKind.{named_kinds}
 use Rattle.locality.proofs.WrittenOut.{history, valid_order, linearizable}
 
@@ -23,62 +24,80 @@ pub enqueued_then_dequeued-history : IsHistory enqueued_then_dequeued
 enqueued_then_dequeued-history = history 1 enqueued_then_dequeued refl
 
 pub enqueued_then_dequeued-valid : IsValidOrder Queue (calls_on 0 enqueued_then_dequeued) (pos 0 ∷ pos 2 ∷ [])
-enqueued_then_dequeued-valid = valid_order Queue (calls_on 0 enqueued_then_dequeued) (returned 0 (Enqueue (pos 1)) 1 (Some (pos 1)) ∷ returned 2 Dequeue 3 (Some (pos 1)) ∷ []) refl
+enqueued_then_dequeued-valid =
+    valid_order Queue (calls_on 0 enqueued_then_dequeued)
+    (returned 0 (Enqueue (pos 1)) 1 (Some (pos 1)) ∷ returned 2 Dequeue 3 (Some (pos 1)) ∷ []) refl
     ((0, lit< tt, refl), ((1, lit< tt, refl), tt))
     (λ s. (0, lit< tt, refl), (λ s. (1, lit< tt, refl), tt))
     (queue (pos 1 ∷ []), Value (Some (pos 1)), refl, refl, (queue [], Value (Some (pos 1)), refl, refl, tt))
 
 pub enqueued_then_dequeued-linearizable : IsLinearizable (λ x. Queue) (events enqueued_then_dequeued)
-enqueued_then_dequeued-linearizable = linearizable (λ x. Queue) enqueued_then_dequeued enqueued_then_dequeued-history refl (pos 0 ∷ pos 2 ∷ [], enqueued_then_dequeued-valid)
+enqueued_then_dequeued-linearizable =
+    linearizable (λ x. Queue) enqueued_then_dequeued enqueued_then_dequeued-history refl
+    (pos 0 ∷ pos 2 ∷ [], enqueued_then_dequeued-valid)
 
 pub overlapping_enqueues-history : IsHistory overlapping_enqueues
 overlapping_enqueues-history = history 2 overlapping_enqueues refl
 
 pub overlapping_enqueues-valid : IsValidOrder Queue (calls_on 0 overlapping_enqueues) (pos 1 ∷ pos 0 ∷ pos 4 ∷ [])
 overlapping_enqueues-valid = valid_order Queue (calls_on 0 overlapping_enqueues)
-    (returned 1 (Enqueue (pos 2)) 3 (Some (pos 2)) ∷ returned 0 (Enqueue (pos 1)) 2 (Some (pos 1)) ∷ returned 4 Dequeue 5 (Some (pos 2)) ∷ []) refl
+    (returned 1 (Enqueue (pos 2)) 3 (Some (pos 2)) ∷ returned 0 (Enqueue (pos 1)) 2 (Some (pos 1))
+      ∷ returned 4 Dequeue 5 (Some (pos 2)) ∷ []) refl
     ((1, lit< tt, refl), ((0, lit< tt, refl), ((2, lit< tt, refl), tt)))
     (λ s. (1, lit< tt, refl), (λ s. (0, lit< tt, refl), (λ s. (2, lit< tt, refl), tt)))
-    (queue (pos 2 ∷ []), Value (Some (pos 2)), refl, refl, (queue (pos 2 ∷ pos 1 ∷ []), Value (Some (pos 1)), refl, refl, (queue (pos 1 ∷ []), Value (Some (pos 2)), refl, refl, tt)))
+    (queue (pos 2 ∷ []), Value (Some (pos 2)), refl, refl,
+      (queue (pos 2 ∷ pos 1 ∷ []), Value (Some (pos 1)), refl, refl,
+      (queue (pos 1 ∷ []), Value (Some (pos 2)), refl, refl, tt)))
 
 pub overlapping_enqueues-linearizable : IsLinearizable (λ x. Queue) (events overlapping_enqueues)
-overlapping_enqueues-linearizable = linearizable (λ x. Queue) overlapping_enqueues overlapping_enqueues-history refl (pos 1 ∷ pos 0 ∷ pos 4 ∷ [], overlapping_enqueues-valid)
+overlapping_enqueues-linearizable =
+    linearizable (λ x. Queue) overlapping_enqueues overlapping_enqueues-history refl
+    (pos 1 ∷ pos 0 ∷ pos 4 ∷ [], overlapping_enqueues-valid)
 
 pub dequeued_while_pending-history : IsHistory dequeued_while_pending
 dequeued_while_pending-history = history 2 dequeued_while_pending refl
 
 pub dequeued_while_pending-valid : IsValidOrder Queue (calls_on 0 dequeued_while_pending) (pos 0 ∷ pos 1 ∷ [])
-dequeued_while_pending-valid = valid_order Queue (calls_on 0 dequeued_while_pending) (pending 0 (Enqueue (pos 9)) ∷ returned 1 Dequeue 2 (Some (pos 9)) ∷ []) refl
+dequeued_while_pending-valid =
+    valid_order Queue (calls_on 0 dequeued_while_pending)
+    (pending 0 (Enqueue (pos 9)) ∷ returned 1 Dequeue 2 (Some (pos 9)) ∷ []) refl
     ((0, lit< tt, refl), ((1, lit< tt, refl), tt))
     (λ s. (0, lit< tt, refl), (λ s. (1, lit< tt, refl), tt))
     (queue (pos 9 ∷ []), Value (Some (pos 9)), refl, tt, (queue [], Value (Some (pos 9)), refl, refl, tt))
 
 pub dequeued_while_pending-linearizable : IsLinearizable (λ x. Queue) (events dequeued_while_pending)
-dequeued_while_pending-linearizable = linearizable (λ x. Queue) dequeued_while_pending dequeued_while_pending-history refl (pos 0 ∷ pos 1 ∷ [], dequeued_while_pending-valid)
+dequeued_while_pending-linearizable =
+    linearizable (λ x. Queue) dequeued_while_pending dequeued_while_pending-history refl
+    (pos 0 ∷ pos 1 ∷ [], dequeued_while_pending-valid)
 
 pub found_empty_while_pending-history : IsHistory found_empty_while_pending
 found_empty_while_pending-history = history 2 found_empty_while_pending refl
 
 pub found_empty_while_pending-valid : IsValidOrder Queue (calls_on 0 found_empty_while_pending) (pos 1 ∷ [])
-found_empty_while_pending-valid = valid_order Queue (calls_on 0 found_empty_while_pending) (returned 1 Dequeue 2 None ∷ []) refl
+found_empty_while_pending-valid =
+    valid_order Queue (calls_on 0 found_empty_while_pending) (returned 1 Dequeue 2 None ∷ []) refl
     ((1, lit< tt, refl), tt)
     (λ s. absurd (cc s), (λ s. (0, lit< tt, refl), tt))
     (queue [], Value None, refl, refl, tt)
 
 pub found_empty_while_pending-linearizable : IsLinearizable (λ x. Queue) (events found_empty_while_pending)
-found_empty_while_pending-linearizable = linearizable (λ x. Queue) found_empty_while_pending found_empty_while_pending-history refl (pos 1 ∷ [], found_empty_while_pending-valid)
+found_empty_while_pending-linearizable =
+    linearizable (λ x. Queue) found_empty_while_pending found_empty_while_pending-history refl
+    (pos 1 ∷ [], found_empty_while_pending-valid)
 
 pub two_queues-history : IsHistory two_queues
 two_queues-history = history 4 two_queues refl
 
 pub two_queues-first : IsValidOrder Queue (calls_on 0 two_queues) (pos 2 ∷ pos 0 ∷ [])
-two_queues-first = valid_order Queue (calls_on 0 two_queues) (returned 2 (Enqueue (pos 7)) 6 (Some (pos 7)) ∷ returned 0 Dequeue 4 (Some (pos 7)) ∷ []) refl
+two_queues-first = valid_order Queue (calls_on 0 two_queues)
+    (returned 2 (Enqueue (pos 7)) 6 (Some (pos 7)) ∷ returned 0 Dequeue 4 (Some (pos 7)) ∷ []) refl
     ((1, lit< tt, refl), ((0, lit< tt, refl), tt))
     (λ s. (1, lit< tt, refl), (λ s. (0, lit< tt, refl), tt))
     (queue (pos 7 ∷ []), Value (Some (pos 7)), refl, refl, (queue [], Value (Some (pos 7)), refl, refl, tt))
 
 pub two_queues-second : IsValidOrder Queue (calls_on 1 two_queues) (pos 3 ∷ pos 1 ∷ [])
-two_queues-second = valid_order Queue (calls_on 1 two_queues) (returned 3 (Enqueue (pos 8)) 7 (Some (pos 8)) ∷ returned 1 Dequeue 5 (Some (pos 8)) ∷ []) refl
+two_queues-second = valid_order Queue (calls_on 1 two_queues)
+    (returned 3 (Enqueue (pos 8)) 7 (Some (pos 8)) ∷ returned 1 Dequeue 5 (Some (pos 8)) ∷ []) refl
     ((1, lit< tt, refl), ((0, lit< tt, refl), tt))
     (λ s. (1, lit< tt, refl), (λ s. (0, lit< tt, refl), tt))
     (queue (pos 8 ∷ []), Value (Some (pos 8)), refl, refl, (queue [], Value (Some (pos 8)), refl, refl, tt))
@@ -88,16 +107,22 @@ two_queues-linearizable =
     let first : HasValidOrder (λ x. Queue) two_queues 0 = (pos 2 ∷ pos 0 ∷ [], two_queues-first) in
     let second : HasValidOrder (λ x. Queue) two_queues 1 = (pos 3 ∷ pos 1 ∷ [], two_queues-second) in
     named_kinds (λ x. Queue) two_queues two_queues-history
-    (All-from_recursion (λ (e : ProcessCall). HasValidOrder (λ x. Queue) two_queues e.object) (calls_in two_queues) (first, (second, (first, (second, tt)))))
+    (All-from_recursion (λ (e : ProcessCall). HasValidOrder (λ x. Queue) two_queues e.object) (calls_in two_queues)
+      (first, (second, (first, (second, tt)))))
 
 pub mutex_passed_on-history : IsHistory mutex_passed_on
 mutex_passed_on-history = history 2 mutex_passed_on refl
 
 pub mutex_passed_on-valid : IsValidOrder Mutex (calls_on 0 mutex_passed_on) (pos 0 ∷ pos 3 ∷ pos 2 ∷ [])
-mutex_passed_on-valid = valid_order Mutex (calls_on 0 mutex_passed_on) (returned 0 Acquire 1 None ∷ returned 3 Release 4 None ∷ returned 2 Acquire 5 None ∷ []) refl
+mutex_passed_on-valid =
+    valid_order Mutex (calls_on 0 mutex_passed_on)
+    (returned 0 Acquire 1 None ∷ returned 3 Release 4 None ∷ returned 2 Acquire 5 None ∷ []) refl
     ((0, lit< tt, refl), ((2, lit< tt, refl), ((1, lit< tt, refl), tt)))
     (λ s. (0, lit< tt, refl), (λ s. (2, lit< tt, refl), (λ s. (1, lit< tt, refl), tt)))
-    (mutex true, Value None, refl, refl, (mutex false, Value None, refl, refl, (mutex true, Value None, refl, refl, tt)))
+    (mutex true, Value None, refl, refl,
+      (mutex false, Value None, refl, refl, (mutex true, Value None, refl, refl, tt)))
 
 pub mutex_passed_on-linearizable : IsLinearizable (λ x. Mutex) (events mutex_passed_on)
-mutex_passed_on-linearizable = linearizable (λ x. Mutex) mutex_passed_on mutex_passed_on-history refl (pos 0 ∷ pos 3 ∷ pos 2 ∷ [], mutex_passed_on-valid)
+mutex_passed_on-linearizable =
+    linearizable (λ x. Mutex) mutex_passed_on mutex_passed_on-history refl
+    (pos 0 ∷ pos 3 ∷ pos 2 ∷ [], mutex_passed_on-valid)

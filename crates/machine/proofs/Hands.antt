@@ -19,22 +19,27 @@ pub record IsThat (x r x' r' : ℕ) (q q' : AnyRequest) : Type 0 where
 same_picked : (q q' : AnyRequest) → picked q ≡ picked q' → q' ≡ q
 same_picked q q' e = cc
 
-pub same_hand : (s : State) (c x r : ℕ) (q : AnyRequest) → IsInHand s c x r q → (x' r' : ℕ) (q' : AnyRequest) → (world_of s).holder x' ≡ Some c
+pub same_hand : (s : State) (c x r : ℕ) (q : AnyRequest) → IsInHand s c x r q → (x' r' : ℕ) (q' : AnyRequest)
+    → (world_of s).holder x' ≡ Some c
     → (world_of s).hand x' ≡ Some r' → (world_of s).stage r' ≡ picked q' → IsThat x r x' r' q q'
 same_hand s c x r q h x' r' q' held hand stage =
     let o : x' ≡ x = h.only x' held in
     let w : r' ≡ r = same_Some r' r (sym hand ∙ ap (world_of s).hand o ∙ h.hand) in
     record { object = o; row = w; request = same_picked q q' (sym h.stage ∙ ap (world_of s).stage (sym w) ∙ stage) }
 
-pub put_back_not : (s : State) (c x r : ℕ) (q : AnyRequest) → IsInHand s c x r q → CanDo s x q.op → IsImpossible s.kinds s.quota (world_of s) (c, put_back)
+pub put_back_not : (s : State) (c x r : ℕ) (q : AnyRequest) → IsInHand s c x r q → CanDo s x q.op
+    → IsImpossible s.kinds s.quota (world_of s) (c, put_back)
 put_back_not s c x r q h can after m =
     let t = m.3 in
     let i = t.in_hand in
     let same = same_hand s c x r q h t.object t.row t.request i.0 i.1 i.2 in
     let replays : Replays (empty (kind_at s.kinds x)) (get_or s.logs x []) t.content
     = subst (λ (y : ℕ). Replays (empty (kind_at s.kinds y)) (get_or s.logs y []) t.content) same.object i.3 in
-    let once : can.0 ≡ t.content = replays_once (empty (kind_at s.kinds x)) can.0 t.content (get_or s.logs x []) can.1 replays in
-    let there : IsSome (next t.content t.request.op) = subst (λ (z : Content). IsSome (next z t.request.op)) once (subst (λ (z : AnyRequest). IsSome (next can.0 z.op)) (sym same.request) can.2) in
+    let once : can.0 ≡ t.content =
+      replays_once (empty (kind_at s.kinds x)) can.0 t.content (get_or s.logs x []) can.1 replays in
+    let there : IsSome (next t.content t.request.op) =
+      subst (λ (z : Content). IsSome (next z t.request.op)) once
+      (subst (λ (z : AnyRequest). IsSome (next can.0 z.op)) (sym same.request) can.2) in
     let none : next t.content t.request.op ≡ None = t.impossible in
     let no : IsSome {T = Content × AnyReply} None = subst IsSome none there in
     absurd (cc)

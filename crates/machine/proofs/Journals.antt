@@ -14,34 +14,48 @@ done_in-journal_of [] None = refl
 done_in-journal_of [] (Some q) = refl
 done_in-journal_of (d ∷ ds) q = ap (λ es. d ∷ es) (done_in-journal_of ds q)
 
-pub journal_called : (ds : List AnyDone) (q : AnyRequest) → journal_of ds None ++ invoked q ∷ [] ≡ journal_of ds (Some q)
+pub journal_called : (ds : List AnyDone) (q : AnyRequest)
+    → journal_of ds None ++ invoked q ∷ [] ≡ journal_of ds (Some q)
 journal_called [] q = refl
 journal_called (d ∷ ds) q = ap (λ es. invoked d.request ∷ Returned d.returned d.answer ∷ es) (journal_called ds q)
 
 pub journal_returned : (ds : List AnyDone) (q : AnyRequest) (a : AnyAnswer) (u : ℕ)
-    → journal_of ds (Some q) ++ Returned u a ∷ [] ≡ journal_of (ds ++ record { request = q; answer = a; returned = u } ∷ []) None
+    → journal_of ds (Some q) ++ Returned u a ∷ []
+      ≡ journal_of (ds ++ record { request = q; answer = a; returned = u } ∷ []) None
 journal_returned [] q a u = refl
-journal_returned (d ∷ ds) q a u = ap (λ es. invoked d.request ∷ Returned d.returned d.answer ∷ es) (journal_returned ds q a u)
+journal_returned (d ∷ ds) q a u =
+    ap (λ es. invoked d.request ∷ Returned d.returned d.answer ∷ es) (journal_returned ds q a u)
 
 -- a list in a list of lists is written
-pub items_of-set : {A Z : Type 0} (vs : List (Vec A Z)) (c : ℕ) (v : Vec A Z) → items_of (set vs c v) ≡ set (items_of vs) c v.items
+pub items_of-set : {A Z : Type 0} (vs : List (Vec A Z)) (c : ℕ) (v : Vec A Z)
+    → items_of (set vs c v) ≡ set (items_of vs) c v.items
 items_of-set vs c v = map-set (λ w. w.items) vs c v
 
-pub items_at : {A Z : Type 0} (vs : List (Vec A Z)) (c : ℕ) (v : Vec A Z) → c < length vs → v ≡ get_or vs c v → get_or (items_of vs) c [] ≡ v.items
+pub items_at : {A Z : Type 0} (vs : List (Vec A Z)) (c : ℕ) (v : Vec A Z) → c < length vs → v ≡ get_or vs c v
+    → get_or (items_of vs) c [] ≡ v.items
 items_at vs c v low read = get_or-map (λ w. w.items) vs c v [] low ∙ ap (λ w. w.items) (sym read)
 
 -- one of the lists grew, or is as it was
-pub grown : {A Z : Type 0} (vs : List (Vec A Z)) (c : ℕ) (old new : Vec A Z) (e : A) → c < length vs → old ≡ get_or vs c old
-    → new.items ≡ old.items ++ e ∷ [] → items_of (set vs c new) ≡ set (items_of vs) c (get_or (items_of vs) c [] ++ e ∷ [])
-grown vs c old new e low read is = items_of-set vs c new ∙ ap (set (items_of vs) c) (is ∙ ap (λ es. es ++ e ∷ []) (sym (items_at vs c old low read)))
+pub grown : {A Z : Type 0} (vs : List (Vec A Z)) (c : ℕ) (old new : Vec A Z) (e : A) → c < length vs
+    → old ≡ get_or vs c old
+    → new.items ≡ old.items ++ e ∷ []
+    → items_of (set vs c new) ≡ set (items_of vs) c (get_or (items_of vs) c [] ++ e ∷ [])
+grown vs c old new e low read is =
+    items_of-set vs c new ∙ ap (set (items_of vs) c) (is ∙ ap (λ es. es ++ e ∷ []) (sym (items_at vs c old low read)))
 
-pub ungrown : {A Z : Type 0} (vs : List (Vec A Z)) (c : ℕ) (old new : Vec A Z) → c < length vs → old ≡ get_or vs c old → new.items ≡ old.items → items_of (set vs c new) ≡ items_of vs
-ungrown vs c old new low read is = items_of-set vs c new ∙ ap (set (items_of vs) c) (is ∙ sym (items_at vs c old low read)) ∙ set-get_or (items_of vs) c []
+pub ungrown : {A Z : Type 0} (vs : List (Vec A Z)) (c : ℕ) (old new : Vec A Z) → c < length vs → old ≡ get_or vs c old
+    → new.items ≡ old.items → items_of (set vs c new) ≡ items_of vs
+ungrown vs c old new low read is =
+    items_of-set vs c new ∙ ap (set (items_of vs) c) (is ∙ sym (items_at vs c old low read))
+    ∙ set-get_or (items_of vs) c []
 
 -- the same, with each element seen through f
-pub seen_grown : {A B : Type 0} (f : A → B) (xs : List (List A)) (c : ℕ) (e : A) → map (map f) (set xs c (get_or xs c [] ++ e ∷ [])) ≡ set (map (map f) xs) c (get_or (map (map f) xs) c [] ++ f e ∷ [])
+pub seen_grown : {A B : Type 0} (f : A → B) (xs : List (List A)) (c : ℕ) (e : A)
+    → map (map f) (set xs c (get_or xs c [] ++ e ∷ []))
+    ≡ set (map (map f) xs) c (get_or (map (map f) xs) c [] ++ f e ∷ [])
 seen_grown f xs c e = map-set (map f) xs c (get_or xs c [] ++ e ∷ [])
-    ∙ ap (set (map (map f) xs) c) (map-append f (get_or xs c []) (e ∷ []) ∙ ap (λ es. es ++ f e ∷ []) (sym (ListN.get_or-map (map f) xs c [])))
+    ∙ ap (set (map (map f) xs) c)
+      (map-append f (get_or xs c []) (e ∷ []) ∙ ap (λ es. es ++ f e ∷ []) (sym (ListN.get_or-map (map f) xs c [])))
 
 pub if_err : {A E P : Type 0} (r : Result A E) (x : E) → IsErrAnd r (λ e. e ≡ x) → P → IfErr r (λ e. (e ≡ x) × P)
 if_err (Ok a) x h p = tt

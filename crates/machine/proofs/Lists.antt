@@ -1,5 +1,6 @@
 -- Lists by number, and what is past their end.
-use Rattle.std.proofs.Common.{◌≡◌, ◌≢◌, ℕ, zero, suc, [], ◌∷◌, ◌<◌, inl, inr, List, length, Option, Some, None, set, get_or, map, slice_get, refl, ap, sym, ◌∙◌, arith}
+use Rattle.std.proofs.Common.{◌≡◌, ◌≢◌, ℕ, zero, suc, [], ◌∷◌, ◌<◌, inl, inr, List, length, Option, Some, None, set}
+use Rattle.std.proofs.Common.{get_or, map, slice_get, refl, ap, sym, ◌∙◌, arith}
 use Rattle.std.proofs.lemmas.List.{get_or_past, get_or-set_same, get_or-set_other}
 use Rattle.std.proofs.lemmas.Option.{same_Some}
 use mathlib.Core.Logic.{dite}
@@ -9,7 +10,8 @@ use Rattle.desk_model.specs.Transitions.{changed}
 use Rattle.desk_model.proofs.Changed.{changed_here, changed_else}
 
 -- what no number below the length finds, no number finds
-pub none_past : {A : Type 0} (xs : List (Option A)) (n : ℕ) (v : A) → length xs ≡ n → ((x : ℕ) → x < n → get_or xs x None ≢ Some v) → (x : ℕ) → get_or xs x None ≢ Some v
+pub none_past : {A : Type 0} (xs : List (Option A)) (n : ℕ) (v : A) → length xs ≡ n
+    → ((x : ℕ) → x < n → get_or xs x None ≢ Some v) → (x : ℕ) → get_or xs x None ≢ Some v
 none_past xs n v long none x e = elim (cases_order x n) [
   | inl same ↦ let past = get_or_past xs x None (omega arith) in let f = sym past ∙ e in absurd (cc)
   | inr o ↦ elim o [
@@ -19,23 +21,28 @@ none_past xs n v long none x e = elim (cases_order x n) [
 ]
 
 -- a list with another value at i, seen by number through f, is the function with another value at i
-pub get_or-set_by : {A B : Type 0} (f : A → B) (xs : List A) (i : ℕ) (v d : A) → i < length xs → (j : ℕ) → f (get_or (set xs i v) j d) ≡ changed (λ k. f (get_or xs k d)) i (f v) j
+pub get_or-set_by : {A B : Type 0} (f : A → B) (xs : List A) (i : ℕ) (v d : A) → i < length xs → (j : ℕ)
+    → f (get_or (set xs i v) j d) ≡ changed (λ k. f (get_or xs k d)) i (f v) j
 get_or-set_by {A} {B} f xs i v d low j =
     let g : ℕ → B = λ k. f (get_or xs k d) in
     dite (ℕ_discrete j i)
-    (λ same. ap (λ k. f (get_or (set xs i v) k d)) same ∙ ap f (get_or-set_same xs i v d low) ∙ sym (ap (changed g i (f v)) same ∙ changed_here g i (f v)))
+    (λ same. ap (λ k. f (get_or (set xs i v) k d)) same ∙ ap f (get_or-set_same xs i v d low)
+      ∙ sym (ap (changed g i (f v)) same ∙ changed_here g i (f v)))
     (λ other. ap f (get_or-set_other xs i j v d other) ∙ sym (changed_else g i (f v) j other))
 
-pub get_or-set : {A : Type 0} (xs : List A) (i : ℕ) (v d : A) → i < length xs → (j : ℕ) → get_or (set xs i v) j d ≡ changed (λ k. get_or xs k d) i v j
+pub get_or-set : {A : Type 0} (xs : List A) (i : ℕ) (v d : A) → i < length xs → (j : ℕ)
+    → get_or (set xs i v) j d ≡ changed (λ k. get_or xs k d) i v j
 get_or-set xs i v d low j = get_or-set_by (λ x. x) xs i v d low j
 
 -- an element that is there is written
-pub slice_get-set_same : {A : Type 0} (xs : List A) (i : ℕ) (v w : A) → slice_get xs i ≡ Some w → slice_get (set xs i v) i ≡ Some v
+pub slice_get-set_same : {A : Type 0} (xs : List A) (i : ℕ) (v w : A) → slice_get xs i ≡ Some w
+    → slice_get (set xs i v) i ≡ Some v
 slice_get-set_same [] i v w e = absurd (cc)
 slice_get-set_same (x ∷ xs) zero v w e = refl
 slice_get-set_same (x ∷ xs) (suc i) v w e = slice_get-set_same xs i v w e
 
-pub slice_get-set_other : {A : Type 0} (xs : List A) (i : ℕ) (v : A) (j : ℕ) → j ≢ i → slice_get (set xs i v) j ≡ slice_get xs j
+pub slice_get-set_other : {A : Type 0} (xs : List A) (i : ℕ) (v : A) (j : ℕ) → j ≢ i
+    → slice_get (set xs i v) j ≡ slice_get xs j
 slice_get-set_other [] i v j other = refl
 slice_get-set_other (x ∷ xs) zero v zero other = absurd (other refl)
 slice_get-set_other (x ∷ xs) zero v (suc j) other = refl
@@ -43,7 +50,8 @@ slice_get-set_other (x ∷ xs) (suc i) v zero other = refl
 slice_get-set_other (x ∷ xs) (suc i) v (suc j) other = slice_get-set_other xs i v j (λ e. other (ap suc e))
 
 -- an element is replaced by one that f cannot tell from it
-pub map-set_same_at : {A B : Type 0} (f : A → B) (xs : List A) (i : ℕ) (v w : A) → slice_get xs i ≡ Some w → f v ≡ f w → map f (set xs i v) ≡ map f xs
+pub map-set_same_at : {A B : Type 0} (f : A → B) (xs : List A) (i : ℕ) (v w : A) → slice_get xs i ≡ Some w → f v ≡ f w
+    → map f (set xs i v) ≡ map f xs
 map-set_same_at f [] i v w e h = refl
 map-set_same_at f (x ∷ xs) zero v w e h = ap (λ z. z ∷ map f xs) (h ∙ ap f (sym (same_Some x w e)))
 map-set_same_at f (x ∷ xs) (suc i) v w e h = ap (λ zs. f x ∷ zs) (map-set_same_at f xs i v w e h)

@@ -1,6 +1,8 @@
 -- A machine at the start.
-use Rattle.std.proofs.Common.{◌≡◌, ℕ, zero, suc, add-one, ◌+◌, ◌<◌, ◌≤◌, inl, inr, List, [], ◌∷◌, ◌++◌, length, replicate, Option, Some, None, Bool}
-use Rattle.std.proofs.Common.{true, false, nat_lt, if◌then◌else◌, get_or, map, slice_get, refl, ap, sym, ◌∙◌, subst, arith}
+use Rattle.std.proofs.Common.{◌≡◌, ℕ, zero, suc, add-one, ◌+◌, ◌<◌, ◌≤◌, inl, inr, List, [], ◌∷◌, ◌++◌, length}
+use Rattle.std.proofs.Common.{replicate, Option, Some, None, Bool}
+use Rattle.std.proofs.Common.{true, false, nat_lt, if◌then◌else◌, get_or, map, slice_get, refl, ap, sym, ◌∙◌, subst}
+use Rattle.std.proofs.Common.{arith}
 use Rattle.std.proofs.lemmas.List.{length-map, map-append, get_or-replicate, get_or_past}
 use Rattle.std.proofs.lemmas.Bool.{cases_order}
 use Rattle.std.proofs.lemmas.Option.{same_Some}
@@ -42,18 +44,22 @@ length-copies zero v = refl
 length-copies (suc n) v = ap suc (length-copies n v)
 
 -- each client is idle, and no client has come past the last one
-pub at_start : (n c : ℕ) → get_or (replicate n world.idle) c world.absent ≡ (if nat_lt c n then world.idle else world.absent)
+pub at_start : (n c : ℕ)
+    → get_or (replicate n world.idle) c world.absent ≡ (if nat_lt c n then world.idle else world.absent)
 at_start n c = elim (cases_order c n) [
   | inl same ↦ past (omega arith)
   | inr o ↦ elim o [ inl low ↦ there low | inr high ↦ past (omega arith) ]
 ]
   where
     there : c < n → get_or (replicate n world.idle) c world.absent ≡ (if nat_lt c n then world.idle else world.absent)
-    there low = let t : nat_lt c n ≡ true = grind (arith, nat_tests) in get_or-replicate n c world.idle world.absent low ∙ sym (ap (λ b. if b then world.idle else world.absent) t)
+    there low =
+        let t : nat_lt c n ≡ true = grind (arith, nat_tests) in
+        get_or-replicate n c world.idle world.absent low ∙ sym (ap (λ b. if b then world.idle else world.absent) t)
 
     past : n ≤ c → get_or (replicate n world.idle) c world.absent ≡ (if nat_lt c n then world.idle else world.absent)
     past high = let t : nat_lt c n ≡ false = grind (arith, nat_tests) in let long = length-copies n world.idle in
-        get_or_past (replicate n world.idle) c world.absent (omega arith) ∙ sym (ap (λ b. if b then world.idle else world.absent) t)
+        get_or_past (replicate n world.idle) c world.absent (omega arith)
+          ∙ sym (ap (λ b. if b then world.idle else world.absent) t)
 
 -- the state at the start, of n objects and m clients
 abbrev pub start_state : List Kind → ℕ → ℕ → ℕ → State
@@ -79,7 +85,8 @@ world-start kinds n m quota = λ i. record (start_of m) {
   ended = λ c. get_or-copies m false c i;
 }
   where
-    stage_at : (c : ℕ) → get_or (map stage_of (replicate m Idle)) c world.absent ≡ (if nat_lt c m then world.idle else world.absent)
+    stage_at : (c : ℕ) → get_or (map stage_of (replicate m Idle)) c world.absent
+      ≡ (if nat_lt c m then world.idle else world.absent)
     stage_at c = ap (λ ts. get_or ts c world.absent) (map-copies stage_of m Idle) ∙ at_start m c
 
 no_request : (b : Bool) → request_of (if b then world.idle else world.absent) ≡ None
@@ -87,7 +94,8 @@ no_request true = refl
 no_request false = refl
 
 pub machine_start : (contents : List Content) (m quota : ℕ) → length contents < 17 → m < 33 → quota < 10001
-    → ((x : ℕ) (c : Content) → slice_get contents x ≡ Some c → c ≡ empty (kind_with c)) → IsMachine contents (start_state (map kind_with contents) (length contents) m quota)
+    → ((x : ℕ) (c : Content) → slice_get contents x ≡ Some c → c ≡ empty (kind_with c))
+    → IsMachine contents (start_state (map kind_with contents) (length contents) m quota)
 machine_start contents m quota few_objects few_clients few_calls empties =
     let n = length contents in
     let s = start_state (map kind_with contents) n m quota in
@@ -103,24 +111,33 @@ machine_start contents m quota few_objects few_clients few_calls empties =
       few_objects = omega arith;
       few_clients = subst (λ (k : ℕ). k < 33) (sym (length-copies m Idle)) few_clients;
       few_calls = few_calls;
-      fits = λ x c at. subst (λ (l : List AnyEntry). Replays (empty (kind_with c)) l c) (sym (get_or-copies n [] x)) (sym (empties x c at));
-      journals_are = λ c. get_or-copies m [] c ∙ sym (ap (λ (w : World). journal_in w c) is ∙ ap (journal_of []) (no_request (nat_lt c m)));
+      fits = λ x c at. subst (λ (l : List AnyEntry). Replays (empty (kind_with c)) l c) (sym (get_or-copies n [] x))
+        (sym (empties x c at));
+      journals_are = λ c. get_or-copies m [] c
+        ∙ sym (ap (λ (w : World). journal_in w c) is ∙ ap (journal_of []) (no_request (nat_lt c m)));
       single = λ c x y a. let e : None ≡ Some c = sym (get_or-copies n None x) ∙ a in absurd (cc);
-      run = subst (λ (k : ℕ). IsWorldOfRun (map kind_with contents) k quota (world_of s)) (sym (length-copies m Idle)) ([], is);
+      run = subst (λ (k : ℕ). IsWorldOfRun (map kind_with contents) k quota (world_of s)) (sym (length-copies m Idle))
+        ([], is);
     }
 
-pub items_of-more : {A Z : Type 0} (vs : List (Vec A Z)) (v : Vec A Z) → items_of (vs ++ v ∷ []) ≡ items_of vs ++ v.items ∷ []
+pub items_of-more : {A Z : Type 0} (vs : List (Vec A Z)) (v : Vec A Z)
+    → items_of (vs ++ v ∷ []) ≡ items_of vs ++ v.items ∷ []
 items_of-more vs v = map-append (λ w. w.items) vs (v ∷ [])
 
-kinds_twice : {S : Type 0} (content : S → Content) (objects : List S) → map (λ o. kind_with (content o)) objects ≡ map kind_with (map content objects)
+kinds_twice : {S : Type 0} (content : S → Content) (objects : List S)
+    → map (λ o. kind_with (content o)) objects ≡ map kind_with (map content objects)
 kinds_twice content [] = refl
 kinds_twice content (o ∷ os) = ap (λ ks. kind_with (content o) ∷ ks) (kinds_twice content os)
 
 -- the fields of a new machine are those of the start
-pub made_start : {S O R : Type 0} (content : S → Content) (op_in : O → AnyOp) (reply_in : R → AnyReply) (objects : List S) (n m quota : ℕ)
-    (logs : List (List (LogEntry O R))) (holders hands : List (Option ℕ)) (stages : List (Stage O R)) (journals : List (List (JournalEvent O R))) (ended : List Bool)
-    → logs ≡ replicate n [] → holders ≡ replicate n None → hands ≡ replicate n None → stages ≡ replicate m Idle → journals ≡ replicate m [] → ended ≡ replicate m false
-    → state_of content op_in reply_in objects logs holders hands stages journals ended 0 quota ≡ start_state (map kind_with (map content objects)) n m quota
+pub made_start : {S O R : Type 0} (content : S → Content) (op_in : O → AnyOp) (reply_in : R → AnyReply)
+    (objects : List S) (n m quota : ℕ)
+    (logs : List (List (LogEntry O R))) (holders hands : List (Option ℕ)) (stages : List (Stage O R))
+      (journals : List (List (JournalEvent O R))) (ended : List Bool)
+    → logs ≡ replicate n [] → holders ≡ replicate n None → hands ≡ replicate n None → stages ≡ replicate m Idle
+    → journals ≡ replicate m [] → ended ≡ replicate m false
+    → state_of content op_in reply_in objects logs holders hands stages journals ended 0 quota
+      ≡ start_state (map kind_with (map content objects)) n m quota
 made_start content op_in reply_in objects n m quota logs holders hands stages journals ended l h a s j e = λ i. record {
   kinds = kinds_twice content objects i;
   logs = (ap (map (map (entry_in op_in reply_in))) l ∙ map-copies (map (entry_in op_in reply_in)) n []) i;
@@ -135,8 +152,11 @@ made_start content op_in reply_in objects n m quota logs holders hands stages jo
 
 -- each object is empty, by number
 pub empties_at : {S : Type 0} (content : S → Content) (objects : List S)
-    → ((i : ℕ) (d : S) → i < length objects → content (get_or objects i d) ≡ empty (kind_with (content (get_or objects i d)))) → (x : ℕ) (c : Content)
+    → ((i : ℕ) (d : S) → i < length objects
+      → content (get_or objects i d) ≡ empty (kind_with (content (get_or objects i d)))) → (x : ℕ) (c : Content)
     → slice_get (map content objects) x ≡ Some c → c ≡ empty (kind_with c)
 empties_at content [] all x c at = absurd (cc)
-empties_at content (o ∷ os) all zero c at = let here = all 0 o (omega arith) in let same = same_Some (content o) c at in subst (λ (z : Content). z ≡ empty (kind_with z)) same here
+empties_at content (o ∷ os) all zero c at =
+    let here = all 0 o (omega arith) in let same = same_Some (content o) c at in
+    subst (λ (z : Content). z ≡ empty (kind_with z)) same here
 empties_at content (o ∷ os) all (suc x) c at = empties_at content os (λ i d low. all (suc i) d (omega arith)) x c at

@@ -1,5 +1,6 @@
 -- Steps taken or passed over, one list after another.
-use Rattle.std.proofs.Common.{◌≡◌, inl, inr, ℕ, zero, suc, add-one, ◌+◌, ◌<◌, List, [], ◌∷◌, ◌++◌, take, length, get_or, map, ap, sym, ◌∙◌, subst, arith}
+use Rattle.std.proofs.Common.{◌≡◌, inl, inr, ℕ, zero, suc, add-one, ◌+◌, ◌<◌, List, [], ◌∷◌, ◌++◌, take, length}
+use Rattle.std.proofs.Common.{get_or, map, ap, sym, ◌∙◌, subst, arith}
 use Rattle.model.specs.declared.Kind.{Kind}
 use Rattle.desk_model.specs.World.{World}
 use Rattle.desk_model.specs.Transitions.{Step}
@@ -7,22 +8,29 @@ use Rattle.machine.specs.Machines.{State}
 use Rattle.machine.specs.Runs.{TakesPossible}
 use Rattle.machine.specs.Steps.{IsLike}
 
-pub more : (kinds : List Kind) (quota : ℕ) (w : World) (ms : List (ℕ × Step)) (n : ℕ) (between : World) (ns : List (ℕ × Step)) (k : ℕ) (after : World)
-    → TakesPossible kinds quota w ms n between → TakesPossible kinds quota between ns k after → TakesPossible kinds quota w (ms ++ ns) (n + k) after
+pub more : (kinds : List Kind) (quota : ℕ) (w : World) (ms : List (ℕ × Step)) (n : ℕ) (between : World)
+    (ns : List (ℕ × Step)) (k : ℕ) (after : World)
+    → TakesPossible kinds quota w ms n between → TakesPossible kinds quota between ns k after
+    → TakesPossible kinds quota w (ms ++ ns) (n + k) after
 more kinds quota w [] n between ns k after h j = let none = h.0 in
-    subst (λ (m : ℕ). TakesPossible kinds quota w ns m after) (let e : k ≡ n + k = omega arith in e) (subst (λ (z : World). TakesPossible kinds quota z ns k after) h.1 j)
+    subst (λ (m : ℕ). TakesPossible kinds quota w ns m after) (let e : k ≡ n + k = omega arith in e)
+      (subst (λ (z : World). TakesPossible kinds quota z ns k after) h.1 j)
 more kinds quota w (m ∷ ms) n between ns k after h j = elim h [
   | inl t ↦ inl (t.0, t.1, more kinds quota t.0 ms n between ns k after t.2 j)
-  | inr p ↦ let e = p.2 in inr (p.0, p.1 + k, let f : n + k ≡ p.1 + k + 1 = omega arith in f, more kinds quota w ms p.1 between ns k after p.3 j)
+  | inr p ↦
+      let e = p.2 in inr (p.0, p.1 + k, let f : n + k ≡ p.1 + k + 1 = omega arith in
+      f, more kinds quota w ms p.1 between ns k after p.3 j)
 ]
 
-take_one_more : {A B : Type 0} (f : A → B) (xs : List A) (i : ℕ) (v : A) → i < length xs → v ≡ get_or xs i v → map f (take i xs) ++ f v ∷ [] ≡ map f (take (suc i) xs)
+take_one_more : {A B : Type 0} (f : A → B) (xs : List A) (i : ℕ) (v : A) → i < length xs → v ≡ get_or xs i v
+    → map f (take i xs) ++ f v ∷ [] ≡ map f (take (suc i) xs)
 take_one_more f [] i v low e = absurd (omega arith)
 take_one_more f (x ∷ xs) zero v low e = ap (λ z. f z ∷ []) e
 take_one_more f (x ∷ xs) (suc i) v low e = ap (λ zs. f x ∷ zs) (take_one_more f xs i v (omega arith) e)
 
 -- one element more of a list, seen through f
-pub taken_more : {A B : Type 0} (f : A → B) (xs : List A) (i : ℕ) (v : A) → i < length xs → v ≡ get_or xs i v → map f (take i xs) ++ f v ∷ [] ≡ map f (take (i + 1) xs)
+pub taken_more : {A B : Type 0} (f : A → B) (xs : List A) (i : ℕ) (v : A) → i < length xs → v ≡ get_or xs i v
+    → map f (take i xs) ++ f v ∷ [] ≡ map f (take (i + 1) xs)
 taken_more f xs i v low e = take_one_more f xs i v low e ∙ ap (λ n. map f (take n xs)) (sym (add-one i))
 
 pub like_both : (a b c : State) → IsLike a b → IsLike b c → IsLike a c

@@ -1,9 +1,12 @@
 -- A run keeps the world sound.
-use Rattle.std.proofs.Common.{◌≡◌, ◌≢◌, ℕ, ◌*◌, ◌<◌, ◌≤◌, Contains, Bool, true, false, List, [], ◌∷◌, nat_lt, if◌then◌else◌, Option, Some, None, All, AllPairs, map, refl, ap, sym, ◌∙◌, subst, arith}
+use Rattle.std.proofs.Common.{◌≡◌, ◌≢◌, ℕ, ◌*◌, ◌<◌, ◌≤◌, Contains, Bool, true, false, List, [], ◌∷◌, nat_lt}
+use Rattle.std.proofs.Common.{if◌then◌else◌, Option, Some, None, All, AllPairs, map, refl, ap, sym, ◌∙◌, subst}
+use Rattle.std.proofs.Common.{arith}
 use Rattle.std.proofs.lemmas.List.Elements.{All-nil}
 use Rattle.model.specs.declared.Kind.{Kind}
 use Rattle.model.specs.Objects.{empty}
-use Rattle.desk_model.specs.World.{AnyEntry, AnyRequest, Stage, absent, idle, picked, World, kind_at, request_of, served_now, journal_of, ticket_of, tickets_drawn, calls_made}
+use Rattle.desk_model.specs.World.{AnyEntry, AnyRequest, Stage, absent, idle, picked, World, kind_at, request_of}
+use Rattle.desk_model.specs.World.{served_now, journal_of, ticket_of, tickets_drawn, calls_made}
 use Rattle.desk_model.specs.Transitions.{Step}
 use Rattle.desk_model.specs.Sound.{Sound, IsAmong, IsInTime}
 use Rattle.desk_model.proofs.Transitions.{transition_keeps_soundness}
@@ -36,24 +39,33 @@ start_sound kinds quota n = record {
   empty_hand = λ x e. refl;
   fitting = λ c q e. let f : None ≡ Some q = sym (no_request (nat_lt c n)) ∙ e in absurd (cc);
   early = λ x. All-nil (λ (e : AnyEntry). e.ticket < 0);
-  drawn = let none = total_le (λ c. tickets_drawn [] (request_of ((start_of n).stage c))) 32 0 (λ c l. let e = ap (tickets_drawn []) (no_request (nat_lt c n)) in omega arith) in omega arith;
+  drawn =
+      let none = total_le (λ c. tickets_drawn [] (request_of ((start_of n).stage c))) 32 0
+        (λ c l. let e = ap (tickets_drawn []) (no_request (nat_lt c n)) in omega arith) in omega arith;
   within = λ c. let e = ap (calls_made []) (no_request (nat_lt c n)) in omega arith;
   journals = record {
     tickets = record {
-      rising = λ c. subst (λ (q : Option AnyRequest). AllPairs (λ t u. t < u) (map ticket_of (journal_of [] q))) (sym (no_request (nat_lt c n))) (λ i j d l m. absurd (omega arith));
-      below = λ c. subst (λ (q : Option AnyRequest). All (λ t. t < 0) (map ticket_of (journal_of [] q))) (sym (no_request (nat_lt c n))) (All-nil (λ t. t < 0));
-      apart = λ c d t h. let h' = subst (λ (q : Option AnyRequest). Contains (map ticket_of (journal_of [] q)) t) (no_request (nat_lt c n)) h in let l = h'.1 in absurd (omega arith);
+      rising = λ c. subst (λ (q : Option AnyRequest). AllPairs (λ t u. t < u) (map ticket_of (journal_of [] q)))
+        (sym (no_request (nat_lt c n))) (λ i j d l m. absurd (omega arith));
+      below = λ c. subst (λ (q : Option AnyRequest). All (λ t. t < 0) (map ticket_of (journal_of [] q)))
+        (sym (no_request (nat_lt c n))) (All-nil (λ t. t < 0));
+      apart = λ c d t h. let h' =
+        subst (λ (q : Option AnyRequest). Contains (map ticket_of (journal_of [] q)) t) (no_request (nat_lt c n)) h in
+            let l = h'.1 in absurd (omega arith);
       each = λ t l. absurd (omega arith);
     };
-    on_objects = λ c. subst (λ (q : Option AnyRequest). All (IsAmong kinds) (journal_of [] q)) (sym (no_request (nat_lt c n))) (All-nil (IsAmong kinds));
+    on_objects = λ c. subst (λ (q : Option AnyRequest). All (IsAmong kinds) (journal_of [] q))
+      (sym (no_request (nat_lt c n))) (All-nil (IsAmong kinds));
     in_time = λ c. All-nil (IsInTime (start_of n) c);
     not_come = λ c e. refl;
   };
 }
 
-leads_sound : (kinds : List Kind) (quota : ℕ) (w : World) (ms : List (ℕ × Step)) (after : World) → Leads kinds quota w ms after → Sound kinds quota w → Sound kinds quota after
+leads_sound : (kinds : List Kind) (quota : ℕ) (w : World) (ms : List (ℕ × Step)) (after : World)
+    → Leads kinds quota w ms after → Sound kinds quota w → Sound kinds quota after
 leads_sound kinds quota w [] after l k = subst (Sound kinds quota) (sym l) k
-leads_sound kinds quota w (m ∷ ms) after l k = leads_sound kinds quota l.0 ms after l.2 (transition_keeps_soundness kinds quota m.1 w l.0 m.0 l.1 k)
+leads_sound kinds quota w (m ∷ ms) after l k =
+    leads_sound kinds quota l.0 ms after l.2 (transition_keeps_soundness kinds quota m.1 w l.0 m.0 l.1 k)
 
 pub run_sound : (kinds : List Kind) (n quota : ℕ) (w : World) → IsWorldOfRun kinds n quota w → Sound kinds quota w
 run_sound kinds n quota w r = leads_sound kinds quota (start_of n) r.0 w r.1 (start_sound kinds quota n)

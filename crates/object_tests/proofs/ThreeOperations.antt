@@ -1,5 +1,6 @@
 -- The events of three operations are proper.
-use Rattle.std.proofs.Common.{◌≡◌, ℕ, ◌<◌, inl, inr, pos, List, [], ◌∷◌, ◌++◌, None, refl, ap, sym, ◌∙◌, subst, append_assoc, arith}
+use Rattle.std.proofs.Common.{◌≡◌, ℕ, ◌<◌, inl, inr, pos, List, [], ◌∷◌, ◌++◌, None, refl, ap, sym, ◌∙◌, subst}
+use Rattle.std.proofs.Common.{append_assoc, arith}
 use Rattle.std.proofs.lemmas.List.{append-nil}
 use Rattle.model.specs.declared.Kind.{Kind}
 use Rattle.model.specs.declared.AnyOp.{AnyOp}
@@ -17,16 +18,20 @@ abbrev AllFollow : List Event → List Event → Type 0
 AllFollow front [] = Unit {0}
 AllFollow front (e ∷ es) = Follows front e.process e.object e.action × AllFollow (front ++ e ∷ []) es
 
-each_follows : (front es earlier later : List Event) (e : Event) → AllFollow front es → es ≡ earlier ++ e ∷ later → Follows (front ++ earlier) e.process e.object e.action
+each_follows : (front es earlier later : List Event) (e : Event) → AllFollow front es → es ≡ earlier ++ e ∷ later
+    → Follows (front ++ earlier) e.process e.object e.action
 each_follows front [] [] later e h q = absurd (cc q)
 each_follows front [] (x ∷ earlier) later e h q = absurd (cc q)
 each_follows front (f ∷ es) [] later e h q =
     let same : f ≡ e = cc in
-    subst (λ (x : Event). Follows (front ++ []) x.process x.object x.action) same (subst (λ t. Follows t f.process f.object f.action) (sym (append-nil front)) h.0)
+    subst (λ (x : Event). Follows (front ++ []) x.process x.object x.action) same
+      (subst (λ t. Follows t f.process f.object f.action) (sym (append-nil front)) h.0)
 each_follows front (f ∷ es) (x ∷ earlier) later e h q =
     let same : f ≡ x = cc in
     let rest : es ≡ earlier ++ e ∷ later = cc in
-    subst (λ t. Follows t e.process e.object e.action) (append_assoc front (f ∷ []) earlier ∙ ap (λ y. front ++ y ∷ earlier) same) (each_follows (front ++ f ∷ []) es earlier later e h.1 rest)
+    subst (λ t. Follows t e.process e.object e.action)
+      (append_assoc front (f ∷ []) earlier ∙ ap (λ y. front ++ y ∷ earlier) same)
+      (each_follows (front ++ f ∷ []) es earlier later e h.1 rest)
 
 -- each number is below the next one
 abbrev Rise : ℕ → List Event → Type 0
@@ -67,7 +72,8 @@ of_kind es x op h e earlier stands on_x invokes = go es h (in_from_contains es e
     go : (es : List Event) → AllAgree es x (kind_of op) → In e es → kind_of earlier ≡ kind_of op
     go [] h i = absurd i
     go (f ∷ es) h i = elim i [
-      | inl q ↦ subst (λ a. Agrees a (kind_of op)) (ap (λ (y : Event). y.action) (sym q) ∙ invokes) (h.0 (ap (λ (y : Event). y.object) (sym q) ∙ on_x))
+      | inl q ↦ subst (λ a. Agrees a (kind_of op)) (ap (λ (y : Event). y.action) (sym q) ∙ invokes)
+          (h.0 (ap (λ (y : Event). y.object) (sym q) ∙ on_x))
       | inr j ↦ go es h.1 j
     ]
 

@@ -1,5 +1,6 @@
 -- The parts that workers gather, joined.
-use Rattle.std.proofs.Common.{◌≡◌, ◌≢◌, ℕ, ◌+◌, ◌%◌, ◌<◌, inl, inr, List, [], ◌∷◌, ◌++◌, length, map, get_or, Option, Some, None, Result, Ok, Err, IfOk, All, AllPairs, ◌↔◌}
+use Rattle.std.proofs.Common.{◌≡◌, ◌≢◌, ℕ, ◌+◌, ◌%◌, ◌<◌, inl, inr, List, [], ◌∷◌, ◌++◌, length, map, get_or}
+use Rattle.std.proofs.Common.{Option, Some, None, Result, Ok, Err, IfOk, All, AllPairs, ◌↔◌}
 use Rattle.std.proofs.Common.{false, Contains, refl, ap, sym, ◌∙◌, subst, append_assoc, arith}
 use Rattle.std.specs.Ordering.{nat_cmp, is_eq, MatchOrdering}
 use Rattle.std.specs.Cmp.{ranked, nat_cmp_total}
@@ -16,7 +17,8 @@ use Rattle.std.proofs.lemmas.Map.Keys.{sorted_head, sorted_tail}
 use Rattle.std.proofs.lemmas.Map.Lookups.{exact_unsigned}
 use Rattle.std.proofs.lemmas.Map.Views.{All-found, btree_map_get_iff}
 use Rattle.model.specs.Orders.{calls_on}
-use Rattle.model.proofs.Lists.{In, Pairs, in_append, in_left, in_middle, in_map, in_map_from, pairs_map, pairs_weaker, pairs_from_map}
+use Rattle.model.proofs.Lists.{In, Pairs, in_append, in_left, in_middle, in_map, in_map_from, pairs_map}
+use Rattle.model.proofs.Lists.{pairs_weaker, pairs_from_map}
 use Rattle.model.proofs.Lists.{in_from_contains, contains_from_in, all_at, all_from_in, all_from_pairs}
 use Rattle.events.specs.declared.event.Event.{Event}
 use Rattle.events.specs.Events.{IsNamed, kind_at, denoted}
@@ -38,7 +40,10 @@ empty_get m e q = ap (lookup (is_at (nat_cmp q))) e
 
 key_below : (k : ℕ) (ks : List ℕ) → AllByRecursion (λ y. nat_cmp k y ≡ Less) ks → (y : ℕ) → In y ks → k < y
 key_below k [] h y i = absurd i
-key_below k (z ∷ ks) h y i = elim i [ inl e ↦ subst (λ n. k < n) (sym e) (ranked k z Less (sym h.0)) | inr j ↦ key_below k ks h.1 y j ]
+key_below k (z ∷ ks) h y i = elim i [
+  | inl e ↦ subst (λ n. k < n) (sym e) (ranked k z Less (sym h.0))
+  | inr j ↦ key_below k ks h.1 y j
+]
 
 keys_rising : (ks : List ℕ) → IsStrictlySortedBy nat_cmp ks → Pairs (λ a b. a < b) ks
 keys_rising [] h = tt
@@ -55,24 +60,31 @@ pub record ArePutIn (all rest : List ObjectCalls) (old new : BTreeMap ℕ Object
 pub nothing_put : (all : List ObjectCalls) (m : BTreeMap ℕ ObjectCalls) → ArePutIn all all m m
 nothing_put all m = record { met = []; so_far = refl; kept = λ x. inr (λ c. absurd (in_from_contains [] x c), refl) }
 
-put_one : (met : List ObjectCalls) (o : ObjectCalls) (x : ℕ) (old kept new : Option ObjectCalls) → IsPutIn met x old kept
+put_one : (met : List ObjectCalls) (o : ObjectCalls) (x : ℕ) (old kept new : Option ObjectCalls)
+    → IsPutIn met x old kept
     → (x ≡ o.object → new ≡ Some o) → (x ≢ o.object → new ≡ kept) → IsPutIn (met ++ o ∷ []) x old new
 put_one met o x old kept new h own other = elim (cases_eq x o.object) [
   | inl e ↦ inl (o, contains_from_in (met ++ o ∷ []) o (in_middle o met []), sym e, own e)
   | inr ne ↦ elim h [
-    | inl p ↦ inl (p.0, contains_from_in (met ++ o ∷ []) p.0 (in_left p.0 met (o ∷ []) (in_from_contains met p.0 p.1)), p.2, other ne ∙ p.3)
-    | inr p ↦ inr (λ c. absent p.0 ne (in_map (λ (o : ObjectCalls). o.object) x (met ++ o ∷ []) (in_from_contains (map (λ o. o.object) (met ++ o ∷ [])) x c)), other ne ∙ p.1)
+    | inl p ↦ inl (p.0, contains_from_in (met ++ o ∷ []) p.0
+      (in_left p.0 met (o ∷ []) (in_from_contains met p.0 p.1)), p.2, other ne ∙ p.3)
+    | inr p ↦ inr (λ c. absent p.0 ne
+      (in_map (λ (o : ObjectCalls). o.object) x (met ++ o ∷ [])
+        (in_from_contains (map (λ o. o.object) (met ++ o ∷ [])) x c)), other ne ∙ p.1)
   ]
 ]
   where
-    absent : (Contains (map (λ (o : ObjectCalls). o.object) met) x → ⊥) → x ≢ o.object → ((p : ObjectCalls) × In p (met ++ o ∷ []) × (x ≡ p.object)) → ⊥
+    absent : (Contains (map (λ (o : ObjectCalls). o.object) met) x → ⊥) → x ≢ o.object
+      → ((p : ObjectCalls) × In p (met ++ o ∷ []) × (x ≡ p.object)) → ⊥
     absent not_in ne p = elim (in_append p.0 met (o ∷ []) p.1) [
       | inl i ↦ not_in (contains_from_in (map (λ (o : ObjectCalls). o.object) met) x
-          (subst (λ y. In y (map (λ (o : ObjectCalls). o.object) met)) (sym p.2) (in_map_from (λ (o : ObjectCalls). o.object) p.0 met i)))
+          (subst (λ y. In y (map (λ (o : ObjectCalls). o.object) met)) (sym p.2)
+            (in_map_from (λ (o : ObjectCalls). o.object) p.0 met i)))
       | inr i ↦ elim i [ inl e ↦ ne (p.2 ∙ ap (λ (o : ObjectCalls). o.object) e) | inr k ↦ absurd k ]
     ]
 
-pub put_more : (all rest later : List ObjectCalls) (old kept new : BTreeMap ℕ ObjectCalls) (o : ObjectCalls) (key : ℕ) → ArePutIn all rest old kept
+pub put_more : (all rest later : List ObjectCalls) (old kept new : BTreeMap ℕ ObjectCalls) (o : ObjectCalls) (key : ℕ)
+    → ArePutIn all rest old kept
     → rest ≡ o ∷ later → key ≡ o.object → Updates nat_cmp kept new key (Some o) → ArePutIn all later old new
 put_more all rest later old kept new o key h is k u = record {
   met = h.met ++ o ∷ [];
@@ -82,10 +94,12 @@ put_more all rest later old kept new o key h is k u = record {
       (λ ne. u.2 x (apart_keys key x (λ e. ne (e ∙ k))));
 }
 
-pub all_put : (all rest given : List ObjectCalls) (old new : BTreeMap ℕ ObjectCalls) → all ≡ given → rest ≡ [] → ArePutIn all rest old new → (x : ℕ)
+pub all_put : (all rest given : List ObjectCalls) (old new : BTreeMap ℕ ObjectCalls) → all ≡ given → rest ≡ []
+    → ArePutIn all rest old new → (x : ℕ)
     → IsPutIn given x (get nat_cmp old x) (get nat_cmp new x)
 all_put all rest given old new is over h x =
-    subst (λ os. IsPutIn os x (get nat_cmp old x) (get nat_cmp new x)) (sym (append-nil h.met) ∙ (ap (λ r. h.met ++ r) (sym over) ∙ (sym h.so_far ∙ is))) (h.kept x)
+    subst (λ os. IsPutIn os x (get nat_cmp old x) (get nat_cmp new x))
+      (sym (append-nil h.met) ∙ (ap (λ r. h.met ++ r) (sym over) ∙ (sym h.so_far ∙ is))) (h.kept x)
 
 -- ---- all parts
 
@@ -95,12 +109,14 @@ pub record IsWholeTo (es : List Event) (met parts : ℕ) (m : BTreeMap ℕ Objec
   pub whole : (x : ℕ) → IsNamed es x → x % parts < met → (o : ObjectCalls) × (get nat_cmp m x ≡ Some o)
 
 -- those joined so far
-pub record AreJoined {V E : Type 0} (items : V → List ObjectCalls) (all rest : List (Result V E)) (m : BTreeMap ℕ ObjectCalls) : Type 0 where
+pub record AreJoined {V E : Type 0} (items : V → List ObjectCalls) (all rest : List (Result V E))
+    (m : BTreeMap ℕ ObjectCalls) : Type 0 where
   pub met : List (Result V E)
   pub so_far : all ≡ met ++ rest
   pub kept : (es : List Event) → AreGathered items es all → IsWholeTo es (length met) (length all) m
 
-pub nothing_joined : {V E : Type 0} (items : V → List ObjectCalls) (all : List (Result V E)) (m : BTreeMap ℕ ObjectCalls) → m.entries ≡ [] → AreJoined items all all m
+pub nothing_joined : {V E : Type 0} (items : V → List ObjectCalls) (all : List (Result V E))
+    (m : BTreeMap ℕ ObjectCalls) → m.entries ≡ [] → AreJoined items all all m
 nothing_joined {V} {E} items all m empty = record {
   met = [];
   so_far = refl;
@@ -111,22 +127,28 @@ nothing_joined {V} {E} items all m empty = record {
 }
 
 -- an object of a part
-of_part : (es : List Event) (n parts : ℕ) (os : List ObjectCalls) (o : ObjectCalls) → IsGathered es n parts os → In o os → IsObjectOf es o.object o
+of_part : (es : List Event) (n parts : ℕ) (os : List ObjectCalls) (o : ObjectCalls) → IsGathered es n parts os
+    → In o os → IsObjectOf es o.object o
 of_part es n parts os o h i = record {
   object = refl;
-  named = ((h.named o.object).0 (contains_from_in (map (λ (o : ObjectCalls). o.object) os) o.object (in_map_from (λ (o : ObjectCalls). o.object) o os i))).0;
+  named = ((h.named o.object).0
+    (contains_from_in (map (λ (o : ObjectCalls). o.object) os) o.object
+    (in_map_from (λ (o : ObjectCalls). o.object) o os i))).0;
   kind = all_at (λ (o : ObjectCalls). o.kind ≡ kind_at es o.object) os h.kinds o i;
   operations = all_at (λ (o : ObjectCalls). o.ops ≡ operations_on o.object es) os h.operations o i;
   calls = all_at (λ (o : ObjectCalls). calls_of o.ops ≡ calls_on o.object (denoted es)) os h.calls o i;
 }
 
-whole_more : (es : List Event) (n parts : ℕ) (os : List ObjectCalls) (m next : BTreeMap ℕ ObjectCalls) → IsGathered es n parts os
-    → ((x : ℕ) → IsPutIn os x (get nat_cmp m x) (get nat_cmp next x)) → IsWholeTo es n parts m → IsWholeTo es (n + 1) parts next
+whole_more : (es : List Event) (n parts : ℕ) (os : List ObjectCalls) (m next : BTreeMap ℕ ObjectCalls)
+    → IsGathered es n parts os
+    → ((x : ℕ) → IsPutIn os x (get nat_cmp m x) (get nat_cmp next x)) → IsWholeTo es n parts m
+    → IsWholeTo es (n + 1) parts next
 whole_more es n parts os m next part put h = record {
   right = λ x o is. elim (put x) [
     | inl p ↦
         let same : p.0 ≡ o = some_is p.0 o (sym p.3 ∙ is) in
-        subst (IsObjectOf es x) same (subst (λ y. IsObjectOf es y p.0) p.2 (of_part es n parts os p.0 part (in_from_contains os p.0 p.1)))
+        subst (IsObjectOf es x) same
+          (subst (λ y. IsObjectOf es y p.0) p.2 (of_part es n parts os p.0 part (in_from_contains os p.0 p.1)))
     | inr p ↦ h.right x o (sym p.1 ∙ is)
   ];
   whole = λ x named l. elim (put x) [
@@ -156,23 +178,29 @@ one_longer : {X : Type 0} (xs : List X) (y : X) → length (xs ++ y ∷ []) ≡ 
 one_longer [] y = refl
 one_longer (x ∷ xs) y = let l = one_longer xs y in omega (arith, l)
 
-pub join_more : {V E : Type 0} (items : V → List ObjectCalls) (all rest later : List (Result V E)) (m next : BTreeMap ℕ ObjectCalls) (r : Result V E)
-    (v : V) → AreJoined items all rest m → rest ≡ r ∷ later → r ≡ Ok v → ((x : ℕ) → IsPutIn (items v) x (get nat_cmp m x) (get nat_cmp next x)) → AreJoined items all later next
+pub join_more : {V E : Type 0} (items : V → List ObjectCalls) (all rest later : List (Result V E))
+    (m next : BTreeMap ℕ ObjectCalls) (r : Result V E)
+    (v : V) → AreJoined items all rest m → rest ≡ r ∷ later → r ≡ Ok v
+      → ((x : ℕ) → IsPutIn (items v) x (get nat_cmp m x) (get nat_cmp next x)) → AreJoined items all later next
 join_more {V} {E} items all rest later m next r v h is ok put = record {
   met = h.met ++ r ∷ [];
   so_far = whole ∙ sym (append_assoc h.met (r ∷ []) later);
   kept = λ es parts.
       let at = parts (length h.met) r (subst (λ xs. length h.met < length xs) (sym whole) (inside h.met later r)) in
-      let here : get_or all (length h.met) r ≡ Ok v = ap (λ xs. get_or xs (length h.met) r) whole ∙ (at_end h.met later r r ∙ ok) in
+      let here : get_or all (length h.met) r ≡ Ok v =
+        ap (λ xs. get_or xs (length h.met) r) whole ∙ (at_end h.met later r r ∙ ok) in
       let part = subst (λ q. IfOk q (λ v. IsGathered es (length h.met) (length all) (items v))) here at in
-      subst (λ n. IsWholeTo es n (length all) next) (sym (one_longer h.met r)) (whole_more es (length h.met) (length all) (items v) m next part put (h.kept es parts));
+      subst (λ n. IsWholeTo es n (length all) next) (sym (one_longer h.met r))
+        (whole_more es (length h.met) (length all) (items v) m next part put (h.kept es parts));
 }
   where
     whole : all ≡ h.met ++ r ∷ later
     whole = h.so_far ∙ ap (λ xs. h.met ++ xs) is
 
-pub all_joined : {V E : Type 0} (items : V → List ObjectCalls) (all rest given : List (Result V E)) (m : BTreeMap ℕ ObjectCalls) → all ≡ given
-    → rest ≡ [] → 0 < length given → AreJoined items all rest m → (es : List Event) → AreGathered items es given → IsWhole es m
+pub all_joined : {V E : Type 0} (items : V → List ObjectCalls) (all rest given : List (Result V E))
+    (m : BTreeMap ℕ ObjectCalls) → all ≡ given
+    → rest ≡ [] → 0 < length given → AreJoined items all rest m → (es : List Event) → AreGathered items es given
+    → IsWhole es m
 all_joined items all rest given m is over some h es parts =
     let k = h.kept es (subst (AreGathered items es) (sym is) parts) in
     let long : length all ≡ length h.met = ap length (h.so_far ∙ (ap (λ r. h.met ++ r) over ∙ append-nil h.met)) in
@@ -184,11 +212,15 @@ all_joined items all rest given m is over some h es parts =
 -- ---- by one worker
 
 -- what a split of a history gives
-pub all_split : {V E : Type 0} (items : V → List ObjectCalls) (es : List Event) (r : Result V E) → IfOk r (λ v. AllPairs (λ a b. a.object < b.object) (items v))
-    → IfOk r (λ v. (x : ℕ) → Contains (map (λ o. o.object) (items v)) x ↔ IsNamed es x) → IfOk r (λ v. All (λ o. o.kind ≡ kind_at es o.object) (items v))
-    → IfOk r (λ v. All (λ o. o.ops ≡ operations_on o.object es) (items v)) → IfOk r (λ v. All (λ o. calls_of o.ops ≡ calls_on o.object (denoted es)) (items v))
+pub all_split : {V E : Type 0} (items : V → List ObjectCalls) (es : List Event) (r : Result V E)
+    → IfOk r (λ v. AllPairs (λ a b. a.object < b.object) (items v))
+    → IfOk r (λ v. (x : ℕ) → Contains (map (λ o. o.object) (items v)) x ↔ IsNamed es x)
+    → IfOk r (λ v. All (λ o. o.kind ≡ kind_at es o.object) (items v))
+    → IfOk r (λ v. All (λ o. o.ops ≡ operations_on o.object es) (items v))
+    → IfOk r (λ v. All (λ o. calls_of o.ops ≡ calls_on o.object (denoted es)) (items v))
     → IfOk r (λ v. AreAll es (items v))
-all_split items es (Ok v) rising named kinds operations calls = record { rising = rising; named = named; kinds = kinds; operations = operations; calls = calls }
+all_split items es (Ok v) rising named kinds operations calls =
+    record { rising = rising; named = named; kinds = kinds; operations = operations; calls = calls }
 all_split items es (Err e) rising named kinds operations calls = tt
 
 -- ---- in a list
@@ -197,24 +229,35 @@ all_split items es (Err e) rising named kinds operations calls = tt
 abbrev pub AreListed : List (ℕ × ObjectCalls) → List (ℕ × ObjectCalls) → List ObjectCalls → Type 0
 AreListed all rest objects = map (λ e. e.1) all ≡ objects ++ map (λ e. e.1) rest
 
-pub list_more : (all rest later : List (ℕ × ObjectCalls)) (objects : List ObjectCalls) (x : ℕ) (o : ObjectCalls) → AreListed all rest objects
+pub list_more : (all rest later : List (ℕ × ObjectCalls)) (objects : List ObjectCalls) (x : ℕ) (o : ObjectCalls)
+    → AreListed all rest objects
     → rest ≡ (x, o) ∷ later → AreListed all later (objects ++ o ∷ [])
-list_more all rest later objects x o h is = h ∙ (ap (λ (r : List (ℕ × ObjectCalls)). objects ++ map (λ e. e.1) r) is ∙ sym (append_assoc objects (o ∷ []) (map (λ e. e.1) later)))
+list_more all rest later objects x o h is =
+    h ∙ (ap (λ (r : List (ℕ × ObjectCalls)). objects ++ map (λ e. e.1) r) is
+    ∙ sym (append_assoc objects (o ∷ []) (map (λ e. e.1) later)))
 
-pub all_listed : (es : List Event) (m : BTreeMap ℕ ObjectCalls) (all rest : List (ℕ × ObjectCalls)) (os : List ObjectCalls) → IsOrdered nat_cmp m
+pub all_listed : (es : List Event) (m : BTreeMap ℕ ObjectCalls) (all rest : List (ℕ × ObjectCalls))
+    (os : List ObjectCalls) → IsOrdered nat_cmp m
     → IsWhole es m → all ≡ m.entries → rest ≡ [] → AreListed all rest os → AreAll es os
 all_listed es m all rest os sorted h from over listed = record {
-  rising = all_from_pairs (λ (a b : ObjectCalls). a.object < b.object) os (subst (Pairs (λ (a b : ObjectCalls). a.object < b.object)) (sym is)
+  rising = all_from_pairs (λ (a b : ObjectCalls). a.object < b.object) os
+    (subst (Pairs (λ (a b : ObjectCalls). a.object < b.object)) (sym is)
       (pairs_map (λ (a b : ObjectCalls). a.object < b.object) (λ (e : ℕ × ObjectCalls). e.1) m.entries
-      (pairs_weaker (λ (a b : ℕ × ObjectCalls). a.0 < b.0) (λ (a b : ℕ × ObjectCalls). a.1.object < b.1.object) m.entries
+      (pairs_weaker (λ (a b : ℕ × ObjectCalls). a.0 < b.0)
+        (λ (a b : ℕ × ObjectCalls). a.1.object < b.1.object) m.entries
       (λ a b i j l. let p = (entry a i).object in let q = (entry b j).object in omega (arith, l, p, q))
       (pairs_from_map (λ (a b : ℕ). a < b) (λ (e : ℕ × ObjectCalls). e.0) m.entries (keys_rising (keys m) sorted)))));
   named = λ x. (
-    λ c. let o = in_map (λ (o : ObjectCalls). o.object) x os (in_from_contains (map (λ (o : ObjectCalls). o.object) os) x c) in subst (IsNamed es) (sym o.2) (good o.0 o.1).named,
+    λ c. let o = in_map (λ (o : ObjectCalls). o.object) x os
+      (in_from_contains (map (λ (o : ObjectCalls). o.object) os) x c) in
+      subst (IsNamed es) (sym o.2) (good o.0 o.1).named,
     λ n. let o = h.whole x n in
-        let i = in_from_contains m.entries (x, o.0) ((btree_map_get_iff nat_cmp_total exact_unsigned m sorted x o.0).0 o.1) in
-        contains_from_in (map (λ (o : ObjectCalls). o.object) os) x (subst (λ y. In y (map (λ (o : ObjectCalls). o.object) os)) (h.right x o.0 o.1).object
-        (in_map_from (λ (o : ObjectCalls). o.object) o.0 os (subst (In o.0) (sym is) (in_map_from (λ (e : ℕ × ObjectCalls). e.1) (x, o.0) m.entries i)))),
+        let i = in_from_contains m.entries (x, o.0)
+          ((btree_map_get_iff nat_cmp_total exact_unsigned m sorted x o.0).0 o.1) in
+        contains_from_in (map (λ (o : ObjectCalls). o.object) os) x
+          (subst (λ y. In y (map (λ (o : ObjectCalls). o.object) os)) (h.right x o.0 o.1).object
+        (in_map_from (λ (o : ObjectCalls). o.object) o.0 os
+          (subst (In o.0) (sym is) (in_map_from (λ (e : ℕ × ObjectCalls). e.1) (x, o.0) m.entries i)))),
   );
   kinds = all_from_in (λ o. o.kind ≡ kind_at es o.object) os (λ o i. (good o i).kind);
   operations = all_from_in (λ o. o.ops ≡ operations_on o.object es) os (λ o i. (good o i).operations);
@@ -222,10 +265,13 @@ all_listed es m all rest os sorted h from over listed = record {
 }
   where
     is : os ≡ map (λ (e : ℕ × ObjectCalls). e.1) m.entries
-    is = sym (append-nil os) ∙ (ap (λ (r : List (ℕ × ObjectCalls)). os ++ map (λ (e : ℕ × ObjectCalls). e.1) r) (sym over) ∙ sym listed ∙ ap (map (λ (e : ℕ × ObjectCalls). e.1)) from)
+    is = sym (append-nil os)
+      ∙ (ap (λ (r : List (ℕ × ObjectCalls)). os ++ map (λ (e : ℕ × ObjectCalls). e.1) r) (sym over) ∙ sym listed
+        ∙ ap (map (λ (e : ℕ × ObjectCalls). e.1)) from)
 
     entry : (e : ℕ × ObjectCalls) → In e m.entries → IsObjectOf es e.0 e.1
-    entry e i = h.right e.0 e.1 (all_at (λ (e : ℕ × ObjectCalls). get nat_cmp m e.0 ≡ Some e.1) m.entries (All-found nat_cmp_total m sorted) e i)
+    entry e i = h.right e.0 e.1
+      (all_at (λ (e : ℕ × ObjectCalls). get nat_cmp m e.0 ≡ Some e.1) m.entries (All-found nat_cmp_total m sorted) e i)
 
     good : (o : ObjectCalls) → In o os → IsObjectOf es o.object o
     good o i =

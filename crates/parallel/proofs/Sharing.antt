@@ -1,10 +1,13 @@
 -- Places that are shared among workers.
-use Rattle.std.proofs.Common.{◌≡◌, ◌≢◌, ℕ, zero, suc, ◌+◌, ◌*◌, ◌/◌, ◌%◌, ◌<◌, ◌≤◌, ◌++◌, ◌∷◌, [], List, All, AllPairs, Contains, length, get_or}
-use Rattle.std.proofs.Common.{take, Result, Ok, Err, IsOk, Option, Some, None, IfNone, inl, inr, refl, ap, sym, ◌∙◌, subst, arith}
+use Rattle.std.proofs.Common.{◌≡◌, ◌≢◌, ℕ, zero, suc, ◌+◌, ◌*◌, ◌/◌, ◌%◌, ◌<◌, ◌≤◌, ◌++◌, ◌∷◌, [], List, All}
+use Rattle.std.proofs.Common.{AllPairs, Contains, length, get_or}
+use Rattle.std.proofs.Common.{take, Result, Ok, Err, IsOk, Option, Some, None, IfNone, inl, inr, refl, ap, sym, ◌∙◌}
+use Rattle.std.proofs.Common.{subst, arith}
 use Rattle.std.proofs.Math.Nat.{lt_of_mul-lt-mul_right, mul-lt-mul_of_pos_right, mod-lt, mod-add-div'}
 use Rattle.std.proofs.lemmas.Bool.{cases_order}
 use Rattle.std.proofs.lemmas.List.{get_or_default, take_all}
-use Rattle.model.proofs.Lists.{In, in_append, in_left, in_right, in_from_contains, contains_from_in, all_from_in, all_at}
+use Rattle.model.proofs.Lists.{In, in_append, in_left, in_right, in_from_contains, contains_from_in, all_from_in}
+use Rattle.model.proofs.Lists.{all_at}
 use Rattle.events.specs.declared.event.Event.{Event}
 use Rattle.events.specs.Operations.{ObjectCalls, calls_of}
 use Rattle.certificate.specs.declared.Certificate.{Certificate}
@@ -17,7 +20,8 @@ use Rattle.parallel.specs.declared.share.RefusedObject.{RefusedObject}
 use Rattle.parallel.specs.Shares.{FallsTo, IsFineAt, IsRefusedAt, IsShare, IsNotBefore, IsEarlier}
 
 -- numbers that rise are no less than their places
-pub at_least_its_place : (os : List ObjectCalls) (k : ℕ) (d : ObjectCalls) → AllPairs (λ a b. a.object < b.object) os → k < length os → k ≤ (get_or os k d).object
+pub at_least_its_place : (os : List ObjectCalls) (k : ℕ) (d : ObjectCalls) → AllPairs (λ a b. a.object < b.object) os
+    → k < length os → k ≤ (get_or os k d).object
 at_least_its_place os zero d rising l = omega arith
 at_least_its_place os (suc k) d rising l =
     let before = at_least_its_place os k d rising (omega arith) in
@@ -28,12 +32,15 @@ pub no_greater : (a b c : ℕ) → a ≤ b → b ≡ c → a ≤ c
 no_greater a b c l e = omega arith
 
 -- a worker has come as far as this place of its own: those before are fine
-pub record HasChecked (worker workers : ℕ) (os : List ObjectCalls) (certificates : List Certificate) (place : ℕ) : Type 0 where
+pub record HasChecked (worker workers : ℕ) (os : List ObjectCalls) (certificates : List Certificate)
+    (place : ℕ) : Type 0 where
   pub own : FallsTo worker workers place
   pub fine : (k : ℕ) → k < place → k < length os → FallsTo worker workers k → IsFineAt os certificates k
 
-pub at_first : (worker workers : ℕ) (os : List ObjectCalls) (certificates : List Certificate) → HasChecked worker workers os certificates worker
-at_first worker workers os certificates = record { own = (0, omega arith); fine = λ k l inside own. absurd (let e = own.1 in omega arith) }
+pub at_first : (worker workers : ℕ) (os : List ObjectCalls) (certificates : List Certificate)
+    → HasChecked worker workers os certificates worker
+at_first worker workers os certificates =
+    record { own = (0, omega arith); fine = λ k l inside own. absurd (let e = own.1 in omega arith) }
 
 -- two turns of which neither is a whole turn from the other are the same
 same_turn : (workers i j : ℕ) → i * workers ≤ j * workers → j * workers < i * workers + workers → 0 < workers → j ≡ i
@@ -48,10 +55,12 @@ same_turn workers i j low high some =
     ]
 
 -- the worker's next place, where this one is fine
-pub at_next : (worker workers : ℕ) (os : List ObjectCalls) (certificates : List Certificate) (place : ℕ) → 0 < workers → HasChecked worker workers os certificates place
+pub at_next : (worker workers : ℕ) (os : List ObjectCalls) (certificates : List Certificate) (place : ℕ) → 0 < workers
+    → HasChecked worker workers os certificates place
     → IsFineAt os certificates place → HasChecked worker workers os certificates (place + workers)
 at_next worker workers os certificates place some h here = record {
-  own = (h.own.0 + 1, let e = h.own.1 in let m : (h.own.0 + 1) * workers ≡ h.own.0 * workers + workers = one_more h.own.0 in omega arith);
+  own = (h.own.0 + 1, let e = h.own.1 in
+      let m : (h.own.0 + 1) * workers ≡ h.own.0 * workers + workers = one_more h.own.0 in omega arith);
   fine = λ k l inside own. elim (cases_order k place) [
     | inl e ↦ subst (IsFineAt os certificates) (sym e) here
     | inr r ↦ elim r [
@@ -74,7 +83,8 @@ at_next worker workers os certificates place some h here = record {
 pub its_worker : (count k : ℕ) → 0 < count → (k % count < count) × FallsTo (k % count) count k
 its_worker count k some = (mod-lt k some, (k / count, sym (mod-add-div' k count)))
 
-place_below : {X : Type 0} (xs : List X) (n : ℕ) (x d : X) → In x (take n xs) → (k : ℕ) × (k < n) × (k < length xs) × (get_or xs k d ≡ x)
+place_below : {X : Type 0} (xs : List X) (n : ℕ) (x d : X) → In x (take n xs)
+    → (k : ℕ) × (k < n) × (k < length xs) × (get_or xs k d ≡ x)
 place_below xs zero x d i = absurd i
 place_below [] (suc n) x d i = absurd i
 place_below (y ∷ xs) (suc n) x d i = elim i [
@@ -87,7 +97,8 @@ pub fine_below : (es : List Event) (certificates : List Certificate) (os : List 
     → ((k : ℕ) → k < n → k < length os → IsFineAt os certificates k) → AreFine es certificates (take n os)
 fine_below es certificates os n objects fine o i =
     let p = place_below os n o o i in
-    let here : IsFine o.kind (calls_of o.ops) certificates o.object = subst (λ (q : ObjectCalls). IsFine q.kind (calls_of q.ops) certificates q.object) p.3 (fine p.0 p.1 p.2 o) in
+    let here : IsFine o.kind (calls_of o.ops) certificates o.object =
+      subst (λ (q : ObjectCalls). IsFine q.kind (calls_of q.ops) certificates q.object) p.3 (fine p.0 p.1 p.2 o) in
     next_fine es certificates os p.0 o objects p.2 (sym p.3) here
 
 -- the least of what was found so far
@@ -104,7 +115,8 @@ all_more P xs x h p = all_from_in P (xs ++ x ∷ []) (λ y i. elim (in_append y 
   ]
 ])
 
-all_weaker : (f g : RefusedObject) (rs : List (Result (Unit {0}) RefusedObject)) → g.place < f.place → All (IsNotBefore f) rs → All (IsNotBefore g) rs
+all_weaker : (f g : RefusedObject) (rs : List (Result (Unit {0}) RefusedObject)) → g.place < f.place
+    → All (IsNotBefore f) rs → All (IsNotBefore g) rs
 all_weaker f g rs l h = all_from_in (IsNotBefore g) rs (λ r i. weaker r (all_at (IsNotBefore f) rs h r i))
   where
     weaker : (r : Result (Unit {0}) RefusedObject) → IsNotBefore f r → IsNotBefore g r
@@ -124,53 +136,72 @@ stands_last xs x = contains_from_in (xs ++ x ∷ []) x (in_right x xs (x ∷ [])
 stands_still : {X : Type 0} (xs : List X) (x y : X) → Contains xs x → Contains (xs ++ y ∷ []) x
 stands_still xs x y h = contains_from_in (xs ++ y ∷ []) x (in_left x xs (y ∷ []) (in_from_contains xs x h))
 
-pub one_more_found : (rs : List (Result (Unit {0}) RefusedObject)) (r : Result (Unit {0}) RefusedObject) (least next : Option RefusedObject)
+pub one_more_found : (rs : List (Result (Unit {0}) RefusedObject)) (r : Result (Unit {0}) RefusedObject)
+    (least next : Option RefusedObject)
     → IsLeastOf rs least → IsEarlier least r next → IsLeastOf (rs ++ r ∷ []) next
 one_more_found rs (Ok u) None next h is = subst (IsLeastOf (rs ++ Ok u ∷ [])) (sym is) (all_more IsOk rs (Ok u) h refl)
-one_more_found rs (Ok u) (Some f) next h is = subst (IsLeastOf (rs ++ Ok u ∷ [])) (sym is) (stands_still rs (Err f) (Ok u) h.0, all_more (IsNotBefore f) rs (Ok u) h.1 tt)
-one_more_found rs (Err g) None next h is = subst (IsLeastOf (rs ++ Err g ∷ [])) (sym is) (stands_last rs (Err g), all_more (IsNotBefore g) rs (Err g) (all_ok g rs h) (omega arith))
+one_more_found rs (Ok u) (Some f) next h is =
+    subst (IsLeastOf (rs ++ Ok u ∷ [])) (sym is)
+    (stands_still rs (Err f) (Ok u) h.0, all_more (IsNotBefore f) rs (Ok u) h.1 tt)
+one_more_found rs (Err g) None next h is =
+    subst (IsLeastOf (rs ++ Err g ∷ [])) (sym is)
+    (stands_last rs (Err g), all_more (IsNotBefore g) rs (Err g) (all_ok g rs h) (omega arith))
 one_more_found rs (Err g) (Some f) next h is = elim is [
-  | inl e ↦ subst (IsLeastOf (rs ++ Err g ∷ [])) (sym e.1) (stands_still rs (Err f) (Err g) h.0, all_more (IsNotBefore f) rs (Err g) h.1 e.0)
-  | inr e ↦ subst (IsLeastOf (rs ++ Err g ∷ [])) (sym e.1) (stands_last rs (Err g), all_more (IsNotBefore g) rs (Err g) (all_weaker f g rs e.0 h.1) (omega arith))
+  | inl e ↦ subst (IsLeastOf (rs ++ Err g ∷ [])) (sym e.1)
+      (stands_still rs (Err f) (Err g) h.0, all_more (IsNotBefore f) rs (Err g) h.1 e.0)
+  | inr e ↦ subst (IsLeastOf (rs ++ Err g ∷ [])) (sym e.1)
+      (stands_last rs (Err g), all_more (IsNotBefore g) rs (Err g) (all_weaker f g rs e.0 h.1) (omega arith))
 ]
 
-pub none_found : (rs : List (Result (Unit {0}) RefusedObject)) (least : Option RefusedObject) → IsLeastOf rs least → IfNone least (All IsOk rs)
+pub none_found : (rs : List (Result (Unit {0}) RefusedObject)) (least : Option RefusedObject) → IsLeastOf rs least
+    → IfNone least (All IsOk rs)
 none_found rs None h = h
 none_found rs (Some f) h = tt
 
 -- ---- one place
 
-pub refused_at : (os : List ObjectCalls) (certificates : List Certificate) (k : ℕ) (o : ObjectCalls) (r : Refusal) → k < length os → o ≡ get_or os k o
+pub refused_at : (os : List ObjectCalls) (certificates : List Certificate) (k : ℕ) (o : ObjectCalls) (r : Refusal)
+    → k < length os → o ≡ get_or os k o
     → IsRefused o.kind (calls_of o.ops) certificates o.object r → IsRefusedAt os certificates k r
-refused_at os certificates k o r l is h = λ d. subst (λ (q : ObjectCalls). IsRefused q.kind (calls_of q.ops) certificates q.object r) (is ∙ get_or_default os k o d l) h
+refused_at os certificates k o r l is h =
+    λ d. subst (λ (q : ObjectCalls). IsRefused q.kind (calls_of q.ops) certificates q.object r)
+    (is ∙ get_or_default os k o d l) h
 
-pub fine_at : (os : List ObjectCalls) (certificates : List Certificate) (k : ℕ) (o : ObjectCalls) → k < length os → o ≡ get_or os k o
+pub fine_at : (os : List ObjectCalls) (certificates : List Certificate) (k : ℕ) (o : ObjectCalls) → k < length os
+    → o ≡ get_or os k o
     → IsFine o.kind (calls_of o.ops) certificates o.object → IsFineAt os certificates k
-fine_at os certificates k o l is h = λ d. subst (λ (q : ObjectCalls). IsFine q.kind (calls_of q.ops) certificates q.object) (is ∙ get_or_default os k o d l) h
+fine_at os certificates k o l is h =
+    λ d. subst (λ (q : ObjectCalls). IsFine q.kind (calls_of q.ops) certificates q.object)
+    (is ∙ get_or_default os k o d l) h
 
 -- ---- what all workers found
 
 -- what this many workers found, each on its share of the objects
-pub record AreShares (count : ℕ) (os : List ObjectCalls) (certificates : List Certificate) (rs : List (Result (Unit {0}) RefusedObject)) : Type 0 where
+pub record AreShares (count : ℕ) (os : List ObjectCalls) (certificates : List Certificate)
+    (rs : List (Result (Unit {0}) RefusedObject)) : Type 0 where
   pub some : 0 < count
   pub long : length rs ≡ count
   pub each : (i : ℕ) (d : Result (Unit {0}) RefusedObject) → i < count → IsShare i count os certificates (get_or rs i d)
 
 -- a place below the first that was found is fine
-fine_before : (count : ℕ) (os : List ObjectCalls) (certificates : List Certificate) (rs : List (Result (Unit {0}) RefusedObject)) (f : RefusedObject)
-    → AreShares count os certificates rs → All (IsNotBefore f) rs → (k : ℕ) → k < f.place → k < length os → IsFineAt os certificates k
+fine_before : (count : ℕ) (os : List ObjectCalls) (certificates : List Certificate)
+    (rs : List (Result (Unit {0}) RefusedObject)) (f : RefusedObject)
+    → AreShares count os certificates rs → All (IsNotBefore f) rs → (k : ℕ) → k < f.place → k < length os
+    → IsFineAt os certificates k
 fine_before count os certificates rs f shares least k below inside =
     let w = its_worker count k shares.some in
     let i = k % count in
     let at = least i (Err f) (subst (λ n. i < n) (sym shares.long) w.0) in
     go (get_or rs i (Err f)) (shares.each i (Err f) w.0) at w.1
   where
-    go : (r : Result (Unit {0}) RefusedObject) → IsShare (k % count) count os certificates r → IsNotBefore f r → FallsTo (k % count) count k → IsFineAt os certificates k
+    go : (r : Result (Unit {0}) RefusedObject) → IsShare (k % count) count os certificates r → IsNotBefore f r
+      → FallsTo (k % count) count k → IsFineAt os certificates k
     go (Ok u) h n own = h.fine k inside own
     go (Err g) h n own = h.found.before k (omega arith) own
 
 -- where nothing was found, each place is fine
-all_fine : (count : ℕ) (os : List ObjectCalls) (certificates : List Certificate) (rs : List (Result (Unit {0}) RefusedObject))
+all_fine : (count : ℕ) (os : List ObjectCalls) (certificates : List Certificate)
+    (rs : List (Result (Unit {0}) RefusedObject))
     → AreShares count os certificates rs → All IsOk rs → (k : ℕ) → k < length os → IsFineAt os certificates k
 all_fine count os certificates rs shares ok k inside =
     let w = its_worker count k shares.some in
@@ -178,32 +209,42 @@ all_fine count os certificates rs shares ok k inside =
     let d = Ok tt in
     go (get_or rs i d) (shares.each i d w.0) (ok i d (subst (λ n. i < n) (sym shares.long) w.0)) w.1
   where
-    go : (r : Result (Unit {0}) RefusedObject) → IsShare (k % count) count os certificates r → IsOk r → FallsTo (k % count) count k → IsFineAt os certificates k
+    go : (r : Result (Unit {0}) RefusedObject) → IsShare (k % count) count os certificates r → IsOk r
+      → FallsTo (k % count) count k → IsFineAt os certificates k
     go (Ok u) h n own = h.fine k inside own
     go (Err g) h n own = cc n
 
 -- what was found at the least place is what its worker found first
-found_first : (count : ℕ) (os : List ObjectCalls) (certificates : List Certificate) (rs : List (Result (Unit {0}) RefusedObject)) (f : RefusedObject)
-    → AreShares count os certificates rs → Contains rs (Err f) → (f.place < length os) × IsRefusedAt os certificates f.place f.refusal
+found_first : (count : ℕ) (os : List ObjectCalls) (certificates : List Certificate)
+    (rs : List (Result (Unit {0}) RefusedObject)) (f : RefusedObject)
+    → AreShares count os certificates rs → Contains rs (Err f)
+    → (f.place < length os) × IsRefusedAt os certificates f.place f.refusal
 found_first count os certificates rs f shares stands =
     let i = stands.0 in
     let s = shares.each i (Err f) (subst (λ n. i < n) shares.long stands.1) in
     let h = subst (IsShare i count os certificates) stands.2 s in
     (h.found.inside, h.found.refused)
 
--- What was found at the least place is the first refusal. Certificates that are valid are refused by an allocation failure alone.
+-- What was found at the least place is the first refusal. Certificates that are valid are refused by an allocation
+-- failure alone.
 pub first_of_all : (es : List Event) (count : ℕ) (os : List ObjectCalls) (certificates : List Certificate)
-    (rs : List (Result (Unit {0}) RefusedObject)) (f : RefusedObject) → AllPairs (λ a b. a.object ≢ b.object) certificates → AreObjects es os
-    → AreShares count os certificates rs → Contains rs (Err f) → All (IsNotBefore f) rs → IsFirstRefusal es certificates f.refusal × (AreValid es certificates → f.refusal ≡ NoMemory)
+    (rs : List (Result (Unit {0}) RefusedObject)) (f : RefusedObject)
+      → AllPairs (λ a b. a.object ≢ b.object) certificates → AreObjects es os
+    → AreShares count os certificates rs → Contains rs (Err f) → All (IsNotBefore f) rs
+    → IsFirstRefusal es certificates f.refusal × (AreValid es certificates → f.refusal ≡ NoMemory)
 first_of_all es count os certificates rs f distinct objects shares stands least =
     let k = f.place in
     let below = fine_below es certificates os k objects (fine_before count os certificates rs f shares least) in
     let found = found_first count os certificates rs f shares stands in
     let o = element os k found.0 in
-    let here = subst (λ (q : ObjectCalls). IsRefused q.kind (calls_of q.ops) certificates q.object f.refusal) (sym o.1) (found.1 o.0) in
+    let here = subst (λ (q : ObjectCalls). IsRefused q.kind (calls_of q.ops) certificates q.object f.refusal)
+      (sym o.1) (found.1 o.0) in
     next_is_first es certificates os k o.0 f.refusal distinct objects below found.0 o.1 here
 
 pub all_are_fine : (es : List Event) (count : ℕ) (os : List ObjectCalls) (certificates : List Certificate)
-    (rs : List (Result (Unit {0}) RefusedObject)) → AreObjects es os → AreShares count os certificates rs → All IsOk rs → AreFine es certificates os
+    (rs : List (Result (Unit {0}) RefusedObject)) → AreObjects es os → AreShares count os certificates rs
+      → All IsOk rs → AreFine es certificates os
 all_are_fine es count os certificates rs objects shares ok =
-    subst (AreFine es certificates) (take_all (length os) os (omega arith)) (fine_below es certificates os (length os) objects (λ k l inside. all_fine count os certificates rs shares ok k inside))
+    subst (AreFine es certificates) (take_all (length os) os (omega arith))
+      (fine_below es certificates os (length os) objects
+      (λ k l inside. all_fine count os certificates rs shares ok k inside))

@@ -1,7 +1,9 @@
--- Where a value definitely is not in an object before some number, an order is valid without what was done with it before.
+-- Where a value definitely is not in an object before some number, an order is valid without what was done with it
+-- before.
 use Rattle.std.proofs.Common.{◌≡◌, ◌≢◌, ◌⊎◌, inl, inr, ℕ, ℤ, pos, ◌+ℤ◌, ◌<◌, ◌≤◌, ◌+◌, nat_lt, Bool, true, false, not}
 use Rattle.std.proofs.Common.{◌&&◌, ◌||◌, cond, List, [], ◌∷◌, ◌++◌}
-use Rattle.std.proofs.Common.{Option, Some, None, AllPairs, Contains, IfSome, IsSome, length, map, filter, refl, ap, sym, ◌∙◌, subst, arith}
+use Rattle.std.proofs.Common.{Option, Some, None, AllPairs, Contains, IfSome, IsSome, length, map, filter, refl, ap}
+use Rattle.std.proofs.Common.{sym, ◌∙◌, subst, arith}
 use Rattle.std.proofs.lemmas.Bool.Decides.{nat_tests}
 use Rattle.std.specs.Ordering.{int_cmp, int_eq}
 use Rattle.std.specs.FinMap as table_of
@@ -9,7 +11,8 @@ use Rattle.std.specs.FinSet as set
 use Rattle.model.specs.declared.Kind.{Kind}
 use Rattle.model.specs.declared.Kind.TheVariants as kind
 use Rattle.model.specs.declared.AnyOp.{AnyOp}
-use Rattle.model.specs.declared.AnyOp.TheVariants.{Enqueue, Dequeue, Push, Pop, Insert, ExtractMin, Write, Read, Cas, Put, Get, Del, Acquire, Release}
+use Rattle.model.specs.declared.AnyOp.TheVariants.{Enqueue, Dequeue, Push, Pop, Insert, ExtractMin, Write, Read}
+use Rattle.model.specs.declared.AnyOp.TheVariants.{Cas, Put, Get, Del, Acquire, Release}
 use Rattle.model.specs.declared.AnyOp.TheVariants.{Clear, Create, PutIfAbsent, Replace, Assoc, Dissoc, Add, Remove, Has}
 use Rattle.model.specs.declared.AnyOp.TheVariants.{FetchAdd, GetCount, LockBy, UnlockBy}
 use Rattle.model.specs.declared.AnyReply.{AnyReply}
@@ -18,13 +21,16 @@ use Rattle.model.specs.Objects.{Content, queue, stack, heap, register, table, mu
 use Rattle.model.specs.Objects.{contains_value, with_value, next}
 use Rattle.model.specs.Objects.{inserted_if, is_absent, has_value}
 use Rattle.model.specs.Orders.{Call, Return, ReturnsBefore, RepliesAlong, IsValidOrder}
-use Rattle.model.proofs.Lists.{In, Pairs, in_filter, in_filter_passes, in_filter_from, filter_all, pairs_filter, in_from_contains, contains_from_in, all_from_in, all_at}
+use Rattle.model.proofs.Lists.{In, Pairs, in_filter, in_filter_passes, in_filter_from, filter_all, pairs_filter}
+use Rattle.model.proofs.Lists.{in_from_contains, contains_from_in, all_from_in, all_at}
 use Rattle.model.proofs.Lists.{all_from_pairs, pairs_from_all, pairs_map, pairs_from_map, pairs_weaker}
 use Rattle.projection.specs.Parts.{reply_of, takes_out, ended_before}
 use Rattle.projection.specs.Kinds.Containers.{puts_in}
 use Rattle.projection.specs.Absent.{is_put_before, is_taken_before, IsAbsent, calls_without}
-use Rattle.projection.proofs.Conserved.{one, tally, count_tally, kept_size, size_empty, size_cons, turn, Turn, count_among}
-use Rattle.projection.proofs.Contents.{IsRising, filter_in, filter_out, after_in, after_out, with_value_in, with_value_out, rising_with_value}
+use Rattle.projection.proofs.Conserved.{one, tally, count_tally, kept_size, size_empty, size_cons, turn, Turn}
+use Rattle.projection.proofs.Conserved.{count_among}
+use Rattle.projection.proofs.Contents.{IsRising, filter_in, filter_out, after_in, after_out, with_value_in}
+use Rattle.projection.proofs.Contents.{with_value_out, rising_with_value}
 use Rattle.projection.proofs.Booleans.{false_is_not_true, true_or_false}
 use Rattle.projection.proofs.Steps.{adds, frees}
 
@@ -58,7 +64,8 @@ none_of : (v : ℤ) (vs : List ℤ) → length (filter (int_eq v) vs) ≡ 0 → 
 none_of v [] z = refl
 none_of v (w ∷ ws) z = elim (true_or_false (int_eq v w)) [
   | inl e ↦ absurd (some (int_eq v w) _ _ e (size_cons (int_eq v) w ws) z)
-  | inr e ↦ filter_in (others v) w ws (ap not e) ∙ ap (λ us. w ∷ us) (none_of v ws (rest (int_eq v w) _ _ (size_cons (int_eq v) w ws) z))
+  | inr e ↦ filter_in (others v) w ws (ap not e)
+      ∙ ap (λ us. w ∷ us) (none_of v ws (rest (int_eq v w) _ _ (size_cons (int_eq v) w ws) z))
 ]
   where
     some : (b : Bool) (size more : ℕ) → b ≡ true → size ≡ one b + more → size ≡ 0 → ⊥
@@ -81,37 +88,49 @@ IsApart v op reply = (puts_in (int_eq v) op ≡ false) × (takes_out (int_eq v) 
 abbrev Goes : ℤ → AnyOp → Content → Content → AnyReply → Type 0
 Goes v op d after reply = (later : Content) × (next d op ≡ Some (later, reply)) × IsOthers v after later
 
-queue_goes : (v : ℤ) (vs : List ℤ) (op : AnyOp) → IfSome (next (queue vs) op) (λ p. IsApart v op p.1 → Goes v op (queue (filter (others v) vs)) p.0 p.1)
-queue_goes v vs (Enqueue w) = λ a. (queue (filter (others v) vs ++ w ∷ []), refl, ap (λ us. queue us) (after_in (others v) w vs (ap not a.0)))
+queue_goes : (v : ℤ) (vs : List ℤ) (op : AnyOp)
+    → IfSome (next (queue vs) op) (λ p. IsApart v op p.1 → Goes v op (queue (filter (others v) vs)) p.0 p.1)
+queue_goes v vs (Enqueue w) =
+    λ a. (queue (filter (others v) vs ++ w ∷ []), refl, ap (λ us. queue us) (after_in (others v) w vs (ap not a.0)))
 queue_goes v [] Dequeue = λ a. (queue [], refl, refl)
-queue_goes v (w ∷ vs) Dequeue = λ a. (queue (filter (others v) vs), ap (λ us. next (queue us) Dequeue) (filter_in (others v) w vs (ap not a.1)), refl)
+queue_goes v (w ∷ vs) Dequeue =
+    λ a. (queue (filter (others v) vs),
+    ap (λ us. next (queue us) Dequeue) (filter_in (others v) w vs (ap not a.1)), refl)
 queue_goes v vs op = tt
 
-stack_goes : (v : ℤ) (vs : List ℤ) (op : AnyOp) → IfSome (next (stack vs) op) (λ p. IsApart v op p.1 → Goes v op (stack (filter (others v) vs)) p.0 p.1)
-stack_goes v vs (Push w) = λ a. (stack (w ∷ filter (others v) vs), refl, ap (λ us. stack us) (sym (filter_in (others v) w vs (ap not a.0))))
+stack_goes : (v : ℤ) (vs : List ℤ) (op : AnyOp)
+    → IfSome (next (stack vs) op) (λ p. IsApart v op p.1 → Goes v op (stack (filter (others v) vs)) p.0 p.1)
+stack_goes v vs (Push w) =
+    λ a. (stack (w ∷ filter (others v) vs), refl, ap (λ us. stack us) (sym (filter_in (others v) w vs (ap not a.0))))
 stack_goes v [] Pop = λ a. (stack [], refl, refl)
-stack_goes v (w ∷ vs) Pop = λ a. (stack (filter (others v) vs), ap (λ us. next (stack us) Pop) (filter_in (others v) w vs (ap not a.1)), refl)
+stack_goes v (w ∷ vs) Pop =
+    λ a. (stack (filter (others v) vs), ap (λ us. next (stack us) Pop) (filter_in (others v) w vs (ap not a.1)), refl)
 stack_goes v vs op = tt
 
-heap_goes : (v : ℤ) (vs : List ℤ) (op : AnyOp) → IsRising vs → IfSome (next (heap vs) op) (λ p. IsApart v op p.1 → Goes v op (heap (filter (others v) vs)) p.0 p.1)
+heap_goes : (v : ℤ) (vs : List ℤ) (op : AnyOp) → IsRising vs
+    → IfSome (next (heap vs) op) (λ p. IsApart v op p.1 → Goes v op (heap (filter (others v) vs)) p.0 p.1)
 heap_goes v vs (Insert w) r = λ a. (
   heap (with_value w (filter (others v) vs)),
   refl,
   (ap (λ us. heap us) (with_value_in (others v) w vs r (ap not a.0)), rising_with_value w vs r),
 )
 heap_goes v [] ExtractMin r = λ a. (heap [], refl, (refl, tt))
-heap_goes v (w ∷ vs) ExtractMin r = λ a. (heap (filter (others v) vs), ap (λ us. next (heap us) ExtractMin) (filter_in (others v) w vs (ap not a.1)), (refl, r.1))
+heap_goes v (w ∷ vs) ExtractMin r =
+    λ a. (heap (filter (others v) vs), ap (λ us. next (heap us) ExtractMin) (filter_in (others v) w vs (ap not a.1)),
+    (refl, r.1))
 heap_goes v vs op r = tt
 
 abbrev swapped : Option ℤ → ℤ → ℤ → Bool → Option (Content × AnyReply)
 swapped x a b t = cond t (Some (register (Some b), Swapped a b)) (Some (register x, NotSwapped))
 
-register_goes : (v : ℤ) (x : Option ℤ) (op : AnyOp) → IfSome (next (register x) op) (λ p. IsApart v op p.1 → Goes v op (register x) p.0 p.1)
+register_goes : (v : ℤ) (x : Option ℤ) (op : AnyOp)
+    → IfSome (next (register x) op) (λ p. IsApart v op p.1 → Goes v op (register x) p.0 p.1)
 register_goes v x (Write w) = λ a. (register (Some w), refl, refl)
 register_goes v x Read = λ a. (register x, refl, refl)
 register_goes v x (Cas a b) = go (contains_value x a) refl
   where
-    go : (t : Bool) → contains_value x a ≡ t → IfSome (swapped x a b t) (λ p. IsApart v (Cas a b) p.1 → Goes v (Cas a b) (register x) p.0 p.1)
+    go : (t : Bool) → contains_value x a ≡ t
+      → IfSome (swapped x a b t) (λ p. IsApart v (Cas a b) p.1 → Goes v (Cas a b) (register x) p.0 p.1)
     go true e = λ k. (register (Some b), ap (swapped x a b) e, refl)
     go false e = λ k. (register x, ap (swapped x a b) e, refl)
 register_goes v x Clear = λ a. (register None, refl, refl)
@@ -119,7 +138,8 @@ register_goes v None (Create w) = λ a. (register (Some w), refl, refl)
 register_goes v (Some u) (Create w) = λ a. (register (Some u), refl, refl)
 register_goes v x op = tt
 
-table_goes : (v : ℤ) (m : table_of.FinMap int_cmp ℤ) (op : AnyOp) → IfSome (next (table m) op) (λ p. IsApart v op p.1 → Goes v op (table m) p.0 p.1)
+table_goes : (v : ℤ) (m : table_of.FinMap int_cmp ℤ) (op : AnyOp)
+    → IfSome (next (table m) op) (λ p. IsApart v op p.1 → Goes v op (table m) p.0 p.1)
 table_goes v m (Put k w) = λ a. (table (table_of.insert m k w), refl, refl)
 table_goes v m (Get k) = λ a. (table m, refl, refl)
 table_goes v m (Del k) = λ a. (table (table_of.remove m k), refl, refl)
@@ -129,7 +149,8 @@ table_goes v m (Assoc k w) = λ a. (table (table_of.insert m k w), refl, refl)
 table_goes v m (Dissoc k) = λ a. (table (table_of.remove m k), refl, refl)
 table_goes v m op = tt
 
-mutex_goes : (v : ℤ) (held : Bool) (op : AnyOp) → IfSome (next (mutex held) op) (λ p. IsApart v op p.1 → Goes v op (mutex held) p.0 p.1)
+mutex_goes : (v : ℤ) (held : Bool) (op : AnyOp)
+    → IfSome (next (mutex held) op) (λ p. IsApart v op p.1 → Goes v op (mutex held) p.0 p.1)
 mutex_goes v false Acquire = λ a. (mutex true, refl, refl)
 mutex_goes v true Release = λ a. (mutex false, refl, refl)
 mutex_goes v held op = tt
@@ -178,12 +199,24 @@ abbrev SkipsAt : ℤ → AnyOp → Content → Content → Type 0
 SkipsAt v op c d = IfSome (next c op) (λ p. Touches v op p.1 → IsOthers v p.0 d)
 
 skips : (v : ℤ) (c d : Content) (op : AnyOp) → IsOthers v c d → SkipsAt v op c d
-skips v (queue vs) d (Enqueue w) s = λ k. elim k [ inl e ↦ s ∙ ap (λ us. queue us) (after_out (others v) w vs (ap not e)) | inr e ↦ absurd (false_is_not_true e) ]
+skips v (queue vs) d (Enqueue w) s = λ k. elim k [
+  | inl e ↦ s ∙ ap (λ us. queue us) (after_out (others v) w vs (ap not e))
+  | inr e ↦ absurd (false_is_not_true e)
+]
 skips v (queue []) d Dequeue s = λ k. absurd (neither k)
-skips v (queue (w ∷ vs)) d Dequeue s = λ k. elim k [ inl e ↦ absurd (false_is_not_true e) | inr e ↦ s ∙ ap (λ us. queue us) (filter_out (others v) w vs (ap not e)) ]
-skips v (stack vs) d (Push w) s = λ k. elim k [ inl e ↦ s ∙ ap (λ us. stack us) (sym (filter_out (others v) w vs (ap not e))) | inr e ↦ absurd (false_is_not_true e) ]
+skips v (queue (w ∷ vs)) d Dequeue s = λ k. elim k [
+  | inl e ↦ absurd (false_is_not_true e)
+  | inr e ↦ s ∙ ap (λ us. queue us) (filter_out (others v) w vs (ap not e))
+]
+skips v (stack vs) d (Push w) s = λ k. elim k [
+  | inl e ↦ s ∙ ap (λ us. stack us) (sym (filter_out (others v) w vs (ap not e)))
+  | inr e ↦ absurd (false_is_not_true e)
+]
 skips v (stack []) d Pop s = λ k. absurd (neither k)
-skips v (stack (w ∷ vs)) d Pop s = λ k. elim k [ inl e ↦ absurd (false_is_not_true e) | inr e ↦ s ∙ ap (λ us. stack us) (filter_out (others v) w vs (ap not e)) ]
+skips v (stack (w ∷ vs)) d Pop s = λ k. elim k [
+  | inl e ↦ absurd (false_is_not_true e)
+  | inr e ↦ s ∙ ap (λ us. stack us) (filter_out (others v) w vs (ap not e))
+]
 skips v (heap vs) d (Insert w) s = λ k. elim k [
   | inl e ↦ (s.0 ∙ ap (λ us. heap us) (with_value_out (others v) w vs (ap not e)), rising_with_value w vs s.1)
   | inr e ↦ absurd (false_is_not_true e)
@@ -197,7 +230,9 @@ skips v (register x) d (Write w) s = λ k. absurd (neither k)
 skips v (register x) d Read s = λ k. absurd (neither k)
 skips v (register x) d (Cas a b) s = go (contains_value x a)
   where
-    go : (t : Bool) → IfSome {T = Content × AnyReply} (cond t (Some (register (Some b), Swapped a b)) (Some (register x, NotSwapped))) (λ p. Touches v (Cas a b) p.1 → IsOthers v p.0 d)
+    go : (t : Bool) → IfSome {T = Content × AnyReply}
+      (cond t (Some (register (Some b), Swapped a b)) (Some (register x, NotSwapped)))
+      (λ p. Touches v (Cas a b) p.1 → IsOthers v p.0 d)
     go true = λ k. absurd (neither k)
     go false = λ k. absurd (neither k)
 skips v (table m) d (Put k w) s = λ t. absurd (neither t)
@@ -225,7 +260,8 @@ skips v c d op s = tt
 
 -- ---- how often the value is put in and taken out early
 
-no_put_takes : (keeps : ℤ → Bool) (op : AnyOp) (r : Option AnyReply) → puts_in keeps op ≡ true → takes_out keeps op r ≡ false
+no_put_takes : (keeps : ℤ → Bool) (op : AnyOp) (r : Option AnyReply) → puts_in keeps op ≡ true
+    → takes_out keeps op r ≡ false
 no_put_takes keeps (Enqueue v) r e = refl
 no_put_takes keeps (Push v) r e = refl
 no_put_takes keeps (Insert v) r e = refl
@@ -252,15 +288,18 @@ and_false_right : (a b : Bool) → a ≡ true → (a && b) ≡ false → b ≡ f
 and_false_right true b p e = e
 and_false_right false b p e = absurd (false_is_not_true p)
 
-early_put : (v : ℤ) (number : ℕ) (e : Call) → is_put_before v number e ≡ true → (puts_in (int_eq v) e.op ≡ true) × (nat_lt e.number number ≡ true)
+early_put : (v : ℤ) (number : ℕ) (e : Call) → is_put_before v number e ≡ true
+    → (puts_in (int_eq v) e.op ≡ true) × (nat_lt e.number number ≡ true)
 early_put v number e h = and_true (puts_in (int_eq v) e.op) (nat_lt e.number number) h
 
 early_removal : (v : ℤ) (number : ℕ) (e : Call) → is_taken_before v number e ≡ true
     → (takes_out (int_eq v) e.op (reply_of e.returned) ≡ true) × (ended_before number e.returned ≡ true)
-early_removal v number e h = and_true (takes_out (int_eq v) e.op (reply_of e.returned)) (ended_before number e.returned) h
+early_removal v number e h =
+    and_true (takes_out (int_eq v) e.op (reply_of e.returned)) (ended_before number e.returned) h
 
 -- a call that had returned before the number returned before a call that was invoked at it or later
-returned_first : (v : ℤ) (number : ℕ) (y e : Call) → is_taken_before v number y ≡ true → nat_lt e.number number ≡ false → ReturnsBefore y e
+returned_first : (v : ℤ) (number : ℕ) (y e : Call) → is_taken_before v number y ≡ true
+    → nat_lt e.number number ≡ false → ReturnsBefore y e
 returned_first v number y e t n = go y.returned refl (early_removal v number y t).1
   where
     less : (at later : ℕ) → nat_lt at number ≡ true → nat_lt later number ≡ false → at < later
@@ -272,7 +311,8 @@ returned_first v number y e t n = go y.returned refl (early_removal v number y t
 
 tally_none : {X : Type 0} (p : X → Bool) (xs : List X) → ((x : X) → In x xs → p x ≡ false) → tally p xs ≡ 0
 tally_none p [] f = refl
-tally_none p (x ∷ xs) f = let here = ap one (f x (inl refl)) in let rest = tally_none p xs (λ y i. f y (inr i)) in omega arith
+tally_none p (x ∷ xs) f =
+    let here = ap one (f x (inl refl)) in let rest = tally_none p xs (λ y i. f y (inr i)) in omega arith
 
 none_tallied : {X : Type 0} (p : X → Bool) (xs : List X) → tally p xs ≡ 0 → (x : X) → In x xs → p x ≡ false
 none_tallied p [] z x i = absurd i
@@ -289,15 +329,18 @@ none_tallied {X} p (y ∷ ys) z x i = elim i [
     rest b n z = omega arith
 
 -- after a late put the value is not taken early
-none_after : (v : ℤ) (number : ℕ) (e : Call) (es : List Call) → nat_lt e.number number ≡ false → ((y : Call) → In y es → ReturnsBefore y e → ⊥)
+none_after : (v : ℤ) (number : ℕ) (e : Call) (es : List Call) → nat_lt e.number number ≡ false
+    → ((y : Call) → In y es → ReturnsBefore y e → ⊥)
     → tally (is_taken_before v number) es ≡ 0
-none_after v number e es n f = tally_none (is_taken_before v number) es (λ y i. elim (true_or_false (is_taken_before v number y)) [
+none_after v number e es n f =
+    tally_none (is_taken_before v number) es (λ y i. elim (true_or_false (is_taken_before v number y)) [
   | inl t ↦ absurd (f y i (returned_first v number y e t n))
   | inr no_removal ↦ no_removal
 ])
 
 put_cases : (v : ℤ) (number : ℕ) (e : Call)
-    → (one (puts_in (int_eq v) e.op) ≡ one (is_put_before v number e)) ⊎ ((puts_in (int_eq v) e.op ≡ true) × (nat_lt e.number number ≡ false))
+    → (one (puts_in (int_eq v) e.op) ≡ one (is_put_before v number e))
+      ⊎ ((puts_in (int_eq v) e.op ≡ true) × (nat_lt e.number number ≡ false))
 put_cases v number e = go (puts_in (int_eq v) e.op) (nat_lt e.number number)
   where
     go : (a b : Bool) → (one a ≡ one (a && b)) ⊎ ((a ≡ true) × (b ≡ false))
@@ -321,7 +364,8 @@ owed v number (e ∷ es) c h p =
           nothing _ _ _ _ _ fewer none_here none_later
     ]
   where
-    sums : (after took size put told here early gone more : ℕ) → after + took ≡ size + put → told ≤ took → here ≤ told → put ≡ early → gone ≤ after + more
+    sums : (after took size put told here early gone more : ℕ) → after + took ≡ size + put → told ≤ took → here ≤ told
+      → put ≡ early → gone ≤ after + more
         → here + gone ≤ size + (early + more)
     sums after took size put told here early gone more a b d e f = omega arith
 
@@ -344,13 +388,17 @@ abbrev IsSpent : ℤ → ℕ → Content → List Call → Type 0
 IsSpent v number c es = kept_size (int_eq v) c + tally (is_put_before v number) es ≤ tally (is_taken_before v number) es
 
 -- where nothing is taken early, the value is not there, and all stays
-all_stay : (v : ℤ) (number : ℕ) (es : List Call) (c d : Content) → IsOthers v c d → RepliesAlong c es → IsSpent v number c es
+all_stay : (v : ℤ) (number : ℕ) (es : List Call) (c d : Content) → IsOthers v c d → RepliesAlong c es
+    → IsSpent v number c es
     → tally (is_taken_before v number) es ≡ 0 → RepliesAlong d (filter (stays v number) es)
 all_stay v number es c d s h spent none =
     let put : tally (is_put_before v number) es ≡ 0 = second _ _ _ spent none in
     let same = same_content v c d s (first _ _ _ spent none) in
-    let whole = filter_all (stays v number) es (λ e i. keep (is_put_before v number e) (is_taken_before v number e) (none_tallied (is_put_before v number) es put e i) (none_tallied (is_taken_before v number) es none e i)) in
-    subst (λ (z : Content). RepliesAlong z (filter (stays v number) es)) (sym same) (subst (RepliesAlong c) (sym whole) h)
+    let whole = filter_all (stays v number) es
+      (λ e i. keep (is_put_before v number e) (is_taken_before v number e)
+      (none_tallied (is_put_before v number) es put e i) (none_tallied (is_taken_before v number) es none e i)) in
+    subst (λ (z : Content). RepliesAlong z (filter (stays v number) es)) (sym same)
+      (subst (RepliesAlong c) (sym whole) h)
   where
     first : (size put taken : ℕ) → size + put ≤ taken → taken ≡ 0 → size ≡ 0
     first size put taken l e = omega arith
@@ -364,9 +412,12 @@ all_stay v number es c d s h spent none =
     keep false true e f = absurd (false_is_not_true (sym f))
 
 -- how an early call changes what is there
-early_spent : (v : ℤ) (number : ℕ) (e : Call) (es : List Call) (c after : Content) (reply : AnyReply) → Turn (int_eq v) e c after reply
-    → (is_put_before v number e || is_taken_before v number e) ≡ true → IsSpent v number c (e ∷ es) → IsSpent v number after es
-early_spent v number e es c after reply t early spent = elim (or_true (is_put_before v number e) (is_taken_before v number e) early) [
+early_spent : (v : ℤ) (number : ℕ) (e : Call) (es : List Call) (c after : Content) (reply : AnyReply)
+    → Turn (int_eq v) e c after reply
+    → (is_put_before v number e || is_taken_before v number e) ≡ true → IsSpent v number c (e ∷ es)
+    → IsSpent v number after es
+early_spent v number e es c after reply t early spent =
+    elim (or_true (is_put_before v number e) (is_taken_before v number e) early) [
   | inl put ↦
       let puts = ap one (early_put v number e put).0 in
       let here = ap one put in
@@ -377,11 +428,13 @@ early_spent v number e es c after reply t early spent = elim (or_true (is_put_be
   | inr taken ↦
       let told = ap one (early_removal v number e taken).0 in
       let here = ap one taken in
-      take_sums (one (takes_out (int_eq v) e.op (Some reply))) _ _ _ _ _ _ _ t.balance t.fewer told here (and_le (puts_in (int_eq v) e.op) (nat_lt e.number number))
+      take_sums (one (takes_out (int_eq v) e.op (Some reply))) _ _ _ _ _ _ _ t.balance t.fewer told here
+        (and_le (puts_in (int_eq v) e.op) (nat_lt e.number number))
       (no_put e.op (reply_of e.returned) (early_removal v number e taken).0) spent
 ]
   where
-    put_sums : (after took size put early told here more gone : ℕ) → after + took ≡ size + put → put ≡ 1 → early ≡ 1 → took ≡ 0 → here ≤ told → told ≡ 0
+    put_sums : (after took size put early told here more gone : ℕ) → after + took ≡ size + put → put ≡ 1 → early ≡ 1
+      → took ≡ 0 → here ≤ told → told ≡ 0
         → size + (early + more) ≤ here + gone → after + more ≤ gone
     put_sums after took size put early told here more gone a b d e f g h = omega arith
 
@@ -391,18 +444,22 @@ early_spent v number e es c after reply t early spent = elim (or_true (is_put_be
       | inr none ↦ ap one none
     ]
 
-    take_sums : (took after size put told here early more : ℕ) → after + took ≡ size + put → told ≤ took → told ≡ 1 → here ≡ 1 → early ≤ put → put ≡ 0
-        → size + (early + more) ≤ here + tally (is_taken_before v number) es → after + more ≤ tally (is_taken_before v number) es
+    take_sums : (took after size put told here early more : ℕ) → after + took ≡ size + put → told ≤ took → told ≡ 1
+      → here ≡ 1 → early ≤ put → put ≡ 0
+        → size + (early + more) ≤ here + tally (is_taken_before v number) es
+        → after + more ≤ tally (is_taken_before v number) es
     take_sums took after size put told here early more a b d e f g h = omega arith
 
-without_early : (v : ℤ) (number : ℕ) (es : List Call) (c d : Content) → IsOthers v c d → RepliesAlong c es → Pairs (λ x y. ReturnsBefore y x → ⊥) es
+without_early : (v : ℤ) (number : ℕ) (es : List Call) (c d : Content) → IsOthers v c d → RepliesAlong c es
+    → Pairs (λ x y. ReturnsBefore y x → ⊥) es
     → IsSpent v number c es → RepliesAlong d (filter (stays v number) es)
 without_early v number [] c d s h p spent = tt
 without_early v number (e ∷ es) c d s h p spent =
     let t = turn (int_eq v) e c h.0 h.1 h.2 h.3 in
     elim (true_or_false (is_put_before v number e || is_taken_before v number e)) [
       | inl early ↦
-          let skipped = subst (λ z. IfSome z (λ p. Touches v e.op p.1 → IsOthers v p.0 d)) h.2 (skips v c d e.op s) (touched h.1 early t.fewer) in
+          let skipped = subst (λ z. IfSome z (λ p. Touches v e.op p.1 → IsOthers v p.0 d)) h.2 (skips v c d e.op s)
+            (touched h.1 early t.fewer) in
           subst (RepliesAlong d) (sym (filter_away (stays v number) e es (ap not early)))
           (without_early v number es h.0 d skipped h.4 p.1 (early_spent v number e es c h.0 h.1 t early spent))
       | inr late ↦
@@ -410,13 +467,18 @@ without_early v number (e ∷ es) c d s h p spent =
           elim (true_or_false (puts_in (int_eq v) e.op)) [
             | inl put ↦
                 let later = and_false_right (puts_in (int_eq v) e.op) (nat_lt e.number number) put no_early.0 in
-                all_stay v number (e ∷ es) c d s h spent (zero _ _ (ap one no_early.1) (none_after v number e es later p.0))
+                all_stay v number (e ∷ es) c d s h spent
+                  (zero _ _ (ap one no_early.1) (none_after v number e es later p.0))
             | inr no_put ↦ elim (true_or_false (takes_out (int_eq v) e.op (Some h.1))) [
-              | inl took ↦ absurd (too_many _ _ _ _ _ _ _ _ t.balance (ap one took) (ap one no_put) (ap one no_early.1) spent (owed v number es h.0 h.4 p.1))
+              | inl took ↦ absurd (too_many _ _ _ _ _ _ _ _ t.balance (ap one took) (ap one no_put)
+                (ap one no_early.1) spent (owed v number es h.0 h.4 p.1))
               | inr no_take ↦
-                  let g = subst (λ z. IfSome z (λ p. IsApart v e.op p.1 → Goes v e.op d p.0 p.1)) h.2 (goes v c d e.op s) (no_put, no_take) in
-                  let still = unchanged _ _ _ _ _ _ _ _ t.balance (ap one no_take) (ap one no_put) (ap one no_early.1) spent in
-                  subst (RepliesAlong d) (sym (filter_here (stays v number) e es (ap not late))) (g.0, h.1, g.1, h.3, without_early v number es h.0 g.0 g.2 h.4 p.1 still)
+                  let g = subst (λ z. IfSome z (λ p. IsApart v e.op p.1 → Goes v e.op d p.0 p.1)) h.2
+                    (goes v c d e.op s) (no_put, no_take) in
+                  let still = unchanged _ _ _ _ _ _ _ _ t.balance (ap one no_take) (ap one no_put)
+                    (ap one no_early.1) spent in
+                  subst (RepliesAlong d) (sym (filter_here (stays v number) e es (ap not late)))
+                    (g.0, h.1, g.1, h.3, without_early v number es h.0 g.0 g.2 h.4 p.1 still)
             ]
           ]
     ]
@@ -425,10 +487,12 @@ without_early v number (e ∷ es) c d s h p spent =
     zero here gone a b = omega arith
 
     touched : (reply : AnyReply) → (is_put_before v number e || is_taken_before v number e) ≡ true
-        → one (takes_out (int_eq v) e.op (reply_of e.returned)) ≤ one (takes_out (int_eq v) e.op (Some reply)) → Touches v e.op reply
+        → one (takes_out (int_eq v) e.op (reply_of e.returned)) ≤ one (takes_out (int_eq v) e.op (Some reply))
+        → Touches v e.op reply
     touched reply early fewer = elim (or_true (is_put_before v number e) (is_taken_before v number e) early) [
       | inl put ↦ inl (early_put v number e put).0
-      | inr taken ↦ inr (more (takes_out (int_eq v) e.op (reply_of e.returned)) (takes_out (int_eq v) e.op (Some reply)) (early_removal v number e taken).0 fewer)
+      | inr taken ↦ inr (more (takes_out (int_eq v) e.op (reply_of e.returned))
+        (takes_out (int_eq v) e.op (Some reply)) (early_removal v number e taken).0 fewer)
     ]
       where
         more : (a b : Bool) → a ≡ true → one a ≤ one b → b ≡ true
@@ -436,31 +500,41 @@ without_early v number (e ∷ es) c d s h p spent =
         more true false q l = absurd (omega arith)
         more false false q l = absurd (false_is_not_true q)
 
-    too_many : (after took size put here early more gone : ℕ) → after + took ≡ size + put → took ≡ 1 → put ≡ 0 → here ≡ 0
+    too_many : (after took size put here early more gone : ℕ) → after + took ≡ size + put → took ≡ 1 → put ≡ 0
+      → here ≡ 0
         → size + (early + more) ≤ here + gone → gone ≤ after + more → ⊥
     too_many after took size put here early more gone a b d e f g = absurd (omega arith)
 
-    unchanged : (after took size put here early more gone : ℕ) → after + took ≡ size + put → took ≡ 0 → put ≡ 0 → here ≡ 0
+    unchanged : (after took size put here early more gone : ℕ) → after + took ≡ size + put → took ≡ 0 → put ≡ 0
+      → here ≡ 0
         → size + (early + more) ≤ here + gone → after + more ≤ gone
     unchanged after took size put here early more gone a b d e f = omega arith
 
 -- ---- the law
 
-pub without_valid : (kind : Kind) (calls : List Call) (v : ℤ) (number : ℕ) (order : List ℤ) → AllPairs (λ a b. a.number < b.number) calls
-    → IsAbsent v number calls → IsValidOrder kind calls order → (part : List ℤ) × IsValidOrder kind (calls_without v number calls) part
+pub without_valid : (kind : Kind) (calls : List Call) (v : ℤ) (number : ℕ) (order : List ℤ)
+    → AllPairs (λ a b. a.number < b.number) calls
+    → IsAbsent v number calls → IsValidOrder kind calls order
+    → (part : List ℤ) × IsValidOrder kind (calls_without v number calls) part
 without_valid kind calls v number order rising absent valid =
     let named : Call → ℤ = λ e. pos e.number in
     let entries = valid.entries in
     let p : Call → Bool = stays v number in
-    let known : (e : Call) → In e entries → In e calls = λ e i. in_from_contains calls e (all_at (Contains calls) entries valid.known e i) in
-    let numbers = pairs_from_map (λ x y. x ≢ y) named entries (subst (Pairs (λ x y. x ≢ y)) valid.numbers (pairs_from_all (λ x y. x ≢ y) order valid.once)) in
-    let apart = pairs_weaker (λ x y. named x ≢ named y) (λ x y. x ≢ y) entries (λ x y i j ne e. ne (ap named e)) numbers in
+    let known : (e : Call) → In e entries → In e calls =
+      λ e i. in_from_contains calls e (all_at (Contains calls) entries valid.known e i) in
+    let numbers = pairs_from_map (λ x y. x ≢ y) named entries
+      (subst (Pairs (λ x y. x ≢ y)) valid.numbers (pairs_from_all (λ x y. x ≢ y) order valid.once)) in
+    let apart = pairs_weaker (λ x y. named x ≢ named y) (λ x y. x ≢ y) entries
+      (λ x y i j ne e. ne (ap named e)) numbers in
     let distinct = pairs_weaker (λ a b. a.number < b.number) (λ x y. x ≢ y) calls
-    (λ x y i j l e. risen x.number y.number l (ap (λ (z : Call). z.number) e)) (pairs_from_all (λ a b. a.number < b.number) calls rising) in
+    (λ x y i j l e. risen x.number y.number l (ap (λ (z : Call). z.number) e))
+      (pairs_from_all (λ a b. a.number < b.number) calls rising) in
     let in_time = pairs_from_all (λ x y. ReturnsBefore y x → ⊥) entries valid.in_order in
     let puts = count_among (is_put_before v number) entries calls apart (λ e i q. known e i) in
     let takes = count_among (is_taken_before v number) calls entries distinct
-    (λ e i q. in_from_contains entries e (all_at (λ e. IsSome e.returned → Contains entries e) calls valid.whole e i (returned e.returned (early_removal v number e q).1))) in
+    (λ e i q. in_from_contains entries e
+      (all_at (λ e. IsSome e.returned → Contains entries e) calls valid.whole e i
+      (returned e.returned (early_removal v number e q).1))) in
     let spent = sums _ _ _ _ _ _ _ (size_empty (int_eq v) kind) puts takes
     (count_tally (is_put_before v number) calls) (count_tally (is_taken_before v number) calls) absent.taken in (
       map named (filter p entries),
@@ -468,13 +542,19 @@ without_valid kind calls v number order rising absent valid =
         entries = filter p entries;
         numbers = refl;
         known = all_from_in (Contains (filter p calls)) (filter p entries) (λ e i.
-            contains_from_in (filter p calls) e (in_filter_from p e calls (known e (in_filter p e entries i)) (in_filter_passes p e entries i)));
-        once = all_from_pairs (λ x y. x ≢ y) (map named (filter p entries)) (pairs_map (λ x y. x ≢ y) named (filter p entries) (pairs_filter (λ x y. named x ≢ named y) p entries numbers));
+            contains_from_in (filter p calls) e
+              (in_filter_from p e calls (known e (in_filter p e entries i)) (in_filter_passes p e entries i)));
+        once = all_from_pairs (λ x y. x ≢ y) (map named (filter p entries))
+          (pairs_map (λ x y. x ≢ y) named (filter p entries)
+          (pairs_filter (λ x y. named x ≢ named y) p entries numbers));
         whole = all_from_in (λ e. IsSome e.returned → Contains (filter p entries) e) (filter p calls) (λ e i so.
-            let here = in_from_contains entries e (all_at (λ e. IsSome e.returned → Contains entries e) calls valid.whole e (in_filter p e calls i) so) in
+            let here = in_from_contains entries e
+              (all_at (λ e. IsSome e.returned → Contains entries e) calls valid.whole e (in_filter p e calls i) so) in
             contains_from_in (filter p entries) e (in_filter_from p e entries here (in_filter_passes p e calls i)));
-        in_order = all_from_pairs (λ x y. ReturnsBefore y x → ⊥) (filter p entries) (pairs_filter (λ x y. ReturnsBefore y x → ⊥) p entries in_time);
-        replies = without_early v number entries (empty kind) (empty kind) (empty_others v kind) valid.replies in_time spent;
+        in_order = all_from_pairs (λ x y. ReturnsBefore y x → ⊥) (filter p entries)
+          (pairs_filter (λ x y. ReturnsBefore y x → ⊥) p entries in_time);
+        replies = without_early v number entries (empty kind) (empty kind)
+          (empty_others v kind) valid.replies in_time spent;
       },
     )
   where
@@ -485,6 +565,7 @@ without_valid kind calls v number order rising absent valid =
     returned None e = absurd (false_is_not_true e)
     returned (Some r) e = refl
 
-    sums : (size put all_put all_took took counted_put counted_took : ℕ) → size ≡ 0 → put ≤ all_put → all_took ≤ took → all_put ≡ counted_put → all_took ≡ counted_took
+    sums : (size put all_put all_took took counted_put counted_took : ℕ) → size ≡ 0 → put ≤ all_put → all_took ≤ took
+      → all_put ≡ counted_put → all_took ≡ counted_took
         → counted_put ≤ counted_took → size + put ≤ took
     sums size put all_put all_took took counted_put counted_took a b d e f g = omega arith

@@ -1,5 +1,6 @@
 -- The operations without what was done early with a value that is absent.
-use Rattle.std.proofs.Common.{◌≡◌, ℕ, ℤ, ◌≤◌, nat_le, nat_lt, Bool, true, false, not, ◌&&◌, ◌||◌, cond, List, Some, None, count_by, filter, refl, ap, sym, ◌∙◌, subst, arith}
+use Rattle.std.proofs.Common.{◌≡◌, ℕ, ℤ, ◌≤◌, nat_le, nat_lt, Bool, true, false, not, ◌&&◌, ◌||◌, cond, List, Some}
+use Rattle.std.proofs.Common.{None, count_by, filter, refl, ap, sym, ◌∙◌, subst, arith}
 use Rattle.std.proofs.lemmas.Option.{same_Some}
 use Rattle.std.proofs.lemmas.Bool.Decides.{nat_tests}
 use Rattle.std.specs.Ordering.{int_eq}
@@ -13,7 +14,7 @@ use Rattle.projection.specs.Cuts.{IsPart}
 use Rattle.projection.specs.Kinds.Containers.{puts_in, is_removal}
 use Rattle.projection.specs.CutOperations.{has_failed, is_put_before_end, is_taken_before_end, is_early, is_late}
 use Rattle.projection.proofs.Absences.{without_valid}
-use Rattle.projection.proofs.Bounds.{passes, count_calls}
+use Rattle.projection.proofs.CountedCalls.{passes, count_calls}
 use Rattle.projection.proofs.Kept.{own, as_filter, filter_lives}
 use Rattle.projection.proofs.CutOperations.{bind, IsCutOperation, cut_history, cut_calls, rising_calls}
 
@@ -29,10 +30,12 @@ operation_is : (v : ℤ) (before : ℕ) (o p : Invocation) → own (is_late v be
 operation_is v before o p e = go (is_late v before o) e
   where
     go : (b : Bool) → cond b (Some o) None ≡ Some p → IsCutOperation o p
-    go true e = subst (IsCutOperation o) (same_Some o p e) (record { number = refl; kind = refl; returned = λ at reply e. (reply, e) })
+    go true e = subst (IsCutOperation o) (same_Some o p e)
+      (record { number = refl; kind = refl; returned = λ at reply e. (reply, e) })
     go false e = absurd (cc e)
 
-operation_call : (v : ℤ) (before : ℕ) (o : Invocation) → bind (own (is_late v before) o) call_of ≡ bind (call_of o) (own (late_call v before))
+operation_call : (v : ℤ) (before : ℕ) (o : Invocation)
+    → bind (own (is_late v before) o) call_of ≡ bind (call_of o) (own (late_call v before))
 operation_call v before o = cut_operation (is_late v before o) ∙ sym (part o.«end»)
   where
     cut_operation : (b : Bool) → bind (cond b (Some o) None) call_of ≡ cond b (call_of o) None
@@ -40,48 +43,68 @@ operation_call v before o = cut_operation (is_late v before o) ∙ sym (part o.�
     cut_operation false = refl
 
     part : (e : End) → bind (call_with o.number o.op e) (own (late_call v before))
-        ≡ cond (not (has_failed e) && not (is_put_before_end v before o.number o.op e || is_taken_before_end v before o.op e)) (call_with o.number o.op e) None
+        ≡ cond (not (has_failed e)
+          && not (is_put_before_end v before o.number o.op e || is_taken_before_end v before o.op e))
+          (call_with o.number o.op e) None
     part (Returned at r) = refl
-    part Pending = ap (λ (b : Bool). cond (not ((puts_in (int_eq v) o.op && nat_lt o.number before) || b)) (call_with o.number o.op Pending) None) (pending_took (is_removal o.op))
+    part Pending = ap (λ (b : Bool). cond (not ((puts_in (int_eq v) o.op && nat_lt o.number before) || b))
+      (call_with o.number o.op Pending) None) (pending_took (is_removal o.op))
     part Failed = refl
 
 pub late_history : (v : ℤ) (before : ℕ) (h : ObjectCalls) → IsObjectHistory h
     → IsObjectHistory (record { object = h.object; kind = h.kind; ops = filter (is_late v before) h.ops })
-late_history v before h is = subst (λ (ops : List Invocation). IsObjectHistory (record { object = h.object; kind = h.kind; ops = ops }))
-    (as_filter (is_late v before) h.ops) (cut_history h.object h.kind h.ops (own (is_late v before)) (λ o p i e. operation_is v before o p e) is)
+late_history v before h is =
+    subst (λ (ops : List Invocation). IsObjectHistory (record { object = h.object; kind = h.kind; ops = ops }))
+    (as_filter (is_late v before) h.ops)
+      (cut_history h.object h.kind h.ops (own (is_late v before)) (λ o p i e. operation_is v before o p e) is)
 
-pub late_calls_of : (v : ℤ) (before : ℕ) (ops : List Invocation) → calls_of (filter (is_late v before) ops) ≡ calls_without v before (calls_of ops)
+pub late_calls_of : (v : ℤ) (before : ℕ) (ops : List Invocation)
+    → calls_of (filter (is_late v before) ops) ≡ calls_without v before (calls_of ops)
 late_calls_of v before ops = ap calls_of (sym (as_filter (is_late v before) ops))
-    ∙ cut_calls (own (is_late v before)) (own (late_call v before)) ops (operation_call v before) ∙ as_filter (late_call v before) (calls_of ops)
+    ∙ cut_calls (own (is_late v before)) (own (late_call v before)) ops (operation_call v before)
+    ∙ as_filter (late_call v before) (calls_of ops)
 
 -- ---- how many
 
-put_counts : (v : ℤ) (before : ℕ) (ops : List Invocation) → count_by (λ o. is_put_before_end v before o.number o.op o.«end») ops ≡ count_by (is_put_before v before) (calls_of ops)
-put_counts v before ops = count_calls (λ o. is_put_before_end v before o.number o.op o.«end») (is_put_before v before) (λ o. go o o.«end») ops
+put_counts : (v : ℤ) (before : ℕ) (ops : List Invocation)
+    → count_by (λ o. is_put_before_end v before o.number o.op o.«end») ops
+    ≡ count_by (is_put_before v before) (calls_of ops)
+put_counts v before ops =
+    count_calls (λ o. is_put_before_end v before o.number o.op o.«end») (is_put_before v before) (λ o. go o o.«end») ops
   where
-    go : (o : Invocation) (e : End) → is_put_before_end v before o.number o.op e ≡ passes (is_put_before v before) (call_with o.number o.op e)
+    go : (o : Invocation) (e : End)
+      → is_put_before_end v before o.number o.op e ≡ passes (is_put_before v before) (call_with o.number o.op e)
     go o (Returned at r) = refl
     go o Pending = refl
     go o Failed = refl
 
-taken_counts : (v : ℤ) (before : ℕ) (ops : List Invocation) → count_by (λ o. is_taken_before_end v before o.op o.«end») ops ≡ count_by (is_taken_before v before) (calls_of ops)
-taken_counts v before ops = count_calls (λ o. is_taken_before_end v before o.op o.«end») (is_taken_before v before) (λ o. go o o.«end») ops
+taken_counts : (v : ℤ) (before : ℕ) (ops : List Invocation)
+    → count_by (λ o. is_taken_before_end v before o.op o.«end») ops ≡ count_by (is_taken_before v before) (calls_of ops)
+taken_counts v before ops =
+    count_calls (λ o. is_taken_before_end v before o.op o.«end») (is_taken_before v before) (λ o. go o o.«end») ops
   where
-    go : (o : Invocation) (e : End) → is_taken_before_end v before o.op e ≡ passes (is_taken_before v before) (call_with o.number o.op e)
+    go : (o : Invocation) (e : End)
+      → is_taken_before_end v before o.op e ≡ passes (is_taken_before v before) (call_with o.number o.op e)
     go o (Returned at r) = refl
     go o Pending = sym (pending_took (is_removal o.op))
     go o Failed = refl
 
-pub absent_from : (v : ℤ) (before : ℕ) (ops : List Invocation) (put taken : ℕ) → put ≡ count_by (λ o. is_put_before_end v before o.number o.op o.«end») ops
-    → taken ≡ count_by (λ o. is_taken_before_end v before o.op o.«end») ops → nat_le put taken ≡ true → IsAbsent v before (calls_of ops)
-absent_from v before ops put taken e f le = record { taken = less _ _ _ _ (e ∙ put_counts v before ops) (f ∙ taken_counts v before ops) le }
+pub absent_from : (v : ℤ) (before : ℕ) (ops : List Invocation) (put taken : ℕ)
+    → put ≡ count_by (λ o. is_put_before_end v before o.number o.op o.«end») ops
+    → taken ≡ count_by (λ o. is_taken_before_end v before o.op o.«end») ops → nat_le put taken ≡ true
+    → IsAbsent v before (calls_of ops)
+absent_from v before ops put taken e f le =
+    record { taken = less _ _ _ _ (e ∙ put_counts v before ops) (f ∙ taken_counts v before ops) le }
   where
     less : (a b p q : ℕ) → a ≡ p → b ≡ q → nat_le a b ≡ true → p ≤ q
     less a b p q e f le = grind (arith, nat_tests)
 
-pub absent_to : (v : ℤ) (before : ℕ) (ops : List Invocation) (put taken : ℕ) → put ≡ count_by (λ o. is_put_before_end v before o.number o.op o.«end») ops
-    → taken ≡ count_by (λ o. is_taken_before_end v before o.op o.«end») ops → IsAbsent v before (calls_of ops) → nat_le put taken ≡ true
-absent_to v before ops put taken e f h = less _ _ _ _ (e ∙ put_counts v before ops) (f ∙ taken_counts v before ops) h.taken
+pub absent_to : (v : ℤ) (before : ℕ) (ops : List Invocation) (put taken : ℕ)
+    → put ≡ count_by (λ o. is_put_before_end v before o.number o.op o.«end») ops
+    → taken ≡ count_by (λ o. is_taken_before_end v before o.op o.«end») ops → IsAbsent v before (calls_of ops)
+    → nat_le put taken ≡ true
+absent_to v before ops put taken e f h =
+    less _ _ _ _ (e ∙ put_counts v before ops) (f ∙ taken_counts v before ops) h.taken
   where
     less : (a b p q : ℕ) → a ≡ p → b ≡ q → p ≤ q → nat_le a b ≡ true
     less a b p q e f le = grind (arith, nat_tests)

@@ -1,5 +1,6 @@
 -- Prefixes: what `operation_before` makes of the operations gives `calls_before`, and is a part.
-use Rattle.std.proofs.Common.{◌≡◌, ◌≢◌, ℕ, nat_lt, Bool, true, false, cond, List, Option, Some, None, refl, sym, ◌∙◌, subst}
+use Rattle.std.proofs.Common.{◌≡◌, ◌≢◌, ℕ, nat_lt, Bool, true, false, cond, List, Option, Some, None, refl, sym}
+use Rattle.std.proofs.Common.{◌∙◌, subst}
 use Rattle.std.specs.List.{filter_map}
 use Rattle.std.proofs.lemmas.Option.{same_Some}
 use Rattle.model.specs.declared.AnyReply.{AnyReply}
@@ -11,26 +12,35 @@ use Rattle.events.specs.Operations.{call_with, call_of, calls_of, ObjectCalls, I
 use Rattle.projection.specs.Parts.{call_before, calls_before}
 use Rattle.projection.specs.Cuts.{IsPart}
 use Rattle.projection.specs.CutOperations.{has_failed, end_before, operation_before}
-use Rattle.projection.proofs.CutOperations.{bind, filter_map-filter, IsCutOperation, cut_history, cut_calls, cut_lives, calls_end}
+use Rattle.projection.proofs.CutOperations.{bind, filter_map-filter, IsCutOperation, cut_history, cut_calls}
+use Rattle.projection.proofs.CutOperations.{cut_lives, calls_end}
 use Rattle.projection.proofs.Prefixes.{prefix_valid}
 
 operation_is : (until : ℕ) (o p : Invocation) → operation_before until o ≡ Some p → IsCutOperation o p
 operation_is until o p e = lives (has_failed o.«end») e
   where
-    was : (end : End) (at : ℕ) (reply : AnyReply) → end_before until end ≡ Returned at reply → (own : AnyReply) × (end ≡ Returned at own)
+    was : (end : End) (at : ℕ) (reply : AnyReply) → end_before until end ≡ Returned at reply
+      → (own : AnyReply) × (end ≡ Returned at own)
     was (Returned when r) at reply e = back (nat_lt when until) e
       where
-        back : (b : Bool) → cond b (Returned when r) Pending ≡ Returned at reply → (own : AnyReply) × (Returned when r ≡ Returned at own)
+        back : (b : Bool) → cond b (Returned when r) Pending ≡ Returned at reply
+          → (own : AnyReply) × (Returned when r ≡ Returned at own)
         back true e = (reply, e)
         back false e = absurd (cc e)
     was Pending at reply e = absurd (cc e)
     was Failed at reply e = absurd (cc e)
 
-    go : (b : Bool) → cond b (Some (record { number = o.number; op = o.op; «end» = end_before until o.«end» })) None ≡ Some p → IsCutOperation o p
-    go true e = let q = same_Some _ p e in subst (IsCutOperation o) q (record { number = refl; kind = refl; returned = was o.«end» })
+    go : (b : Bool) → cond b (Some (record { number = o.number; op = o.op; «end» = end_before until o.«end» })) None
+      ≡ Some p → IsCutOperation o p
+    go true e =
+        let q = same_Some _ p e in
+        subst (IsCutOperation o) q (record { number = refl; kind = refl; returned = was o.«end» })
     go false e = absurd (cc e)
 
-    lives : (b : Bool) → cond b None (cond (nat_lt o.number until) (Some (record { number = o.number; op = o.op; «end» = end_before until o.«end» })) None) ≡ Some p → IsCutOperation o p
+    lives : (b : Bool) → cond b None
+      (cond (nat_lt o.number until)
+      (Some (record { number = o.number; op = o.op; «end» = end_before until o.«end» })) None) ≡ Some p
+      → IsCutOperation o p
     lives true e = absurd (cc e)
     lives false e = go (nat_lt o.number until) e
 
@@ -46,44 +56,60 @@ operation_lives until o p e = lives (has_failed o.«end») refl e
     was Pending q f = absurd (cc f)
     was Failed q f = absurd (cc q)
 
-    go : (b : Bool) → has_failed o.«end» ≡ false → cond b (Some (record { number = o.number; op = o.op; «end» = end_before until o.«end» })) None ≡ Some p → p.«end» ≢ Failed
+    go : (b : Bool) → has_failed o.«end» ≡ false
+      → cond b (Some (record { number = o.number; op = o.op; «end» = end_before until o.«end» })) None ≡ Some p
+      → p.«end» ≢ Failed
     go true q e = subst (λ (z : Invocation). z.«end» ≢ Failed) (same_Some _ p e) (was o.«end» q)
     go false q e = absurd (cc e)
 
     lives : (b : Bool) → has_failed o.«end» ≡ b
-        → cond b None (cond (nat_lt o.number until) (Some (record { number = o.number; op = o.op; «end» = end_before until o.«end» })) None) ≡ Some p → p.«end» ≢ Failed
+        → cond b None (cond (nat_lt o.number until)
+          (Some (record { number = o.number; op = o.op; «end» = end_before until o.«end» })) None) ≡ Some p
+          → p.«end» ≢ Failed
     lives true q e = absurd (cc e)
     lives false q e = go (nat_lt o.number until) q e
 
 abbrev call_then : ℕ → Call → Option Call
 call_then until c = cond (nat_lt c.number until) (Some (call_before until c)) None
 
-operation_call : (until : ℕ) (o : Invocation) → bind (operation_before until o) call_of ≡ bind (call_of o) (call_then until)
+operation_call : (until : ℕ) (o : Invocation)
+    → bind (operation_before until o) call_of ≡ bind (call_of o) (call_then until)
 operation_call until o = go o.«end»
   where
     returned : (at : ℕ) (r : AnyReply) (b t : Bool)
-        → bind (cond b (Some (record { number = o.number; op = o.op; «end» = cond t (Returned at r) Pending })) None) call_of
-        ≡ cond b (Some (record { number = o.number; op = o.op; returned = cond t (Some (record { at = at; reply = r })) None })) None
+        → bind (cond b (Some (record { number = o.number; op = o.op; «end» = cond t (Returned at r) Pending }))
+          None) call_of
+        ≡ cond b (Some (record { number = o.number; op = o.op;
+          returned = cond t (Some (record { at = at; reply = r })) None })) None
     returned at r true true = refl
     returned at r true false = refl
     returned at r false t = refl
 
-    pending : (b : Bool) → bind (cond b (Some (record { number = o.number; op = o.op; «end» = Pending })) None) call_of ≡ cond b (Some (record { number = o.number; op = o.op; returned = None })) None
+    pending : (b : Bool) → bind
+      (cond b (Some (record { number = o.number; op = o.op; «end» = Pending })) None) call_of
+      ≡ cond b (Some (record { number = o.number; op = o.op; returned = None })) None
     pending true = refl
     pending false = refl
 
-    go : (e : End) → bind (operation_before until (record { number = o.number; op = o.op; «end» = e })) call_of ≡ bind (call_with o.number o.op e) (call_then until)
+    go : (e : End) → bind (operation_before until (record { number = o.number; op = o.op; «end» = e })) call_of
+      ≡ bind (call_with o.number o.op e) (call_then until)
     go (Returned at r) = returned at r (nat_lt o.number until) (nat_lt at until)
     go Pending = pending (nat_lt o.number until)
     go Failed = refl
 
-pub before_history : (until : ℕ) (h : ObjectCalls) → IsObjectHistory h → IsObjectHistory (record { object = h.object; kind = h.kind; ops = filter_map (operation_before until) h.ops })
-before_history until h is = cut_history h.object h.kind h.ops (operation_before until) (λ o p i e. operation_is until o p e) is
+pub before_history : (until : ℕ) (h : ObjectCalls) → IsObjectHistory h
+    → IsObjectHistory (record { object = h.object; kind = h.kind; ops = filter_map (operation_before until) h.ops })
+before_history until h is =
+    cut_history h.object h.kind h.ops (operation_before until) (λ o p i e. operation_is until o p e) is
 
-pub before_calls : (until : ℕ) (ops : List Invocation) → calls_of (filter_map (operation_before until) ops) ≡ calls_before until (calls_of ops)
-before_calls until ops = cut_calls (operation_before until) (call_then until) ops (operation_call until) ∙ filter_map-filter (λ e. nat_lt e.number until) (call_before until) (calls_of ops)
+pub before_calls : (until : ℕ) (ops : List Invocation)
+    → calls_of (filter_map (operation_before until) ops) ≡ calls_before until (calls_of ops)
+before_calls until ops =
+    cut_calls (operation_before until) (call_then until) ops (operation_call until)
+    ∙ filter_map-filter (λ e. nat_lt e.number until) (call_before until) (calls_of ops)
 
-pub before_shows : (until : ℕ) (h : ObjectCalls) → IsObjectHistory h → IsPart h (record { object = h.object; kind = h.kind; ops = filter_map (operation_before until) h.ops })
+pub before_shows : (until : ℕ) (h : ObjectCalls) → IsObjectHistory h
+    → IsPart h (record { object = h.object; kind = h.kind; ops = filter_map (operation_before until) h.ops })
 before_shows until h is = record {
   object = refl;
   none_failed = cut_lives (operation_before until) h.ops (operation_lives until);

@@ -27,7 +27,7 @@ use Rattle.projection.specs.CutOperations.{is_settled_end, are_settled, is_put_a
 use Rattle.projection.specs.CutOperations.{may_precede_end, IsRemoval}
 use Rattle.projection.proofs.CutOperations.{rising_calls, calls_end, call_cases}
 use Rattle.projection.proofs.Sequences.{in_filter_map, in_filter_map_from, one_number}
-use Rattle.projection.proofs.Bounds.{passes, count_calls}
+use Rattle.projection.proofs.CountedCalls.{passes, count_calls}
 use Rattle.projection.specs.Ahead.{found_by, first_put, ahead_before, is_settled}
 use Rattle.projection.specs.Kinds.Containers.{is_value_ahead}
 use Rattle.projection.specs.Ahead.{is_put_ahead, may_precede, IsBlocked}

@@ -1,6 +1,8 @@
 -- A content is taken away no more often than it was there before and was set.
-use Rattle.std.proofs.Common.{MatchBool, ◌≡◌, ◌≢◌, inl, inr, ℕ, ℤ, pos, ◌<◌, ◌≤◌, ◌+◌, ◌-◌, ◌==◌, nat_lt, Bool, true, false, not, ◌&&◌, cond}
-use Rattle.std.proofs.Common.{List, [], ◌∷◌, length, Option, Some, None, All, AllPairs, Contains, IfSome, IsSome, is_some, filter, count_by, refl, ap}
+use Rattle.std.proofs.Common.{MatchBool, ◌≡◌, ◌≢◌, inl, inr, ℕ, ℤ, pos, ◌<◌, ◌≤◌, ◌+◌, ◌-◌, ◌==◌, nat_lt, Bool}
+use Rattle.std.proofs.Common.{true, false, not, ◌&&◌, cond}
+use Rattle.std.proofs.Common.{List, [], ◌∷◌, length, Option, Some, None, All, AllPairs, Contains, IfSome, IsSome}
+use Rattle.std.proofs.Common.{is_some, filter, count_by, refl, ap}
 use Rattle.std.proofs.Common.{sym, ◌∙◌, subst, arith}
 use Rattle.std.specs.Prelude.{is_none}
 use Rattle.std.proofs.lemmas.Int.{ints}
@@ -13,7 +15,8 @@ use Rattle.std.specs.FinMap as map
 use Rattle.model.specs.declared.Kind.{Kind}
 use Rattle.model.specs.declared.Kind.TheVariants as kind
 use Rattle.model.specs.declared.AnyOp.{AnyOp}
-use Rattle.model.specs.declared.AnyOp.TheVariants.{Enqueue, Dequeue, Push, Pop, Insert, ExtractMin, Write, Read, Cas, Put, Get, Del, Acquire, Release}
+use Rattle.model.specs.declared.AnyOp.TheVariants.{Enqueue, Dequeue, Push, Pop, Insert, ExtractMin, Write, Read}
+use Rattle.model.specs.declared.AnyOp.TheVariants.{Cas, Put, Get, Del, Acquire, Release}
 use Rattle.model.specs.declared.AnyOp.TheVariants.{Clear, Create, PutIfAbsent, Replace, Assoc, Dissoc, Add, Remove, Has}
 use Rattle.model.specs.declared.AnyOp.TheVariants.{FetchAdd, GetCount, LockBy, UnlockBy}
 use Rattle.model.specs.declared.AnyReply.{AnyReply}
@@ -77,16 +80,21 @@ written a b = omega arith
 none : (a : ℕ) → 0 + 0 ≤ a + 0
 none a = omega arith
 
-bound_at : (what : Counted) (c after : Content) (op : AnyOp) (r : AnyReply) (takes_it sets_it : Bool) (a b : ℕ) → takes what op (Some r) ≡ takes_it
-    → sets what op (Some r) ≡ sets_it → there what after ≡ a → there what c ≡ b → a + one takes_it ≤ b + one sets_it → Bounded what op c after r
+bound_at : (what : Counted) (c after : Content) (op : AnyOp) (r : AnyReply) (takes_it sets_it : Bool) (a b : ℕ)
+    → takes what op (Some r) ≡ takes_it
+    → sets what op (Some r) ≡ sets_it → there what after ≡ a → there what c ≡ b → a + one takes_it ≤ b + one sets_it
+    → Bounded what op c after r
 bound_at what c after op r t s a b e f g h l = sums _ _ _ _ _ _ _ _ (ap one e) (ap one f) g h l
   where
     sums : (p q x y u v a b : ℕ) → p ≡ u → q ≡ v → x ≡ a → y ≡ b → a + u ≤ b + v → x + p ≤ y + q
     sums p q x y u v a b e f g h l = omega arith
 
-swapped : (v a b : ℤ) (x : Option ℤ) → contains_value x a ≡ true → one (int_eq b v) + one (int_eq a v) ≤ one (contains_value x v) + one (int_eq b v)
+swapped : (v a b : ℤ) (x : Option ℤ) → contains_value x a ≡ true
+    → one (int_eq b v) + one (int_eq a v) ≤ one (contains_value x v) + one (int_eq b v)
 swapped v a b None h = absurd (false_is_not_true h)
-swapped v a b (Some w) h = subst (λ (z : ℤ). one (int_eq b v) + one (int_eq z v) ≤ one (int_eq w v) + one (int_eq b v)) (same_by_test w a h) (turned _ _)
+swapped v a b (Some w) h =
+    subst (λ (z : ℤ). one (int_eq b v) + one (int_eq z v) ≤ one (int_eq w v) + one (int_eq b v)) (same_by_test w a h)
+    (turned _ _)
   where
     turned : (p q : ℕ) → p + q ≤ q + p
     turned p q = omega arith
@@ -123,15 +131,19 @@ and_not : (a b : Bool) → a ≡ false → (a && b) ≡ false
 and_not true b e = absurd (false_is_not_true (sym e))
 and_not false b e = refl
 
-entry_put : (k v q w : ℤ) (m : map.FinMap int_cmp ℤ) → Bounded (Entry k v) (Put q w) (table m) (table (map.insert m q w)) (reply.Value (map.get m q))
+entry_put : (k v q w : ℤ) (m : map.FinMap int_cmp ℤ)
+    → Bounded (Entry k v) (Put q w) (table m) (table (map.insert m q w)) (reply.Value (map.get m q))
 entry_put k v q w m = elim (true_or_false (int_eq q k)) [
   | inl e ↦
       let same = same_by_test q k e in
       let got = ap (λ z. map.get (map.insert m z w) k) same ∙ got_same m k w in
-      let taken = and_first (int_eq q k) (is_reply v (Some (reply.Value (map.get m q)))) (contains_value (map.get m k) v) e
+      let taken = and_first (int_eq q k) (is_reply v (Some (reply.Value (map.get m q))))
+        (contains_value (map.get m k) v) e
       (reply_value v (map.get m q) ∙ ap (λ z. contains_value (map.get m z) v) same) in
-      bound_at (Entry k v) (table m) (table (map.insert m q w)) (Put q w) (reply.Value (map.get m q)) (contains_value (map.get m k) v) (int_eq w v)
-      (one (int_eq w v)) (one (contains_value (map.get m k) v)) taken (and_first (int_eq q k) (int_eq w v) (int_eq w v) e refl)
+      bound_at (Entry k v) (table m) (table (map.insert m q w)) (Put q w) (reply.Value (map.get m q))
+        (contains_value (map.get m k) v) (int_eq w v)
+      (one (int_eq w v)) (one (contains_value (map.get m k) v)) taken
+        (and_first (int_eq q k) (int_eq w v) (int_eq w v) e refl)
       (ap (λ (z : Option ℤ). one (contains_value z v)) got) refl (turned _ _)
   | inr e ↦ bound_at (Entry k v) (table m) (table (map.insert m q w)) (Put q w) (reply.Value (map.get m q)) false false
       (one (contains_value (map.get m k) v)) (one (contains_value (map.get m k) v))
@@ -143,15 +155,19 @@ entry_put k v q w m = elim (true_or_false (int_eq q k)) [
     turned : (p q : ℕ) → p + q ≤ q + p
     turned p q = omega arith
 
-entry_del : (k v q : ℤ) (m : map.FinMap int_cmp ℤ) → Bounded (Entry k v) (Del q) (table m) (table (map.remove m q)) (reply.Value (map.get m q))
+entry_del : (k v q : ℤ) (m : map.FinMap int_cmp ℤ)
+    → Bounded (Entry k v) (Del q) (table m) (table (map.remove m q)) (reply.Value (map.get m q))
 entry_del k v q m = elim (true_or_false (int_eq q k)) [
   | inl e ↦
       let same = same_by_test q k e in
       let got = ap (λ z. map.get (map.remove m z) k) same ∙ gone_same m k in
-      let taken = and_first (int_eq q k) (is_reply v (Some (reply.Value (map.get m q)))) (contains_value (map.get m k) v) e
+      let taken = and_first (int_eq q k) (is_reply v (Some (reply.Value (map.get m q))))
+        (contains_value (map.get m k) v) e
       (reply_value v (map.get m q) ∙ ap (λ z. contains_value (map.get m z) v) same) in
-      bound_at (Entry k v) (table m) (table (map.remove m q)) (Del q) (reply.Value (map.get m q)) (contains_value (map.get m k) v) false 0
-      (one (contains_value (map.get m k) v)) taken refl (ap (λ (z : Option ℤ). one (contains_value z v)) got) refl (turned _)
+      bound_at (Entry k v) (table m) (table (map.remove m q)) (Del q) (reply.Value (map.get m q))
+        (contains_value (map.get m k) v) false 0
+      (one (contains_value (map.get m k) v)) taken refl (ap (λ (z : Option ℤ). one (contains_value z v)) got) refl
+        (turned _)
   | inr e ↦ bound_at (Entry k v) (table m) (table (map.remove m q)) (Del q) (reply.Value (map.get m q)) false false
       (one (contains_value (map.get m k) v)) (one (contains_value (map.get m k) v))
       (and_not (int_eq q k) (is_reply v (Some (reply.Value (map.get m q)))) e) refl
@@ -162,15 +178,20 @@ entry_del k v q m = elim (true_or_false (int_eq q k)) [
     turned : (p : ℕ) → 0 + p ≤ p + 0
     turned p = omega arith
 
-none_put : (k q w : ℤ) (m : map.FinMap int_cmp ℤ) → Bounded (NoEntry k) (Put q w) (table m) (table (map.insert m q w)) (reply.Value (map.get m q))
+none_put : (k q w : ℤ) (m : map.FinMap int_cmp ℤ)
+    → Bounded (NoEntry k) (Put q w) (table m) (table (map.insert m q w)) (reply.Value (map.get m q))
 none_put k q w m = elim (true_or_false (int_eq q k)) [
   | inl e ↦
       let same = same_by_test q k e in
       let got = ap (λ z. map.get (map.insert m z w) k) same ∙ got_same m k w in
-      bound_at (NoEntry k) (table m) (table (map.insert m q w)) (Put q w) (reply.Value (map.get m q)) (is_none (map.get m k)) false 0
-      (one (is_none (map.get m k))) (taken (map.get m q) e ∙ ap (λ z. is_none (map.get m z)) same) refl (ap (λ (z : Option ℤ). one (is_none z)) got) refl (turned _)
-  | inr e ↦ bound_at (NoEntry k) (table m) (table (map.insert m q w)) (Put q w) (reply.Value (map.get m q)) false false (one (is_none (map.get m k)))
-      (one (is_none (map.get m k))) (left (map.get m q) e) refl (ap (λ (z : Option ℤ). one (is_none z)) (got_other m q k w e)) refl (stays (one (is_none (map.get m k))))
+      bound_at (NoEntry k) (table m) (table (map.insert m q w)) (Put q w) (reply.Value (map.get m q))
+        (is_none (map.get m k)) false 0
+      (one (is_none (map.get m k))) (taken (map.get m q) e ∙ ap (λ z. is_none (map.get m z)) same) refl
+        (ap (λ (z : Option ℤ). one (is_none z)) got) refl (turned _)
+  | inr e ↦ bound_at (NoEntry k) (table m) (table (map.insert m q w)) (Put q w)
+      (reply.Value (map.get m q)) false false (one (is_none (map.get m k)))
+      (one (is_none (map.get m k))) (left (map.get m q) e) refl
+        (ap (λ (z : Option ℤ). one (is_none z)) (got_other m q k w e)) refl (stays (one (is_none (map.get m k))))
 ]
   where
     turned : (p : ℕ) → 0 + p ≤ p + 0
@@ -184,15 +205,20 @@ none_put k q w m = elim (true_or_false (int_eq q k)) [
     left None e = e
     left (Some x) e = refl
 
-none_del : (k q : ℤ) (m : map.FinMap int_cmp ℤ) → Bounded (NoEntry k) (Del q) (table m) (table (map.remove m q)) (reply.Value (map.get m q))
+none_del : (k q : ℤ) (m : map.FinMap int_cmp ℤ)
+    → Bounded (NoEntry k) (Del q) (table m) (table (map.remove m q)) (reply.Value (map.get m q))
 none_del k q m = elim (true_or_false (int_eq q k)) [
   | inl e ↦
       let same = same_by_test q k e in
       let got = ap (λ z. map.get (map.remove m z) k) same ∙ gone_same m k in
-      bound_at (NoEntry k) (table m) (table (map.remove m q)) (Del q) (reply.Value (map.get m q)) false (is_some (map.get m k)) 1
-      (one (is_none (map.get m k))) refl (taken (map.get m q) e ∙ ap (λ z. is_some (map.get m z)) same) (ap (λ (z : Option ℤ). one (is_none z)) got) refl (either (map.get m k))
-  | inr e ↦ bound_at (NoEntry k) (table m) (table (map.remove m q)) (Del q) (reply.Value (map.get m q)) false false (one (is_none (map.get m k)))
-      (one (is_none (map.get m k))) refl (left (map.get m q) e) (ap (λ (z : Option ℤ). one (is_none z)) (gone_other m q k e)) refl (stays (one (is_none (map.get m k))))
+      bound_at (NoEntry k) (table m) (table (map.remove m q)) (Del q) (reply.Value (map.get m q)) false
+        (is_some (map.get m k)) 1
+      (one (is_none (map.get m k))) refl (taken (map.get m q) e ∙ ap (λ z. is_some (map.get m z)) same)
+        (ap (λ (z : Option ℤ). one (is_none z)) got) refl (either (map.get m k))
+  | inr e ↦ bound_at (NoEntry k) (table m) (table (map.remove m q)) (Del q) (reply.Value (map.get m q)) false false
+      (one (is_none (map.get m k)))
+      (one (is_none (map.get m k))) refl (left (map.get m q) e)
+        (ap (λ (z : Option ℤ). one (is_none z)) (gone_other m q k e)) refl (stays (one (is_none (map.get m k))))
 ]
   where
     either : (o : Option ℤ) → 1 + 0 ≤ one (is_none o) + one (is_some o)
@@ -341,7 +367,9 @@ bounded (Value v) (register x) Read = stays (one (contains_value x v))
 bounded (Value v) (register x) (Cas a b) = go (contains_value x a) refl
   where
     go : (t : Bool) → contains_value x a ≡ t
-        → IfSome {T = Content × AnyReply} (cond t (Some (register (Some b), reply.Swapped a b)) (Some (register x, reply.NotSwapped))) (λ p. Bounded (Value v) (Cas a b) (register x) p.0 p.1)
+        → IfSome {T = Content × AnyReply}
+          (cond t (Some (register (Some b), reply.Swapped a b)) (Some (register x, reply.NotSwapped)))
+          (λ p. Bounded (Value v) (Cas a b) (register x) p.0 p.1)
     go true h = swapped v a b x h
     go false h = stays (one (contains_value x v))
 bounded (Value v) (register x) Clear = none (one (contains_value x v))
@@ -378,7 +406,9 @@ bounded what (register x) (Write w) = nothing
 bounded what (register x) Read = nothing
 bounded what (register x) (Cas a b) = go (contains_value x a)
   where
-    go : (t : Bool) → IfSome {T = Content × AnyReply} (cond t (Some (register (Some b), reply.Swapped a b)) (Some (register x, reply.NotSwapped))) (λ p. Bounded what (Cas a b) (register x) p.0 p.1)
+    go : (t : Bool) → IfSome {T = Content × AnyReply}
+      (cond t (Some (register (Some b), reply.Swapped a b)) (Some (register x, reply.NotSwapped)))
+      (λ p. Bounded what (Cas a b) (register x) p.0 p.1)
     go true = nothing
     go false = nothing
 bounded what (table m) (Put q w) = nothing
@@ -423,7 +453,7 @@ may_set Held Acquire r h = h
 may_set Free Release r h = h
 may_set what op r h = h
 
-none_taken : (what : Counted) (op : AnyOp) → takes what op None ≡ false
+pub none_taken : (what : Counted) (op : AnyOp) → takes what op None ≡ false
 none_taken (Entry k v) (Put q w) = and_false (int_eq q k)
 none_taken (Entry k v) (Del q) = and_false (int_eq q k)
 none_taken (Value v) (Cas a b) = refl
@@ -444,44 +474,54 @@ one_le : (a b : Bool) → (a ≡ true → b ≡ true) → one a ≤ one b
 one_le true b f = let e = ap one (f refl) in omega arith
 one_le false b f = omega arith
 
-turn : (what : Counted) (e : Call) (c after : Content) (r : AnyReply) → next c e.op ≡ Some (after, r) → IfSome e.returned (λ t. t.reply ≡ r)
+turn : (what : Counted) (e : Call) (c after : Content) (r : AnyReply) → next c e.op ≡ Some (after, r)
+    → IfSome e.returned (λ t. t.reply ≡ r)
     → there what after + one (taken_by what e) ≤ there what c + one (set_by what e)
 turn what e c after r does agrees = go e.returned agrees
   where
     here : Bounded what e.op c after r
     here = subst (λ z. IfSome z (λ p. Bounded what e.op c p.0 p.1)) does (bounded what c e.op)
 
-    sums : (after took told size put may : ℕ) → after + took ≤ size + put → told ≡ 0 → put ≤ may → after + told ≤ size + may
+    sums : (after took told size put may : ℕ) → after + took ≤ size + put → told ≡ 0 → put ≤ may
+      → after + told ≤ size + may
     sums after took told size put may a b d = omega arith
 
-    go : (o : Option Return) → IfSome o (λ t. t.reply ≡ r) → there what after + one (takes what e.op (reply_of o)) ≤ there what c + one (sets what e.op (reply_of o))
-    go None h = sums _ _ _ _ _ _ here (ap one (none_taken what e.op)) (one_le (sets what e.op (Some r)) (sets what e.op None) (may_set what e.op r))
-    go (Some t) h = subst (λ (z : AnyReply). there what after + one (takes what e.op (Some z)) ≤ there what c + one (sets what e.op (Some z))) (sym h) here
+    go : (o : Option Return) → IfSome o (λ t. t.reply ≡ r)
+      → there what after + one (takes what e.op (reply_of o)) ≤ there what c + one (sets what e.op (reply_of o))
+    go None h = sums _ _ _ _ _ _ here (ap one (none_taken what e.op))
+      (one_le (sets what e.op (Some r)) (sets what e.op None) (may_set what e.op r))
+    go (Some t) h = subst (λ (z : AnyReply). there what after + one (takes what e.op (Some z))
+      ≤ there what c + one (sets what e.op (Some z))) (sym h) here
 
-conserved : (what : Counted) (es : List Call) (c : Content) → RepliesAlong c es → tally (taken_by what) es ≤ there what c + tally (set_by what) es
+conserved : (what : Counted) (es : List Call) (c : Content) → RepliesAlong c es
+    → tally (taken_by what) es ≤ there what c + tally (set_by what) es
 conserved what [] c h = omega arith
 conserved what (e ∷ es) c h = sums _ _ _ _ _ _ (turn what e c h.0 h.1 h.2 h.3) (conserved what es h.0 h.4)
   where
-    sums : (after took size put gone more : ℕ) → after + took ≤ size + put → gone ≤ after + more → took + gone ≤ size + (put + more)
+    sums : (after took size put gone more : ℕ) → after + took ≤ size + put → gone ≤ after + more
+      → took + gone ≤ size + (put + more)
     sums after took size put gone more a b = omega arith
 
-tally_le : {X : Type 0} (p q : X → Bool) (xs : List X) → ((x : X) → In x xs → p x ≡ true → q x ≡ true) → tally p xs ≤ tally q xs
+tally_le : {X : Type 0} (p q : X → Bool) (xs : List X) → ((x : X) → In x xs → p x ≡ true → q x ≡ true)
+    → tally p xs ≤ tally q xs
 tally_le p q [] f = omega arith
-tally_le p q (x ∷ xs) f = let a = one_le (p x) (q x) (f x (inl refl)) in let b = tally_le p q xs (λ y i. f y (inr i)) in omega arith
+tally_le p q (x ∷ xs) f =
+    let a = one_le (p x) (q x) (f x (inl refl)) in let b = tally_le p q xs (λ y i. f y (inr i)) in omega arith
 
 -- ---- from a number on
 
-abbrev set_from : Counted → ℕ → Call → Bool
+abbrev pub set_from : Counted → ℕ → Call → Bool
 set_from what from e = sets what e.op (reply_of e.returned) && not (ended_before from e.returned)
 
-abbrev taken_from : Counted → ℕ → Call → Bool
+abbrev pub taken_from : Counted → ℕ → Call → Bool
 taken_from what from e = takes what e.op (reply_of e.returned) && not (nat_lt e.number from)
 
 joined : (a b : Bool) → a ≡ true → b ≡ true → (a && b) ≡ true
 joined true b e f = f
 joined false b e f = absurd (false_is_not_true e)
 
-not_ended : (from : ℕ) (o : Option Return) → ((r : Return) → o ≡ Some r → from ≤ r.at) → not (ended_before from o) ≡ true
+not_ended : (from : ℕ) (o : Option Return) → ((r : Return) → o ≡ Some r → from ≤ r.at)
+    → not (ended_before from o) ≡ true
 not_ended from None f = refl
 not_ended from (Some r) f = late r.at (f r refl)
   where
@@ -491,10 +531,14 @@ not_ended from (Some r) f = late r.at (f r refl)
 begun : (number from : ℕ) → not (nat_lt number from) ≡ true → from ≤ number
 begun number from e = grind (arith, nat_tests)
 
-from_start : (what : Counted) (es : List Call) (c : Content) → RepliesAlong c es → tally (taken_from what 0) es ≤ there what c + tally (set_from what 0) es
+from_start : (what : Counted) (es : List Call) (c : Content) → RepliesAlong c es
+    → tally (taken_from what 0) es ≤ there what c + tally (set_from what 0) es
 from_start what es c h =
-    let a = tally_le (taken_from what 0) (taken_by what) es (λ x i e. (both_true (taken_by what x) (not (nat_lt x.number 0)) e).0) in
-    let b = tally_le (set_by what) (set_from what 0) es (λ x i e. joined (set_by what x) (not (ended_before 0 x.returned)) e (not_ended 0 x.returned (λ r q. omega arith))) in
+    let a = tally_le (taken_from what 0) (taken_by what) es
+      (λ x i e. (both_true (taken_by what x) (not (nat_lt x.number 0)) e).0) in
+    let b = tally_le (set_by what) (set_from what 0) es
+      (λ x i e. joined (set_by what x) (not (ended_before 0 x.returned)) e
+      (not_ended 0 x.returned (λ r q. omega arith))) in
     let d = conserved what es c h in
     omega arith
 
@@ -536,7 +580,9 @@ single_next (register x) (Write v) = λ e. refl
 single_next (register x) Read = λ e. refl
 single_next (register x) (Cas a b) = go (contains_value x a)
   where
-    go : (t : Bool) → IfSome {T = Content × AnyReply} (cond t (Some (register (Some b), reply.Swapped a b)) (Some (register x, reply.NotSwapped))) (λ p. true ≡ true → single p.0 ≡ true)
+    go : (t : Bool) → IfSome {T = Content × AnyReply}
+      (cond t (Some (register (Some b), reply.Swapped a b)) (Some (register x, reply.NotSwapped)))
+      (λ p. true ≡ true → single p.0 ≡ true)
     go true = λ e. refl
     go false = λ e. refl
 single_next (table m) (Put k v) = λ e. refl
@@ -582,7 +628,8 @@ once what c e = omega arith
 
 -- No call that returned before the first removal that counts is done after it.
 from_later : (what : Counted) (from : ℕ) (es : List Call) (c : Content) → single c ≡ true
-    → ((e : Call) → In e es → (r : Return) → e.returned ≡ Some r → e.number < r.at) → Pairs (λ x y. ReturnsBefore y x → ⊥) es → RepliesAlong c es
+    → ((e : Call) → In e es → (r : Return) → e.returned ≡ Some r → e.number < r.at)
+    → Pairs (λ x y. ReturnsBefore y x → ⊥) es → RepliesAlong c es
     → tally (taken_from what from) es ≤ 1 + tally (set_from what from) es
 from_later what from [] c s ends in_time h = omega arith
 from_later what from (e ∷ es) c s ends in_time h = elim (true_or_false (taken_from what from e)) [
@@ -593,8 +640,11 @@ from_later what from (e ∷ es) c s ends in_time h = elim (true_or_false (taken_
       omega arith
   | inl hit ↦
       let low = begun e.number from (both_true (taken_by what e) (not (nat_lt e.number from)) hit).1 in
-      let a = tally_le (taken_from what from) (taken_by what) (e ∷ es) (λ x i q. (both_true (taken_by what x) (not (nat_lt x.number from)) q).0) in
-      let b = tally_le (set_by what) (set_from what from) (e ∷ es) (λ x i q. joined (set_by what x) (not (ended_before from x.returned)) q (not_ended from x.returned (λ r w. elim i [
+      let a = tally_le (taken_from what from) (taken_by what) (e ∷ es)
+        (λ x i q. (both_true (taken_by what x) (not (nat_lt x.number from)) q).0) in
+      let b = tally_le (set_by what) (set_from what from) (e ∷ es)
+        (λ x i q. joined (set_by what x) (not (ended_before from x.returned)) q
+        (not_ended from x.returned (λ r w. elim i [
         | inl own ↦ reach e.number r.at low (ends e (inl refl) r (ap (λ (z : Call). z.returned) (sym own) ∙ w))
         | inr j ↦ later e.number r.at low (λ l. in_time.0 x j (r, w, l))
       ]))) in
@@ -614,7 +664,8 @@ at_first (Value v) kind.Queue = omega arith
 at_first (Value v) kind.Stack = omega arith
 at_first (Value v) kind.Heap = omega arith
 at_first (Value v) kind.Register = omega arith
-at_first (Entry k v) kind.Map = le _ _ (ap (λ (z : Option ℤ). one (contains_value z v)) (map.get-empty {X = ℤ} int_cmp k))
+at_first (Entry k v) kind.Map =
+    le _ _ (ap (λ (z : Option ℤ). one (contains_value z v)) (map.get-empty {X = ℤ} int_cmp k))
 at_first (NoEntry k) kind.Map = one_at_most (is_none (map.get map.empty k))
 at_first Held kind.Mutex = omega arith
 at_first Free kind.Mutex = omega arith
@@ -624,43 +675,55 @@ at_first what k = omega arith
 
 -- along the order
 along : (kind : Kind) (what : Counted) (from most : ℕ) (es : List Call) → most_before kind what from ≡ Some most
-    → ((e : Call) → In e es → (r : Return) → e.returned ≡ Some r → e.number < r.at) → Pairs (λ x y. ReturnsBefore y x → ⊥) es
+    → ((e : Call) → In e es → (r : Return) → e.returned ≡ Some r → e.number < r.at)
+    → Pairs (λ x y. ReturnsBefore y x → ⊥) es
     → RepliesAlong (empty kind) es → tally (taken_from what from) es ≤ most + tally (set_from what from) es
 along kind what from most es before ends in_time h = go (from == 0) refl before
   where
-    later : (s : Bool) → is_single kind ≡ s → cond s (Some 1) None ≡ Some most → tally (taken_from what from) es ≤ most + tally (set_from what from) es
+    later : (s : Bool) → is_single kind ≡ s → cond s (Some 1) None ≡ Some most
+      → tally (taken_from what from) es ≤ most + tally (set_from what from) es
     later true q e =
         let a = from_later what from es (empty kind) (single_empty kind q) ends in_time h in
         let b : 1 ≡ most = same_Some 1 most e in
         omega arith
     later false q e = absurd (cc e)
 
-    go : (b : Bool) → (from == 0) ≡ b → cond b (Some (times_at_first what)) (cond (is_single kind) (Some 1) None) ≡ Some most → tally (taken_from what from) es ≤ most + tally (set_from what from) es
+    go : (b : Bool) → (from == 0) ≡ b
+      → cond b (Some (times_at_first what)) (cond (is_single kind) (Some 1) None) ≡ Some most
+      → tally (taken_from what from) es ≤ most + tally (set_from what from) es
     go true q e =
-        let a = subst (λ (n : ℕ). tally (taken_from what n) es ≤ there what (empty kind) + tally (set_from what n) es) (sym (eqb-true from 0 q)) (from_start what es (empty kind) h) in
+        let a = subst (λ (n : ℕ). tally (taken_from what n) es ≤ there what (empty kind) + tally (set_from what n) es)
+          (sym (eqb-true from 0 q)) (from_start what es (empty kind) h) in
         let b = at_first what kind in
         let d = same_Some (times_at_first what) most e in
         omega arith
     go false q e = later (is_single kind) refl e
 
-pub count_bounded : (kind : Kind) (calls : List Call) (what : Counted) (from most : ℕ) (order : List ℤ) → AllPairs (λ a b. a.number < b.number) calls
-    → All (λ e. (r : Return) → e.returned ≡ Some r → e.number < r.at) calls → most_before kind what from ≡ Some most → IsValidOrder kind calls order
+pub count_bounded : (kind : Kind) (calls : List Call) (what : Counted) (from most : ℕ) (order : List ℤ)
+    → AllPairs (λ a b. a.number < b.number) calls
+    → All (λ e. (r : Return) → e.returned ≡ Some r → e.number < r.at) calls → most_before kind what from ≡ Some most
+    → IsValidOrder kind calls order
     → taken_since what from calls ≤ most + set_since what from calls
 count_bounded kind calls what from most order rising ends before v =
     let number : Call → ℤ = λ e. pos e.number in
-    let known : (e : Call) → In e v.entries → In e calls = λ e i. in_from_contains calls e (all_at (Contains calls) v.entries v.known e i) in
+    let known : (e : Call) → In e v.entries → In e calls =
+      λ e i. in_from_contains calls e (all_at (Contains calls) v.entries v.known e i) in
     let apart = pairs_weaker (λ x y. number x ≢ number y) (λ x y. x ≢ y) v.entries (λ x y i j ne e. ne (ap number e))
-    (pairs_from_map (λ x y. x ≢ y) number v.entries (subst (Pairs (λ x y. x ≢ y)) v.numbers (pairs_from_all (λ x y. x ≢ y) order v.once))) in
+    (pairs_from_map (λ x y. x ≢ y) number v.entries
+      (subst (Pairs (λ x y. x ≢ y)) v.numbers (pairs_from_all (λ x y. x ≢ y) order v.once))) in
     let distinct = pairs_weaker (λ a b. a.number < b.number) (λ x y. x ≢ y) calls
-    (λ x y i j l e. risen x.number y.number l (ap (λ (z : Call). z.number) e)) (pairs_from_all (λ a b. a.number < b.number) calls rising) in
+    (λ x y i j l e. risen x.number y.number l (ap (λ (z : Call). z.number) e))
+      (pairs_from_all (λ a b. a.number < b.number) calls rising) in
     let more_sets = count_among (set_from what from) v.entries calls apart (λ e i p. known e i) in
     let more_takes = count_among (taken_from what from) calls v.entries distinct
     (λ e i p. in_from_contains v.entries e
-    (all_at (λ e. IsSome e.returned → Contains v.entries e) calls v.whole e i (returned e.op e.returned (both_true (taken_by what e) (not (nat_lt e.number from)) p).0))) in
+    (all_at (λ e. IsSome e.returned → Contains v.entries e) calls v.whole e i
+      (returned e.op e.returned (both_true (taken_by what e) (not (nat_lt e.number from)) p).0))) in
     let all_sets = count_tally (set_from what from) calls in
     let all_takes = count_tally (taken_from what from) calls in
     let here = along kind what from most v.entries before
-    (λ e i. all_at (λ e. (r : Return) → e.returned ≡ Some r → e.number < r.at) calls ends e (known e i)) (pairs_from_all (λ x y. ReturnsBefore y x → ⊥) v.entries v.in_order) v.replies in
+    (λ e i. all_at (λ e. (r : Return) → e.returned ≡ Some r → e.number < r.at) calls ends e (known e i))
+      (pairs_from_all (λ x y. ReturnsBefore y x → ⊥) v.entries v.in_order) v.replies in
     sums _ _ _ _ _ _ here more_sets more_takes all_sets all_takes
   where
     risen : (a b : ℕ) → a < b → a ≡ b → ⊥
@@ -670,79 +733,6 @@ count_bounded kind calls what from most order rising ends before v =
     returned op None e = absurd (false_is_not_true (sym (none_taken what op) ∙ e))
     returned op (Some r) e = refl
 
-    sums : (took put all_took all_put removals settings : ℕ) → took ≤ most + put → put ≤ all_put → all_took ≤ took → all_put ≡ settings → all_took ≡ removals → removals ≤ most + settings
+    sums : (took put all_took all_put removals settings : ℕ) → took ≤ most + put → put ≤ all_put → all_took ≤ took
+      → all_put ≡ settings → all_took ≡ removals → removals ≤ most + settings
     sums took put all_took all_put removals settings a b d e f = omega arith
-
--- ---- operations and calls
-
-abbrev pub passes : (Call → Bool) → Option Call → Bool
-passes q None = false
-passes q (Some c) = q c
-
-tally_calls : (p : Invocation → Bool) (q : Call → Bool) → ((o : Invocation) → p o ≡ passes q (call_of o)) → (ops : List Invocation) → tally p ops ≡ tally q (calls_of ops)
-tally_calls p q same [] = refl
-tally_calls p q same (o ∷ ops) = ap (λ b. one b + tally p ops) (same o) ∙ go (call_of o) (tally_calls p q same ops)
-  where
-    go : (z : Option Call) → tally p ops ≡ tally q (calls_of ops) → one (passes q z) + tally p ops ≡ tally q (cons_option z (calls_of ops))
-    go None h = omega arith
-    go (Some c) h = ap (λ (n : ℕ). one (q c) + n) h
-
-pub count_calls : (p : Invocation → Bool) (q : Call → Bool) → ((o : Invocation) → p o ≡ passes q (call_of o)) → (ops : List Invocation) → count_by p ops ≡ count_by q (calls_of ops)
-count_calls p q same ops = sym (count_tally p ops) ∙ tally_calls p q same ops ∙ count_tally q (calls_of ops)
-
-set_count : (what : Counted) (from : ℕ) (ops : List Invocation) → count_by (λ o. is_set what from o.op o.«end») ops ≡ set_since what from (calls_of ops)
-set_count what from ops = count_calls (λ o. is_set what from o.op o.«end») (set_from what from) (λ o. go o o.«end») ops
-  where
-    and_true : (b : Bool) → b ≡ (b && true)
-    and_true true = refl
-    and_true false = refl
-
-    go : (o : Invocation) (e : End) → is_set what from o.op e ≡ passes (set_from what from) (call_with o.number o.op e)
-    go o (Returned at r) = refl
-    go o Pending = and_true (sets what o.op None)
-    go o Failed = refl
-
-gone_count : (what : Counted) (from : ℕ) (ops : List Invocation) → count_by (λ o. is_gone what from o.number o.op o.«end») ops ≡ taken_since what from (calls_of ops)
-gone_count what from ops = count_calls (λ o. is_gone what from o.number o.op o.«end») (taken_from what from) (λ o. go o o.«end») ops
-  where
-    go : (o : Invocation) (e : End) → is_gone what from o.number o.op e ≡ passes (taken_from what from) (call_with o.number o.op e)
-    go o (Returned at r) = refl
-    go o Pending = ap (λ b. b && not (nat_lt o.number from)) (sym (none_taken what o.op))
-    go o Failed = refl
-
--- an object's history of which a content is overdrawn has no valid order
-overdrawn_shows : (h : ObjectCalls) (count : Count) → IsObjectHistory h → IsOverdrawn h.kind count (calls_of h.ops) → IsNoneValid h.kind (calls_of h.ops)
-overdrawn_shows h count is o order v =
-    over _ _ o.more (count_bounded h.kind (calls_of h.ops) count.counted count.from o.most order (rising_calls h.ops is.rising) (calls_end h.object h.kind h.ops is) o.before v)
-  where
-    over : (a b : ℕ) → a < b → b ≤ a → ⊥
-    over a b l m = absurd (omega arith)
-
-overdrawn_from : (kind : Kind) (count : Count) (calls : List Call) (most set taken left : ℕ) → Some most ≡ most_before kind count.counted count.from
-    → set ≡ set_since count.counted count.from calls → taken ≡ taken_since count.counted count.from calls → left ≡ taken - set → nat_lt most left ≡ true → IsOverdrawn kind count calls
-overdrawn_from kind count calls most set taken left before e f g lt =
-    record { most = most; before = sym before; more = more set taken (set_since count.counted count.from calls) (taken_since count.counted count.from calls) e f g lt }
-  where
-    more : (set taken s t : ℕ) → set ≡ s → taken ≡ t → left ≡ taken - set → nat_lt most left ≡ true → most + s < t
-    more set taken s t e f g lt = grind (arith, nat_tests)
-
-pub decided : (h : ObjectCalls) (count : Count) (most set taken left : ℕ) → Some most ≡ most_before h.kind count.counted count.from
-    → set ≡ count_by (λ o. is_set count.counted count.from o.op o.«end») h.ops
-    → taken ≡ count_by (λ o. is_gone count.counted count.from o.number o.op o.«end») h.ops → left ≡ taken - set
-    → MatchBool (nat_lt most left) (IsOverdrawn h.kind count (calls_of h.ops)) (IsOverdrawn h.kind count (calls_of h.ops) → ⊥)
-decided h count most set taken left before e f g = go (nat_lt most left) refl
-  where
-    fewer : (s t m : ℕ) → set ≡ s → taken ≡ t → m ≡ most → nat_lt most left ≡ false → m + s < t → ⊥
-    fewer s t m e f d lt more = grind (arith, nat_tests)
-
-    go : (b : Bool) → nat_lt most left ≡ b → MatchBool b (IsOverdrawn h.kind count (calls_of h.ops)) (IsOverdrawn h.kind count (calls_of h.ops) → ⊥)
-    go true q = overdrawn_from h.kind count (calls_of h.ops) most set taken left before (e ∙ set_count count.counted count.from h.ops) (f ∙ gone_count count.counted count.from h.ops) g q
-    go false q = λ o. fewer (set_since count.counted count.from (calls_of h.ops)) (taken_since count.counted count.from (calls_of h.ops)) o.most
-        (e ∙ set_count count.counted count.from h.ops) (f ∙ gone_count count.counted count.from h.ops) (same_Some o.most most (sym o.before ∙ sym before)) q o.more
-
-pub shown : (h : ObjectCalls) (count : Count) (most set taken left : ℕ) → IsObjectHistory h → Some most ≡ most_before h.kind count.counted count.from
-    → set ≡ count_by (λ o. is_set count.counted count.from o.op o.«end») h.ops
-    → taken ≡ count_by (λ o. is_gone count.counted count.from o.number o.op o.«end») h.ops → left ≡ taken - set → nat_lt most left ≡ true → IsNoneValid h.kind (calls_of h.ops)
-shown h count most set taken left is before e f g q =
-    overdrawn_shows h count is (overdrawn_from h.kind count (calls_of h.ops) most set taken left before (e ∙ set_count count.counted count.from h.ops)
-    (f ∙ gone_count count.counted count.from h.ops) g q)

@@ -1,5 +1,6 @@
 -- A part of a valid order in which the pending removals of kept values are those that were invoked first.
-use Rattle.std.proofs.Common.{◌≡◌, ◌≢◌, ◌⊎◌, inl, inr, zero, suc, ℕ, ℤ, ◌<◌, ◌≤◌, ◌+◌, nat_lt, Bool, true, false, not, ◌&&◌, List, [], ◌∷◌, length}
+use Rattle.std.proofs.Common.{◌≡◌, ◌≢◌, ◌⊎◌, inl, inr, zero, suc, ℕ, ℤ, ◌<◌, ◌≤◌, ◌+◌, nat_lt, Bool, true, false}
+use Rattle.std.proofs.Common.{not, ◌&&◌, List, [], ◌∷◌, length}
 use Rattle.std.proofs.Common.{Option, Some, None, IfSome, IsSome, is_some, refl, ap, sym, ◌∙◌, subst, arith}
 use Rattle.std.proofs.lemmas.Bool.Decides.{nat_tests}
 use Rattle.model.specs.declared.Kind.{Kind}
@@ -55,7 +56,8 @@ none_before : (n : ℕ) (es : List Call) → ((x : Call) → In x es → n < x.n
 none_before n [] f = refl
 none_before n (e ∷ es) f =
     let rest = none_before n es (λ x i. f x (inr i)) in
-    let here = ap one (ap (λ z. is_open e && z) (not_before e.number n (weaker n e.number (f e (inl refl)))) ∙ and_false (is_open e)) in
+    let here = ap one (ap (λ z. is_open e && z) (not_before e.number n (weaker n e.number (f e (inl refl))))
+      ∙ and_false (is_open e)) in
     omega arith
   where
     weaker : (a b : ℕ) → a < b → a ≤ b
@@ -65,16 +67,19 @@ nth : (calls : List Call) → Pairs (λ a b. a.number < b.number) calls → (i :
 nth [] h i lt = absurd (omega arith)
 nth (e ∷ es) h i lt = go (nth es h.1) (is_open e) refl i lt
   where
-    shift : (b : Bool) (n j : ℕ) → is_open e ≡ b → nat_lt e.number n ≡ true → rank es n ≡ j → rank (e ∷ es) n ≡ one b + j
+    shift : (b : Bool) (n j : ℕ) → is_open e ≡ b → nat_lt e.number n ≡ true → rank es n ≡ j
+      → rank (e ∷ es) n ≡ one b + j
     shift b n j q t r = let here = ap one (ap (λ z. is_open e && z) t ∙ and_true (is_open e) ∙ q) in omega arith
 
     first : rank (e ∷ es) e.number ≡ zero
     first =
         let rest = none_before e.number es h.0 in
-        let here = ap one (ap (λ z. is_open e && z) (not_before e.number e.number (omega arith)) ∙ and_false (is_open e)) in
+        let here = ap one (ap (λ z. is_open e && z) (not_before e.number e.number (omega arith))
+          ∙ and_false (is_open e)) in
         omega arith
 
-    go : ((j : ℕ) → j < tally is_open es → Nth es j) → (b : Bool) → is_open e ≡ b → (i : ℕ) → i < one b + tally is_open es → Nth (e ∷ es) i
+    go : ((j : ℕ) → j < tally is_open es → Nth es j) → (b : Bool) → is_open e ≡ b → (i : ℕ)
+      → i < one b + tally is_open es → Nth (e ∷ es) i
     go again true q zero lt = record { call = e; known = inl refl; pending = q; at = first }
     go again true q (suc j) lt =
         let r = again j (omega arith) in
@@ -91,7 +96,10 @@ late n [] = inr (λ x i. absurd i)
 late n (x ∷ xs) = elim (true_or_false (nat_lt x.number n)) [
   | inl lt ↦ elim (late n xs) [
     | inl w ↦ inl (w.0, inr w.1, w.2)
-    | inr all ↦ inr (λ y i. elim i [ inl e ↦ subst (λ (z : Call). z.number < n) (sym e) (is_before x.number n lt) | inr j ↦ all y j ])
+    | inr all ↦ inr (λ y i. elim i [
+      | inl e ↦ subst (λ (z : Call). z.number < n) (sym e) (is_before x.number n lt)
+      | inr j ↦ all y j
+    ])
   ]
   | inr ge ↦ inl (x, inl refl, at_least x.number n ge)
 ]
@@ -104,16 +112,20 @@ all_pass p (x ∷ xs) f =
     omega arith
 
 apart_calls : (xs : List Call) → Pairs (λ x y. x.number ≢ y.number) xs → Pairs (λ x y. x ≢ y) xs
-apart_calls xs h = pairs_weaker (λ x y. x.number ≢ y.number) (λ x y. x ≢ y) xs (λ x y i j ne e. ne (ap (λ (z : Call). z.number) e)) h
+apart_calls xs h = pairs_weaker (λ x y. x.number ≢ y.number) (λ x y. x ≢ y) xs
+    (λ x y i j ne e. ne (ap (λ (z : Call). z.number) e)) h
 
 -- the last of i + 1 pending removals was invoked no earlier than the one before which i were
 one_late : (calls xs : List Call) (i : ℕ) (p : Nth calls i) → length xs ≡ i + 1 → Pairs (λ x y. x.number ≢ y.number) xs
-    → ((x : Call) → In x xs → is_open x ≡ true) → ((x : Call) → In x xs → In x calls) → (x : Call) × In x xs × (p.call.number ≤ x.number)
+    → ((x : Call) → In x xs → is_open x ≡ true) → ((x : Call) → In x xs → In x calls)
+    → (x : Call) × In x xs × (p.call.number ≤ x.number)
 one_late calls xs i p many apart pending known = elim (late p.call.number xs) [
   | inl w ↦ w
   | inr all ↦
       let test : Call → Bool = λ e. is_open e && nat_lt e.number p.call.number in
-      let passes = all_pass test xs (λ x j. ap (λ z. is_open x && z) (before x.number p.call.number (all x j)) ∙ and_true (is_open x) ∙ pending x j) in
+      let passes = all_pass test xs
+        (λ x j. ap (λ z. is_open x && z) (before x.number p.call.number (all x j)) ∙ and_true (is_open x)
+        ∙ pending x j) in
       let fewer = count_among test xs calls (apart_calls xs apart) (λ x j q. known x j) in
       absurd (sums _ _ _ passes fewer p.at many)
 ]
@@ -122,7 +134,8 @@ one_late calls xs i p many apart pending known = elim (late p.call.number xs) [
     sums a b l e f g h = absurd (omega arith)
 
 -- some pending removal stands at each place that i + 1 of them show
-place : (calls xs : List Call) (i : ℕ) → Pairs (λ a b. a.number < b.number) calls → length xs ≡ i + 1 → Pairs (λ x y. x.number ≢ y.number) xs
+place : (calls xs : List Call) (i : ℕ) → Pairs (λ a b. a.number < b.number) calls → length xs ≡ i + 1
+    → Pairs (λ x y. x.number ≢ y.number) xs
     → ((x : Call) → In x xs → is_open x ≡ true) → ((x : Call) → In x xs → In x calls) → Nth calls i
 place calls xs i rising many apart pending known =
     let passes = all_pass is_open xs pending in
@@ -175,7 +188,8 @@ same_removal Pop b h k e = absurd (false_is_not_true k)
 same_removal ExtractMin b h k e = absurd (false_is_not_true k)
 same_removal a b h k e = absurd (false_is_not_true h)
 
-fits_open : (all : Bool) (keeps : ℤ → Bool) (kept : Bool) (op : AnyOp) → is_removal op ≡ true → fits all keeps kept op None ≡ true
+fits_open : (all : Bool) (keeps : ℤ → Bool) (kept : Bool) (op : AnyOp) → is_removal op ≡ true
+    → fits all keeps kept op None ≡ true
 fits_open all keeps kept Dequeue h = refl
 fits_open all keeps kept Pop h = refl
 fits_open all keeps kept ExtractMin h = refl
@@ -188,7 +202,8 @@ pub record IsSetting (calls : List Call) (kind : Kind) (all : Bool) (keeps : ℤ
   pub rising : Pairs (λ a b. a.number < b.number) calls
   pub every : all ≡ true → (v : ℤ) → keeps v ≡ true
   pub each : (e : Call) → In e calls → fits all keeps (kept e.number) e.op (reply_of e.returned) ≡ true
-  pub pending : (e : Call) → In e calls → is_open e ≡ true → kept e.number ≡ false → put_count keeps calls ≤ taken_count keeps calls + rank calls e.number
+  pub pending : (e : Call) → In e calls → is_open e ≡ true → kept e.number ≡ false
+      → put_count keeps calls ≤ taken_count keeps calls + rank calls e.number
 
 -- i pending removals, xs, took a kept value before the calls es, which contain this at first
 pub record IsTurn (calls : List Call) (keeps : ℤ → Bool) (i : ℕ) (xs es : List Call) (c : Content) : Type 0 where
@@ -207,14 +222,16 @@ pub record IsTurn (calls : List Call) (keeps : ℤ → Bool) (i : ℕ) (xs es : 
 pub record Exchanged (calls : List Call) (kept : ℕ → Bool) (i : ℕ) (d : Content) (es : List Call) : Type 0 where
   pub entries : List Call
   pub replies : RepliesAlong d entries
-  pub from : (y : Call) → In y entries → (In y es × (is_open y ≡ false)) ⊎ ((is_open y ≡ true) × (i ≤ rank calls y.number))
+  pub from : (y : Call) → In y entries
+      → (In y es × (is_open y ≡ false)) ⊎ ((is_open y ≡ true) × (i ≤ rank calls y.number))
   pub known : (y : Call) → In y entries → In y calls × (kept y.number ≡ true)
   pub in_time : Pairs (λ x y. ReturnsBefore y x → ⊥) entries
   pub apart : Pairs (λ x y. x.number ≢ y.number) entries
   pub whole : (x : Call) → In x es → kept x.number ≡ true → IsSome x.returned → In x entries
 
 -- a call is left out
-leave : (calls : List Call) (kept : ℕ → Bool) (i : ℕ) (d : Content) (e : Call) (es : List Call) → (kept e.number ≡ false)
+leave : (calls : List Call) (kept : ℕ → Bool) (i : ℕ) (d : Content) (e : Call) (es : List Call)
+    → (kept e.number ≡ false)
     ⊎ (is_some e.returned ≡ false) → Exchanged calls kept i d es → Exchanged calls kept i d (e ∷ es)
 leave calls kept i d e es out m = record {
   entries = m.entries;
@@ -233,9 +250,12 @@ leave calls kept i d e es out m = record {
 }
 
 -- a call that is no pending removal is done
-keep_own : (calls : List Call) (kept : ℕ → Bool) (i : ℕ) (d behind : Content) (e : Call) (es : List Call) (reply : AnyReply)
-    → Pairs (λ a b. a.number < b.number) calls → is_open e ≡ false → kept e.number ≡ true → In e calls → ((y : Call) → In y es → e.number ≢ y.number)
-    → ((y : Call) → In y es → ReturnsBefore y e → ⊥) → next d e.op ≡ Some (behind, reply) → IfSome e.returned (λ r. r.reply ≡ reply)
+keep_own : (calls : List Call) (kept : ℕ → Bool) (i : ℕ) (d behind : Content) (e : Call) (es : List Call)
+    (reply : AnyReply)
+    → Pairs (λ a b. a.number < b.number) calls → is_open e ≡ false → kept e.number ≡ true → In e calls
+    → ((y : Call) → In y es → e.number ≢ y.number)
+    → ((y : Call) → In y es → ReturnsBefore y e → ⊥) → next d e.op ≡ Some (behind, reply)
+    → IfSome e.returned (λ r. r.reply ≡ reply)
     → Exchanged calls kept i behind es → Exchanged calls kept i d (e ∷ es)
 keep_own calls kept i d behind e es reply rising closed k here apart time does agrees m = record {
   entries = e ∷ m.entries;
@@ -244,12 +264,20 @@ keep_own calls kept i d behind e es reply rising closed k here apart time does a
     | inl q ↦ inl (inl q, ap (λ (z : Call). is_open z) q ∙ closed)
     | inr l ↦ elim (m.from y l) [ inl own ↦ inl (inr own.0, own.1) | inr other ↦ inr other ]
   ];
-  known = λ y j. elim j [ inl q ↦ subst (λ (z : Call). In z calls × (kept z.number ≡ true)) (sym q) (here, k) | inr l ↦ m.known y l ];
-  in_time = (λ y j. elim (m.from y j) [ inl own ↦ time y own.0 | inr other ↦ λ rb. not_returned y rb.0 other.0 rb.1 ], m.in_time);
+  known = λ y j. elim j [
+    | inl q ↦ subst (λ (z : Call). In z calls × (kept z.number ≡ true)) (sym q) (here, k)
+    | inr l ↦ m.known y l
+  ];
+  in_time = (λ y j. elim (m.from y j) [
+    | inl own ↦ time y own.0
+    | inr other ↦ λ rb. not_returned y rb.0 other.0 rb.1
+  ], m.in_time);
   apart = (
     λ y j. elim (m.from y j) [
       | inl own ↦ apart y own.0
-      | inr other ↦ λ q. false_is_not_true (sym closed ∙ ap (λ (z : Call). is_open z) (one_number (λ (z : Call). z.number) e y calls rising here (m.known y j).0 q) ∙ other.0)
+      | inr other ↦ λ q. false_is_not_true
+          (sym closed ∙ ap (λ (z : Call). is_open z)
+          (one_number (λ (z : Call). z.number) e y calls rising here (m.known y j).0 q) ∙ other.0)
     ],
     m.apart,
   );
@@ -257,17 +285,25 @@ keep_own calls kept i d behind e es reply rising closed k here apart time does a
 }
 
 -- in place of a pending removal one is done that was invoked no later than some such one so far
-keep_other : (calls : List Call) (kept : ℕ → Bool) (i : ℕ) (d behind : Content) (e x : Call) (es : List Call) (reply : AnyReply) (p : Nth calls i)
+keep_other : (calls : List Call) (kept : ℕ → Bool) (i : ℕ) (d behind : Content) (e x : Call) (es : List Call)
+    (reply : AnyReply) (p : Nth calls i)
     → Pairs (λ a b. a.number < b.number) calls → is_open e ≡ true → kept p.call.number ≡ true → p.call.number ≤ x.number
-    → ((y : Call) → In y es → ReturnsBefore y x → ⊥) → next d p.call.op ≡ Some (behind, reply) → Exchanged calls kept (i + 1) behind es → Exchanged calls kept i d (e ∷ es)
+    → ((y : Call) → In y es → ReturnsBefore y x → ⊥) → next d p.call.op ≡ Some (behind, reply)
+    → Exchanged calls kept (i + 1) behind es → Exchanged calls kept i d (e ∷ es)
 keep_other calls kept i d behind e x es reply p rising pending k le time does m = record {
   entries = p.call ∷ m.entries;
   replies = (behind, reply, does, agrees p.call.returned (open_returned p.call p.pending), m.replies);
   from = λ y j. elim j [
     | inl q ↦ inr (ap (λ (z : Call). is_open z) q ∙ p.pending, ranked y q)
-    | inr l ↦ elim (m.from y l) [ inl own ↦ inl (inr own.0, own.1) | inr other ↦ inr (other.0, less (rank calls y.number) other.1) ]
+    | inr l ↦ elim (m.from y l) [
+      | inl own ↦ inl (inr own.0, own.1)
+      | inr other ↦ inr (other.0, less (rank calls y.number) other.1)
+    ]
   ];
-  known = λ y j. elim j [ inl q ↦ subst (λ (z : Call). In z calls × (kept z.number ≡ true)) (sym q) (p.known, k) | inr l ↦ m.known y l ];
+  known = λ y j. elim j [
+    | inl q ↦ subst (λ (z : Call). In z calls × (kept z.number ≡ true)) (sym q) (p.known, k)
+    | inr l ↦ m.known y l
+  ];
   in_time = (
     λ y j. elim (m.from y j) [
       | inl own ↦ λ rb. time y own.0 (rb.0, rb.1, later rb.0.at rb.2)
@@ -277,12 +313,18 @@ keep_other calls kept i d behind e x es reply p rising pending k le time does m 
   );
   apart = (
     λ y j. elim (m.from y j) [
-      | inl own ↦ λ q. false_is_not_true (sym own.1 ∙ ap (λ (z : Call). is_open z) (sym (one_number (λ (z : Call). z.number) p.call y calls rising p.known (m.known y j).0 q)) ∙ p.pending)
+      | inl own ↦ λ q. false_is_not_true
+          (sym own.1 ∙ ap (λ (z : Call). is_open z)
+          (sym (one_number (λ (z : Call). z.number) p.call y calls rising p.known (m.known y j).0 q)) ∙ p.pending)
       | inr other ↦ λ q. more (rank calls y.number) (rank calls p.call.number) (ap (rank calls) q) p.at other.1
     ],
     m.apart,
   );
-  whole = λ z j kz so. elim j [ inl q ↦ absurd (false_is_not_true (sym (open_returned e pending) ∙ ap (λ (u : Call). is_some u.returned) (sym q) ∙ so)) | inr l ↦ inr (m.whole z l kz so) ];
+  whole = λ z j kz so. elim j [
+    | inl q ↦ absurd (false_is_not_true
+      (sym (open_returned e pending) ∙ ap (λ (u : Call). is_some u.returned) (sym q) ∙ so))
+    | inr l ↦ inr (m.whole z l kz so)
+  ];
 }
   where
     agrees : (o : Option Return) → is_some o ≡ false → IfSome o (λ r. r.reply ≡ reply)
@@ -301,8 +343,10 @@ keep_other calls kept i d behind e x es reply p rising pending k le time does m 
     more : (a b : ℕ) → b ≡ a → b ≡ i → i + 1 ≤ a → ⊥
     more a b q r l = absurd (omega arith)
 
-pub walk : (calls : List Call) (kind : Kind) (all : Bool) (keeps : ℤ → Bool) (kept : ℕ → Bool) → IsSetting calls kind all keeps kept
-    → (es : List Call) (i : ℕ) (xs : List Call) (c d : Content) → IsShadow keeps c d → RepliesAlong c es → IsTurn calls keeps i xs es c → Exchanged calls kept i d es
+pub walk : (calls : List Call) (kind : Kind) (all : Bool) (keeps : ℤ → Bool) (kept : ℕ → Bool)
+    → IsSetting calls kind all keeps kept
+    → (es : List Call) (i : ℕ) (xs : List Call) (c d : Content) → IsShadow keeps c d → RepliesAlong c es
+    → IsTurn calls keeps i xs es c → Exchanged calls kept i d es
 walk calls kind all keeps kept s [] i xs c d r h t = record {
   entries = [];
   replies = tt;
@@ -312,14 +356,18 @@ walk calls kind all keeps kept s [] i xs c d r h t = record {
   apart = tt;
   whole = λ x j k so. absurd j;
 }
-walk calls kind all keeps kept s (e ∷ es) i xs c d r h t = go (λ j ys b q u. walk calls kind all keeps kept s es j ys h.0 b q h.4 u) (is_open e) (takes_out keeps e.op (Some h.1)) refl refl
+walk calls kind all keeps kept s (e ∷ es) i xs c d r h t =
+    go (λ j ys b q u. walk calls kind all keeps kept s es j ys h.0 b q h.4 u) (is_open e)
+    (takes_out keeps e.op (Some h.1)) refl refl
   where
-    steps : (k b : Bool) → fits all keeps k e.op (shown b h.1) ≡ true → TookNone keeps e.op b k h.1 → Stepped (IsShadow keeps) e.op k b h.1 d h.0
+    steps : (k b : Bool) → fits all keeps k e.op (shown b h.1) ≡ true → TookNone keeps e.op b k h.1
+      → Stepped (IsShadow keeps) e.op k b h.1 d h.0
     steps k b = subst (λ z. IfSome z (λ p. fits all keeps k e.op (shown b p.1) ≡ true → TookNone keeps e.op b k p.1
         → Stepped (IsShadow keeps) e.op k b p.1 d p.0)) h.2 (step_at all keeps s.every c d e.op r k b)
 
     -- no pending removal took a kept value here
-    same : (one (takes_out keeps e.op (reply_of e.returned)) ≡ one (takes_out keeps e.op (Some h.1))) → IsTurn calls keeps i xs es h.0
+    same : (one (takes_out keeps e.op (reply_of e.returned)) ≡ one (takes_out keeps e.op (Some h.1)))
+      → IsTurn calls keeps i xs es h.0
     same q = record {
       many = t.many;
       pending = t.pending;
@@ -333,13 +381,17 @@ walk calls kind all keeps kept s (e ∷ es) i xs c d r h t = go (λ j ys b q u. 
       owed = sums _ _ _ _ _ _ _ _ _ (turn keeps e c h.0 h.1 h.2 h.3).balance q t.owed;
     }
       where
-        sums : (after took size put told gone more a b : ℕ) → after + took ≡ size + put → told ≡ took → size + (put + more) + i + a ≤ b + (told + gone) → after + more + i + a ≤ b + gone
+        sums : (after took size put told gone more a b : ℕ) → after + took ≡ size + put → told ≡ took
+          → size + (put + more) + i + a ≤ b + (told + gone) → after + more + i + a ≤ b + gone
         sums after took size put told gone more a b f g l = omega arith
 
     -- a pending removal took a kept value, and one more may be done
-    fewer : is_some e.returned ≡ false → (j : ℕ) (ys : List Call) → length ys ≡ j → ((x : Call) → In x ys → is_open x ≡ true)
-        → ((x : Call) → In x ys → In x calls) → Pairs (λ x y. x.number ≢ y.number) ys → ((x y : Call) → In x ys → In y es → x.number ≢ y.number)
-        → ((x y : Call) → In x ys → In y es → ReturnsBefore y x → ⊥) → j ≤ i + one (takes_out keeps e.op (Some h.1)) → IsTurn calls keeps j ys es h.0
+    fewer : is_some e.returned ≡ false → (j : ℕ) (ys : List Call) → length ys ≡ j
+      → ((x : Call) → In x ys → is_open x ≡ true)
+        → ((x : Call) → In x ys → In x calls) → Pairs (λ x y. x.number ≢ y.number) ys
+        → ((x y : Call) → In x ys → In y es → x.number ≢ y.number)
+        → ((x y : Call) → In x ys → In y es → ReturnsBefore y x → ⊥) → j ≤ i + one (takes_out keeps e.op (Some h.1))
+        → IsTurn calls keeps j ys es h.0
     fewer none j ys many pending known apart cross_apart cross_time le = record {
       many = many;
       pending = pending;
@@ -353,13 +405,16 @@ walk calls kind all keeps kept s (e ∷ es) i xs c d r h t = go (λ j ys b q u. 
       owed = let u = turn keeps e c h.0 h.1 h.2 h.3 in sums _ _ _ _ _ _ _ _ _ u.balance (u.open_call none) le t.owed;
     }
       where
-        sums : (after took size put told gone more a b : ℕ) → after + took ≡ size + put → told ≡ 0 → j ≤ i + took → size + (put + more) + i + a ≤ b + (told + gone) → after + more + j + a ≤ b + gone
+        sums : (after took size put told gone more a b : ℕ) → after + took ≡ size + put → told ≡ 0 → j ≤ i + took
+          → size + (put + more) + i + a ≤ b + (told + gone) → after + more + j + a ≤ b + gone
         sums after took size put told gone more a b f g k l = omega arith
 
-    own_told : is_open e ≡ false → one (takes_out keeps e.op (reply_of e.returned)) ≡ one (takes_out keeps e.op (Some h.1))
+    own_told : is_open e ≡ false
+      → one (takes_out keeps e.op (reply_of e.returned)) ≡ one (takes_out keeps e.op (Some h.1))
     own_told o = told e.returned refl h.3
       where
-        told : (w : Option Return) → e.returned ≡ w → IfSome w (λ r. r.reply ≡ h.1) → one (takes_out keeps e.op (reply_of w)) ≡ one (takes_out keeps e.op (Some h.1))
+        told : (w : Option Return) → e.returned ≡ w → IfSome w (λ r. r.reply ≡ h.1)
+          → one (takes_out keeps e.op (reply_of w)) ≡ one (takes_out keeps e.op (Some h.1))
         told None q a =
             let none = closed_removal e o (ap is_some q) in
             ap (λ z. one (z && false)) none ∙ ap (λ z. one (z && is_kept_value keeps (Some h.1))) (sym none)
@@ -369,10 +424,13 @@ walk calls kind all keeps kept s (e ∷ es) i xs c d r h t = go (λ j ys b q u. 
     own_none o p k = ap (λ z. z && is_kept_value keeps (Some h.1)) (closed_removal e o p)
 
     fitting : fits all keeps (kept e.number) e.op (shown (is_some e.returned) h.1) ≡ true
-    fitting = sym (ap (fits all keeps (kept e.number) e.op) (reply_shown e.returned h.1 h.3)) ∙ s.each e (t.later_known e (inl refl))
+    fitting = sym (ap (fits all keeps (kept e.number) e.op) (reply_shown e.returned h.1 h.3))
+      ∙ s.each e (t.later_known e (inl refl))
 
-    exchange : ((j : ℕ) (ys : List Call) (b : Content) → IsShadow keeps h.0 b → IsTurn calls keeps j ys es h.0 → Exchanged calls kept j b es)
-        → is_open e ≡ true → takes_out keeps e.op (Some h.1) ≡ true → (behind : Content) → next d e.op ≡ Some (behind, h.1) → IsShadow keeps h.0 behind → Exchanged calls kept i d (e ∷ es)
+    exchange : ((j : ℕ) (ys : List Call) (b : Content) → IsShadow keeps h.0 b → IsTurn calls keeps j ys es h.0
+      → Exchanged calls kept j b es)
+        → is_open e ≡ true → takes_out keeps e.op (Some h.1) ≡ true → (behind : Content)
+        → next d e.op ≡ Some (behind, h.1) → IsShadow keeps h.0 behind → Exchanged calls kept i d (e ∷ es)
     exchange again o took behind does q =
         keep_other calls kept i d behind e last.0 es h.1 p s.rising o kept_one last.2 (λ y j. time y last.0 last.1 j)
         (ap (λ (z : AnyOp). next d z) same_op ∙ does) (again (i + 1) (e ∷ xs) behind q turned)
@@ -384,16 +442,25 @@ walk calls kind all keeps kept s (e ∷ es) i xs c d r h t = go (λ j ys b q u. 
         pending x j = elim j [ inl w ↦ ap (λ (z : Call). is_open z) w ∙ o | inr l ↦ t.pending x l ]
 
         known : (x : Call) → In x (e ∷ xs) → In x calls
-        known x j = elim j [ inl w ↦ subst (λ (z : Call). In z calls) (sym w) (t.later_known e (inl refl)) | inr l ↦ t.known x l ]
+        known x j = elim j [
+          | inl w ↦ subst (λ (z : Call). In z calls) (sym w) (t.later_known e (inl refl))
+          | inr l ↦ t.known x l
+        ]
 
         apart : Pairs (λ x y. x.number ≢ y.number) (e ∷ xs)
         apart = (λ x j w. t.cross_apart x e j (inl refl) (sym w), t.apart)
 
         time : (y x : Call) → In x (e ∷ xs) → In y es → ReturnsBefore y x → ⊥
-        time y x j l = elim j [ inl w ↦ subst (λ (z : Call). ReturnsBefore y z → ⊥) (sym w) (t.in_time.0 y l) | inr k ↦ t.cross_time x y k (inr l) ]
+        time y x j l = elim j [
+          | inl w ↦ subst (λ (z : Call). ReturnsBefore y z → ⊥) (sym w) (t.in_time.0 y l)
+          | inr k ↦ t.cross_time x y k (inr l)
+        ]
 
         cross : (x y : Call) → In x (e ∷ xs) → In y es → x.number ≢ y.number
-        cross x y j l = elim j [ inl w ↦ subst (λ (z : Call). z.number ≢ y.number) (sym w) (t.later_apart.0 y l) | inr k ↦ t.cross_apart x y k (inr l) ]
+        cross x y j l = elim j [
+          | inl w ↦ subst (λ (z : Call). z.number ≢ y.number) (sym w) (t.later_apart.0 y l)
+          | inr k ↦ t.cross_apart x y k (inr l)
+        ]
 
         p : Nth calls i
         p = place calls (e ∷ xs) i s.rising long apart pending known
@@ -402,33 +469,45 @@ walk calls kind all keeps kept s (e ∷ es) i xs c d r h t = go (λ j ys b q u. 
         last = one_late calls (e ∷ xs) i p long apart pending known
 
         turned : IsTurn calls keeps (i + 1) (e ∷ xs) es h.0
-        turned = fewer (open_returned e o) (i + 1) (e ∷ xs) long pending known apart cross (λ x y. time y x) (let one_more = ap one took in omega arith)
+        turned = fewer (open_returned e o) (i + 1) (e ∷ xs) long pending known apart cross (λ x y. time y x)
+          (let one_more = ap one took in omega arith)
 
         same_op : p.call.op ≡ e.op
-        same_op = same_removal p.call.op e.op (open_removal p.call p.pending) (open_removal e o) (s.of_kind p.call p.known ∙ sym (s.of_kind e (t.later_known e (inl refl))))
+        same_op = same_removal p.call.op e.op (open_removal p.call p.pending) (open_removal e o)
+          (s.of_kind p.call p.known ∙ sym (s.of_kind e (t.later_known e (inl refl))))
 
         kept_one : kept p.call.number ≡ true
         kept_one = elim (true_or_false (kept p.call.number)) [
           | inl kept_so ↦ kept_so
-          | inr left_out ↦ absurd (sums _ _ _ _ _ _ (s.pending p.call p.known p.pending left_out) p.at turned.owed (conserved keeps es h.0 h.4))
+          | inr left_out ↦ absurd
+              (sums _ _ _ _ _ _ (s.pending p.call p.known p.pending left_out) p.at turned.owed
+              (conserved keeps es h.0 h.4))
         ]
           where
-            sums : (put took ranked size more gone : ℕ) → put ≤ took + ranked → ranked ≡ i → size + more + (i + 1) + took ≤ put + gone → gone ≤ size + more → ⊥
+            sums : (put took ranked size more gone : ℕ) → put ≤ took + ranked → ranked ≡ i
+              → size + more + (i + 1) + took ≤ put + gone → gone ≤ size + more → ⊥
             sums put took ranked size more gone a b f g = absurd (omega arith)
 
-    go : ((j : ℕ) (ys : List Call) (b : Content) → IsShadow keeps h.0 b → IsTurn calls keeps j ys es h.0 → Exchanged calls kept j b es)
+    go : ((j : ℕ) (ys : List Call) (b : Content) → IsShadow keeps h.0 b → IsTurn calls keeps j ys es h.0
+      → Exchanged calls kept j b es)
         → (o took : Bool) → is_open e ≡ o → takes_out keeps e.op (Some h.1) ≡ took → Exchanged calls kept i d (e ∷ es)
     go again false took o w = elim (steps (kept e.number) (is_some e.returned) fitting (own_none o)) [
       | inl skip ↦ leave calls kept i d e es skip.0 (again i xs d skip.1 (same (own_told o)))
-      | inr take ↦ keep_own calls kept i d take.1 e es h.1 s.rising o take.0 (t.later_known e (inl refl)) t.later_apart.0 t.in_time.0 take.2 h.3 (again i xs take.1 take.3 (same (own_told o)))
+      | inr take ↦ keep_own calls kept i d take.1 e es h.1 s.rising o take.0
+          (t.later_known e (inl refl)) t.later_apart.0 t.in_time.0 take.2 h.3
+          (again i xs take.1 take.3 (same (own_told o)))
     ]
-    go again true true o w = elim (steps true false (fits_open all keeps true e.op (open_removal e o)) (λ b k. absurd (false_is_not_true (sym k)))) [
+    go again true true o w =
+      elim (steps true false (fits_open all keeps true e.op (open_removal e o))
+      (λ b k. absurd (false_is_not_true (sym k)))) [
       | inl skip ↦ leave calls kept i d e es (inr (open_returned e o))
-          (again i xs d skip.1 (fewer (open_returned e o) i xs t.many t.pending t.known t.apart (λ x y a b. t.cross_apart x y a (inr b)) (λ x y a b. t.cross_time x y a (inr b)) (omega arith)))
+          (again i xs d skip.1 (fewer (open_returned e o) i xs t.many t.pending t.known t.apart
+            (λ x y a b. t.cross_apart x y a (inr b)) (λ x y a b. t.cross_time x y a (inr b)) (omega arith)))
       | inr take ↦ exchange again o w take.1 take.2 take.3
     ]
     go again true false o w = elim (steps false false (fits_open all keeps false e.op (open_removal e o)) (λ b k. w)) [
       | inl skip ↦ leave calls kept i d e es (inr (open_returned e o))
-          (again i xs d skip.1 (fewer (open_returned e o) i xs t.many t.pending t.known t.apart (λ x y a b. t.cross_apart x y a (inr b)) (λ x y a b. t.cross_time x y a (inr b)) (omega arith)))
+          (again i xs d skip.1 (fewer (open_returned e o) i xs t.many t.pending t.known t.apart
+            (λ x y a b. t.cross_apart x y a (inr b)) (λ x y a b. t.cross_time x y a (inr b)) (omega arith)))
       | inr take ↦ absurd (false_is_not_true take.0)
     ]

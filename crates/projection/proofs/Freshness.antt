@@ -9,7 +9,8 @@ use Rattle.std.specs.FinSet as set
 use Rattle.model.specs.declared.Kind.{Kind}
 use Rattle.model.specs.declared.Kind.TheVariants.{Counter}
 use Rattle.model.specs.declared.AnyOp.{AnyOp}
-use Rattle.model.specs.declared.AnyOp.TheVariants.{Enqueue, Dequeue, Push, Pop, Insert, ExtractMin, Write, Read, Cas, Put, Get, Del, Acquire, Release}
+use Rattle.model.specs.declared.AnyOp.TheVariants.{Enqueue, Dequeue, Push, Pop, Insert, ExtractMin, Write, Read}
+use Rattle.model.specs.declared.AnyOp.TheVariants.{Cas, Put, Get, Del, Acquire, Release}
 use Rattle.model.specs.declared.AnyOp.TheVariants.{Clear, Create, PutIfAbsent, Replace, Assoc, Dissoc, Add, Remove, Has}
 use Rattle.model.specs.declared.AnyOp.TheVariants.{FetchAdd, GetCount, LockBy, UnlockBy}
 use Rattle.model.specs.declared.AnyReply.{AnyReply}
@@ -40,7 +41,8 @@ free_keeps None e v = refl
 free_keeps (Some k) e v = absurd (false_is_not_true e)
 
 -- a part that keeps all calls on a key is closed
-pub all_fit : (op : AnyOp) (key : Option ℤ) (o : Option AnyReply) → key_of op ≡ key → fits (is_free key) (on_key key) true op o ≡ true
+pub all_fit : (op : AnyOp) (key : Option ℤ) (o : Option AnyReply) → key_of op ≡ key
+    → fits (is_free key) (on_key key) true op o ≡ true
 all_fit op key o e = subst (λ (z : Option ℤ). fits (is_free z) (on_key z) true op o ≡ true) e (go op o)
   where
     go : (op : AnyOp) (o : Option AnyReply) → fits (is_free (key_of op)) (on_key (key_of op)) true op o ≡ true
@@ -109,12 +111,14 @@ all_fit op key o e = subst (λ (z : Option ℤ). fits (is_free z) (on_key z) tru
 -- what a part begins with, where the whole contains this after the call
 abbrev pub Begins : (ℤ → Bool) → Kind → Option (AnyOp × AnyReply) → Content → Type 0
 Begins keeps kind None after = IsShadow keeps after (empty kind)
-Begins keeps kind (Some first) after = (d : Content) × (next (empty kind) first.0 ≡ Some (d, first.1)) × IsShadow keeps after d
+Begins keeps kind (Some first) after =
+    (d : Content) × (next (empty kind) first.0 ≡ Some (d, first.1)) × IsShadow keeps after d
 
 abbrev Tells : AnyOp → AnyReply → Content → Type 0
 Tells op reply after = IfSome (leaves op reply) (λ first. Begins (on_key (key_of op)) (kind_of op) first after)
 
-at_key : (m n : map.FinMap int_cmp ℤ) (k : ℤ) → map.get n k ≡ map.get m k → IsShadow (on_key (Some k)) (table m) (table n)
+at_key : (m n : map.FinMap int_cmp ℤ) (k : ℤ) → map.get n k ≡ map.get m k
+    → IsShadow (on_key (Some k)) (table m) (table n)
 at_key m n k e = λ q i. subst (λ (z : ℤ). map.get n z ≡ map.get m z) (sym (same_by_test q k i)) e
 
 same_key : (k : ℤ) → eq_by_cmp int_cmp k k ≡ true
@@ -127,11 +131,14 @@ removed : (m : map.FinMap int_cmp ℤ) (k : ℤ) → map.get (map.remove m k) k 
 removed m k = map.get-remove int_cmp_total m k k ∙ ap (λ b. cond b None (map.get m k)) (same_key k)
 
 begun_put : (k v : ℤ) → next (table map.empty) (Put k v) ≡ Some (table (map.insert map.empty k v), Value None)
-begun_put k v = ap (λ (z : Option ℤ). Some (table (map.insert map.empty k v), Value z)) (map.get-empty {X = ℤ} int_cmp k)
+begun_put k v = ap (λ (z : Option ℤ). Some (table (map.insert map.empty k v), Value z))
+    (map.get-empty {X = ℤ} int_cmp k)
 
 tells_get : (m : map.FinMap int_cmp ℤ) (k : ℤ) (o : Option ℤ) → map.get m k ≡ o → Tells (Get k) (Value o) (table m)
 tells_get m k None e = at_key m map.empty k (map.get-empty {X = ℤ} int_cmp k ∙ sym e)
-tells_get m k (Some v) e = (table (map.insert map.empty k v), begun_put k v, at_key m (map.insert map.empty k v) k (inserted map.empty k v ∙ sym e))
+tells_get m k (Some v) e =
+    (table (map.insert map.empty k v), begun_put k v,
+    at_key m (map.insert map.empty k v) k (inserted map.empty k v ∙ sym e))
 
 -- a put that took place, and one that did not
 tells_put : (m : map.FinMap int_cmp ℤ) (k v : ℤ)
@@ -212,7 +219,8 @@ tells (register None) Read = refl
 tells (register (Some v)) Read = (register (Some v), refl, λ k. refl)
 tells (register c) (Cas a b) = go (contains_value c a)
   where
-    go : (t : Bool) → IfSome {T = Content × AnyReply} (cond t (Some (register (Some b), Swapped a b)) (Some (register c, NotSwapped))) (λ p. Tells (Cas a b) p.1 p.0)
+    go : (t : Bool) → IfSome {T = Content × AnyReply}
+      (cond t (Some (register (Some b), Swapped a b)) (Some (register c, NotSwapped))) (λ p. Tells (Cas a b) p.1 p.0)
     go true = (register (Some b), refl, λ k. refl)
     go false = tt
 tells (table m) (Put k v) = tells_put m k v

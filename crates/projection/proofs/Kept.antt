@@ -1,6 +1,8 @@
 -- Closed projections: the checks of `keeping.rt` establish that the part is closed.
-use Rattle.std.proofs.Common.{◌≡◌, ◌≢◌, not, inl, inr, zero, suc, ℕ, ℤ, ◌<◌, ◌≤◌, ◌+◌, ◌-◌, ◌==◌, nat_lt, Bool, true, false, ◌&&◌, ◌||◌, cond, List, [], ◌∷◌}
-use Rattle.std.proofs.Common.{Option, Some, None, AllPairs, count_by, filter, length, get_or, drop, refl, ap, sym, ◌∙◌, subst, arith}
+use Rattle.std.proofs.Common.{◌≡◌, ◌≢◌, not, inl, inr, zero, suc, ℕ, ℤ, ◌<◌, ◌≤◌, ◌+◌, ◌-◌, ◌==◌, nat_lt, Bool}
+use Rattle.std.proofs.Common.{true, false, ◌&&◌, ◌||◌, cond, List, [], ◌∷◌}
+use Rattle.std.proofs.Common.{Option, Some, None, AllPairs, count_by, filter, length, get_or, drop, refl, ap, sym}
+use Rattle.std.proofs.Common.{◌∙◌, subst, arith}
 use Rattle.std.specs.List.{filter_map, cons_option, list_all}
 use Rattle.std.proofs.lemmas.Option.{same_Some}
 use Rattle.std.proofs.Math.Seq.{drop-cons}
@@ -13,17 +15,20 @@ use Rattle.events.specs.declared.operations.End.{End}
 use Rattle.events.specs.declared.operations.End.TheVariants.{Returned, Pending, Failed}
 use Rattle.events.specs.declared.operations.Invocation.{Invocation}
 use Rattle.events.specs.Operations.{call_with, call_of, calls_of, return_of, ObjectCalls, IsObjectHistory}
-use Rattle.projection.specs.Parts.{reply_of, takes_out, is_pending_removal, put_count, taken_count, pending_before, kept_calls, IsClosed}
+use Rattle.projection.specs.Parts.{reply_of, takes_out, is_pending_removal, put_count, taken_count, pending_before}
+use Rattle.projection.specs.Parts.{kept_calls, IsClosed}
 use Rattle.projection.specs.Kinds.Keeping.{fits}
 use Rattle.projection.specs.Kinds.Containers.{puts_in, is_removal}
 use Rattle.projection.specs.declared.keeping.Values.{Values}
 use Rattle.projection.specs.declared.keeping.Values.TheVariants as values
 use Rattle.projection.specs.Cuts.{keeps_all, keeps_value, IsPart, NoneFailed}
-use Rattle.projection.specs.CutOperations.{has_failed, fits_end, is_kept_call, is_put, is_taken, is_open_removal, keeps_first}
+use Rattle.projection.specs.CutOperations.{has_failed, fits_end, is_kept_call, is_put, is_taken, is_open_removal}
+use Rattle.projection.specs.CutOperations.{keeps_first}
 use Rattle.projection.proofs.Conserved.{one, tally, count_tally}
 use Rattle.projection.proofs.Closed.{projection_valid}
 use Rattle.projection.proofs.Sequences.{in_filter_map_from}
-use Rattle.projection.proofs.CutOperations.{bind, filter_map-filter, map-same, IsCutOperation, cut_history, cut_calls, cut_lives, did_not_fail, rising_calls, all_calls}
+use Rattle.projection.proofs.CutOperations.{bind, filter_map-filter, map-same, IsCutOperation, cut_history}
+use Rattle.projection.proofs.CutOperations.{cut_calls, cut_lives, did_not_fail, rising_calls, all_calls}
 use Rattle.projection.proofs.Booleans.{false_is_not_true}
 
 abbrev pub own : {X : Type 0} → (X → Bool) → X → Option X
@@ -36,11 +41,13 @@ operation_is : (kept : ℕ → Bool) (o p : Invocation) → own (is_kept_call ke
 operation_is kept o p e = go (is_kept_call kept o) e
   where
     go : (b : Bool) → cond b (Some o) None ≡ Some p → IsCutOperation o p
-    go true e = subst (IsCutOperation o) (same_Some o p e) (record { number = refl; kind = refl; returned = λ at reply e. (reply, e) })
+    go true e = subst (IsCutOperation o) (same_Some o p e)
+      (record { number = refl; kind = refl; returned = λ at reply e. (reply, e) })
     go false e = absurd (cc e)
 
 -- an operation that is kept only where it did not fail
-pub own_lives : (p : Invocation → Bool) (o q : Invocation) → own (λ z. not (has_failed z.«end») && p z) o ≡ Some q → q.«end» ≢ Failed
+pub own_lives : (p : Invocation → Bool) (o q : Invocation) → own (λ z. not (has_failed z.«end») && p z) o ≡ Some q
+    → q.«end» ≢ Failed
 own_lives p o q e = go (has_failed o.«end») refl e
   where
     kept : (b : Bool) → has_failed o.«end» ≡ false → cond b (Some o) None ≡ Some q → q.«end» ≢ Failed
@@ -51,43 +58,55 @@ own_lives p o q e = go (has_failed o.«end») refl e
     go true h e = absurd (cc e)
     go false h e = kept (p o) h e
 
-pub filter_lives : (p : Invocation → Bool) (ops : List Invocation) → NoneFailed (filter (λ z. not (has_failed z.«end») && p z) ops)
+pub filter_lives : (p : Invocation → Bool) (ops : List Invocation)
+    → NoneFailed (filter (λ z. not (has_failed z.«end») && p z) ops)
 filter_lives p ops = subst NoneFailed (as_filter (λ z. not (has_failed z.«end») && p z) ops)
     (cut_lives (own (λ z. not (has_failed z.«end») && p z)) ops (own_lives p))
 
-operation_call : (kept : ℕ → Bool) (o : Invocation) → bind (own (is_kept_call kept) o) call_of ≡ bind (call_of o) (own (λ z. kept z.number))
+operation_call : (kept : ℕ → Bool) (o : Invocation)
+    → bind (own (is_kept_call kept) o) call_of ≡ bind (call_of o) (own (λ z. kept z.number))
 operation_call kept o = cut_operation (is_kept_call kept o) ∙ sym (part o.«end»)
   where
     cut_operation : (b : Bool) → bind (cond b (Some o) None) call_of ≡ cond b (call_of o) None
     cut_operation true = refl
     cut_operation false = refl
 
-    part : (e : End) → bind (call_with o.number o.op e) (own (λ z. kept z.number)) ≡ cond (not (has_failed e) && kept o.number) (call_with o.number o.op e) None
+    part : (e : End) → bind (call_with o.number o.op e) (own (λ z. kept z.number))
+      ≡ cond (not (has_failed e) && kept o.number) (call_with o.number o.op e) None
     part (Returned at r) = refl
     part Pending = refl
     part Failed = refl
 
-pub kept_history : (kept : ℕ → Bool) (h : ObjectCalls) → IsObjectHistory h → IsObjectHistory (record { object = h.object; kind = h.kind; ops = filter (is_kept_call kept) h.ops })
-kept_history kept h is = subst (λ (ops : List Invocation). IsObjectHistory (record { object = h.object; kind = h.kind; ops = ops }))
-    (as_filter (is_kept_call kept) h.ops) (cut_history h.object h.kind h.ops (own (is_kept_call kept)) (λ o p i e. operation_is kept o p e) is)
+pub kept_history : (kept : ℕ → Bool) (h : ObjectCalls) → IsObjectHistory h
+    → IsObjectHistory (record { object = h.object; kind = h.kind; ops = filter (is_kept_call kept) h.ops })
+kept_history kept h is =
+    subst (λ (ops : List Invocation). IsObjectHistory (record { object = h.object; kind = h.kind; ops = ops }))
+    (as_filter (is_kept_call kept) h.ops)
+      (cut_history h.object h.kind h.ops (own (is_kept_call kept)) (λ o p i e. operation_is kept o p e) is)
 
-pub kept_calls_of : (kept : ℕ → Bool) (ops : List Invocation) → calls_of (filter (is_kept_call kept) ops) ≡ kept_calls kept (calls_of ops)
+pub kept_calls_of : (kept : ℕ → Bool) (ops : List Invocation)
+    → calls_of (filter (is_kept_call kept) ops) ≡ kept_calls kept (calls_of ops)
 kept_calls_of kept ops = ap calls_of (sym (as_filter (is_kept_call kept) ops))
-    ∙ cut_calls (own (is_kept_call kept)) (own (λ z. kept z.number)) ops (operation_call kept) ∙ as_filter (λ e. kept e.number) (calls_of ops)
+    ∙ cut_calls (own (is_kept_call kept)) (own (λ z. kept z.number)) ops (operation_call kept)
+    ∙ as_filter (λ e. kept e.number) (calls_of ops)
 
 -- ---- how many
 
-puts_of : (keeps : ℤ → Bool) (ops : List Invocation) → tally (λ o. is_put keeps o.op o.«end») ops ≡ tally (λ e. puts_in keeps e.op) (calls_of ops)
+puts_of : (keeps : ℤ → Bool) (ops : List Invocation)
+    → tally (λ o. is_put keeps o.op o.«end») ops ≡ tally (λ e. puts_in keeps e.op) (calls_of ops)
 puts_of keeps [] = refl
 puts_of keeps (o ∷ ops) = go o.«end» (puts_of keeps ops)
   where
     go : (e : End) → tally (λ o. is_put keeps o.op o.«end») ops ≡ tally (λ e. puts_in keeps e.op) (calls_of ops)
-        → cond (is_put keeps o.op e) 1 0 + tally (λ o. is_put keeps o.op o.«end») ops ≡ tally (λ e. puts_in keeps e.op) (cons_option (call_with o.number o.op e) (calls_of ops))
+        → cond (is_put keeps o.op e) 1 0 + tally (λ o. is_put keeps o.op o.«end») ops
+          ≡ tally (λ e. puts_in keeps e.op) (cons_option (call_with o.number o.op e) (calls_of ops))
     go (Returned at r) h = ap (λ (n : ℕ). cond (puts_in keeps o.op) 1 0 + n) h
     go Pending h = ap (λ (n : ℕ). cond (puts_in keeps o.op) 1 0 + n) h
     go Failed h = omega arith
 
-taken_of : (keeps : ℤ → Bool) (ops : List Invocation) → tally (λ o. is_taken keeps o.op o.«end») ops ≡ tally (λ e. takes_out keeps e.op (reply_of e.returned)) (calls_of ops)
+taken_of : (keeps : ℤ → Bool) (ops : List Invocation)
+    → tally (λ o. is_taken keeps o.op o.«end») ops
+    ≡ tally (λ e. takes_out keeps e.op (reply_of e.returned)) (calls_of ops)
 taken_of keeps [] = refl
 taken_of keeps (o ∷ ops) = go o.«end» (taken_of keeps ops)
   where
@@ -95,18 +114,25 @@ taken_of keeps (o ∷ ops) = go o.«end» (taken_of keeps ops)
     nothing true = refl
     nothing false = refl
 
-    go : (e : End) → tally (λ o. is_taken keeps o.op o.«end») ops ≡ tally (λ e. takes_out keeps e.op (reply_of e.returned)) (calls_of ops)
-        → cond (is_taken keeps o.op e) 1 0 + tally (λ o. is_taken keeps o.op o.«end») ops ≡ tally (λ e. takes_out keeps e.op (reply_of e.returned))
+    go : (e : End) → tally (λ o. is_taken keeps o.op o.«end») ops
+      ≡ tally (λ e. takes_out keeps e.op (reply_of e.returned)) (calls_of ops)
+        → cond (is_taken keeps o.op e) 1 0 + tally (λ o. is_taken keeps o.op o.«end») ops
+          ≡ tally (λ e. takes_out keeps e.op (reply_of e.returned))
         (cons_option (call_with o.number o.op e) (calls_of ops))
     go (Returned at r) h = ap (λ (n : ℕ). cond (takes_out keeps o.op (Some r)) 1 0 + n) h
     go Pending h = let n = nothing (is_removal o.op) in omega arith
     go Failed h = omega arith
 
-put_counts : (keeps : ℤ → Bool) (ops : List Invocation) → count_by (λ o. is_put keeps o.op o.«end») ops ≡ put_count keeps (calls_of ops)
-put_counts keeps ops = sym (count_tally (λ o. is_put keeps o.op o.«end») ops) ∙ puts_of keeps ops ∙ count_tally (λ e. puts_in keeps e.op) (calls_of ops)
+put_counts : (keeps : ℤ → Bool) (ops : List Invocation)
+    → count_by (λ o. is_put keeps o.op o.«end») ops ≡ put_count keeps (calls_of ops)
+put_counts keeps ops = sym (count_tally (λ o. is_put keeps o.op o.«end») ops) ∙ puts_of keeps ops
+    ∙ count_tally (λ e. puts_in keeps e.op) (calls_of ops)
 
-taken_counts : (keeps : ℤ → Bool) (ops : List Invocation) → count_by (λ o. is_taken keeps o.op o.«end») ops ≡ taken_count keeps (calls_of ops)
-taken_counts keeps ops = sym (count_tally (λ o. is_taken keeps o.op o.«end») ops) ∙ taken_of keeps ops ∙ count_tally (λ e. takes_out keeps e.op (reply_of e.returned)) (calls_of ops)
+taken_counts : (keeps : ℤ → Bool) (ops : List Invocation)
+    → count_by (λ o. is_taken keeps o.op o.«end») ops ≡ taken_count keeps (calls_of ops)
+taken_counts keeps ops =
+    sym (count_tally (λ o. is_taken keeps o.op o.«end») ops) ∙ taken_of keeps ops
+    ∙ count_tally (λ e. takes_out keeps e.op (reply_of e.returned)) (calls_of ops)
 
 -- ---- pending removals
 
@@ -116,7 +142,8 @@ is_open o = is_open_removal o.op o.«end»
 abbrev open_before : ℕ → List Invocation → ℕ
 open_before n ops = tally (λ o. is_open o && nat_lt o.number n) ops
 
-open_of : (n : ℕ) (ops : List Invocation) → open_before n ops ≡ tally (λ e. is_pending_removal e.op e.returned && nat_lt e.number n) (calls_of ops)
+open_of : (n : ℕ) (ops : List Invocation)
+    → open_before n ops ≡ tally (λ e. is_pending_removal e.op e.returned && nat_lt e.number n) (calls_of ops)
 open_of n [] = refl
 open_of n (o ∷ ops) = go o.«end» (open_of n ops)
   where
@@ -131,15 +158,18 @@ open_of n (o ∷ ops) = go o.«end» (open_of n ops)
     sums : (a b x y : ℕ) → a ≡ b → x ≡ y → a + x ≡ b + y
     sums a b x y e f = omega arith
 
-    go : (e : End) → open_before n ops ≡ tally (λ e. is_pending_removal e.op e.returned && nat_lt e.number n) (calls_of ops)
+    go : (e : End) → open_before n ops
+      ≡ tally (λ e. is_pending_removal e.op e.returned && nat_lt e.number n) (calls_of ops)
         → cond (is_open_removal o.op e && nat_lt o.number n) 1 0 + open_before n ops
-        ≡ tally (λ e. is_pending_removal e.op e.returned && nat_lt e.number n) (cons_option (call_with o.number o.op e) (calls_of ops))
+        ≡ tally (λ e. is_pending_removal e.op e.returned && nat_lt e.number n)
+          (cons_option (call_with o.number o.op e) (calls_of ops))
     go (Returned at r) h = sums _ _ _ _ (ap one (over (is_removal o.op) (nat_lt o.number n))) h
     go Pending h = sums _ _ _ _ (ap one (pending (is_removal o.op) (nat_lt o.number n))) h
     go Failed h = omega arith
 
 pending_counts : (n : ℕ) (ops : List Invocation) → open_before n ops ≡ pending_before n (calls_of ops)
-pending_counts n ops = open_of n ops ∙ count_tally (λ e. is_pending_removal e.op e.returned && nat_lt e.number n) (calls_of ops)
+pending_counts n ops = open_of n ops
+    ∙ count_tally (λ e. is_pending_removal e.op e.returned && nat_lt e.number n) (calls_of ops)
 
 lt_yes : (a b : ℕ) → a < b → nat_lt a b ≡ true
 lt_yes a b l = grind (arith, nat_tests)
@@ -148,8 +178,11 @@ lt_no : (a b : ℕ) → b ≤ a → nat_lt a b ≡ false
 lt_no a b l = grind (arith, nat_tests)
 
 -- one more comes before what is later
-open_more : (o x : Invocation) (ops : List Invocation) (b : Bool) → is_open o ≡ b → o.number < x.number → open_before x.number (o ∷ ops) ≡ one b + open_before x.number ops
-open_more o x ops b q l = ap (λ z. one z + open_before x.number ops) (ap (λ z. is_open o && z) (lt_yes o.number x.number l) ∙ ap (λ z. z && true) q ∙ same b)
+open_more : (o x : Invocation) (ops : List Invocation) (b : Bool) → is_open o ≡ b → o.number < x.number
+    → open_before x.number (o ∷ ops) ≡ one b + open_before x.number ops
+open_more o x ops b q l =
+    ap (λ z. one z + open_before x.number ops)
+    (ap (λ z. is_open o && z) (lt_yes o.number x.number l) ∙ ap (λ z. z && true) q ∙ same b)
   where
     same : (b : Bool) → (b && true) ≡ b
     same true = refl
@@ -175,10 +208,12 @@ is_zero m e = grind (arith, nat_tests)
 not_zero : (m : ℕ) → zero < m → (m == 0) ≡ false
 not_zero m l = grind (arith, nat_tests)
 
-missing : (kept : ℕ → Bool) (m : ℕ) (o : Invocation) (ops : List Invocation) → zero < m → is_open o ≡ true → kept o.number ≡ false → keeps_first kept m (o ∷ ops) ≡ false
+missing : (kept : ℕ → Bool) (m : ℕ) (o : Invocation) (ops : List Invocation) → zero < m → is_open o ≡ true
+    → kept o.number ≡ false → keeps_first kept m (o ∷ ops) ≡ false
 missing kept m o ops l q n = go (is_open o) (m == 0) (kept o.number) q (not_zero m l) n
   where
-    go : (b d c : Bool) → b ≡ true → d ≡ false → c ≡ false → cond b ((d || c) && keeps_first kept (m - 1) ops) (keeps_first kept m ops) ≡ false
+    go : (b d c : Bool) → b ≡ true → d ≡ false → c ≡ false
+      → cond b ((d || c) && keeps_first kept (m - 1) ops) (keeps_first kept m ops) ≡ false
     go false d c e f g = absurd (false_is_not_true e)
     go true true c e f g = absurd (false_is_not_true (sym f))
     go true false true e f g = absurd (false_is_not_true (sym g))
@@ -186,11 +221,15 @@ missing kept m o ops l q n = go (is_open o) (m == 0) (kept o.number) q (not_zero
 
 -- a pending removal among the first ones is left out
 pub one_missing : (kept : ℕ → Bool) (most left i : ℕ) (ops : List Invocation) (d : Invocation) → i < length ops
-    → keeps_first kept most ops ≡ keeps_first kept left (drop i ops) → is_open (get_or ops i d) ≡ true → zero < left → kept (get_or ops i d).number ≡ false → false ≡ keeps_first kept most ops
-one_missing kept most left i ops d lt e o less n = sym (e ∙ ap (keeps_first kept left) (drop-cons ops i d lt) ∙ missing kept left (get_or ops i d) (drop (suc i) ops) less o n)
+    → keeps_first kept most ops ≡ keeps_first kept left (drop i ops) → is_open (get_or ops i d) ≡ true → zero < left
+    → kept (get_or ops i d).number ≡ false → false ≡ keeps_first kept most ops
+one_missing kept most left i ops d lt e o less n =
+    sym (e ∙ ap (keeps_first kept left) (drop-cons ops i d lt)
+    ∙ missing kept left (get_or ops i d) (drop (suc i) ops) less o n)
 
 -- what is left out comes after this many
-pub first_kept : (kept : ℕ → Bool) (most : ℕ) (ops : List Invocation) → Pairs (λ a b. a.number < b.number) ops → keeps_first kept most ops ≡ true
+pub first_kept : (kept : ℕ → Bool) (most : ℕ) (ops : List Invocation) → Pairs (λ a b. a.number < b.number) ops
+    → keeps_first kept most ops ≡ true
     → (x : Invocation) → In x ops → is_open x ≡ true → kept x.number ≡ false → most ≤ open_before x.number ops
 first_kept kept most [] h k x i o n = absurd i
 first_kept kept most (y ∷ ops) h k x i o n = go (λ m e j. first_kept kept m ops h.1 e x j o n) (is_open y) refl k
@@ -207,10 +246,14 @@ first_kept kept most (y ∷ ops) h k x i o n = go (λ m e j. first_kept kept m o
     none : most ≡ zero → most ≤ open_before x.number (y ∷ ops)
     none e = omega arith
 
-    go : ((m : ℕ) → keeps_first kept m ops ≡ true → In x ops → m ≤ open_before x.number ops) → (b : Bool) → is_open y ≡ b
-        → cond b ((most == 0 || kept y.number) && keeps_first kept (most - 1) ops) (keeps_first kept most ops) ≡ true → most ≤ open_before x.number (y ∷ ops)
+    go : ((m : ℕ) → keeps_first kept m ops ≡ true → In x ops → m ≤ open_before x.number ops) → (b : Bool)
+      → is_open y ≡ b
+        → cond b ((most == 0 || kept y.number) && keeps_first kept (most - 1) ops) (keeps_first kept most ops) ≡ true
+        → most ≤ open_before x.number (y ∷ ops)
     go again true q e = elim i [
-      | inl w ↦ none (is_zero most (left_out (most == 0) (kept y.number) (keeps_first kept (most - 1) ops) e (ap (λ (u : Invocation). kept u.number) (sym w) ∙ n)))
+      | inl w ↦ none (is_zero most
+        (left_out (most == 0) (kept y.number) (keeps_first kept (most - 1) ops) e
+          (ap (λ (u : Invocation). kept u.number) (sym w) ∙ n)))
       | inr j ↦
           let l = again (most - 1) (rest (most == 0 || kept y.number) (keeps_first kept (most - 1) ops) e) j in
           let m = open_more y x ops true q (h.0 x j) in
@@ -225,7 +268,8 @@ first_kept kept most (y ∷ ops) h k x i o n = go (λ m e j. first_kept kept m o
     ]
 
 pub kept_first : (kept : ℕ → Bool) (most : ℕ) (ops : List Invocation) → Pairs (λ a b. a.number < b.number) ops
-    → ((x : Invocation) → In x ops → is_open x ≡ true → kept x.number ≡ false → most ≤ open_before x.number ops) → keeps_first kept most ops ≡ true
+    → ((x : Invocation) → In x ops → is_open x ≡ true → kept x.number ≡ false → most ≤ open_before x.number ops)
+    → keeps_first kept most ops ≡ true
 kept_first kept most [] h f = refl
 kept_first kept most (y ∷ ops) h f = go (λ m g. kept_first kept m ops h.1 g) (is_open y) refl
   where
@@ -241,12 +285,18 @@ kept_first kept most (y ∷ ops) h f = go (λ m g. kept_first kept m ops h.1 g) 
     here q true k = either (most == 0) (kept y.number) k
     here q false k =
         let l = f y (inl refl) q k in
-        let m = open_none y.number (y ∷ ops) (λ x i. elim i [ inl w ↦ subst (λ (u : Invocation). y.number ≤ u.number) (sym w) (omega arith) | inr j ↦ let le = h.0 x j in omega arith ]) in
+        let m = open_none y.number (y ∷ ops) (λ x i. elim i [
+          | inl w ↦ subst (λ (u : Invocation). y.number ≤ u.number) (sym w) (omega arith)
+          | inr j ↦ let le = h.0 x j in omega arith
+        ]) in
         ap (λ z. z || kept y.number) (zero_is most (omega arith))
 
-    go : ((m : ℕ) → ((x : Invocation) → In x ops → is_open x ≡ true → kept x.number ≡ false → m ≤ open_before x.number ops)
-        → keeps_first kept m ops ≡ true) → (b : Bool) → is_open y ≡ b → cond b ((most == 0 || kept y.number) && keeps_first kept (most - 1) ops) (keeps_first kept most ops) ≡ true
-    go again true q = both (most == 0 || kept y.number) (keeps_first kept (most - 1) ops) (here q (kept y.number) refl) (again (most - 1) (λ x i o n.
+    go : ((m : ℕ) → ((x : Invocation) → In x ops → is_open x ≡ true → kept x.number ≡ false
+      → m ≤ open_before x.number ops)
+        → keeps_first kept m ops ≡ true) → (b : Bool) → is_open y ≡ b
+          → cond b ((most == 0 || kept y.number) && keeps_first kept (most - 1) ops) (keeps_first kept most ops) ≡ true
+    go again true q = both (most == 0 || kept y.number) (keeps_first kept (most - 1) ops)
+      (here q (kept y.number) refl) (again (most - 1) (λ x i o n.
         let l = f x (inr i) o n in
         let m = open_more y x ops true q (h.0 x i) in
         omega arith))
@@ -263,27 +313,38 @@ all_keeps (values.Only s) e v = absurd (cc e)
 
 each_from_all : {X : Type 0} (p : X → Bool) (xs : List X) → list_all p xs ≡ true → (x : X) → In x xs → p x ≡ true
 each_from_all p [] h x i = absurd i
-each_from_all {X} p (y ∷ ys) h x i = elim i [ inl e ↦ ap p e ∙ (both (p y) (list_all p ys) h).0 | inr j ↦ each_from_all p ys (both (p y) (list_all p ys) h).1 x j ]
+each_from_all {X} p (y ∷ ys) h x i = elim i [
+  | inl e ↦ ap p e ∙ (both (p y) (list_all p ys) h).0
+  | inr j ↦ each_from_all p ys (both (p y) (list_all p ys) h).1 x j
+]
   where
     both : (a b : Bool) → (a && b) ≡ true → (a ≡ true) × (b ≡ true)
     both true b e = (refl, e)
     both false b e = absurd (cc e)
 
 pub closed_calls : (vs : Values) (kept : ℕ → Bool) (ops : List Invocation) → AllPairs (λ a b. a.number < b.number) ops
-    → keeps_first kept (count_by (λ o. is_put (keeps_value vs) o.op o.«end») ops - count_by (λ o. is_taken (keeps_value vs) o.op o.«end») ops) ops
-    ≡ true → list_all (λ o. fits_end (keeps_all vs) (keeps_value vs) (kept o.number) o.op o.«end») ops ≡ true → IsClosed (keeps_all vs) (keeps_value vs) kept (calls_of ops)
+    → keeps_first kept (count_by (λ o. is_put (keeps_value vs) o.op o.«end») ops - count_by
+      (λ o. is_taken (keeps_value vs) o.op o.«end») ops) ops
+    ≡ true → list_all (λ o. fits_end (keeps_all vs) (keeps_value vs) (kept o.number) o.op o.«end») ops ≡ true
+      → IsClosed (keeps_all vs) (keeps_value vs) kept (calls_of ops)
 closed_calls vs kept ops rising first h = record {
   every = all_keeps vs;
-  each = all_calls (λ number op returned. fits (keeps_all vs) (keeps_value vs) (kept number) op (reply_of returned) ≡ true) ops
-      (λ o i c e. go o.number o.op o.«end» c e (each_from_all (λ o. fits_end (keeps_all vs) (keeps_value vs) (kept o.number) o.op o.«end») ops h o i));
+  each = all_calls (λ number op returned. fits (keeps_all vs) (keeps_value vs) (kept number) op (reply_of returned)
+    ≡ true) ops
+      (λ o i c e. go o.number o.op o.«end» c e
+        (each_from_all (λ o. fits_end (keeps_all vs) (keeps_value vs) (kept o.number) o.op o.«end») ops h o i));
   pending = all_calls (λ number op returned. is_pending_removal op returned ≡ true → kept number ≡ false
-      → put_count (keeps_value vs) (calls_of ops) ≤ taken_count (keeps_value vs) (calls_of ops) + pending_before number (calls_of ops)) ops
-      (λ o i c e t n. sums _ _ _ _ _ _ (put_counts (keeps_value vs) ops) (taken_counts (keeps_value vs) ops) (pending_counts o.number ops)
-      (first_kept kept _ ops (pairs_from_all (λ a b. a.number < b.number) ops rising) first o i (was o.number o.op o.«end» c e t) n));
+      → put_count (keeps_value vs) (calls_of ops)
+        ≤ taken_count (keeps_value vs) (calls_of ops) + pending_before number (calls_of ops)) ops
+      (λ o i c e t n. sums _ _ _ _ _ _ (put_counts (keeps_value vs) ops) (taken_counts (keeps_value vs) ops)
+        (pending_counts o.number ops)
+      (first_kept kept _ ops (pairs_from_all (λ a b. a.number < b.number) ops rising) first o i
+        (was o.number o.op o.«end» c e t) n));
 }
   where
     go : (number : ℕ) (op : AnyOp) (e : End) (c : Call) → call_with number op e ≡ Some c
-        → fits_end (keeps_all vs) (keeps_value vs) (kept number) op e ≡ true → fits (keeps_all vs) (keeps_value vs) (kept number) op (reply_of (return_of e)) ≡ true
+        → fits_end (keeps_all vs) (keeps_value vs) (kept number) op e ≡ true
+        → fits (keeps_all vs) (keeps_value vs) (kept number) op (reply_of (return_of e)) ≡ true
     go number op (Returned at r) c e f = f
     go number op Pending c e f = f
     go number op Failed c e f = absurd (cc e)
@@ -296,7 +357,8 @@ closed_calls vs kept ops rising first h = record {
     alone true e = refl
     alone false e = e
 
-    was : (number : ℕ) (op : AnyOp) (e : End) (c : Call) → call_with number op e ≡ Some c → is_pending_removal op (return_of e) ≡ true → is_open_removal op e ≡ true
+    was : (number : ℕ) (op : AnyOp) (e : End) (c : Call) → call_with number op e ≡ Some c
+      → is_pending_removal op (return_of e) ≡ true → is_open_removal op e ≡ true
     was number op (Returned at r) c e f = absurd (not_both (is_removal op) f)
     was number op Pending c e f = alone (is_removal op) f
     was number op Failed c e f = absurd (cc e)
@@ -308,46 +370,64 @@ all_from_each : {X : Type 0} (p : X → Bool) (xs : List X) → ((x : X) → In 
 all_from_each p [] f = refl
 all_from_each p (x ∷ xs) f = ap (λ b. b && list_all p xs) (f x (inl refl)) ∙ all_from_each p xs (λ y i. f y (inr i))
 
-pub closed_fits : (vs : Values) (kept : ℕ → Bool) (ops : List Invocation) → IsClosed (keeps_all vs) (keeps_value vs) kept (calls_of ops)
+pub closed_fits : (vs : Values) (kept : ℕ → Bool) (ops : List Invocation)
+    → IsClosed (keeps_all vs) (keeps_value vs) kept (calls_of ops)
     → list_all (λ o. fits_end (keeps_all vs) (keeps_value vs) (kept o.number) o.op o.«end») ops ≡ true
-closed_fits vs kept ops h = all_from_each (λ o. fits_end (keeps_all vs) (keeps_value vs) (kept o.number) o.op o.«end») ops (λ o i. go o i o.«end» refl)
+closed_fits vs kept ops h =
+    all_from_each (λ o. fits_end (keeps_all vs) (keeps_value vs) (kept o.number) o.op o.«end») ops
+    (λ o i. go o i o.«end» refl)
   where
-    at : (o : Invocation) → In o ops → (c : Call) → call_of o ≡ Some c → fits (keeps_all vs) (keeps_value vs) (kept c.number) c.op (reply_of c.returned) ≡ true
-    at o i c e = all_at (λ e. fits (keeps_all vs) (keeps_value vs) (kept e.number) e.op (reply_of e.returned) ≡ true) (calls_of ops) h.each c (in_filter_map_from call_of o c ops i e)
+    at : (o : Invocation) → In o ops → (c : Call) → call_of o ≡ Some c
+      → fits (keeps_all vs) (keeps_value vs) (kept c.number) c.op (reply_of c.returned) ≡ true
+    at o i c e = all_at (λ e. fits (keeps_all vs) (keeps_value vs) (kept e.number) e.op (reply_of e.returned) ≡ true)
+      (calls_of ops) h.each c (in_filter_map_from call_of o c ops i e)
 
-    go : (o : Invocation) → In o ops → (e : End) → o.«end» ≡ e → fits_end (keeps_all vs) (keeps_value vs) (kept o.number) o.op e ≡ true
-    go o i (Returned when r) q = at o i (record { number = o.number; op = o.op; returned = Some (record { at = when; reply = r }) }) (ap (call_with o.number o.op) q)
-    go o i Pending q = at o i (record { number = o.number; op = o.op; returned = None }) (ap (call_with o.number o.op) q)
+    go : (o : Invocation) → In o ops → (e : End) → o.«end» ≡ e
+      → fits_end (keeps_all vs) (keeps_value vs) (kept o.number) o.op e ≡ true
+    go o i (Returned when r) q =
+      at o i (record { number = o.number; op = o.op; returned = Some (record { at = when; reply = r }) })
+      (ap (call_with o.number o.op) q)
+    go o i Pending q = at o i (record { number = o.number; op = o.op; returned = None })
+      (ap (call_with o.number o.op) q)
     go o i Failed q = refl
 
 pub closed_first : (vs : Values) (kept : ℕ → Bool) (ops : List Invocation) → AllPairs (λ a b. a.number < b.number) ops
     → IsClosed (keeps_all vs) (keeps_value vs) kept (calls_of ops)
-    → keeps_first kept (count_by (λ o. is_put (keeps_value vs) o.op o.«end») ops - count_by (λ o. is_taken (keeps_value vs) o.op o.«end») ops) ops ≡ true
-closed_first vs kept ops rising h = kept_first kept _ ops (pairs_from_all (λ a b. a.number < b.number) ops rising) (λ o i t n. go o i o.«end» refl t n)
+    → keeps_first kept (count_by (λ o. is_put (keeps_value vs) o.op o.«end») ops - count_by
+      (λ o. is_taken (keeps_value vs) o.op o.«end») ops) ops ≡ true
+closed_first vs kept ops rising h =
+    kept_first kept _ ops (pairs_from_all (λ a b. a.number < b.number) ops rising) (λ o i t n. go o i o.«end» refl t n)
   where
     sums : (p q r s m n : ℕ) → p ≡ q → r ≡ s → m ≡ n → q ≤ s + n → p - r ≤ m
     sums p q r s m n a b d l = omega arith
 
     most : ℕ
-    most = count_by (λ o. is_put (keeps_value vs) o.op o.«end») ops - count_by (λ o. is_taken (keeps_value vs) o.op o.«end») ops
+    most = count_by (λ o. is_put (keeps_value vs) o.op o.«end») ops - count_by
+      (λ o. is_taken (keeps_value vs) o.op o.«end») ops
 
-    go : (o : Invocation) → In o ops → (e : End) → o.«end» ≡ e → is_open_removal o.op e ≡ true → kept o.number ≡ false → most ≤ open_before o.number ops
+    go : (o : Invocation) → In o ops → (e : End) → o.«end» ≡ e → is_open_removal o.op e ≡ true → kept o.number ≡ false
+      → most ≤ open_before o.number ops
     go o i (Returned when r) q t n = absurd (false_is_not_true t)
     go o i Failed q t n = absurd (false_is_not_true t)
     go o i Pending q t n =
         let c : Call = record { number = o.number; op = o.op; returned = None } in
         let l = all_at (λ e. is_pending_removal e.op e.returned ≡ true → kept e.number ≡ false
-        → put_count (keeps_value vs) (calls_of ops) ≤ taken_count (keeps_value vs) (calls_of ops) + pending_before e.number (calls_of ops))
+        → put_count (keeps_value vs) (calls_of ops)
+          ≤ taken_count (keeps_value vs) (calls_of ops) + pending_before e.number (calls_of ops))
         (calls_of ops) h.pending c (in_filter_map_from call_of o c ops i (ap (call_with o.number o.op) q)) in
-        sums _ _ _ _ _ _ (put_counts (keeps_value vs) ops) (taken_counts (keeps_value vs) ops) (pending_counts o.number ops) (l (ap (λ z. z && true) t) n)
+        sums _ _ _ _ _ _ (put_counts (keeps_value vs) ops) (taken_counts (keeps_value vs) ops)
+          (pending_counts o.number ops) (l (ap (λ z. z && true) t) n)
 
 pub kept_shows : (vs : Values) (kept : ℕ → Bool) (h : ObjectCalls) → IsObjectHistory h
-    → IsClosed (keeps_all vs) (keeps_value vs) kept (calls_of h.ops) → IsPart h (record { object = h.object; kind = h.kind; ops = filter (is_kept_call kept) h.ops })
+    → IsClosed (keeps_all vs) (keeps_value vs) kept (calls_of h.ops)
+    → IsPart h (record { object = h.object; kind = h.kind; ops = filter (is_kept_call kept) h.ops })
 kept_shows vs kept h is closed = record {
   object = refl;
   none_failed = filter_lives (λ o. kept o.number) h.ops;
   shows = λ none order v.
-      let of_kind = all_calls (λ number op returned. kind_of op ≡ h.kind) h.ops (λ o i c e. all_at (λ o. kind_of o.op ≡ h.kind) h.ops is.of_kind o i) in
-      let r = projection_valid h.kind (calls_of h.ops) (keeps_all vs) (keeps_value vs) kept order of_kind (rising_calls h.ops is.rising) closed v in
+      let of_kind = all_calls (λ number op returned. kind_of op ≡ h.kind) h.ops
+        (λ o i c e. all_at (λ o. kind_of o.op ≡ h.kind) h.ops is.of_kind o i) in
+      let r = projection_valid h.kind (calls_of h.ops) (keeps_all vs) (keeps_value vs) kept order of_kind
+        (rising_calls h.ops is.rising) closed v in
       none r.0 (subst (λ (cs : List Call). IsValidOrder h.kind cs r.0) (sym (kept_calls_of kept h.ops)) r.1);
 }

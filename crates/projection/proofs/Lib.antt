@@ -19,6 +19,7 @@ pub mod Naming
 pub mod Named
 pub mod Listed
 pub mod Bounds
+pub mod CountedCalls
 pub mod Mapped
 pub mod Recasts
 pub mod OwnKind

@@ -119,7 +119,8 @@ module _ (place : Place) (keeps : ℤ → Bool) (other : ℤ) where
         × MayDo (touch_at place op None) (content_at place c) (content_at place p.0))) does (touches_at place c op e)
 
     returned : (kept : Bool) → DoneOf IsAt (done_at place keeps other kept op reply) d after
-    returned kept = go (touch_at place op (Some reply)) (touch_kind place op (Some reply)) (λ e. (touched e).0) (λ e. (touched e).1)
+    returned kept = go (touch_at place op (Some reply)) (touch_kind place op (Some reply)) (λ e. (touched e).0)
+      (λ e. (touched e).1)
       where
         go : (o : Option Touch) → IfSome o (λ t. kind_of op ≡ kind_at place)
             → (kind_with c ≡ kind_at place → Did o (content_at place c) (content_at place after))
@@ -216,7 +217,8 @@ cut_kind keeps other kept own (IsNot a) leave.AsItWas k = tt
 pub into_part : (place : Place) (keeps : ℤ → Bool) (other : ℤ)
     → IsInto (done_at place keeps other) (open_at place keeps other) (λ op. kind_of_part place (kind_of op))
 into_part place keeps other = record {
-  returned = λ kept op reply. returned kept op reply (touch_at place op (Some reply)) (touch_kind place op (Some reply));
+  returned = λ kept op reply.
+    returned kept op reply (touch_at place op (Some reply)) (touch_kind place op (Some reply));
   unfinished = λ op. unfinished op (touch_at place op None) (touch_kind place op None);
 }
   where

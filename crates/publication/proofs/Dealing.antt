@@ -1,5 +1,6 @@
 -- Places in publication lists, dealt out to the clients.
-use Rattle.std.proofs.Common.{◌≡◌, ℕ, zero, suc, ◌+◌, ◌<◌, List, [], ◌∷◌, ◌++◌, length, length-append, map, replicate, get_or, set, remove, refl, sym, ap, subst, ◌∙◌, arith}
+use Rattle.std.proofs.Common.{◌≡◌, ℕ, zero, suc, ◌+◌, ◌<◌, List, [], ◌∷◌, ◌++◌, length, length-append, map}
+use Rattle.std.proofs.Common.{replicate, get_or, set, remove, refl, sym, ap, subst, ◌∙◌, arith}
 use mathlib.Core.Option.{some, some-injective, some-ne-none}
 use lib.ListN.{get_elem?, length-map}
 use Rattle.std.specs.declared.vec.Vec.{Vec}
@@ -20,9 +21,11 @@ abbrev rosters : List PlaceSeen → List TableId
 rosters ps = map (λ (p : PlaceSeen). p.roster) ps
 
 -- one try more at the place i
-pub tried : (ps : List PlaceSeen) (i : ℕ) (p q : PlaceSeen) (e : Enlist) → i < length ps → p ≡ get_or ps i p → q ≡ record p { tries = p.tries ++ e ∷ [] } → set ps i q ≡ trying i e ps
+pub tried : (ps : List PlaceSeen) (i : ℕ) (p q : PlaceSeen) (e : Enlist) → i < length ps → p ≡ get_or ps i p
+    → q ≡ record p { tries = p.tries ++ e ∷ [] } → set ps i q ≡ trying i e ps
 tried [] i p q e low is more = absurd (omega arith)
-tried (x ∷ xs) zero p q e low is more = ap (λ z. z ∷ xs) (more ∙ ap (λ (z : PlaceSeen). record z { tries = z.tries ++ e ∷ [] }) is)
+tried (x ∷ xs) zero p q e low is more =
+    ap (λ z. z ∷ xs) (more ∙ ap (λ (z : PlaceSeen). record z { tries = z.tries ++ e ∷ [] }) is)
 tried (x ∷ xs) (suc i) p q e low is more = ap (λ z. x ∷ z) (tried xs i p q e (omega arith) is more)
 
 -- it changes neither rows nor rosters
@@ -38,11 +41,13 @@ same_rosters (suc i) e [] = refl
 same_rosters zero e (p ∷ ps) = refl
 same_rosters (suc i) e (p ∷ ps) = ap (λ z. p.roster ∷ z) (same_rosters i e ps)
 
-pub still_own : (c i : ℕ) (e : Enlist) (lists : List TableId) (ps : List PlaceSeen) → ArePlacesOf c lists ps → ArePlacesOf c lists (trying i e ps)
+pub still_own : (c i : ℕ) (e : Enlist) (lists : List TableId) (ps : List PlaceSeen) → ArePlacesOf c lists ps
+    → ArePlacesOf c lists (trying i e ps)
 still_own c i e lists ps k = record { rows = same_rows i e ps ∙ k.rows; lists_are = same_rosters i e ps ∙ k.lists_are }
 
 -- the same lists under another name
-pub own_still : (c : ℕ) (ls ls' : List TableId) (ps : List PlaceSeen) → ls' ≡ ls → ArePlacesOf c ls ps → ArePlacesOf c ls' ps
+pub own_still : (c : ℕ) (ls ls' : List TableId) (ps : List PlaceSeen) → ls' ≡ ls → ArePlacesOf c ls ps
+    → ArePlacesOf c ls' ps
 own_still c ls ls' ps e k = subst (λ z. ArePlacesOf c z ps) (sym e) k
 
 -- the place in the list of x
@@ -51,10 +56,12 @@ row_there zero x c r e = absurd (some-ne-none r (sym e))
 row_there (suc n) zero c r e = sym (some-injective c r e)
 row_there (suc n) (suc x) c r e = row_there n x c r e
 
-pub own_place : (c x : ℕ) (lists : List TableId) (ps : List PlaceSeen) → x < 16 → ArePlacesOf c lists ps → (p : PlaceSeen) × (get_elem? ps x ≡ some p)
+pub own_place : (c x : ℕ) (lists : List TableId) (ps : List PlaceSeen) → x < 16 → ArePlacesOf c lists ps
+    → (p : PlaceSeen) × (get_elem? ps x ≡ some p)
     × (p.row ≡ c) × (get_elem? (rosters ps) x ≡ some p.roster)
 own_place c x lists ps low k =
-    let long : length ps ≡ 16 = sym (length-map ps (λ (p : PlaceSeen). p.row)) ∙ ap length k.rows in let b = there ps x (omega arith) in (
+    let long : length ps ≡ 16 = sym (length-map ps (λ (p : PlaceSeen). p.row)) ∙ ap length k.rows in
+    let b = there ps x (omega arith) in (
       b.0,
       b.1,
       row_there 16 x c b.0.row (ap (λ z. get_elem? z x) (sym k.rows) ∙ at_map (λ (p : PlaceSeen). p.row) ps x b.0 b.1),
@@ -70,8 +77,11 @@ fresh_rosters : (c : ℕ) (lists : List TableId) → rosters (fresh_places c lis
 fresh_rosters c [] = refl
 fresh_rosters c (l ∷ ls) = ap (λ z. l ∷ z) (fresh_rosters c ls)
 
-pub fresh_own : (c : ℕ) (lists : List TableId) (ps : List PlaceSeen) → length lists ≡ 16 → ps ≡ fresh_places c lists → ArePlacesOf c lists ps
-fresh_own c lists ps long is = subst (ArePlacesOf c lists) (sym is) record { rows = fresh_rows c lists ∙ ap (λ n. replicate n c) long; lists_are = fresh_rosters c lists }
+pub fresh_own : (c : ℕ) (lists : List TableId) (ps : List PlaceSeen) → length lists ≡ 16 → ps ≡ fresh_places c lists
+    → ArePlacesOf c lists ps
+fresh_own c lists ps long is =
+    subst (ArePlacesOf c lists)
+    (sym is) record { rows = fresh_rows c lists ∙ ap (λ n. replicate n c) long; lists_are = fresh_rosters c lists }
 
 or_last : {A : Type 0} (l : List A) (a : A) (i : ℕ) (d : A) → i ≡ length l → get_or (l ++ a ∷ []) i d ≡ a
 or_last [] a zero d h = refl
@@ -81,35 +91,45 @@ or_last (x ∷ xs) a (suc i) d h = or_last xs a i d (omega arith)
 
 -- of all walkers, the first n went: the next one walks the next list
 pub walker_there : (all ws : List WalkerSeen) (n m : ℕ) (w : WalkerSeen) → 0 < length ws → w ≡ get_or ws 0 w → m ≡ n
-    → ((j : ℕ) → get_elem? (rosters_of ws) j ≡ get_elem? (rosters_of all) (n + j)) → get_elem? (rosters_of all) m ≡ some w.roster
+    → ((j : ℕ) → get_elem? (rosters_of ws) j ≡ get_elem? (rosters_of all) (n + j))
+    → get_elem? (rosters_of all) m ≡ some w.roster
 walker_there all [] n m w some_left is same left = absurd (omega arith)
-walker_there all (x ∷ xs) n m w some_left is same left = ap (get_elem? (rosters_of all)) (omega arith) ∙ (sym (left 0) ∙ ap (λ (z : WalkerSeen). some z.roster) (sym is))
+walker_there all (x ∷ xs) n m w some_left is same left =
+    ap (get_elem? (rosters_of all)) (omega arith) ∙ (sym (left 0) ∙ ap (λ (z : WalkerSeen). some z.roster) (sym is))
 
 -- and one more goes
 pub walkers_left : (all ws ws' : List WalkerSeen) (n n' : ℕ) → 0 < length ws → ws' ≡ remove ws 0 → n' ≡ n + 1
-    → ((j : ℕ) → get_elem? (rosters_of ws) j ≡ get_elem? (rosters_of all) (n + j)) → (j : ℕ) → get_elem? (rosters_of ws') j ≡ get_elem? (rosters_of all) (n' + j)
+    → ((j : ℕ) → get_elem? (rosters_of ws) j ≡ get_elem? (rosters_of all) (n + j)) → (j : ℕ)
+    → get_elem? (rosters_of ws') j ≡ get_elem? (rosters_of all) (n' + j)
 walkers_left all [] ws' n n' some_left gone more left j = absurd (omega arith)
-walkers_left all (x ∷ xs) ws' n n' some_left gone more left j = ap (λ z. get_elem? (rosters_of z) j) gone ∙ (left (suc j) ∙ ap (get_elem? (rosters_of all)) (omega arith))
+walkers_left all (x ∷ xs) ws' n n' some_left gone more left j =
+    ap (λ z. get_elem? (rosters_of z) j) gone ∙ (left (suc j) ∙ ap (get_elem? (rosters_of all)) (omega arith))
 
 module _ {Z : Type 0} where
-  pub room_left : (n : ℕ) (lists : List TableId) (owners : List (Vec PlaceSeen Z)) → length lists < 16 → AreDealt 0 n lists owners → HaveRoom owners
-  room_left n lists owners low all c d l = let count = all.0 in let b = all.1 c d (omega arith) in let len = b.1 in let cap = b.2 in omega arith
+  pub room_left : (n : ℕ) (lists : List TableId) (owners : List (Vec PlaceSeen Z)) → length lists < 16
+      → AreDealt 0 n lists owners → HaveRoom owners
+  room_left n lists owners low all c d l =
+      let count = all.0 in let b = all.1 c d (omega arith) in let len = b.1 in let cap = b.2 in omega arith
 
   -- one list more
-  pub one_dealt : (id : TableId) (n : ℕ) (lists lists' : List TableId) (old new : List (Vec PlaceSeen Z)) → lists' ≡ lists ++ id ∷ []
+  pub one_dealt : (id : TableId) (n : ℕ) (lists lists' : List TableId) (old new : List (Vec PlaceSeen Z))
+      → lists' ≡ lists ++ id ∷ []
       → AreDealt 0 n lists old → AreGrown id old new → AreDealt 0 n lists' new
   one_dealt id n lists lists' old new more all grown = let long = grown.0 in let count = all.0 in
-      let wide : length (lists ++ id ∷ []) ≡ length lists + 1 = length-append lists (id ∷ []) in subst (λ ls. AreDealt 0 n ls new) (sym more) (
+      let wide : length (lists ++ id ∷ []) ≡ length lists + 1 = length-append lists (id ∷ []) in
+      subst (λ ls. AreDealt 0 n ls new) (sym more) (
         long ∙ count,
         λ c d l. let g = grown.1 c d (omega arith) in let b = all.1 c d l in let e : c ≡ 0 + c = omega arith in (
-          g.0 ∙ ((λ i. b.0 i ++ record { roster = id; row = e i; tries = [] } ∷ []) ∙ sym (map-append (λ z. record { roster = z; row = 0 + c; tries = [] }) lists (id ∷ []))),
+          g.0 ∙ ((λ i. b.0 i ++ record { roster = id; row = e i; tries = [] } ∷ [])
+            ∙ sym (map-append (λ z. record { roster = z; row = 0 + c; tries = [] }) lists (id ∷ []))),
           (let more = g.2 in let had = b.1 in omega arith),
           g.1 ∙ b.2,
         ),
       )
 
   -- the first goes
-  pub first_gone : (first n : ℕ) (lists : List TableId) (old new : List (Vec PlaceSeen Z)) → new ≡ remove old 0 → AreDealt first (n + 1) lists old → AreDealt (first + 1) n lists new
+  pub first_gone : (first n : ℕ) (lists : List TableId) (old new : List (Vec PlaceSeen Z)) → new ≡ remove old 0
+      → AreDealt first (n + 1) lists old → AreDealt (first + 1) n lists new
   first_gone first n lists [] new e all = let count = all.0 in absurd (omega arith)
   first_gone first n lists (o ∷ os) new e all = let count = all.0 in subst (AreDealt (first + 1) n lists) (sym e) (
     omega arith,

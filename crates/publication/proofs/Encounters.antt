@@ -14,19 +14,27 @@ use Rattle.publication.specs.Handles.{DeskId, Known, IsClient}
 use Rattle.publication.specs.Calls.{Met}
 use Rattle.publication.proofs.Holds.{agrees_light, agrees_seeing}
 
-module _ {S O R : Type 0} (op_in : O → AnyOp) (reply_in : R → AnyReply) (number calls quota : ℕ) (outstanding : Bool) (j : Journal O R) where
+module _ {S O R : Type 0} (op_in : O → AnyOp) (reply_in : R → AnyReply) (number calls quota : ℕ) (outstanding : Bool)
+    (j : Journal O R) where
   abbrev TheClient : Me (Slot S O R) DeskView → Type 0
   TheClient = IsClient op_in reply_in number calls quota outstanding j
 
   -- a client that was told h, and then saw l: d is its seat after both
-  pub met_ok : (x : ℕ) (l : List AnyEntry) (h : List (List AnyEntry)) (m d : Me (Slot S O R) DeskView) → TheClient m → x < 16
-      → IsLegal (kind_at m.0.kinds x) l → IsAccount x (record m.0 { received = h }) l → d ≡ (after_meet x l (record m.0 { received = h }), m.1) → TheClient d
-  met_ok x l h m d k low legal account e = subst TheClient (sym e) record { agrees = agrees_seeing x l low legal account (agrees_light k.agrees); free = k.free; in_hand = k.in_hand }
+  pub met_ok : (x : ℕ) (l : List AnyEntry) (h : List (List AnyEntry)) (m d : Me (Slot S O R) DeskView) → TheClient m
+      → x < 16
+      → IsLegal (kind_at m.0.kinds x) l → IsAccount x (record m.0 { received = h }) l
+      → d ≡ (after_meet x l (record m.0 { received = h }), m.1) → TheClient d
+  met_ok x l h m d k low legal account e =
+    subst TheClient (sym e) record { agrees = agrees_seeing x l low legal account (agrees_light k.agrees);
+    free = k.free; in_hand = k.in_hand }
 
 -- what the meeting says: a and b before, a' and b' after
-pub met : (x : ℕ) (one other : Known) (d e : DeskId) (s t : List PlaceSeen) (a b a' b' : DeskView) (l : List AnyEntry) (h i : List (List AnyEntry))
-    → one.desk.kinds ≡ a.kinds → one.knows ≡ a → other.knows ≡ b → a' ≡ after_meet x l (record a { received = h }) → b' ≡ after_meet x l (record b { received = i })
-    → x < length a.seen → x < length b.seen → IsLegal (kind_at a.kinds x) l → StartsWith l (seen_of a x) → StartsWith l (seen_of b x)
+pub met : (x : ℕ) (one other : Known) (d e : DeskId) (s t : List PlaceSeen) (a b a' b' : DeskView) (l : List AnyEntry)
+    (h i : List (List AnyEntry))
+    → one.desk.kinds ≡ a.kinds → one.knows ≡ a → other.knows ≡ b → a' ≡ after_meet x l (record a { received = h })
+    → b' ≡ after_meet x l (record b { received = i })
+    → x < length a.seen → x < length b.seen → IsLegal (kind_at a.kinds x) l → StartsWith l (seen_of a x)
+    → StartsWith l (seen_of b x)
     → Met x one other (record { desk = d; knows = a'; places = s }) (record { desk = e; knows = b'; places = t })
 met x one other d e s t a b a' b' l h i kinds p q f g there there' legal first second = record {
   log = l;

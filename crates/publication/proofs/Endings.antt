@@ -1,5 +1,6 @@
 -- The end of a client, and the sight of another's.
-use Rattle.std.proofs.Common.{◌≡◌, ◌≢◌, ℕ, ◌+◌, ◌<◌, Bool, List, [], ◌∷◌, ◌++◌, Contains, All, eqb, eq-eqb, ne_eqb, if◌then◌else◌, sym, ap, subst, ◌∙◌, arith}
+use Rattle.std.proofs.Common.{◌≡◌, ◌≢◌, ℕ, ◌+◌, ◌<◌, Bool, List, [], ◌∷◌, ◌++◌, Contains, All, eqb, eq-eqb, ne_eqb}
+use Rattle.std.proofs.Common.{if◌then◌else◌, sym, ap, subst, ◌∙◌, arith}
 use mathlib.Core.Logic.{dite}
 use native.Mathlib.Decide.{ℕ_discrete}
 use Rattle.std.proofs.lemmas.List.Elements.{Contains-push, Contains-append_left}
@@ -17,19 +18,26 @@ use Rattle.publication.specs.Closing.{HaveEnded, HasLearntEnds}
 use Rattle.publication.proofs.Holds.{agrees_light}
 
 -- one of two views, as the word was 1 or not
-pub either_view : (found d : ℕ) (v v' w : DeskView) → v ≡ v' → (found ≡ 1 → w ≡ after_end_seen d v) → (found ≢ 1 → w ≡ after_end_unset d v)
+pub either_view : (found d : ℕ) (v v' w : DeskView) → v ≡ v' → (found ≡ 1 → w ≡ after_end_seen d v)
+    → (found ≢ 1 → w ≡ after_end_unset d v)
     → w ≡ (if eqb found 1 then after_end_seen d v' else after_end_unset d v')
 either_view found d v v' w same hit miss = dite (ℕ_discrete found 1)
-    (λ e. hit e ∙ (ap (after_end_seen d) same ∙ ap (λ (b : Bool). if b then after_end_seen d v' else after_end_unset d v') (sym (eq-eqb found 1 e))))
-    (λ n. miss n ∙ (ap (after_end_unset d) same ∙ ap (λ (b : Bool). if b then after_end_seen d v' else after_end_unset d v') (sym (ne_eqb found 1 n))))
+    (λ e. hit e ∙ (ap (after_end_seen d) same
+      ∙ ap (λ (b : Bool). if b then after_end_seen d v' else after_end_unset d v') (sym (eq-eqb found 1 e))))
+    (λ n. miss n ∙ (ap (after_end_unset d) same
+      ∙ ap (λ (b : Bool). if b then after_end_seen d v' else after_end_unset d v') (sym (ne_eqb found 1 n))))
 
 -- the client is the last one itself
 pub own_number : (n : ℕ) (b : Known) → n ≡ b.knows.number → HaveEnded n b → HaveEnded (n + 1) b
 own_number n b e before c l other = before c (let d : c ≢ n = λ f. other (f ∙ e) in omega arith) other
 
 -- one more has ended
-pub one_ended : (n : ℕ) (a b b' : Known) → b'.desk ≡ b.desk → b'.places ≡ b.places → b'.knows ≡ after_end_seen n b.knows → HaveEnded n b → HasLearntEnds a b → HaveEnded (n + 1) b' × HasLearntEnds a b'
-one_ended n a b b' e t f before is = subst (λ z. HaveEnded (n + 1) z × HasLearntEnds a z) (λ i. record { desk = sym e i; knows = sym f i; places = sym t i }) (
+pub one_ended : (n : ℕ) (a b b' : Known) → b'.desk ≡ b.desk → b'.places ≡ b.places
+    → b'.knows ≡ after_end_seen n b.knows → HaveEnded n b → HasLearntEnds a b
+    → HaveEnded (n + 1) b' × HasLearntEnds a b'
+one_ended n a b b' e t f before is =
+    subst (λ z. HaveEnded (n + 1) z × HasLearntEnds a z)
+    (λ i. record { desk = sym e i; knows = sym f i; places = sym t i }) (
   (λ c l other. dite (ℕ_discrete c n)
       (λ same. subst (Contains (b.knows.retired ++ n ∷ [])) (sym same) (Contains-push b.knows.retired n))
       (λ apart. Contains-append_left b.knows.retired (n ∷ []) c (before c (omega arith) other))),
@@ -37,7 +45,8 @@ one_ended n a b b' e t f before is = subst (λ z. HaveEnded (n + 1) z × HasLear
 )
 
 -- this one has not
-pub there_still : (d : DeskSeen) (n : ℕ) (a b b' : Known) → n < d.clients → n ≢ b.knows.number → b'.knows ≡ after_end_unset n b.knows → HaveEnded n b
+pub there_still : (d : DeskSeen) (n : ℕ) (a b b' : Known) → n < d.clients → n ≢ b.knows.number
+    → b'.knows ≡ after_end_unset n b.knows → HaveEnded n b
     → HasLearntEnds a b → All (λ l. l.client ≢ n) b.knows.left → StillThere d a n b'
 there_still d n a b b' low other e before is untold = let same = ap (λ z. z.knows.number) is in record {
   client_low = low;
@@ -49,14 +58,19 @@ there_still d n a b b' low other e before is untold = let same = ap (λ z. z.kno
 
 module _ {S O R : Type 0} (op_in : O → AnyOp) (reply_in : R → AnyReply) where
   -- a client that has only looked at ends
-  watching : (number calls quota : ℕ) (outstanding : Bool) (j : Journal O R) (m m' : Me (Slot S O R) DeskView) (retired still_there : List ℕ)
+  watching : (number calls quota : ℕ) (outstanding : Bool) (j : Journal O R) (m m' : Me (Slot S O R) DeskView)
+    (retired still_there : List ℕ)
       → IsClient op_in reply_in number calls quota outstanding j m
-      → m' ≡ (record m.0 { retired = retired; still_there = still_there }, m.1) → IsClient op_in reply_in number calls quota outstanding j m'
+      → m' ≡ (record m.0 { retired = retired; still_there = still_there }, m.1)
+      → IsClient op_in reply_in number calls quota outstanding j m'
   watching number calls quota outstanding j m m' retired still_there k e =
-      subst (IsClient op_in reply_in number calls quota outstanding j) (sym e) record { agrees = agrees_light k.agrees; free = k.free; in_hand = k.in_hand }
+      subst (IsClient op_in reply_in number calls quota outstanding j)
+        (sym e) record { agrees = agrees_light k.agrees; free = k.free; in_hand = k.in_hand }
 
-  pub watching_ok : (number calls quota : ℕ) (outstanding : Bool) (j : Journal O R) (found d : ℕ) (m m' : Me (Slot S O R) DeskView) → IsClient op_in reply_in number calls quota outstanding j m
-      → (found ≡ 1 → m' ≡ (after_end_seen d m.0, m.1)) → (found ≢ 1 → m' ≡ (after_end_unset d m.0, m.1)) → IsClient op_in reply_in number calls quota outstanding j m'
+  pub watching_ok : (number calls quota : ℕ) (outstanding : Bool) (j : Journal O R) (found d : ℕ)
+      (m m' : Me (Slot S O R) DeskView) → IsClient op_in reply_in number calls quota outstanding j m
+      → (found ≡ 1 → m' ≡ (after_end_seen d m.0, m.1)) → (found ≢ 1 → m' ≡ (after_end_unset d m.0, m.1))
+      → IsClient op_in reply_in number calls quota outstanding j m'
   watching_ok number calls quota outstanding j found d m m' k hit miss = dite (ℕ_discrete found 1)
       (λ e. watching number calls quota outstanding j m m' (after_end_seen d m.0).retired m.0.still_there k (hit e))
       (λ n. watching number calls quota outstanding j m m' m.0.retired (after_end_unset d m.0).still_there k (miss n))

@@ -1,5 +1,6 @@
 -- The logs and journals that a record is made of, row by row.
-use Rattle.std.proofs.Common.{◌≡◌, ℕ, ◌+◌, ◌<◌, ◌≤◌, List, [], ◌∷◌, ◌++◌, length, get_or, length-append, sym, ap, subst, ◌∙◌, arith}
+use Rattle.std.proofs.Common.{◌≡◌, ℕ, ◌+◌, ◌<◌, ◌≤◌, List, [], ◌∷◌, ◌++◌, length, get_or, length-append, sym, ap}
+use Rattle.std.proofs.Common.{subst, ◌∙◌, arith}
 use mathlib.Core.Logic.{dite}
 use native.Mathlib.Decide.{ℕ_discrete}
 use Rattle.std.specs.declared.vec.Vec.{Vec}
@@ -9,25 +10,35 @@ use Rattle.std.proofs.lemmas.List.{map-append}
 use Rattle.recorder.specs.Records.{items_of}
 use Rattle.publication.specs.Closing.{IsSameBelow}
 
-pub grown : {A Z : Type 0} (old new : List (Vec A Z)) (v : Vec A Z) → new ≡ old ++ v ∷ [] → items_of new ≡ items_of old ++ v.items ∷ []
+pub grown : {A Z : Type 0} (old new : List (Vec A Z)) (v : Vec A Z) → new ≡ old ++ v ∷ []
+    → items_of new ≡ items_of old ++ v.items ∷ []
 grown old new v e = ap items_of e ∙ map-append (λ v. v.items) old (v ∷ [])
 
 module _ {X : Type 0} where
-  pub one_longer : (rows rows' : List (List X)) (row : List X) (n : ℕ) → rows' ≡ rows ++ row ∷ [] → length rows ≡ n → length rows' ≡ n + 1
-  one_longer rows rows' row n e long = let a : length rows' ≡ length rows + 1 = ap length e ∙ length-append rows (row ∷ []) in omega arith
+  pub one_longer : (rows rows' : List (List X)) (row : List X) (n : ℕ) → rows' ≡ rows ++ row ∷ [] → length rows ≡ n
+      → length rows' ≡ n + 1
+  one_longer rows rows' row n e long =
+      let a : length rows' ≡ length rows + 1 = ap length e ∙ length-append rows (row ∷ []) in omega arith
 
-  pub row_here : (rows rows' : List (List X)) (row : List X) (n : ℕ) → rows' ≡ rows ++ row ∷ [] → length rows ≡ n → get_or rows' n [] ≡ row
-  row_here rows rows' row n e long = ap (λ z. get_or z n []) e ∙ subst (λ z. get_or (rows ++ row ∷ []) z [] ≡ row) long (get_or-append_seam rows row [] [])
+  pub row_here : (rows rows' : List (List X)) (row : List X) (n : ℕ) → rows' ≡ rows ++ row ∷ [] → length rows ≡ n
+      → get_or rows' n [] ≡ row
+  row_here rows rows' row n e long =
+    ap (λ z. get_or z n []) e
+    ∙ subst (λ z. get_or (rows ++ row ∷ []) z [] ≡ row) long (get_or-append_seam rows row [] [])
 
-  pub row_there : (rows rows' : List (List X)) (row : List X) (k : ℕ) → rows' ≡ rows ++ row ∷ [] → k < length rows → get_or rows' k [] ≡ get_or rows k []
+  pub row_there : (rows rows' : List (List X)) (row : List X) (k : ℕ) → rows' ≡ rows ++ row ∷ [] → k < length rows
+      → get_or rows' k [] ≡ get_or rows k []
   row_there rows rows' row k e low = ap (λ z. get_or z k []) e ∙ get_or-append rows (row ∷ []) [] k low
 
-  pub rows_more : (P : ℕ → List X → Type 0) (from n : ℕ) (rows rows' : List (List X)) (row : List X) → rows' ≡ rows ++ row ∷ [] → length rows ≡ n
+  pub rows_more : (P : ℕ → List X → Type 0) (from n : ℕ) (rows rows' : List (List X)) (row : List X)
+      → rows' ≡ rows ++ row ∷ [] → length rows ≡ n
       → ((k : ℕ) → from ≤ k → k < n → P k (get_or rows k [])) → P n row
       → (k : ℕ) → from ≤ k → k < n + 1 → P k (get_or rows' k [])
   rows_more P from n rows rows' row e long before here k g h = dite (ℕ_discrete k n)
-      (λ same. subst (λ z. P z (get_or rows' z [])) (sym same) (subst (P n) (sym (row_here rows rows' row n e long)) here))
+      (λ same. subst (λ z. P z (get_or rows' z [])) (sym same)
+        (subst (P n) (sym (row_here rows rows' row n e long)) here))
       (λ other. subst (P k) (sym (row_there rows rows' row k e (omega arith))) (before k g (omega arith)))
 
-  pub same_more : (from : ℕ) (first rows rows' : List (List X)) (row : List X) → rows' ≡ rows ++ row ∷ [] → from ≤ length rows → IsSameBelow from first rows → IsSameBelow from first rows'
+  pub same_more : (from : ℕ) (first rows rows' : List (List X)) (row : List X) → rows' ≡ rows ++ row ∷ []
+      → from ≤ length rows → IsSameBelow from first rows → IsSameBelow from first rows'
   same_more from first rows rows' row e long before k low = row_there rows rows' row k e (omega arith) ∙ before k low

@@ -2,7 +2,8 @@
 use mathlib.Core.Option as maybe
 use mathlib.Core.Option.{some}
 use lib.ListN.{get_elem?, length-map}
-use Rattle.std.proofs.Common.{◌≡◌, ℕ, ◌+◌, ◌-◌, ◌<◌, ◌≤◌, Bool, List, [], ◌∷◌, ◌++◌, length, length-append, get_or, vec_len, vec_capacity, refl, sym, ap, subst, ◌∙◌, arith, length-set}
+use Rattle.std.proofs.Common.{◌≡◌, ℕ, ◌+◌, ◌-◌, ◌<◌, ◌≤◌, Bool, List, [], ◌∷◌, ◌++◌, length, length-append, get_or}
+use Rattle.std.proofs.Common.{vec_len, vec_capacity, refl, sym, ap, subst, ◌∙◌, arith, length-set}
 use Rattle.atomic_table.specs.Table.{rest, Me}
 use Rattle.atomic_table.specs.Seated.{TableId}
 use Rattle.publication_list.specs.Calls.{WalkerSeen}
@@ -25,18 +26,22 @@ use Rattle.desk_invariant.specs.declared.board.Held.{Held}
 use Rattle.desk_invariant.specs.declared.board.Held.TheVariants as held
 use Rattle.desk_invariant.specs.declared.board.Role.TheVariants as role
 use Rattle.desk_invariant.specs.declared.board.DeskView.{DeskView}
-use Rattle.desk_invariant.specs.Views.{after_miss, after_row_miss, after_win, after_pick, after_put_back, after_answer, after_release, after_meet, IsAtRest, IsAccount}
+use Rattle.desk_invariant.specs.Views.{after_miss, after_row_miss, after_win, after_pick, after_put_back}
+use Rattle.desk_invariant.specs.Views.{after_answer, after_release, after_meet, IsAtRest, IsAccount}
 use Rattle.desk_invariant.specs.Rule.{Fits}
 use Rattle.desk_invariant.proofs.Seeing.{seen_all}
 use Rattle.publication.specs.Handles.{Agrees, log_of, IsClient, IsPass, IsHand}
 
-module _ {O R : Type 0} {op_in : O → AnyOp} {reply_in : R → AnyReply} {number calls quota : ℕ} {outstanding : Bool} {j : Journal O R} {v : DeskView} where
+module _ {O R : Type 0} {op_in : O → AnyOp} {reply_in : R → AnyReply} {number calls quota : ℕ} {outstanding : Bool}
+    {j : Journal O R} {v : DeskView} where
   -- the client has seen other lists
-  agrees_seen : {seen received : List (List AnyEntry)} {h : Held} {back : List PutBack} {left : List Leaving} {missed retired still_there : List ℕ}
+  agrees_seen : {seen received : List (List AnyEntry)} {h : Held} {back : List PutBack} {left : List Leaving}
+    {missed retired still_there : List ℕ}
       {won : ℕ} {ready : Bool} → length seen ≡ 16 → ((x : ℕ) → IsLegal (kind_at v.kinds x) (get_or seen x []))
       → ((x : ℕ) → IsAccount x v (get_or seen x [])) → Agrees op_in reply_in number calls quota outstanding j v
       → Agrees op_in reply_in number calls quota outstanding j
-      (record v { seen = seen; received = received; held = h; back = back; left = left; missed = missed; won = won; retired = retired; still_there = still_there; ready = ready })
+      (record v { seen = seen; received = received; held = h; back = back; left = left; missed = missed; won = won;
+        retired = retired; still_there = still_there; ready = ready })
   agrees_seen wide legal accounts k = record {
     client_is = k.client_is;
     number_is = k.number_is;
@@ -54,48 +59,62 @@ module _ {O R : Type 0} {op_in : O → AnyOp} {reply_in : R → AnyReply} {numbe
     accounts = accounts;
   }
 
-  -- what a client was told, holds, has put back, has missed, how often it won, and what it knows of ends and of its row does not matter
-  pub agrees_light : {received : List (List AnyEntry)} {h : Held} {back : List PutBack} {left : List Leaving} {missed retired still_there : List ℕ}
+  -- what a client was told, holds, has put back, has missed, how often it won, and what it knows of ends and of its
+  -- row does not matter
+  pub agrees_light : {received : List (List AnyEntry)} {h : Held} {back : List PutBack} {left : List Leaving}
+      {missed retired still_there : List ℕ}
       {won : ℕ} {ready : Bool} → Agrees op_in reply_in number calls quota outstanding j v
       → Agrees op_in reply_in number calls quota outstanding j
-      (record v { received = received; held = h; back = back; left = left; missed = missed; won = won; retired = retired; still_there = still_there; ready = ready })
+      (record v { received = received; held = h; back = back; left = left; missed = missed; won = won;
+        retired = retired; still_there = still_there; ready = ready })
   agrees_light k = agrees_seen k.wide k.legal k.accounts k
 
   -- the client sees the list l of x
   pub agrees_seeing : (x : ℕ) (l : List AnyEntry) → x < 16 → IsLegal (kind_at v.kinds x) l → IsAccount x v l
-      → Agrees op_in reply_in number calls quota outstanding j v → Agrees op_in reply_in number calls quota outstanding j (after_meet x l v)
+      → Agrees op_in reply_in number calls quota outstanding j v
+      → Agrees op_in reply_in number calls quota outstanding j (after_meet x l v)
   agrees_seeing x l low legal account k = let wide = k.wide in
-      agrees_seen (length-set v.seen x l ∙ wide) (seen_all (λ y z. IsLegal (kind_at v.kinds y) z) v.seen x l (omega arith) legal (λ y _. k.legal y))
+      agrees_seen (length-set v.seen x l ∙ wide)
+        (seen_all (λ y z. IsLegal (kind_at v.kinds y) z) v.seen x l (omega arith) legal (λ y _. k.legal y))
       (seen_all (λ y z. IsAccount y v z) v.seen x l (omega arith) account (λ y _. k.accounts y)) k
 
 module _ {S O R : Type 0} (op_in : O → AnyOp) (reply_in : R → AnyReply) where
   -- what an entry leaves of the room for entries
-  pub room_taken : (k k' : Core S O R) (more : List AnyEntry) → log_of op_in reply_in k' ≡ log_of op_in reply_in k ++ more
+  pub room_taken : (k k' : Core S O R) (more : List AnyEntry)
+      → log_of op_in reply_in k' ≡ log_of op_in reply_in k ++ more
       → (vec_len k.log < vec_capacity k.log → vec_capacity k'.log ≡ vec_capacity k.log)
-      → 0 < vec_capacity k.log - vec_len k.log → (vec_capacity k'.log - vec_len k'.log) + length more ≡ vec_capacity k.log - vec_len k.log
+      → 0 < vec_capacity k.log - vec_len k.log
+      → (vec_capacity k'.log - vec_len k'.log) + length more ≡ vec_capacity k.log - vec_len k.log
   room_taken k k' more e same room =
-      let n : vec_len k.log ≡ length (log_of op_in reply_in k) = k.log.ok.0 ∙ sym (length-map k.log.items (entry_in op_in reply_in)) in
-      let n' : vec_len k'.log ≡ length (log_of op_in reply_in k') = k'.log.ok.0 ∙ sym (length-map k'.log.items (entry_in op_in reply_in)) in
-      let long : length (log_of op_in reply_in k') ≡ length (log_of op_in reply_in k) + length more = ap length e ∙ length-append (log_of op_in reply_in k) more in
+      let n : vec_len k.log ≡ length (log_of op_in reply_in k) =
+        k.log.ok.0 ∙ sym (length-map k.log.items (entry_in op_in reply_in)) in
+      let n' : vec_len k'.log ≡ length (log_of op_in reply_in k') =
+        k'.log.ok.0 ∙ sym (length-map k'.log.items (entry_in op_in reply_in)) in
+      let long : length (log_of op_in reply_in k') ≡ length (log_of op_in reply_in k) + length more =
+        ap length e ∙ length-append (log_of op_in reply_in k) more in
       let capacity = same (omega arith) in
       let within : vec_len k'.log ≤ vec_capacity k'.log = k'.log.ok.1 in
       omega arith
 
 module _ {S O R : Type 0} (content : S → Content) (op_in : O → AnyOp) (reply_in : R → AnyReply) where
   -- the core after a request was served
-  pub core_grows : (kind : Kind) (list : maybe.Option TableId) (r : ℕ) (k k' : Core S O R) (q : Request O) (a : Answer R) → k'.list ≡ k.list
+  pub core_grows : (kind : Kind) (list : maybe.Option TableId) (r : ℕ) (k k' : Core S O R) (q : Request O)
+      (a : Answer R) → k'.list ≡ k.list
       → Fits content op_in reply_in kind list k (log_of op_in reply_in k)
-      → log_of op_in reply_in k' ≡ log_of op_in reply_in k ++ logged r (request_in op_in q) (answer_in reply_in a) → Serves (content k.object) (op_in q.op) (answer_in reply_in a) (content k'.object)
+      → log_of op_in reply_in k' ≡ log_of op_in reply_in k ++ logged r (request_in op_in q) (answer_in reply_in a)
+      → Serves (content k.object) (op_in q.op) (answer_in reply_in a) (content k'.object)
       → Fits content op_in reply_in kind list k' (log_of op_in reply_in k')
   core_grows kind list r k k' q a same fits log did = (
     refl,
     subst (λ z. Replays (empty kind) z (content k'.object)) (sym log)
-        (replays_more (empty kind) (content k.object) (content k'.object) (log_of op_in reply_in k) r (request_in op_in q) (answer_in reply_in a)
+        (replays_more (empty kind) (content k.object) (content k'.object) (log_of op_in reply_in k) r
+          (request_in op_in q) (answer_in reply_in a)
         fits.1 did),
     fits.2 ∙ ap (λ (l : WalkerSeen). some l.roster) (sym same),
   )
 
-module _ {S O R : Type 0} (content : S → Content) (op_in : O → AnyOp) (reply_in : R → AnyReply) (number calls quota : ℕ) (outstanding : Bool) (j : Journal O R) where
+module _ {S O R : Type 0} (content : S → Content) (op_in : O → AnyOp) (reply_in : R → AnyReply)
+    (number calls quota : ℕ) (outstanding : Bool) (j : Journal O R) where
   abbrev M : Type 0
   M = Me (Slot S O R) DeskView
 
@@ -109,15 +128,18 @@ module _ {S O R : Type 0} (content : S → Content) (op_in : O → AnyOp) (reply
   TheHand = IsHand content op_in reply_in number calls quota outstanding j
 
   pub missed_ok : (i : ℕ) (m d : M) → TheClient m → d ≡ (after_miss i m.0, m.1) → TheClient d
-  missed_ok i m d k e = subst TheClient (sym e) record { agrees = agrees_light k.agrees; free = k.free; in_hand = k.in_hand }
+  missed_ok i m d k e = subst TheClient
+    (sym e) record { agrees = agrees_light k.agrees; free = k.free; in_hand = k.in_hand }
 
   -- the core is out of its slot: m before, a after the win, b with nothing in the slot
-  pub pass_ok : (x : ℕ) (k core : Core S O R) (l : List AnyEntry) (m a b : M) → TheClient m → a ≡ (after_win x l m.0, (x, slot.Core k) ∷ m.1) → b ≡ (a.0, (x, slot.Nothing) ∷ rest a.1) → core ≡ k
+  pub pass_ok : (x : ℕ) (k core : Core S O R) (l : List AnyEntry) (m a b : M) → TheClient m
+      → a ≡ (after_win x l m.0, (x, slot.Core k) ∷ m.1) → b ≡ (a.0, (x, slot.Nothing) ∷ rest a.1) → core ≡ k
       → Fits content op_in reply_in (kind_at m.0.kinds x) (get_elem? m.0.lists x) k l → x < 16 → ThePass x core b
   pass_ok x k core l m a b c e f same fits low =
       let log : log_of op_in reply_in core ≡ l = ap (log_of op_in reply_in) same ∙ fits.0 in
       let is : b ≡ (after_win x (log_of op_in reply_in core) m.0, (x, slot.Nothing) ∷ m.1) =
-      f ∙ (ap (λ z. (z.0, (x, slot.Nothing) ∷ rest z.1)) e ∙ ap (λ z. (after_win x z m.0, (x, slot.Nothing) ∷ m.1)) (sym log)) in
+      f ∙ (ap (λ z. (z.0, (x, slot.Nothing) ∷ rest z.1)) e
+        ∙ ap (λ z. (after_win x z m.0, (x, slot.Nothing) ∷ m.1)) (sym log)) in
       subst (ThePass x core) (sym is) record {
         agrees = agrees_light c.agrees;
         holds = refl;
@@ -132,10 +154,12 @@ module _ {S O R : Type 0} (content : S → Content) (op_in : O → AnyOp) (reply
       }
 
   -- the client after its pass was put back: m before, a with the core in hand, b after the step
-  pub released_ok : (x : ℕ) (core : Core S O R) (m a b : M) → ThePass x core m → a ≡ (m.0, (x, slot.Core core) ∷ rest m.1) → b ≡ (after_release x (log_of op_in reply_in core) a.0, rest a.1)
+  pub released_ok : (x : ℕ) (core : Core S O R) (m a b : M) → ThePass x core m
+      → a ≡ (m.0, (x, slot.Core core) ∷ rest m.1) → b ≡ (after_release x (log_of op_in reply_in core) a.0, rest a.1)
       → IsAccount x a.0 (log_of op_in reply_in core) → TheClient b
   released_ok x core m a b p e f account =
-      let l : List AnyEntry = log_of op_in reply_in core in let is : b ≡ (after_release x l m.0, rest m.1) = f ∙ ap (λ z. (after_release x l z.0, rest z.1)) e in
+      let l : List AnyEntry = log_of op_in reply_in core in
+      let is : b ≡ (after_release x l m.0, rest m.1) = f ∙ ap (λ z. (after_release x l z.0, rest z.1)) e in
       let account' : IsAccount x m.0 l = subst (λ (z : M). IsAccount x z.0 l) e account in
       subst TheClient (sym is) record {
         agrees = agrees_light (agrees_seeing x l p.low (content core.object, p.fits.1) account' p.agrees);
@@ -144,36 +168,53 @@ module _ {S O R : Type 0} (content : S → Content) (op_in : O → AnyOp) (reply
       }
 
   -- with the core in hand, the client may release
-  pub release_ready : (x : ℕ) (core : Core S O R) (m a : M) → ThePass x core m → a ≡ (m.0, (x, slot.Core core) ∷ rest m.1)
-      → (a.0.role ≡ role.Client) × (a.0.held ≡ held.Pass x (log_of op_in reply_in core)) × (a.1 ≡ (x, slot.Core core) ∷ rest m.1)
-      × Fits content op_in reply_in (kind_at a.0.kinds x) (get_elem? a.0.lists x) core (log_of op_in reply_in core) × IsAtRest a.0.own
-  release_ready x core m a p e = subst (λ (z : M). (z.0.role ≡ role.Client) × (z.0.held ≡ held.Pass x (log_of op_in reply_in core))
-      × (z.1 ≡ (x, slot.Core core) ∷ rest m.1) × Fits content op_in reply_in (kind_at z.0.kinds x) (get_elem? z.0.lists x) core (log_of op_in reply_in core) × IsAtRest z.0.own)
+  pub release_ready : (x : ℕ) (core : Core S O R) (m a : M) → ThePass x core m
+      → a ≡ (m.0, (x, slot.Core core) ∷ rest m.1)
+      → (a.0.role ≡ role.Client) × (a.0.held ≡ held.Pass x (log_of op_in reply_in core))
+        × (a.1 ≡ (x, slot.Core core) ∷ rest m.1)
+      × Fits content op_in reply_in (kind_at a.0.kinds x) (get_elem? a.0.lists x) core (log_of op_in reply_in core)
+      × IsAtRest a.0.own
+  release_ready x core m a p e =
+    subst (λ (z : M). (z.0.role ≡ role.Client) × (z.0.held ≡ held.Pass x (log_of op_in reply_in core))
+      × (z.1 ≡ (x, slot.Core core) ∷ rest m.1)
+      × Fits content op_in reply_in (kind_at z.0.kinds x) (get_elem? z.0.lists x) core (log_of op_in reply_in core)
+      × IsAtRest z.0.own)
       (sym e) (p.agrees.client_is, p.holds, refl, p.fits, p.agrees.at_rest)
 
   -- with the request in hand again, the client may put it back
-  pub back_ready : (x : ℕ) (core : Core S O R) (r : ℕ) (p : Request O) (m b : M) → TheHand x core r p m → b ≡ (m.0, (16 + r, slot.Request p) ∷ rest m.1)
-      → (b.0.role ≡ role.Client) × (b.0.held ≡ held.Hand x (log_of op_in reply_in core) r (request_in op_in p)) × (b.1 ≡ (16 + r, slot.Request p) ∷ rest m.1)
+  pub back_ready : (x : ℕ) (core : Core S O R) (r : ℕ) (p : Request O) (m b : M) → TheHand x core r p m
+      → b ≡ (m.0, (16 + r, slot.Request p) ∷ rest m.1)
+      → (b.0.role ≡ role.Client) × (b.0.held ≡ held.Hand x (log_of op_in reply_in core) r (request_in op_in p))
+        × (b.1 ≡ (16 + r, slot.Request p) ∷ rest m.1)
   back_ready x core r p m b h e =
-      subst (λ (z : M). (z.0.role ≡ role.Client) × (z.0.held ≡ held.Hand x (log_of op_in reply_in core) r (request_in op_in p))
+      subst (λ (z : M). (z.0.role ≡ role.Client)
+        × (z.0.held ≡ held.Hand x (log_of op_in reply_in core) r (request_in op_in p))
       × (z.1 ≡ (16 + r, slot.Request p) ∷ rest m.1)) (sym e) (h.agrees.client_is, h.holds, refl)
 
   -- with the answer in hand, the client may answer
-  pub answer_ready : (x : ℕ) (k k' : Core S O R) (r : ℕ) (q : Request O) (a : Answer R) (m b : M) → TheHand x k r q m → b ≡ (m.0, (16 + r, slot.Answer a) ∷ rest m.1)
-      → log_of op_in reply_in k' ≡ log_of op_in reply_in k ++ logged r (request_in op_in q) (answer_in reply_in a) → Serves (content k.object) (op_in q.op) (answer_in reply_in a) (content k'.object)
-      → (b.0.role ≡ role.Client) × (b.0.held ≡ held.Hand x (log_of op_in reply_in k) r (request_in op_in q)) × (b.1 ≡ (16 + r, slot.Answer a) ∷ rest m.1)
+  pub answer_ready : (x : ℕ) (k k' : Core S O R) (r : ℕ) (q : Request O) (a : Answer R) (m b : M) → TheHand x k r q m
+      → b ≡ (m.0, (16 + r, slot.Answer a) ∷ rest m.1)
+      → log_of op_in reply_in k' ≡ log_of op_in reply_in k ++ logged r (request_in op_in q) (answer_in reply_in a)
+      → Serves (content k.object) (op_in q.op) (answer_in reply_in a) (content k'.object)
+      → (b.0.role ≡ role.Client) × (b.0.held ≡ held.Hand x (log_of op_in reply_in k) r (request_in op_in q))
+        × (b.1 ≡ (16 + r, slot.Answer a) ∷ rest m.1)
       × IsLegal (kind_at b.0.kinds x) (log_of op_in reply_in k ++ logged r (request_in op_in q) (answer_in reply_in a))
   answer_ready x k k' r q a m b h e log did =
-      subst (λ (z : M). (z.0.role ≡ role.Client) × (z.0.held ≡ held.Hand x (log_of op_in reply_in k) r (request_in op_in q)) × (z.1 ≡ (16 + r, slot.Answer a) ∷ rest m.1)
-      × IsLegal (kind_at z.0.kinds x) (log_of op_in reply_in k ++ logged r (request_in op_in q) (answer_in reply_in a))) (sym e) (
+      subst (λ (z : M). (z.0.role ≡ role.Client)
+        × (z.0.held ≡ held.Hand x (log_of op_in reply_in k) r (request_in op_in q))
+        × (z.1 ≡ (16 + r, slot.Answer a) ∷ rest m.1)
+      × IsLegal (kind_at z.0.kinds x)
+        (log_of op_in reply_in k ++ logged r (request_in op_in q) (answer_in reply_in a))) (sym e) (
         h.agrees.client_is,
         h.holds,
         refl,
-        (content k'.object, replays_more (empty (kind_at m.0.kinds x)) (content k.object) (content k'.object) (log_of op_in reply_in k) r (request_in op_in q) (answer_in reply_in a) h.fits.1 did),
+        (content k'.object, replays_more (empty (kind_at m.0.kinds x)) (content k.object) (content k'.object)
+          (log_of op_in reply_in k) r (request_in op_in q) (answer_in reply_in a) h.fits.1 did),
       )
 
   -- a pass after a miss at a row
-  pub noted_ok : (x : ℕ) (core : Core S O R) (i : ℕ) (m b : M) → ThePass x core m → b ≡ (after_row_miss i x m.0, m.1) → ThePass x core b
+  pub noted_ok : (x : ℕ) (core : Core S O R) (i : ℕ) (m b : M) → ThePass x core m → b ≡ (after_row_miss i x m.0, m.1)
+      → ThePass x core b
   noted_ok x core i m b p f = subst (ThePass x core) (sym f) record {
     agrees = agrees_light p.agrees;
     holds = p.holds;
@@ -185,11 +226,13 @@ module _ {S O R : Type 0} (content : S → Content) (op_in : O → AnyOp) (reply
   -- the request q is out of its slot: a after the pick, b with nothing in the slot
   pub hand_ok : (x : ℕ) (core : Core S O R) (r : ℕ) (q p : Request O) (m a b : M) → ThePass x core m
       → a ≡ (after_pick x (log_of op_in reply_in core) r (request_in op_in q) m.0, (16 + r, slot.Request q) ∷ m.1)
-      → b ≡ (a.0, (16 + r, slot.Nothing) ∷ rest a.1) → q ≡ p → q.object ≡ x → kind_of (op_in q.op) ≡ kind_at m.0.kinds x → r < 32 → TheHand x core r p b
+      → b ≡ (a.0, (16 + r, slot.Nothing) ∷ rest a.1) → q ≡ p → q.object ≡ x
+      → kind_of (op_in q.op) ≡ kind_at m.0.kinds x → r < 32 → TheHand x core r p b
   hand_ok x core r q p m a b k e f same on of_kind low =
       let l : List AnyEntry = log_of op_in reply_in core in
       let is : b ≡ (after_pick x l r (request_in op_in p) m.0, (16 + r, slot.Nothing) ∷ m.1) =
-      f ∙ (ap (λ z. (z.0, (16 + r, slot.Nothing) ∷ rest z.1)) e ∙ ap (λ z. (after_pick x l r (request_in op_in z) m.0, (16 + r, slot.Nothing) ∷ m.1)) same) in
+      f ∙ (ap (λ z. (z.0, (16 + r, slot.Nothing) ∷ rest z.1)) e
+        ∙ ap (λ z. (after_pick x l r (request_in op_in z) m.0, (16 + r, slot.Nothing) ∷ m.1)) same) in
       subst (TheHand x core r p) (sym is) record {
         agrees = agrees_light k.agrees;
         holds = refl;
@@ -202,7 +245,8 @@ module _ {S O R : Type 0} (content : S → Content) (op_in : O → AnyOp) (reply
       }
 
   -- the request is back in its row: b with the request in its slot, d after the step
-  pub back_ok : (x : ℕ) (core : Core S O R) (r : ℕ) (p : Request O) (m b d : M) → TheHand x core r p m → b ≡ (m.0, (16 + r, slot.Request p) ∷ rest m.1)
+  pub back_ok : (x : ℕ) (core : Core S O R) (r : ℕ) (p : Request O) (m b d : M) → TheHand x core r p m
+      → b ≡ (m.0, (16 + r, slot.Request p) ∷ rest m.1)
       → d ≡ (after_put_back x (log_of op_in reply_in core) r (request_in op_in p) b.0, rest b.1) → ThePass x core d
   back_ok x core r p m b d h e f =
       let l : List AnyEntry = log_of op_in reply_in core in let q : AnyRequest = request_in op_in p in
@@ -218,10 +262,13 @@ module _ {S O R : Type 0} (content : S → Content) (op_in : O → AnyOp) (reply
   -- the pass after an answer: b with the answer in hand, d after the step
   pub answered_ok : (x r : ℕ) (k k' : Core S O R) (q : Request O) (a : Answer R) (m b d : M) → TheHand x k r q m
       → Fits content op_in reply_in (kind_at m.0.kinds x) (get_elem? m.0.lists x) k' (log_of op_in reply_in k')
-      → log_of op_in reply_in k' ≡ log_of op_in reply_in k ++ logged r (request_in op_in q) (answer_in reply_in a) → b ≡ (m.0, (16 + r, slot.Answer a) ∷ rest m.1)
-      → d ≡ (after_answer r x (log_of op_in reply_in k ++ logged r (request_in op_in q) (answer_in reply_in a)) b.0, rest m.1) → ThePass x k' d
+      → log_of op_in reply_in k' ≡ log_of op_in reply_in k ++ logged r (request_in op_in q) (answer_in reply_in a)
+      → b ≡ (m.0, (16 + r, slot.Answer a) ∷ rest m.1)
+      → d ≡ (after_answer r x (log_of op_in reply_in k ++ logged r (request_in op_in q) (answer_in reply_in a)) b.0,
+        rest m.1) → ThePass x k' d
   answered_ok x r k k' q a m b d h fits log e f =
-      let is : d ≡ (after_answer r x (log_of op_in reply_in k') m.0, rest m.1) = f ∙ λ i. (after_answer r x (sym log i) (e i).0, rest m.1) in
+      let is : d ≡ (after_answer r x (log_of op_in reply_in k') m.0, rest m.1) =
+        f ∙ λ i. (after_answer r x (sym log i) (e i).0, rest m.1) in
       subst (ThePass x k') (sym is) record {
         agrees = agrees_light h.agrees;
         holds = refl;

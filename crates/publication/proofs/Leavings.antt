@@ -1,5 +1,6 @@
 -- What is in the slots of a desk when all clients but one have ended, and that one holds nothing.
-use Rattle.std.proofs.Common.{◌≡◌, ◌≢◌, ℕ, zero, suc, ◌+◌, ◌<◌, ◌≤◌, true, List, [], ◌∷◌, map, length, get_or, Option, Some, None, Contains, All, refl, sym, ap, subst, ◌∙◌, ⊎_elim, arith}
+use Rattle.std.proofs.Common.{◌≡◌, ◌≢◌, ℕ, zero, suc, ◌+◌, ◌<◌, ◌≤◌, true, List, [], ◌∷◌, map, length, get_or}
+use Rattle.std.proofs.Common.{Option, Some, None, Contains, All, refl, sym, ap, subst, ◌∙◌, ⊎_elim, arith}
 use mathlib.Core.Logic.{dite}
 use mathlib.Core.Option.{some}
 use native.Mathlib.Decide.{ℕ_discrete}
@@ -11,7 +12,8 @@ use Rattle.model.specs.declared.Kind.{Kind}
 use Rattle.model.specs.declared.AnyOp.{AnyOp}
 use Rattle.model.specs.declared.AnyReply.{AnyReply}
 use Rattle.model.specs.Objects.{Content}
-use Rattle.desk_model.specs.World.{AnyEntry, AnyEvent, absent, World, kind_at, journal_of, journal_in, IsLegal, StartsWith}
+use Rattle.desk_model.specs.World.{AnyEntry, AnyEvent, absent, World, kind_at, journal_of, journal_in, IsLegal}
+use Rattle.desk_model.specs.World.{StartsWith}
 use Rattle.desk_model.specs.Sound.{Sound}
 use Rattle.desk_model.specs.Records.{IsSoundRecord}
 use Rattle.desk_model.proofs.Entries.{starts_same}
@@ -42,9 +44,12 @@ module _ {S O R : Type 0} (op_in : O → AnyOp) (reply_in : R → AnyReply) wher
     pub world : World
     pub sound : Sound kinds quota world
     pub number_low : v.number < clients
-    pub cores : (x : ℕ) → x < length kinds → (k : Core S O R) × (get_elem? xs x ≡ some (slot.Core k)) × (log_of op_in reply_in k ≡ world.log x)
+    pub cores : (x : ℕ) → x < length kinds
+        → (k : Core S O R) × (get_elem? xs x ≡ some (slot.Core k)) × (log_of op_in reply_in k ≡ world.log x)
     pub seen : (x : ℕ) → StartsWith (world.log x) (seen_of v x)
-    pub journals : (c : ℕ) → c < clients → c ≢ v.number → (j : Journal O R) × (get_elem? xs (48 + c) ≡ some (slot.Journal j)) × (map (event_in op_in reply_in) j.events.items ≡ journal_in world c)
+    pub journals : (c : ℕ) → c < clients → c ≢ v.number
+        → (j : Journal O R) × (get_elem? xs (48 + c) ≡ some (slot.Journal j))
+        × (map (event_in op_in reply_in) j.events.items ≡ journal_in world c)
     pub own : journal v ≡ journal_in world v.number
     pub left : All (λ l. journal_in world l.client ≡ l.journal) v.left
     pub accounts : (x : ℕ) → IsAccount x v (world.log x)
@@ -54,14 +59,18 @@ none_held : (h : Option ℕ) → ((c : ℕ) → h ≡ Some c → ⊥) → h ≡ 
 none_held None never = refl
 none_held (Some c) never = absurd (never c refl)
 
-module _ {S O R : Type 0} (content : S → Content) (op_in : O → AnyOp) (reply_in : R → AnyReply) (kinds : List Kind) (clients quota : ℕ) where
-  leavings : (id : ℕ) (v : DeskView) (words : List ℕ) (xs : List (Slot S O R)) → v.role ≡ role.Client → v.held ≡ held.Free → IsAtRest v.own
+module _ {S O R : Type 0} (content : S → Content) (op_in : O → AnyOp) (reply_in : R → AnyReply) (kinds : List Kind)
+    (clients quota : ℕ) where
+  leavings : (id : ℕ) (v : DeskView) (words : List ℕ) (xs : List (Slot S O R)) → v.role ≡ role.Client
+    → v.held ≡ held.Free → IsAtRest v.own
       → ((c : ℕ) → c < clients → c ≢ v.number → Contains v.retired c)
-      → Final (Seen (Kept content op_in reply_in kinds clients quota) id v) words xs → Leavings op_in reply_in kinds clients quota v xs
+      → Final (Seen (Kept content op_in reply_in kinds clients quota) id v) words xs
+      → Leavings op_in reply_in kinds clients quota v xs
   leavings id v words xs cl free rest all f =
       let s = f.0 in let k = f.1.0 in let at = f.1.1 in let home = f.4 in let w : World = k.world in let ok =
       mine content op_in reply_in kinds clients quota s k id v cl at in let few = k.few_clients in
-      let ended : (c : ℕ) → c < clients → c ≢ v.number → w.ended c ≡ true = λ c l other. All-contains (λ d. w.ended d ≡ true) v.retired c ok.retired (all c l other) in
+      let ended : (c : ℕ) → c < clients → c ≢ v.number → w.ended c ≡ true =
+        λ c l other. All-contains (λ d. w.ended d ≡ true) v.retired c ok.retired (all c l other) in
       let not_mine : (x : ℕ) → w.holder x ≢ Some v.number = subst (HeldOk (length kinds) w v.number) free ok.held in
       let free_all : (x : ℕ) → w.holder x ≡ None = λ x. none_held (w.holder x) (λ c e. dite (ℕ_discrete c v.number)
       (λ same. not_mine x (e ∙ ap Some same))
@@ -71,17 +80,21 @@ module _ {S O R : Type 0} (content : S → Content) (op_in : O → AnyOp) (reply
         number_low = k.makers.numbers id v at cl;
         cores = λ x l. let b = k.tied.cores x l (free_all x) in (b.0, home x (slot.Core b.0) b.1, b.2.0);
         seen = ok.seen;
-        journals = λ c l other. let b = (k.tied.journals c (omega arith)).at_last (ended c l other) in (b.0, home (48 + c) (slot.Journal b.0) b.1, b.2);
+        journals = λ c l other. let b = (k.tied.journals c (omega arith)).at_last (ended c l other) in
+          (b.0, home (48 + c) (slot.Journal b.0) b.1, b.2);
         left = λ i d l. ((k.seats id v at).left i d l).1;
         own = λ i. journal_of (ok.done i) (own_is v.own (w.stage v.number) ok.own i);
-        accounts = λ x. accounts kinds quota w x v (w.log x) rest ok.done ok.own k.sound (starts_same (w.log x)) (all_covered kinds quota w v.number x v.done v.own ok.done ok.own k.sound);
+        accounts = λ x. accounts kinds quota w x v (w.log x) rest ok.done ok.own k.sound (starts_same (w.log x))
+          (all_covered kinds quota w v.number x v.done v.own ok.done ok.own k.sound);
         come = k.come;
       }
 
-same_core : {S O R : Type 0} (k k' : Core S O R) → ◌≡◌ {A = mathlib.Core.Option.Option (Slot S O R)} (some (slot.Core k)) (some (slot.Core k')) → k ≡ k'
+same_core : {S O R : Type 0} (k k' : Core S O R)
+    → ◌≡◌ {A = mathlib.Core.Option.Option (Slot S O R)} (some (slot.Core k)) (some (slot.Core k')) → k ≡ k'
 same_core k k' e = cc
 
-same_journal : {S O R : Type 0} (j j' : Journal O R) → ◌≡◌ {A = mathlib.Core.Option.Option (Slot S O R)} (some (slot.Journal j)) (some (slot.Journal j')) → j ≡ j'
+same_journal : {S O R : Type 0} (j j' : Journal O R)
+    → ◌≡◌ {A = mathlib.Core.Option.Option (Slot S O R)} (some (slot.Journal j)) (some (slot.Journal j')) → j ≡ j'
 same_journal j j' e = cc
 
 -- a list of lists has nothing past its end
@@ -90,30 +103,41 @@ nothing_past [] i past = refl
 nothing_past (l ∷ ls) zero past = absurd (omega arith)
 nothing_past (l ∷ ls) (suc i) past = nothing_past ls i (omega arith)
 
-module _ {S O R : Type 0} (op_in : O → AnyOp) (reply_in : R → AnyReply) (d : DeskSeen) (last : Known) (xs : List (Slot S O R)) (r : Recorded O R)
+module _ {S O R : Type 0} (op_in : O → AnyOp) (reply_in : R → AnyReply) (d : DeskSeen) (last : Known)
+    (xs : List (Slot S O R)) (r : Recorded O R)
     (left : Leavings op_in reply_in d.id.kinds d.clients d.id.quota last.knows xs) where
   -- the record's logs and journals are those of the world
-  same_logs : AreLogs (length d.id.kinds) xs r.logs → (x : ℕ) → map (entry_in op_in reply_in) (get_or r.logs x []) ≡ left.world.log x
+  same_logs : AreLogs (length d.id.kinds) xs r.logs → (x : ℕ)
+    → map (entry_in op_in reply_in) (get_or r.logs x []) ≡ left.world.log x
   same_logs logs x = ⊎_elim
-      (λ (l : x < length d.id.kinds). let b = left.cores x l in let a = logs.1 x l in let same = same_core b.0 a.0 (sym b.1 ∙ a.1) in
+      (λ (l : x < length d.id.kinds). let b = left.cores x l in let a = logs.1 x l in
+          let same = same_core b.0 a.0 (sym b.1 ∙ a.1) in
       ap (map (entry_in op_in reply_in)) (sym a.2) ∙ (ap (log_of op_in reply_in) (sym same) ∙ b.2))
-      (λ (far : length d.id.kinds ≤ x). let count = logs.0 in ap (map (entry_in op_in reply_in)) (nothing_past r.logs x (omega arith))
+      (λ (far : length d.id.kinds ≤ x). let count = logs.0 in
+        ap (map (entry_in op_in reply_in)) (nothing_past r.logs x (omega arith))
       ∙ sym (no_log_beyond d.id.kinds d.id.quota left.world left.sound x far))
       (cases_lt x (length d.id.kinds))
 
-  same_journals : length r.journals ≡ d.clients → map (event_in op_in reply_in) (get_or r.journals last.knows.number []) ≡ journal last.knows
-      → ((c : ℕ) → c < d.clients → c ≢ last.knows.number → IsJournalOf xs c (get_or r.journals c [])) → (c : ℕ) → map (event_in op_in reply_in) (get_or r.journals c []) ≡ journal_in left.world c
+  same_journals : length r.journals ≡ d.clients
+    → map (event_in op_in reply_in) (get_or r.journals last.knows.number []) ≡ journal last.knows
+      → ((c : ℕ) → c < d.clients → c ≢ last.knows.number → IsJournalOf xs c (get_or r.journals c [])) → (c : ℕ)
+      → map (event_in op_in reply_in) (get_or r.journals c []) ≡ journal_in left.world c
   same_journals count own others c = dite (ℕ_discrete c last.knows.number)
-      (λ same. subst (λ z. map (event_in op_in reply_in) (get_or r.journals z []) ≡ journal_in left.world z) (sym same) (own ∙ left.own))
+      (λ same. subst (λ z. map (event_in op_in reply_in) (get_or r.journals z []) ≡ journal_in left.world z)
+        (sym same) (own ∙ left.own))
       (λ other. ⊎_elim
-      (λ (l : c < d.clients). let b = left.journals c l other in let a = others c l other in let same = same_journal b.0 a.0 (sym b.1 ∙ a.1) in
-      ap (map (event_in op_in reply_in)) (sym a.2) ∙ (ap (λ (j : Journal O R). map (event_in op_in reply_in) j.events.items) (sym same) ∙ b.2))
+      (λ (l : c < d.clients). let b = left.journals c l other in let a = others c l other in
+          let same = same_journal b.0 a.0 (sym b.1 ∙ a.1) in
+      ap (map (event_in op_in reply_in)) (sym a.2)
+        ∙ (ap (λ (j : Journal O R). map (event_in op_in reply_in) j.events.items) (sym same) ∙ b.2))
       (λ (far : d.clients ≤ c). ap (map (event_in op_in reply_in)) (nothing_past r.journals c (omega arith))
       ∙ sym (no_journal_beyond d.id.kinds d.id.quota left.world left.sound d.clients left.come c far))
       (cases_lt c d.clients))
 
-  pub closed_ok : AreLogs (length d.id.kinds) xs r.logs → length r.journals ≡ d.clients → map (event_in op_in reply_in) (get_or r.journals last.knows.number []) ≡ journal last.knows
-      → ((c : ℕ) → c < d.clients → c ≢ last.knows.number → IsJournalOf xs c (get_or r.journals c [])) → Closed op_in reply_in d last r
+  pub closed_ok : AreLogs (length d.id.kinds) xs r.logs → length r.journals ≡ d.clients
+      → map (event_in op_in reply_in) (get_or r.journals last.knows.number []) ≡ journal last.knows
+      → ((c : ℕ) → c < d.clients → c ≢ last.knows.number → IsJournalOf xs c (get_or r.journals c []))
+      → Closed op_in reply_in d last r
   closed_ok logs count own others = let same = same_logs logs in record {
     left = λ i d l. same_journals count own others (get_or last.knows.left i d).client ∙ left.left i d l;
     journals = count;
@@ -122,23 +146,31 @@ module _ {S O R : Type 0} (op_in : O → AnyOp) (reply_in : R → AnyReply) (d :
     legal = λ x l. subst (IsLegal (kind_at d.id.kinds x)) (sym (same x)) (left.sound.legal x);
     seen = λ x l. subst (λ z. StartsWith z (seen_of last.knows x)) (sym (same x)) (left.seen x);
     accounts = λ x. subst (IsAccount x last.knows) (sym (same x)) (left.accounts x);
-    sound = subst (λ (z : (ℕ → List AnyEvent) × (ℕ → List AnyEntry)). IsSoundRecord d.id.kinds d.id.quota z.0 z.1) (λ i. (λ c. sym (same_journals count own others c) i, λ x. sym (same x) i))
+    sound = subst (λ (z : (ℕ → List AnyEvent) × (ℕ → List AnyEntry)). IsSoundRecord d.id.kinds d.id.quota z.0 z.1)
+      (λ i. (λ c. sym (same_journals count own others c) i, λ x. sym (same x) i))
         (sound_record d.id.kinds d.id.quota left.world left.sound);
   }
 
 module _ {O R : Type 0} (op_in : O → AnyOp) (reply_in : R → AnyReply) where
   -- what the last client has learnt of end words does not matter
-  pub closed_same : (d : DeskSeen) (a b : Known) (r : Recorded O R) → HasLearntEnds a b → Closed op_in reply_in d b r → Closed op_in reply_in d a r
+  pub closed_same : (d : DeskSeen) (a b : Known) (r : Recorded O R) → HasLearntEnds a b → Closed op_in reply_in d b r
+      → Closed op_in reply_in d a r
   closed_same d a b r is k = let same = subst (λ z. Closed op_in reply_in d z r) is k in
-      record { journals = same.journals; logs = same.logs; own = same.own; left = same.left; legal = same.legal; seen = same.seen; accounts = same.accounts; sound = same.sound }
+      record { journals = same.journals; logs = same.logs; own = same.own; left = same.left; legal = same.legal;
+          seen = same.seen; accounts = same.accounts; sound = same.sound }
 
 module _ {S O R : Type 0} (content : S → Content) (op_in : O → AnyOp) (reply_in : R → AnyReply) where
   -- the same of a desk and its last client, as they are seen
-  pub left_by : (plan : Plan) (d : DeskSeen) (last : Known) (id : ℕ) (v : DeskView) (words : List ℕ) (xs : List (Slot S O R))
-      → plan.kinds.items ≡ d.id.kinds → plan.clients ≡ d.clients → plan.quota ≡ d.id.quota → v ≡ last.knows → v.role ≡ role.Client → v.held ≡ held.Free → IsAtRest v.own
-      → HaveEnded d.clients last → Final (Seen (Kept content op_in reply_in plan.kinds.items plan.clients plan.quota) id v) words xs
+  pub left_by : (plan : Plan) (d : DeskSeen) (last : Known) (id : ℕ) (v : DeskView) (words : List ℕ)
+      (xs : List (Slot S O R))
+      → plan.kinds.items ≡ d.id.kinds → plan.clients ≡ d.clients → plan.quota ≡ d.id.quota → v ≡ last.knows
+      → v.role ≡ role.Client → v.held ≡ held.Free → IsAtRest v.own
+      → HaveEnded d.clients last
+      → Final (Seen (Kept content op_in reply_in plan.kinds.items plan.clients plan.quota) id v) words xs
       → Leavings op_in reply_in d.id.kinds d.clients d.id.quota last.knows xs
   left_by plan d last id v words xs kinds clients quota same cl free rest all f =
-      subst (λ (t : List Kind × ℕ × ℕ × DeskView). Leavings op_in reply_in t.0 t.1 t.2 t.3 xs) (λ i. (kinds i, clients i, quota i, same i))
+      subst (λ (t : List Kind × ℕ × ℕ × DeskView). Leavings op_in reply_in t.0 t.1 t.2 t.3 xs)
+        (λ i. (kinds i, clients i, quota i, same i))
       (leavings content op_in reply_in plan.kinds.items plan.clients plan.quota id v words xs cl free rest
-      (subst (λ (t : ℕ × DeskView). (c : ℕ) → c < t.0 → c ≢ t.1.number → Contains t.1.retired c) (λ i. (sym clients i, sym same i)) all) f)
+      (subst (λ (t : ℕ × DeskView). (c : ℕ) → c < t.0 → c ≢ t.1.number → Contains t.1.retired c)
+        (λ i. (sym clients i, sym same i)) all) f)

@@ -14,14 +14,17 @@ module _ {S O R : Type 0} where
   head_or d (x ∷ xs) = x.1
 
   -- the value that comes out of the slot taken last
-  pub came_out : (i : ℕ) (x r : Slot S O R) (cs tl : List (ℕ × Slot S O R)) → cs ≡ (i, x) ∷ tl → cs ≡ (i, r) ∷ rest cs → r ≡ x
+  pub came_out : (i : ℕ) (x r : Slot S O R) (cs tl : List (ℕ × Slot S O R)) → cs ≡ (i, x) ∷ tl
+      → cs ≡ (i, r) ∷ rest cs → r ≡ x
   came_out i x r cs tl a b = ap (head_or x) (sym b ∙ a)
 
-  pub can_exchange : (i : ℕ) (x : Slot S O R) (cs tl : List (ℕ × Slot S O R)) → cs ≡ (i, x) ∷ tl → (old : Slot S O R) × (cs ≡ (i, old) ∷ rest cs)
+  pub can_exchange : (i : ℕ) (x : Slot S O R) (cs tl : List (ℕ × Slot S O R)) → cs ≡ (i, x) ∷ tl
+      → (old : Slot S O R) × (cs ≡ (i, old) ∷ rest cs)
   can_exchange i x cs tl e = (x, e ∙ ap (λ z. (i, x) ∷ rest z) (sym e))
 
   -- another value in the slot taken last
-  pub in_slot : (v : DeskView) (i : ℕ) (x y : Slot S O R) (tl : List (ℕ × Slot S O R)) → x ≡ y → ◌≡◌ {A = Me (Slot S O R) DeskView} (v, (i, x) ∷ tl) (v, (i, y) ∷ tl)
+  pub in_slot : (v : DeskView) (i : ℕ) (x y : Slot S O R) (tl : List (ℕ × Slot S O R)) → x ≡ y
+      → ◌≡◌ {A = Me (Slot S O R) DeskView} (v, (i, x) ∷ tl) (v, (i, y) ∷ tl)
   in_slot v i x y tl e = ap (λ z. (v, (i, z) ∷ tl)) e
 
   pub same_core : (k k' : Core S O R) → slot.Core k ≡ slot.Core k' → k ≡ k'

@@ -1,6 +1,8 @@
 -- A client over a whole post, and over a whole poll: m before, and one seat after each step.
-use Rattle.std.proofs.Common.{◌≡◌, ⊎_elim, inl, ℕ, ◌+◌, ◌<◌, Bool, true, false, List, [], ◌∷◌, ◌++◌, map, length, length-append, All, Option, Some}
-use Rattle.std.proofs.Common.{None, vec_len, vec_capacity, arith, refl, sym, ap, subst, ◌∙◌, get_or-set_same, length-set, append-nil}
+use Rattle.std.proofs.Common.{◌≡◌, ⊎_elim, inl, ℕ, ◌+◌, ◌<◌, Bool, true, false, List, [], ◌∷◌, ◌++◌, map, length}
+use Rattle.std.proofs.Common.{length-append, All, Option, Some}
+use Rattle.std.proofs.Common.{None, vec_len, vec_capacity, arith, refl, sym, ap, subst, ◌∙◌, get_or-set_same}
+use Rattle.std.proofs.Common.{length-set, append-nil}
 use mathlib.Core.List.{map-append}
 use lib.ListN.{length-map}
 use Rattle.atomic_table.specs.Table.{rest, Me}
@@ -10,7 +12,8 @@ use Rattle.desk_model.specs.declared.Request.{Request}
 use Rattle.desk_model.specs.declared.Answer.{Answer}
 use Rattle.desk_model.specs.declared.JournalEvent.{JournalEvent}
 use Rattle.desk_model.specs.declared.JournalEvent.TheVariants.{Invoked, Returned}
-use Rattle.desk_model.specs.World.{AnyEntry, AnyRequest, AnyAnswer, AnyDone, AnyEvent, kind_at, logged, logged_on, entries_of, served, calls_made}
+use Rattle.desk_model.specs.World.{AnyEntry, AnyRequest, AnyAnswer, AnyDone, AnyEvent, kind_at, logged, logged_on}
+use Rattle.desk_model.specs.World.{entries_of, served, calls_made}
 use Rattle.desk_model.specs.World.{tickets_drawn, invoked, journal_of, IsLegal, StartsWith}
 use Rattle.desk_model.specs.Images.{request_in, answer_in, event_in}
 use Rattle.desk_model.proofs.Entries.{served_more, logged_here, logged_else}
@@ -20,7 +23,8 @@ use Rattle.desk_invariant.specs.declared.board.Slot.TheVariants as slot
 use Rattle.desk_invariant.specs.declared.board.Own.{Own}
 use Rattle.desk_invariant.specs.declared.board.Own.TheVariants as own
 use Rattle.desk_invariant.specs.declared.board.DeskView.{DeskView}
-use Rattle.desk_invariant.specs.Views.{seen_of, own_request, is_waiting, with_own, after_take, after_return, MayHold, IsAccount, IsAtRest}
+use Rattle.desk_invariant.specs.Views.{seen_of, own_request, is_waiting, with_own, after_take, after_return}
+use Rattle.desk_invariant.specs.Views.{MayHold, IsAccount, IsAtRest}
 use Rattle.desk_invariant.proofs.Seeing.{seen_all}
 use Rattle.publication.specs.Handles.{Agrees, IsClient, at_hand}
 use Rattle.publication.specs.Calls.{Posted, Polled}
@@ -33,7 +37,8 @@ own_idle (own.Drawn q) a e = absurd a
 own_idle (own.Waiting q) a e = absurd (cc)
 own_idle (own.Taken q b) a e = absurd a
 
-pub own_waiting : (o : Own) → IsAtRest o → is_waiting o ≡ true → (q : AnyRequest) × (o ≡ own.Waiting q) × (q.object < 16)
+pub own_waiting : (o : Own) → IsAtRest o → is_waiting o ≡ true
+    → (q : AnyRequest) × (o ≡ own.Waiting q) × (q.object < 16)
 own_waiting own.Absent a e = absurd a
 own_waiting own.Idle a e = absurd (cc)
 own_waiting (own.Drawn q) a e = absurd a
@@ -41,9 +46,12 @@ own_waiting (own.Waiting q) a e = (q, refl, a)
 own_waiting (own.Taken q b) a e = absurd a
 
 -- the same client, where it is known whether a call is outstanding
-pub outstanding_is : {S O R : Type 0} {op_in : O → AnyOp} {reply_in : R → AnyReply} {number calls quota : ℕ} {a b : Bool} {j : Journal O R}
-    {m : Me (Slot S O R) DeskView} → a ≡ b → IsClient op_in reply_in number calls quota a j m → IsClient op_in reply_in number calls quota b j m
-outstanding_is {op_in = op_in} {reply_in = reply_in} {number = number} {calls = calls} {quota = quota} {j = j} {m = m} e k = subst (λ z. IsClient op_in reply_in number calls quota z j m) e k
+pub outstanding_is : {S O R : Type 0} {op_in : O → AnyOp} {reply_in : R → AnyReply} {number calls quota : ℕ}
+    {a b : Bool} {j : Journal O R}
+    {m : Me (Slot S O R) DeskView} → a ≡ b → IsClient op_in reply_in number calls quota a j m
+      → IsClient op_in reply_in number calls quota b j m
+outstanding_is {op_in = op_in} {reply_in = reply_in} {number = number} {calls = calls} {quota = quota} {j = j}
+    {m = m} e k = subst (λ z. IsClient op_in reply_in number calls quota z j m) e k
 
 journal_long : (ds : List AnyDone) (q : Option AnyRequest) → length (journal_of ds q) ≡ tickets_drawn ds q
 journal_long [] None = refl
@@ -53,47 +61,71 @@ journal_long (d ∷ ds) q = let n = journal_long ds q in omega arith
 module _ {O R : Type 0} (op_in : O → AnyOp) (reply_in : R → AnyReply) where
   -- the journal's vector is as long as the journal
   pub events_long : (number calls quota : ℕ) (outstanding : Bool) (j : Journal O R) (v : DeskView)
-      → Agrees op_in reply_in number calls quota outstanding j v → vec_len j.events ≡ tickets_drawn v.done (own_request v.own)
-  events_long number calls quota outstanding j v k = j.events.ok.0 ∙ (sym (length-map j.events.items (event_in op_in reply_in)) ∙ (ap length k.journal_is ∙ journal_long v.done (own_request v.own)))
+      → Agrees op_in reply_in number calls quota outstanding j v
+      → vec_len j.events ≡ tickets_drawn v.done (own_request v.own)
+  events_long number calls quota outstanding j v k =
+    j.events.ok.0 ∙ (sym (length-map j.events.items (event_in op_in reply_in))
+    ∙ (ap length k.journal_is ∙ journal_long v.done (own_request v.own)))
 
   -- there is room for the return of the outstanding call
-  pub room_to_return : (number calls quota : ℕ) (j : Journal O R) (v : DeskView) (q : AnyRequest) → Agrees op_in reply_in number calls quota true j v
+  pub room_to_return : (number calls quota : ℕ) (j : Journal O R) (v : DeskView) (q : AnyRequest)
+      → Agrees op_in reply_in number calls quota true j v
       → v.own ≡ own.Waiting q → vec_len j.events < vec_capacity j.events
-  room_to_return number calls quota j v q k is = let n = events_long number calls quota true j v k in let room = k.room in let within = k.within in let count = k.calls_is in
-      let tickets : tickets_drawn v.done (own_request v.own) ≡ tickets_drawn v.done (Some q) = ap (λ o. tickets_drawn v.done (own_request o)) is in
-      let calls' : calls_made v.done (own_request v.own) ≡ calls_made v.done (Some q) = ap (λ o. calls_made v.done (own_request o)) is in omega arith
+  room_to_return number calls quota j v q k is =
+      let n = events_long number calls quota true j v k in let room = k.room in let within = k.within in
+      let count = k.calls_is in
+      let tickets : tickets_drawn v.done (own_request v.own) ≡ tickets_drawn v.done (Some q) =
+        ap (λ o. tickets_drawn v.done (own_request o)) is in
+      let calls' : calls_made v.done (own_request v.own) ≡ calls_made v.done (Some q) =
+        ap (λ o. calls_made v.done (own_request o)) is in omega arith
 
   -- there is room for one call more
-  pub room_to_call : (number calls quota : ℕ) (j : Journal O R) (v : DeskView) → Agrees op_in reply_in number calls quota false j v → calls < quota → vec_len j.events < vec_capacity j.events
-  room_to_call number calls quota j v k few = let n = events_long number calls quota false j v k in let room = k.room in let is =
+  pub room_to_call : (number calls quota : ℕ) (j : Journal O R) (v : DeskView)
+      → Agrees op_in reply_in number calls quota false j v → calls < quota → vec_len j.events < vec_capacity j.events
+  room_to_call number calls quota j v k few =
+      let n = events_long number calls quota false j v k in let room = k.room in let is =
       own_idle v.own k.at_rest (sym k.outstanding_is) in let count = k.calls_is in
-      let tickets : tickets_drawn v.done (own_request v.own) ≡ tickets_drawn v.done None = ap (λ o. tickets_drawn v.done (own_request o)) is in
-      let calls' : calls_made v.done (own_request v.own) ≡ calls_made v.done None = ap (λ o. calls_made v.done (own_request o)) is in omega arith
+      let tickets : tickets_drawn v.done (own_request v.own) ≡ tickets_drawn v.done None =
+        ap (λ o. tickets_drawn v.done (own_request o)) is in
+      let calls' : calls_made v.done (own_request v.own) ≡ calls_made v.done None =
+        ap (λ o. calls_made v.done (own_request o)) is in omega arith
 
   -- a journal after one event more
-  journal_grows : (j j' : Journal O R) (e : JournalEvent O R) (l : List AnyEvent) → map (event_in op_in reply_in) j.events.items ≡ l
-      → j'.events.items ≡ j.events.items ++ e ∷ [] → map (event_in op_in reply_in) j'.events.items ≡ l ++ event_in op_in reply_in e ∷ []
-  journal_grows j j' e l is more = ap (map (event_in op_in reply_in)) more ∙ (map-append (event_in op_in reply_in) j.events.items (e ∷ []) ∙ ap (λ z. z ++ event_in op_in reply_in e ∷ []) is)
+  journal_grows : (j j' : Journal O R) (e : JournalEvent O R) (l : List AnyEvent)
+    → map (event_in op_in reply_in) j.events.items ≡ l
+      → j'.events.items ≡ j.events.items ++ e ∷ []
+      → map (event_in op_in reply_in) j'.events.items ≡ l ++ event_in op_in reply_in e ∷ []
+  journal_grows j j' e l is more =
+    ap (map (event_in op_in reply_in)) more
+    ∙ (map-append (event_in op_in reply_in) j.events.items (e ∷ []) ∙ ap (λ z. z ++ event_in op_in reply_in e ∷ []) is)
 
 module _ {S O R : Type 0} (op_in : O → AnyOp) (reply_in : R → AnyReply) where
   -- a after the request is in the slot, b after the draw, c after the request has its ticket, d after the post
   pub post_turn : (number calls quota : ℕ) (j : Journal O R) (p q : Request O) (m a b c d : Me (Slot S O R) DeskView)
       → IsClient op_in reply_in number calls quota false j m → a ≡ (m.0, (16 + number, slot.Request p) ∷ rest m.1)
-      → b ≡ (with_own (own.Drawn (request_in op_in q)) a.0, a.1) → c ≡ (b.0, (16 + number, slot.Request q) ∷ rest b.1) → d ≡ (with_own (own.Waiting (request_in op_in q)) c.0, rest c.1)
+      → b ≡ (with_own (own.Drawn (request_in op_in q)) a.0, a.1) → c ≡ (b.0, (16 + number, slot.Request q) ∷ rest b.1)
+      → d ≡ (with_own (own.Waiting (request_in op_in q)) c.0, rest c.1)
       → d ≡ (with_own (own.Waiting (request_in op_in q)) m.0, (48 + number, slot.Nothing) ∷ [])
   post_turn number calls quota j p q m a b c d k ea eb ec ed =
-      let is = own_idle m.0.own k.agrees.at_rest (sym k.agrees.outstanding_is) in let w : AnyRequest = request_in op_in q in
-      ed ∙ (ap (λ z. (with_own (own.Waiting w) z.0, rest z.1)) ec ∙ (ap (λ z. (with_own (own.Waiting w) z.0, rest z.1)) eb ∙ (ap (λ z. (with_own (own.Waiting w) z.0, rest z.1)) ea
+      let is = own_idle m.0.own k.agrees.at_rest (sym k.agrees.outstanding_is) in
+      let w : AnyRequest = request_in op_in q in
+      ed ∙ (ap (λ z. (with_own (own.Waiting w) z.0, rest z.1)) ec
+        ∙ (ap (λ z. (with_own (own.Waiting w) z.0, rest z.1)) eb
+          ∙ (ap (λ z. (with_own (own.Waiting w) z.0, rest z.1)) ea
       ∙ ap (λ z. (with_own (own.Waiting w) m.0, rest z)) (k.in_hand ∙ ap (at_hand number) is))))
 
   -- the client after a post
   pub post_ok : (number calls quota : ℕ) (j j' : Journal O R) (q : Request O) (m d : Me (Slot S O R) DeskView)
-      → IsClient op_in reply_in number calls quota false j m → d ≡ (with_own (own.Waiting (request_in op_in q)) m.0, (48 + number, slot.Nothing) ∷ [])
-      → q.object < 16 → calls < quota → j'.events.items ≡ j.events.items ++ Invoked q.ticket q.object q.op ∷ [] → vec_capacity j'.events ≡ vec_capacity j.events
+      → IsClient op_in reply_in number calls quota false j m
+      → d ≡ (with_own (own.Waiting (request_in op_in q)) m.0, (48 + number, slot.Nothing) ∷ [])
+      → q.object < 16 → calls < quota → j'.events.items ≡ j.events.items ++ Invoked q.ticket q.object q.op ∷ []
+      → vec_capacity j'.events ≡ vec_capacity j.events
       → IsClient op_in reply_in number (calls + 1) quota true j' d
-  post_ok number calls quota j j' q m d k e low few more same = let h = k.agrees in let w : AnyRequest = request_in op_in q in let is =
+  post_ok number calls quota j j' q m d k e low few more same =
+      let h = k.agrees in let w : AnyRequest = request_in op_in q in let is =
       own_idle m.0.own h.at_rest (sym h.outstanding_is) in let n = h.calls_is in
-      let count : calls_made m.0.done (own_request m.0.own) ≡ length m.0.done + 0 = ap (λ z. calls_made m.0.done (own_request z)) is in let room = h.room in
+      let count : calls_made m.0.done (own_request m.0.own) ≡ length m.0.done + 0 =
+        ap (λ z. calls_made m.0.done (own_request z)) is in let room = h.room in
       subst (IsClient op_in reply_in number (calls + 1) quota true j') (sym e) record {
         agrees = record {
           client_is = h.client_is;
@@ -110,18 +142,23 @@ module _ {S O R : Type 0} (op_in : O → AnyOp) (reply_in : R → AnyReply) wher
           room = omega arith;
           wide = h.wide;
           legal = h.legal;
-          accounts = λ x. let a = h.accounts x in let f : a.0 ≡ [] = subst (λ o. MayHold x m.0.number o a.0) is a.2 in (a.0, a.1, inl f);
+          accounts = λ x. let a = h.accounts x in let f : a.0 ≡ [] = subst (λ o. MayHold x m.0.number o a.0) is a.2 in
+            (a.0, a.1, inl f);
         };
         free = k.free;
         in_hand = refl;
       }
 
   -- what a post says
-  pub posted : (number calls quota x t : ℕ) (j : Journal O R) (op : O) (v : DeskView) (m d : Me (Slot S O R) DeskView) → IsClient op_in reply_in number calls quota false j m → v ≡ m.0
-      → d ≡ (with_own (own.Waiting record { object = x; ticket = t; op = op_in op }) m.0, (48 + number, slot.Nothing) ∷ []) → Posted v x (op_in op) d.0
-  posted number calls quota x t j op v m d k is e = let same = own_idle m.0.own k.agrees.at_rest (sym k.agrees.outstanding_is) in let q : AnyRequest =
+  pub posted : (number calls quota x t : ℕ) (j : Journal O R) (op : O) (v : DeskView) (m d : Me (Slot S O R) DeskView)
+      → IsClient op_in reply_in number calls quota false j m → v ≡ m.0
+      → d ≡ (with_own (own.Waiting record { object = x; ticket = t; op = op_in op }) m.0,
+        (48 + number, slot.Nothing) ∷ []) → Posted v x (op_in op) d.0
+  posted number calls quota x t j op v m d k is e =
+      let same = own_idle m.0.own k.agrees.at_rest (sym k.agrees.outstanding_is) in let q : AnyRequest =
       record { object = x; ticket = t; op = op_in op } in
-      subst (λ z. Posted z x (op_in op) d.0) (sym is) (subst (λ z. Posted m.0 x (op_in op) z) (sym (ap (λ z. z.0) e)) record {
+      subst (λ z. Posted z x (op_in op) d.0) (sym is)
+        (subst (λ z. Posted m.0 x (op_in op) z) (sym (ap (λ z. z.0) e)) record {
         ticket = t;
         was_idle = same;
         knows = refl;
@@ -130,24 +167,36 @@ module _ {S O R : Type 0} (op_in : O → AnyOp) (reply_in : R → AnyReply) wher
 
   -- a after the take, b with nothing in the slot, d after the draw of the return
   pub poll_turn : (number calls quota t : ℕ) (j : Journal O R) (q : AnyRequest) (e : Answer R) (l : List AnyEntry)
-      (m a b d : Me (Slot S O R) DeskView) → IsClient op_in reply_in number calls quota true j m → m.0.own ≡ own.Waiting q
-      → a ≡ (after_take q (answer_in reply_in e) l m.0, (16 + number, slot.Answer e) ∷ m.1) → b ≡ (a.0, (16 + number, slot.Nothing) ∷ rest a.1) → d ≡ (after_return q (answer_in reply_in e) t b.0, b.1)
-      → d ≡ (after_return q (answer_in reply_in e) t (after_take q (answer_in reply_in e) l m.0), (16 + number, slot.Nothing) ∷ (48 + number, slot.Nothing) ∷ [])
+      (m a b d : Me (Slot S O R) DeskView) → IsClient op_in reply_in number calls quota true j m
+        → m.0.own ≡ own.Waiting q
+      → a ≡ (after_take q (answer_in reply_in e) l m.0, (16 + number, slot.Answer e) ∷ m.1)
+      → b ≡ (a.0, (16 + number, slot.Nothing) ∷ rest a.1) → d ≡ (after_return q (answer_in reply_in e) t b.0, b.1)
+      → d ≡ (after_return q (answer_in reply_in e) t (after_take q (answer_in reply_in e) l m.0),
+        (16 + number, slot.Nothing) ∷ (48 + number, slot.Nothing) ∷ [])
   poll_turn number calls quota t j q e l m a b d k is ea eb ed = let w : AnyAnswer = answer_in reply_in e in
-      ed ∙ (ap (λ z. (after_return q w t z.0, z.1)) eb ∙ (ap (λ z. (after_return q w t z.0, (16 + number, slot.Nothing) ∷ rest z.1)) ea
-      ∙ ap (λ z. (after_return q w t (after_take q w l m.0), (16 + number, slot.Nothing) ∷ z)) (k.in_hand ∙ ap (at_hand number) is)))
+      ed ∙ (ap (λ z. (after_return q w t z.0, z.1)) eb
+        ∙ (ap (λ z. (after_return q w t z.0, (16 + number, slot.Nothing) ∷ rest z.1)) ea
+      ∙ ap (λ z. (after_return q w t (after_take q w l m.0), (16 + number, slot.Nothing) ∷ z))
+        (k.in_hand ∙ ap (at_hand number) is)))
 
   -- the client after a poll that took the answer
-  pub poll_ok : (number calls quota t : ℕ) (j j' : Journal O R) (q : AnyRequest) (e : Answer R) (l : List AnyEntry) (m d : Me (Slot S O R) DeskView)
-      → IsClient op_in reply_in number calls quota true j m → m.0.own ≡ own.Waiting q → q.object < 16 → IsLegal (kind_at m.0.kinds q.object) l
+  pub poll_ok : (number calls quota t : ℕ) (j j' : Journal O R) (q : AnyRequest) (e : Answer R) (l : List AnyEntry)
+      (m d : Me (Slot S O R) DeskView)
+      → IsClient op_in reply_in number calls quota true j m → m.0.own ≡ own.Waiting q → q.object < 16
+      → IsLegal (kind_at m.0.kinds q.object) l
       → entries_of m.0.number l ≡ served q.object m.0.number m.0.done ++ logged m.0.number q (answer_in reply_in e)
-      → d ≡ (after_return q (answer_in reply_in e) t (after_take q (answer_in reply_in e) l m.0), (16 + number, slot.Nothing) ∷ (48 + number, slot.Nothing) ∷ [])
-      → j'.events.items ≡ j.events.items ++ Returned t e ∷ [] → vec_capacity j'.events ≡ vec_capacity j.events → IsClient op_in reply_in number calls quota false j' d
-  poll_ok number calls quota t j j' q e l m d k is low legal counted f more same = let h = k.agrees in let n = h.calls_is in let w : AnyAnswer =
+      → d ≡ (after_return q (answer_in reply_in e) t (after_take q (answer_in reply_in e) l m.0),
+        (16 + number, slot.Nothing) ∷ (48 + number, slot.Nothing) ∷ [])
+      → j'.events.items ≡ j.events.items ++ Returned t e ∷ [] → vec_capacity j'.events ≡ vec_capacity j.events
+      → IsClient op_in reply_in number calls quota false j' d
+  poll_ok number calls quota t j j' q e l m d k is low legal counted f more same =
+      let h = k.agrees in let n = h.calls_is in let w : AnyAnswer =
       answer_in reply_in e in let room = h.room in let wide = h.wide in
-      let ds : List AnyDone = m.0.done ++ record { request = q; answer = w; returned = t } ∷ [] in let long : length ds ≡ length m.0.done + 1 =
+      let ds : List AnyDone = m.0.done ++ record { request = q; answer = w; returned = t } ∷ [] in
+      let long : length ds ≡ length m.0.done + 1 =
       length-append m.0.done (record { request = q; answer = w; returned = t } ∷ []) in
-      let count : calls_made m.0.done (own_request m.0.own) ≡ length m.0.done + 1 = ap (λ z. calls_made m.0.done (own_request z)) is in
+      let count : calls_made m.0.done (own_request m.0.own) ≡ length m.0.done + 1 =
+        ap (λ z. calls_made m.0.done (own_request z)) is in
       subst (IsClient op_in reply_in number calls quota false j') (sym f) record {
         agrees = record {
           client_is = h.client_is;
@@ -160,33 +209,47 @@ module _ {S O R : Type 0} (op_in : O → AnyOp) (reply_in : R → AnyReply) wher
           few = h.few;
           outstanding_is = refl;
           journal_is = journal_grows op_in reply_in j j' (Returned t e) (journal_of m.0.done (Some q))
-              (h.journal_is ∙ ap (λ z. journal_of m.0.done (own_request z)) is) more ∙ sym (journal_over m.0.done q w t);
+              (h.journal_is ∙ ap (λ z. journal_of m.0.done (own_request z)) is) more
+                ∙ sym (journal_over m.0.done q w t);
           room = omega arith;
           wide = length-set m.0.seen q.object l ∙ wide;
-          legal = seen_all (λ x z. IsLegal (kind_at m.0.kinds x) z) m.0.seen q.object l (omega arith) legal (λ x _. h.legal x);
-          accounts = seen_all (λ x z. IsAccount x (after_return q w t (after_take q w l m.0)) z) m.0.seen q.object l (omega arith) (
+          legal = seen_all (λ x z. IsLegal (kind_at m.0.kinds x) z) m.0.seen q.object l (omega arith) legal
+            (λ x _. h.legal x);
+          accounts = seen_all (λ x z. IsAccount x (after_return q w t (after_take q w l m.0)) z) m.0.seen q.object l
+            (omega arith) (
             [],
-            counted ∙ (ap (λ z. served q.object m.0.number m.0.done ++ z) (sym (logged_here q.object m.0.number q w refl))
-                ∙ (sym (served_more q.object m.0.number t m.0.done q w) ∙ sym (append-nil (served q.object m.0.number ds)))),
+            counted ∙ (ap (λ z. served q.object m.0.number m.0.done ++ z)
+              (sym (logged_here q.object m.0.number q w refl))
+                ∙ (sym (served_more q.object m.0.number t m.0.done q w)
+                  ∙ sym (append-nil (served q.object m.0.number ds)))),
             refl,
           )
-              (λ x other. let a = h.accounts x in let nothing : logged_on x m.0.number q w ≡ [] = logged_else x m.0.number q w (λ g. other (sym g)) in
-              let none_now : a.0 ≡ [] = ⊎_elim (λ g. g) (λ (g : (b : AnyAnswer) × (a.0 ≡ logged_on x m.0.number q b)). g.1
+              (λ x other. let a = h.accounts x in
+                  let nothing : logged_on x m.0.number q w ≡ [] = logged_else x m.0.number q w (λ g. other (sym g)) in
+              let none_now : a.0 ≡ [] =
+                ⊎_elim (λ g. g) (λ (g : (b : AnyAnswer) × (a.0 ≡ logged_on x m.0.number q b)). g.1
               ∙ logged_else x m.0.number q g.0 (λ z. other (sym z))) (subst (λ o. MayHold x m.0.number o a.0) is a.2) in
-              ([], a.1 ∙ (ap (λ z. served x m.0.number m.0.done ++ z) (none_now ∙ sym nothing) ∙ (sym (served_more x m.0.number t m.0.done q w) ∙ sym (append-nil (served x m.0.number ds)))), refl));
+              ([], a.1 ∙ (ap (λ z. served x m.0.number m.0.done ++ z) (none_now ∙ sym nothing)
+                ∙ (sym (served_more x m.0.number t m.0.done q w) ∙ sym (append-nil (served x m.0.number ds)))), refl));
         };
         free = k.free;
         in_hand = refl;
       }
 
   -- what a poll that took the answer says
-  pub polled : (number calls quota t : ℕ) (j : Journal O R) (q : AnyRequest) (e : Answer R) (l : List AnyEntry) (v u : DeskView)
-      (m d : Me (Slot S O R) DeskView) → IsClient op_in reply_in number calls quota true j m → v ≡ m.0 → m.0.own ≡ own.Waiting q → q.object < 16
-      → IsLegal (kind_at m.0.kinds q.object) l → StartsWith l (seen_of m.0 q.object) → entries_of m.0.number l ≡ served q.object m.0.number m.0.done ++ logged m.0.number q (answer_in reply_in e)
+  pub polled : (number calls quota t : ℕ) (j : Journal O R) (q : AnyRequest) (e : Answer R) (l : List AnyEntry)
+      (v u : DeskView)
+      (m d : Me (Slot S O R) DeskView) → IsClient op_in reply_in number calls quota true j m → v ≡ m.0
+        → m.0.own ≡ own.Waiting q → q.object < 16
+      → IsLegal (kind_at m.0.kinds q.object) l → StartsWith l (seen_of m.0 q.object)
+      → entries_of m.0.number l ≡ served q.object m.0.number m.0.done ++ logged m.0.number q (answer_in reply_in e)
       → u ≡ after_take q (answer_in reply_in e) l m.0 → All (λ y. y.ticket < t) (seen_of u q.object)
-      → d ≡ (after_return q (answer_in reply_in e) t (after_take q (answer_in reply_in e) l m.0), (16 + number, slot.Nothing) ∷ (48 + number, slot.Nothing) ∷ []) → Polled v (answer_in reply_in e) d.0
-  polled number calls quota t j q e l v u m d k is waits low legal begins counted took later f = let w : AnyAnswer = answer_in reply_in e in let wide = k.agrees.wide in
-      let now : seen_of u q.object ≡ l = ap (λ z. seen_of z q.object) took ∙ get_or-set_same m.0.seen q.object l [] (omega arith) in
+      → d ≡ (after_return q (answer_in reply_in e) t (after_take q (answer_in reply_in e) l m.0),
+        (16 + number, slot.Nothing) ∷ (48 + number, slot.Nothing) ∷ []) → Polled v (answer_in reply_in e) d.0
+  polled number calls quota t j q e l v u m d k is waits low legal begins counted took later f =
+      let w : AnyAnswer = answer_in reply_in e in let wide = k.agrees.wide in
+      let now : seen_of u q.object ≡ l =
+        ap (λ z. seen_of z q.object) took ∙ get_or-set_same m.0.seen q.object l [] (omega arith) in
       subst (λ z. Polled z w d.0) (sym is) (subst (Polled m.0 w) (sym (ap (λ z. z.0) f)) record {
         request = q;
         log = l;
@@ -198,5 +261,6 @@ module _ {S O R : Type 0} (op_in : O → AnyOp) (reply_in : R → AnyReply) wher
         begins = begins;
         counted = counted;
         later = subst (All (λ (y : AnyEntry). y.ticket < t)) now later;
-        journal = journal_over m.0.done q w t ∙ ap (λ z. journal_of m.0.done (own_request z) ++ Returned t w ∷ []) (sym waits);
+        journal = journal_over m.0.done q w t
+          ∙ ap (λ z. journal_of m.0.done (own_request z) ++ Returned t w ∷ []) (sym waits);
       })

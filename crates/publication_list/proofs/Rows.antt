@@ -1,5 +1,6 @@
 -- Lists of rows: the words that lead from place to place, and a place taken out.
-use Rattle.std.proofs.Common.{◌≡◌, ◌≢◌, ◌⊎◌, ℕ, zero, suc, ◌+◌, ◌-◌, ◌<◌, ◌≤◌, List, [], ◌∷◌, ◌++◌, length, get_or, remove, length-append, refl, sym, ap, ◌∙◌, inl, inr, ⊎_elim, lt_of_not-le, arith}
+use Rattle.std.proofs.Common.{◌≡◌, ◌≢◌, ◌⊎◌, ℕ, zero, suc, ◌+◌, ◌-◌, ◌<◌, ◌≤◌, List, [], ◌∷◌, ◌++◌, length, get_or}
+use Rattle.std.proofs.Common.{remove, length-append, refl, sym, ap, ◌∙◌, inl, inr, ⊎_elim, lt_of_not-le, arith}
 use mathlib.Core.Logic.{dite}
 use mathlib.Mathlib.Logic.Function.Basic.{update, forall_update_iff}
 use native.Mathlib.Decide.{dec_le, ℕ_discrete}
@@ -9,7 +10,8 @@ use Rattle.publication_list.specs.PublicationList.{IsDistinct, word_at}
 
 module _ {A : Type 0} where
   -- what holds of the new value at i, and of the old ones elsewhere, holds of the function with that value
-  pub updated_all : (P : ℕ → A → Type 0) (f : ℕ → A) (i : ℕ) (v : A) → P i v → ((j : ℕ) → j ≢ i → P j (f j)) → (j : ℕ) → P j (update ℕ_discrete f i v j)
+  pub updated_all : (P : ℕ → A → Type 0) (f : ℕ → A) (i : ℕ) (v : A) → P i v → ((j : ℕ) → j ≢ i → P j (f j)) → (j : ℕ)
+      → P j (update ℕ_discrete f i v j)
   updated_all P f i v here others = (forall_update_iff ℕ_discrete f P).1 (here, others)
 
 pub word_at_in : (l : List ℕ) (k : ℕ) → k < length l → word_at l k ≡ 1 + get_or l k 0
@@ -33,20 +35,25 @@ remove_append (x ∷ xs) ys k zero e = absurd (omega arith)
 remove_append (x ∷ xs) ys k (suc n) e = ap (λ z. x ∷ z) (remove_append xs ys k n (omega arith))
 
 -- where a place of the shorter list was before
-pub was_at : (l : List ℕ) (i k : ℕ) → i < length l → k < length (remove l i) → (j : ℕ) × (j < length l) × (get_or (remove l i) k 0 ≡ get_or l j 0) × (((k < i) × (j ≡ k)) ⊎ ((i ≤ k) × (j ≡ k + 1)))
+pub was_at : (l : List ℕ) (i k : ℕ) → i < length l → k < length (remove l i)
+    → (j : ℕ) × (j < length l) × (get_or (remove l i) k 0 ≡ get_or l j 0)
+    × (((k < i) × (j ≡ k)) ⊎ ((i ≤ k) × (j ≡ k + 1)))
 was_at l i k inside low = let long = length-remove l i inside in dite (dec_le i k)
     (λ above. (k + 1, omega arith, get_or-remove_above l i 0 k above inside, inr (above, refl)))
     (λ n. let below = lt_of_not-le n in (k, omega arith, get_or-remove_below l i 0 k below inside, inl (below, refl)))
 
 -- where a place of the longer list is then
-pub is_at : (l : List ℕ) (i j : ℕ) → i < length l → j < length l → j ≢ i → (k : ℕ) × (k < length (remove l i)) × (get_or (remove l i) k 0 ≡ get_or l j 0)
+pub is_at : (l : List ℕ) (i j : ℕ) → i < length l → j < length l → j ≢ i
+    → (k : ℕ) × (k < length (remove l i)) × (get_or (remove l i) k 0 ≡ get_or l j 0)
 is_at l i j inside low other = let long = length-remove l i inside in dite (dec_le i j)
-    (λ above. (j - 1, omega arith, get_or-remove_above l i 0 (j - 1) (omega arith) inside ∙ ap (λ z. get_or l z 0) (omega arith)))
+    (λ above. (j - 1, omega arith,
+      get_or-remove_above l i 0 (j - 1) (omega arith) inside ∙ ap (λ z. get_or l z 0) (omega arith)))
     (λ n. let below = lt_of_not-le n in (j, omega arith, get_or-remove_below l i 0 j below inside))
 
 pub word_at-remove_below : (l : List ℕ) (i k : ℕ) → i < length l → k < i → word_at (remove l i) k ≡ word_at l k
 word_at-remove_below l i k inside low = let long = length-remove l i inside in
-    word_at_in (remove l i) k (omega arith) ∙ (ap (λ z. 1 + z) (get_or-remove_below l i 0 k low inside) ∙ sym (word_at_in l k (omega arith)))
+    word_at_in (remove l i) k (omega arith)
+      ∙ (ap (λ z. 1 + z) (get_or-remove_below l i 0 k low inside) ∙ sym (word_at_in l k (omega arith)))
 
 pub word_at-remove_above : (l : List ℕ) (i k : ℕ) → i < length l → i ≤ k → word_at (remove l i) k ≡ word_at l (suc k)
 word_at-remove_above l i k inside above =
@@ -54,11 +61,14 @@ word_at-remove_above l i k inside above =
     let long = length-remove l i inside in dite (dec_le (length (remove l i)) k)
     (λ past. word_at_past (remove l i) k past ∙ sym (word_at_past l (suc k) (omega arith)))
     (λ n. let low = lt_of_not-le n in word_at_in (remove l i) k low
-    ∙ (ap (λ z. 1 + z) (get_or-remove_above l i 0 k above inside ∙ ap (λ z. get_or l z 0) next) ∙ sym (word_at_in l (suc k) (omega arith))))
+    ∙ (ap (λ z. 1 + z) (get_or-remove_above l i 0 k above inside ∙ ap (λ z. get_or l z 0) next)
+      ∙ sym (word_at_in l (suc k) (omega arith))))
 
 pub distinct_right : (xs ys : List ℕ) → IsDistinct (xs ++ ys) → IsDistinct ys
 distinct_right xs ys d i j li lj e = let long = length-append xs ys in
-    let both : length xs + i ≡ length xs + j = d (length xs + i) (length xs + j) (omega arith) (omega arith) (get_or-append-add xs ys i 0 ∙ (e ∙ sym (get_or-append-add xs ys j 0))) in omega arith
+    let both : length xs + i ≡ length xs + j =
+      d (length xs + i) (length xs + j) (omega arith) (omega arith)
+      (get_or-append-add xs ys i 0 ∙ (e ∙ sym (get_or-append-add xs ys j 0))) in omega arith
 
 pub distinct_remove : (l : List ℕ) (p : ℕ) → p < length l → IsDistinct l → IsDistinct (remove l p)
 distinct_remove l p inside d i j li lj e =
@@ -67,28 +77,35 @@ distinct_remove l p inside d i j li lj e =
     let same : a.0 ≡ b.0 = d a.0 b.0 a.1 b.1 (sym a.2 ∙ (e ∙ b.2)) in
     ⊎_elim (λ (x : (i < p) × (a.0 ≡ i)). ⊎_elim (λ (y : (j < p) × (b.0 ≡ j)). let u = x.1 in let v = y.1 in omega arith)
     (λ (y : (p ≤ j) × (b.0 ≡ j + 1)). let u = x.1 in let v = y.1 in let s = x.0 in let t = y.0 in omega arith) b.3)
-    (λ (x : (p ≤ i) × (a.0 ≡ i + 1)). ⊎_elim (λ (y : (j < p) × (b.0 ≡ j)). let u = x.1 in let v = y.1 in let s = x.0 in let t = y.0 in omega arith)
+    (λ (x : (p ≤ i) × (a.0 ≡ i + 1)). ⊎_elim
+      (λ (y : (j < p) × (b.0 ≡ j)). let u = x.1 in let v = y.1 in let s = x.0 in let t = y.0 in omega arith)
     (λ (y : (p ≤ j) × (b.0 ≡ j + 1)). let u = x.1 in let v = y.1 in omega arith) b.3) a.3
 
 -- what was taken out is gone
-pub gone : (l : List ℕ) (p k : ℕ) → p < length l → IsDistinct l → k < length (remove l p) → get_or (remove l p) k 0 ≢ get_or l p 0
+pub gone : (l : List ℕ) (p k : ℕ) → p < length l → IsDistinct l → k < length (remove l p)
+    → get_or (remove l p) k 0 ≢ get_or l p 0
 gone l p k inside d low e =
     let a = was_at l p k inside low in
     let same : a.0 ≡ p = d a.0 p a.1 inside (sym a.2 ∙ e) in
-    ⊎_elim (λ (x : (k < p) × (a.0 ≡ k)). let u = x.1 in let v = x.0 in omega arith) (λ (x : (p ≤ k) × (a.0 ≡ k + 1)). let u = x.1 in let v = x.0 in omega arith) a.3
+    ⊎_elim (λ (x : (k < p) × (a.0 ≡ k)). let u = x.1 in let v = x.0 in omega arith)
+      (λ (x : (p ≤ k) × (a.0 ≡ k + 1)). let u = x.1 in let v = x.0 in omega arith) a.3
 
-pub distinct_more : (x : ℕ) (xs : List ℕ) → ((k : ℕ) → k < length xs → get_or xs k 0 ≢ x) → IsDistinct xs → IsDistinct (x ∷ xs)
+pub distinct_more : (x : ℕ) (xs : List ℕ) → ((k : ℕ) → k < length xs → get_or xs k 0 ≢ x) → IsDistinct xs
+    → IsDistinct (x ∷ xs)
 distinct_more x xs fresh d zero zero li lj e = refl
 distinct_more x xs fresh d zero (suc j) li lj e = absurd (fresh j (omega arith) (sym e))
 distinct_more x xs fresh d (suc i) zero li lj e = absurd (fresh i (omega arith) e)
 distinct_more x xs fresh d (suc i) (suc j) li lj e = ap suc (d i j (omega arith) (omega arith) e)
 
-found : (n : ℕ) (l : List ℕ) → ((i : ℕ) × (i < length l) × (get_or l i 0 ≡ n)) ⊎ ((i : ℕ) → i < length l → get_or l i 0 ≢ n)
+found : (n : ℕ) (l : List ℕ)
+    → ((i : ℕ) × (i < length l) × (get_or l i 0 ≡ n)) ⊎ ((i : ℕ) → i < length l → get_or l i 0 ≢ n)
 found n [] = inr (λ i h e. omega arith)
 found n (x ∷ xs) = dite (ℕ_discrete x n) (λ e. inl (0, omega arith, e))
-    (λ ne. ⊎_elim (λ (t : (i : ℕ) × (i < length xs) × (get_or xs i 0 ≡ n)). let l = t.1 in inl (suc t.0, omega arith, t.2)) (λ t. inr (not_first n x xs ne t)) (found n xs))
+    (λ ne. ⊎_elim (λ (t : (i : ℕ) × (i < length xs) × (get_or xs i 0 ≡ n)). let l = t.1 in
+      inl (suc t.0, omega arith, t.2)) (λ t. inr (not_first n x xs ne t)) (found n xs))
   where
-    not_first : (n x : ℕ) (xs : List ℕ) → x ≢ n → ((i : ℕ) → i < length xs → get_or xs i 0 ≢ n) → (i : ℕ) → i < length (x ∷ xs) → get_or (x ∷ xs) i 0 ≢ n
+    not_first : (n x : ℕ) (xs : List ℕ) → x ≢ n → ((i : ℕ) → i < length xs → get_or xs i 0 ≢ n) → (i : ℕ)
+      → i < length (x ∷ xs) → get_or (x ∷ xs) i 0 ≢ n
     not_first n x xs ne t zero h = ne
     not_first n x xs ne t (suc i) h = t i (omega arith)
 
@@ -103,4 +120,5 @@ few_below (suc n) l d low = ⊎_elim
     let ne = gone l t.0 k t.1 d h in
     let e = a.2 in
     let other : get_or (remove l t.0) k 0 ≢ n = λ f. ne (f ∙ sym t.2) in omega arith) in omega arith)
-    (λ t. let rest = few_below n l d (λ k h. let lt = low k h in let ne = t k h in omega arith) in omega arith) (found n l)
+    (λ t. let rest = few_below n l d (λ k h. let lt = low k h in let ne = t k h in omega arith) in omega arith)
+      (found n l)

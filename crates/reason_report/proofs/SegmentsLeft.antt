@@ -19,7 +19,8 @@ pub operations_left : (commented : Bool) (es : List Event) (ops : List Invocatio
 operations_left commented es ops i d lt = ap (operations_text commented es) (drop_more ops i d lt)
 
 -- one more goes to what went out
-pub one_more : (old new segment rest left all : List ℕ) → new ≡ old ++ segment → left ≡ segment ++ rest → old ++ left ≡ all
+pub one_more : (old new segment rest left all : List ℕ) → new ≡ old ++ segment → left ≡ segment ++ rest
+    → old ++ left ≡ all
     → new ++ rest ≡ all
 one_more old new segment rest left all is parts done =
     ap (λ x. x ++ rest) is ∙ (append_assoc old segment rest ∙ (ap (λ x. old ++ x) (sym parts) ∙ done))

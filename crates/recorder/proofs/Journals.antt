@@ -26,17 +26,22 @@ Fits op Refused = Unit {0}
 pub data InTurn : List AnyEvent → Type 0 where
   none : InTurn []
   last : (t x : ℕ) (op : AnyOp) → InTurn (Invoked t x op ∷ [])
-  call : (t x : ℕ) (op : AnyOp) (u : ℕ) (a : AnyAnswer) (es : List AnyEvent) → Fits op a → InTurn es → InTurn (Invoked t x op ∷ Returned u a ∷ es)
+  call : (t x : ℕ) (op : AnyOp) (u : ℕ) (a : AnyAnswer) (es : List AnyEvent) → Fits op a → InTurn es
+    → InTurn (Invoked t x op ∷ Returned u a ∷ es)
 
 -- so are those of a journal that denotes events in which each reply has its shape
 pub in_turn : (c : ℕ) (js : List AnyEvent) (h : List Numbered) → Denotes c js h
-    → ((o : ProcessCall) (r : Return) → In o (calls_in h) → o.call.returned ≡ Some r → HasShape o.call.op r.reply) → InTurn js
+    → ((o : ProcessCall) (r : Return) → In o (calls_in h) → o.call.returned ≡ Some r → HasShape o.call.op r.reply)
+    → InTurn js
 in_turn c [] h d shape = none
 in_turn c (Invoked t x op ∷ []) h d shape = last t x op
 in_turn c (Invoked t x op ∷ Returned u (Reply r) ∷ es) h d shape =
     let calls : calls_in h ≡ first c t x op u r ∷ calls_in d.0 = ap calls_in d.1 ∙ calls_in-call c t x op u r d.0 in
-    let fits : HasShape op r = shape (first c t x op u r) (record { at = u; reply = r }) (subst (In (first c t x op u r)) (sym calls) (inl refl)) refl in
-    call t x op u (Reply r) es fits (in_turn c es d.0 d.2 (λ o s i back. shape o s (subst (In o) (sym calls) (inr i)) back))
+    let fits : HasShape op r =
+      shape (first c t x op u r) (record { at = u; reply = r })
+      (subst (In (first c t x op u r)) (sym calls) (inl refl)) refl in
+    call t x op u (Reply r) es fits
+      (in_turn c es d.0 d.2 (λ o s i back. shape o s (subst (In o) (sym calls) (inr i)) back))
 in_turn c (Invoked t x op ∷ Returned u Refused ∷ es) h d shape = call t x op u Refused es tt (in_turn c es h d shape)
 in_turn c (Invoked t x op ∷ Invoked u y o ∷ es) h d shape = absurd d
 in_turn c (Returned u a ∷ es) h d shape = absurd d
@@ -45,9 +50,11 @@ in_turn c (Returned u a ∷ es) h d shape = absurd d
 pub runs_of : (c x : ℕ) (js : List AnyEvent) → InTurn js → Runs c idle (events_from c x js)
 runs_of c x l none = tt
 runs_of c x l (last t y op) = (λ q. (tt, tt), λ q. absurd (cc (q, eq-eqb c c refl)))
-runs_of c x l (call t y op u a js fits rest) = (λ q. (tt, back a fits (runs_of c y js rest)), λ q. absurd (cc (q, eq-eqb c c refl)))
+runs_of c x l (call t y op u a js fits rest) =
+    (λ q. (tt, back a fits (runs_of c y js rest)), λ q. absurd (cc (q, eq-eqb c c refl)))
   where
-    back : (a : AnyAnswer) → Fits op a → Runs c idle (events_from c y js) → Runs c (busy y op) (record { number = u; process = c; object = y; action = action_of a } ∷ events_from c y js)
+    back : (a : AnyAnswer) → Fits op a → Runs c idle (events_from c y js)
+      → Runs c (busy y op) (record { number = u; process = c; object = y; action = action_of a } ∷ events_from c y js)
     back (Reply r) f later = (λ q. ((refl, f), later), λ q. absurd (cc (q, eq-eqb c c refl)))
     back Refused f later = (λ q. (refl, later), λ q. absurd (cc (q, eq-eqb c c refl)))
 
@@ -59,11 +66,18 @@ numbers_of c x (Returned u a ∷ js) = ap (λ ns. u ∷ ns) (numbers_of c x js)
 
 pub process_of_each : (c x : ℕ) (js : List AnyEvent) (e : Event) → In e (events_from c x js) → e.process ≡ c
 process_of_each c x [] e i = absurd i
-process_of_each c x (Invoked t y op ∷ js) e i = elim i [ inl s ↦ ap (λ (f : Event). f.process) s | inr j ↦ process_of_each c y js e j ]
-process_of_each c x (Returned u a ∷ js) e i = elim i [ inl s ↦ ap (λ (f : Event). f.process) s | inr j ↦ process_of_each c x js e j ]
+process_of_each c x (Invoked t y op ∷ js) e i = elim i [
+  | inl s ↦ ap (λ (f : Event). f.process) s
+  | inr j ↦ process_of_each c y js e j
+]
+process_of_each c x (Returned u a ∷ js) e i = elim i [
+  | inl s ↦ ap (λ (f : Event). f.process) s
+  | inr j ↦ process_of_each c x js e j
+]
 
 -- an invocation among the events is one of the journal
-pub invocation_of : (c x : ℕ) (js : List AnyEvent) (e : Event) (op : AnyOp) → In e (events_from c x js) → e.action ≡ Invoke op → In (Invoked e.number e.object op) js
+pub invocation_of : (c x : ℕ) (js : List AnyEvent) (e : Event) (op : AnyOp) → In e (events_from c x js)
+    → e.action ≡ Invoke op → In (Invoked e.number e.object op) js
 invocation_of c x [] e op i q = absurd i
 invocation_of c x (Invoked t y o ∷ js) e op i q = elim i [
   | inl s ↦
@@ -82,7 +96,8 @@ invocation_of c x (Returned u a ∷ js) e op i q = elim i [
     not_back Refused k = absurd (cc)
 
 -- where each call is on one of the objects, so is each event
-pub object_of_each : (kinds : List Kind) (c x : ℕ) (js : List AnyEvent) → InTurn js → ((j : AnyEvent) → In j js → IsAmong kinds j) → (e : Event) → In e (events_from c x js) → e.object < length kinds
+pub object_of_each : (kinds : List Kind) (c x : ℕ) (js : List AnyEvent) → InTurn js
+    → ((j : AnyEvent) → In j js → IsAmong kinds j) → (e : Event) → In e (events_from c x js) → e.object < length kinds
 object_of_each kinds c x l none among e i = absurd i
 object_of_each kinds c x l (last t y op) among e i = elim i [
   | inl s ↦ subst (λ n. n < length kinds) (ap (λ (f : Event). f.object) (sym s)) (among (Invoked t y op) (inl refl)).0

@@ -18,10 +18,12 @@ use Rattle.std.specs.FinMap as map
 use Rattle.std.specs.FinSet as set
 use Rattle.events.specs.Events.{HasShape}
 
-shaped : (op : AnyOp) (c d : Content) (q r : AnyReply) → HasShape op q → ◌≡◌ {A = Option (Content × AnyReply)} (Some (c, q)) (Some (d, r)) → HasShape op r
+shaped : (op : AnyOp) (c d : Content) (q r : AnyReply) → HasShape op q
+    → ◌≡◌ {A = Option (Content × AnyReply)} (Some (c, q)) (Some (d, r)) → HasShape op r
 shaped op c d q r h e = subst (HasShape op) (ap (λ (z : Content × AnyReply). z.1) (same_Some (c, q) (d, r) e)) h
 
-never : (op : AnyOp) (d : Content) (r : AnyReply) → ◌≡◌ {A = Option (Content × AnyReply)} None (Some (d, r)) → HasShape op r
+never : (op : AnyOp) (d : Content) (r : AnyReply) → ◌≡◌ {A = Option (Content × AnyReply)} None (Some (d, r))
+    → HasShape op r
 never op d r e = absurd (cc)
 
 -- of an operation that replies a value or none, and of one that replies whether it was so
@@ -49,7 +51,9 @@ shape_next (register v) (Write x) d r e = shaped (Write x) _ d _ r refl e
 shape_next (register v) Read d r e = shaped Read _ d _ r (of_value Read refl (λ w. refl) v) e
 shape_next (register v) (Cas x y) d r e = cas (contains_value v x) e
   where
-    cas : (b : Bool) → ◌≡◌ {A = Option (Content × AnyReply)} (cond b (Some (register (Some y), Swapped x y)) (Some (register v, NotSwapped))) (Some (d, r)) → HasShape (Cas x y) r
+    cas : (b : Bool) → ◌≡◌ {A = Option (Content × AnyReply)}
+      (cond b (Some (register (Some y), Swapped x y)) (Some (register v, NotSwapped))) (Some (d, r))
+      → HasShape (Cas x y) r
     cas true f = shaped (Cas x y) _ d _ r refl f
     cas false f = shaped (Cas x y) _ d _ r refl f
 shape_next (register v) Clear d r e = shaped Clear _ d _ r refl e
@@ -88,18 +92,23 @@ shape_next (owner (Some o)) (UnlockBy x) d r e = unlocked (int_eq o x) e
 shape_next c op d r e = never op d r e
 
 -- so has each reply along a list of calls
-along : (c : Content) (es : List Call) → RepliesAlong c es → (e : Call) (r : Return) → In e es → e.returned ≡ Some r → HasShape e.op r.reply
+along : (c : Content) (es : List Call) → RepliesAlong c es → (e : Call) (r : Return) → In e es → e.returned ≡ Some r
+    → HasShape e.op r.reply
 along c [] h e r i back = absurd i
 along c (f ∷ es) h e r i back = elim i [
   | inl same ↦
       let back' : f.returned ≡ Some r = ap (λ (k : Call). k.returned) (sym same) ∙ back in
       let reply : r.reply ≡ h.1 = subst (λ (o : Option Return). IfSome o (λ r. r.reply ≡ h.1)) back' h.3 in
-      subst (λ (op : AnyOp). HasShape op r.reply) (ap (λ (k : Call). k.op) (sym same)) (subst (HasShape f.op) (sym reply) (shape_next c f.op h.0 h.1 h.2))
+      subst (λ (op : AnyOp). HasShape op r.reply) (ap (λ (k : Call). k.op) (sym same))
+        (subst (HasShape f.op) (sym reply) (shape_next c f.op h.0 h.1 h.2))
   | inr j ↦ along h.0 es h.4 e r j back
 ]
 
 -- and each reply of a call that has a valid order
-pub shape_ordered : (kind : Kind) (calls : List Call) (order : List ℤ) → IsValidOrder kind calls order → (e : Call) (r : Return) → In e calls → e.returned ≡ Some r → HasShape e.op r.reply
+pub shape_ordered : (kind : Kind) (calls : List Call) (order : List ℤ) → IsValidOrder kind calls order
+    → (e : Call) (r : Return) → In e calls → e.returned ≡ Some r → HasShape e.op r.reply
 shape_ordered kind calls order v e r i back =
     let some : IsSome e.returned = subst IsSome (sym back) refl in
-    along (empty kind) v.entries v.replies e r (in_from_contains v.entries e (all_at (λ (k : Call). IsSome k.returned → Contains v.entries k) calls v.whole e i some)) back
+    along (empty kind) v.entries v.replies e r
+      (in_from_contains v.entries e
+      (all_at (λ (k : Call). IsSome k.returned → Contains v.entries k) calls v.whole e i some)) back

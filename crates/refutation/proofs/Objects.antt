@@ -1,5 +1,6 @@
 -- An object of which no order is valid, against locality.
-use Rattle.std.proofs.Common.{◌≡◌, ◌≢◌, ◌↔◌, ℕ, ◌<◌, ◌+◌, take, List, [], ◌∷◌, ◌++◌, length, get_or, map, true, false, All, Any, Contains, inl, inr, refl, ap, sym, ◌∙◌, subst}
+use Rattle.std.proofs.Common.{◌≡◌, ◌≢◌, ◌↔◌, ℕ, ◌<◌, ◌+◌, take, List, [], ◌∷◌, ◌++◌, length, get_or, map, true}
+use Rattle.std.proofs.Common.{false, All, Any, Contains, inl, inr, refl, ap, sym, ◌∙◌, subst}
 use Rattle.std.specs.Prelude.{Result, Ok, Err, IfOk}
 use Rattle.std.specs.List.{AllZip}
 use Rattle.std.proofs.lemmas.List.{take_more}
@@ -17,51 +18,67 @@ use Rattle.projection.specs.Cuts.{NamesPart}
 use Rattle.refutation.specs.declared.reason.Reason.{Reason}
 use Rattle.refutation.specs.declared.refuting.Refutation.{Refutation}
 use Rattle.refutation.specs.declared.refuting.Refutation.TheVariants.{Impossible, NotShown, NoPart, OtherObject}
-use Rattle.refutation.specs.Refutations.{is_impossible, IfPart, IfImpossible, IfNotShown, IsDoubt, IsNamedPart, HasNoValidOrder, IsShownBy, IsAnswerOn, IsAnswer}
+use Rattle.refutation.specs.Refutations.{is_impossible, IfPart, IfImpossible, IfNotShown, IsDoubt, IsNamedPart}
+use Rattle.refutation.specs.Refutations.{HasNoValidOrder, IsShownBy, IsAnswerOn, IsAnswer}
 
-pub none_among : (es : List Event) (objects : List ObjectCalls) → All (λ o. o.kind ≡ kind_at es o.object) objects → All (λ o. calls_of o.ops ≡ calls_on o.object (denoted es)) objects
-    → ((kinds : ℕ → Kind) (h : List Numbered) → IsHistory h → IsLinearizable kinds (events h) → (x : ℕ) → HasValidOrder kinds h x)
-    → IsHistory (denoted es) → Any (λ o. IsNoneValid o.kind (calls_of o.ops)) objects → IsLinearizable (kind_at es) (events (denoted es)) → ⊥
+pub none_among : (es : List Event) (objects : List ObjectCalls) → All (λ o. o.kind ≡ kind_at es o.object) objects
+    → All (λ o. calls_of o.ops ≡ calls_on o.object (denoted es)) objects
+    → ((kinds : ℕ → Kind) (h : List Numbered) → IsHistory h → IsLinearizable kinds (events h) → (x : ℕ)
+      → HasValidOrder kinds h x)
+    → IsHistory (denoted es) → Any (λ o. IsNoneValid o.kind (calls_of o.ops)) objects
+    → IsLinearizable (kind_at es) (events (denoted es)) → ⊥
 none_among es objects kinds calls orders h some lin =
     let o : ObjectCalls = some.1 in
     let i = in_from_contains objects o (some.0, some.2, some.3) in
     let k = all_at (λ (o : ObjectCalls). o.kind ≡ kind_at es o.object) objects kinds o i in
     let cs = all_at (λ (o : ObjectCalls). calls_of o.ops ≡ calls_on o.object (denoted es)) objects calls o i in
     let order = orders (kind_at es) (denoted es) h lin o.object in
-    some.4 order.0 (subst (λ (z : Kind). IsValidOrder z (calls_of o.ops) order.0) (sym k) (subst (λ (z : List Call). IsValidOrder (kind_at es o.object) z order.0) (sym cs) order.1))
+    some.4 order.0 (subst (λ (z : Kind). IsValidOrder z (calls_of o.ops) order.0) (sym k)
+      (subst (λ (z : List Call). IsValidOrder (kind_at es o.object) z order.0) (sym cs) order.1))
 
 -- each answer so far that is impossible refutes the history
 abbrev pub AreRefutations : Type 0 → List Refutation → Type 0
 AreRefutations Not answers = (r : Refutation) → In r answers → is_impossible r ≡ true → Not
 
-pub one_more : (Not : Type 0) (answers more : List Refutation) (r : Refutation) → more ≡ answers ++ r ∷ [] → (is_impossible r ≡ true → Not) → AreRefutations Not answers → AreRefutations Not more
+pub one_more : (Not : Type 0) (answers more : List Refutation) (r : Refutation) → more ≡ answers ++ r ∷ []
+    → (is_impossible r ≡ true → Not) → AreRefutations Not answers → AreRefutations Not more
 one_more Not answers more r e one all x i p = elim (in_append x answers (r ∷ []) (subst (In x) e i)) [
   | inl j ↦ all x j p
   | inr j ↦ elim j [ inl q ↦ one (ap is_impossible (sym q) ∙ p) | inr k ↦ absurd k ]
 ]
 
-zip_push : {X Y : Type 0} (R : X → Y → Type 0) (xs : List X) (ys : List Y) (x : X) (y : Y) → AllZip R xs ys → R x y → AllZip R (xs ++ x ∷ []) (ys ++ y ∷ [])
+zip_push : {X Y : Type 0} (R : X → Y → Type 0) (xs : List X) (ys : List Y) (x : X) (y : Y) → AllZip R xs ys → R x y
+    → AllZip R (xs ++ x ∷ []) (ys ++ y ∷ [])
 zip_push R [] [] x y h r = (r, tt)
 zip_push R [] (w ∷ ys) x y h r = absurd h
 zip_push R (z ∷ xs) [] x y h r = absurd h
 zip_push R (z ∷ xs) (w ∷ ys) x y h r = (h.0, zip_push R xs ys x y h.1 r)
 
-pub zip_more : {X Y : Type 0} (R : X → Y → Type 0) (xs : List X) (ys : List Y) (i : ℕ) (x : X) (y : Y) → i < length xs → x ≡ get_or xs i x
+pub zip_more : {X Y : Type 0} (R : X → Y → Type 0) (xs : List X) (ys : List Y) (i : ℕ) (x : X) (y : Y) → i < length xs
+    → x ≡ get_or xs i x
     → AllZip R (take i xs) ys → R x y → AllZip R (take (i + 1) xs) (ys ++ y ∷ [])
-zip_more R xs ys i x y lt is h r = subst (λ l. AllZip R l (ys ++ y ∷ [])) (ap (λ z. take i xs ++ z ∷ []) is ∙ sym (take_more xs i x lt)) (zip_push R (take i xs) ys x y h r)
+zip_more R xs ys i x y lt is h r =
+    subst (λ l. AllZip R l (ys ++ y ∷ [])) (ap (λ z. take i xs ++ z ∷ []) is ∙ sym (take_more xs i x lt))
+    (zip_push R (take i xs) ys x y h r)
 
-pub refutes : (Not : Type 0) (answers : List Refutation) → AreRefutations Not answers → Any (λ r. is_impossible r ≡ true) answers → Not
+pub refutes : (Not : Type 0) (answers : List Refutation) → AreRefutations Not answers
+    → Any (λ r. is_impossible r ≡ true) answers → Not
 refutes Not answers all some = all some.1 (in_from_contains answers some.1 (some.0, some.2, some.3)) some.4
 
 -- ---- answers on one of several objects
 
 -- the answer on an object among others that has the reason's number
-pub answered : (objects : List ObjectCalls) (i : ℕ) (o : ObjectCalls) (reason : Reason) (answer : Result Refutation AllocError) → i < length objects
-    → o ≡ get_or objects i o → o.object ≡ reason.object → IfOk answer (λ r. is_impossible r ≡ true → IsNoneValid o.kind (calls_of o.ops))
+pub answered : (objects : List ObjectCalls) (i : ℕ) (o : ObjectCalls) (reason : Reason)
+    (answer : Result Refutation AllocError) → i < length objects
+    → o ≡ get_or objects i o → o.object ≡ reason.object
+    → IfOk answer (λ r. is_impossible r ≡ true → IsNoneValid o.kind (calls_of o.ops))
     → IfOk answer (λ r. IfPart r (IsNamedPart reason.cuts.items o.object o.kind (calls_of o.ops)))
-    → IfOk answer (λ r. IfImpossible r (λ part. IsShownBy reason.basis part × HasNoValidOrder part)) → IfOk answer (λ r. IfNotShown r (IsDoubt reason.basis))
+    → IfOk answer (λ r. IfImpossible r (λ part. IsShownBy reason.basis part × HasNoValidOrder part))
+    → IfOk answer (λ r. IfNotShown r (IsDoubt reason.basis))
     → IfOk answer (λ r. r ≡ NoPart → (part : List Call) → NamesPart reason.cuts.items (calls_of o.ops) part → ⊥)
-    → IfOk answer (λ r. r ≢ OtherObject → (p : ObjectCalls) × Contains objects p × (p.object ≡ reason.object) × IsAnswerOn p.kind (calls_of p.ops) reason r)
+    → IfOk answer (λ r. r ≢ OtherObject
+      → (p : ObjectCalls) × Contains objects p × (p.object ≡ reason.object)
+      × IsAnswerOn p.kind (calls_of p.ops) reason r)
 answered objects i o reason (Ok r) lt is e none part shown doubt refused = λ own. (
   o,
   (i, lt, sym is),
@@ -77,15 +94,20 @@ answered objects i o reason (Ok r) lt is e none part shown doubt refused = λ ow
 answered objects i o reason (Err x) lt is e none part shown doubt refused = tt
 
 -- it is not that the reason is of another object
-pub own_number : (objects : List ObjectCalls) (o : ObjectCalls) (x : ℕ) (answer : Result Refutation AllocError) → o.object ≡ x
-    → IfOk answer (λ r. r ≡ OtherObject → x ≢ o.object) → IfOk answer (λ r. r ≡ OtherObject → All (λ p. p.object ≢ x) objects)
+pub own_number : (objects : List ObjectCalls) (o : ObjectCalls) (x : ℕ) (answer : Result Refutation AllocError)
+    → o.object ≡ x
+    → IfOk answer (λ r. r ≡ OtherObject → x ≢ o.object)
+    → IfOk answer (λ r. r ≡ OtherObject → All (λ p. p.object ≢ x) objects)
 own_number objects o x (Ok r) e h = λ q. absurd (h q (sym e))
 own_number objects o x (Err z) e h = tt
 
 -- the answer on the objects of a history
-pub answer_is : (es : List Event) (objects : List ObjectCalls) (reason : Reason) (r : Refutation) → All (λ o. o.kind ≡ kind_at es o.object) objects
-    → All (λ o. calls_of o.ops ≡ calls_on o.object (denoted es)) objects → ((x : ℕ) → Contains (map (λ o. o.object) objects) x ↔ IsNamed es x)
-    → (r ≢ OtherObject → (o : ObjectCalls) × Contains objects o × (o.object ≡ reason.object) × IsAnswerOn o.kind (calls_of o.ops) reason r)
+pub answer_is : (es : List Event) (objects : List ObjectCalls) (reason : Reason) (r : Refutation)
+    → All (λ o. o.kind ≡ kind_at es o.object) objects
+    → All (λ o. calls_of o.ops ≡ calls_on o.object (denoted es)) objects
+    → ((x : ℕ) → Contains (map (λ o. o.object) objects) x ↔ IsNamed es x)
+    → (r ≢ OtherObject → (o : ObjectCalls) × Contains objects o × (o.object ≡ reason.object)
+      × IsAnswerOn o.kind (calls_of o.ops) reason r)
     → (r ≡ OtherObject → All (λ o. o.object ≢ reason.object) objects) → IsAnswer es reason r
 answer_is es objects reason r kinds calls named on other = go r refl
   where
@@ -95,19 +117,23 @@ answer_is es objects reason r kinds calls named on other = go r refl
         let o : ObjectCalls = a.0 in
         let i = in_from_contains objects o a.1 in
         let k = all_at (λ (o : ObjectCalls). o.kind ≡ kind_at es o.object) objects kinds o i ∙ ap (kind_at es) a.2 in
-        let cs = all_at (λ (o : ObjectCalls). calls_of o.ops ≡ calls_on o.object (denoted es)) objects calls o i ∙ ap (λ x. calls_on x (denoted es)) a.2 in
-        subst (λ (z : Kind). IsAnswerOn z (calls_on reason.object (denoted es)) reason r) k (subst (λ (z : List Call). IsAnswerOn o.kind z reason r) cs a.3)
+        let cs = all_at (λ (o : ObjectCalls). calls_of o.ops ≡ calls_on o.object (denoted es)) objects calls o i
+          ∙ ap (λ x. calls_on x (denoted es)) a.2 in
+        subst (λ (z : Kind). IsAnswerOn z (calls_on reason.object (denoted es)) reason r) k
+          (subst (λ (z : List Call). IsAnswerOn o.kind z reason r) cs a.3)
 
     known : r ≢ OtherObject → IsNamed es reason.object
     known q =
         let a = on q in
         let o : ObjectCalls = a.0 in
         (named reason.object).0 (contains_from_in (map (λ o. o.object) objects) reason.object
-        (subst (λ x. In x (map (λ o. o.object) objects)) a.2 (in_map_from (λ (o : ObjectCalls). o.object) o objects (in_from_contains objects o a.1))))
+        (subst (λ x. In x (map (λ o. o.object) objects)) a.2
+          (in_map_from (λ (o : ObjectCalls). o.object) o objects (in_from_contains objects o a.1))))
 
     unknown : r ≡ OtherObject → IsNamed es reason.object → ⊥
     unknown q n =
-        let i = in_map (λ (o : ObjectCalls). o.object) reason.object objects (in_from_contains (map (λ o. o.object) objects) reason.object ((named reason.object).1 n)) in
+        let i = in_map (λ (o : ObjectCalls). o.object) reason.object objects
+          (in_from_contains (map (λ o. o.object) objects) reason.object ((named reason.object).1 n)) in
         all_at (λ (o : ObjectCalls). o.object ≢ reason.object) objects (other q) i.0 i.1 (sym i.2)
 
     whole : (q : r ≢ OtherObject) → IsAnswer es reason r
@@ -119,7 +145,8 @@ answer_is es objects reason r kinds calls named on other = go r refl
     go NoPart e = whole (λ q. absurd (cc (e, q)))
     go OtherObject e = record {
       on = subst (IsAnswerOn (kind_at es reason.object) (calls_on reason.object (denoted es)) reason) (sym e)
-          (record { impossible = λ q. absurd (unlike q); part = tt; shown = tt; not_shown = tt; no_part = λ q. absurd (cc q) });
+          (record { impossible = λ q. absurd (unlike q); part = tt; shown = tt; not_shown = tt;
+            no_part = λ q. absurd (cc q) });
       other_object = unknown;
       own_object = known;
     }
@@ -129,7 +156,8 @@ answer_is es objects reason r kinds calls named on other = go r refl
 
 -- no order is valid of the object that was answered
 pub refuted_among : (objects : List ObjectCalls) (reason : Reason) (r : Refutation)
-    → (r ≢ OtherObject → (o : ObjectCalls) × Contains objects o × (o.object ≡ reason.object) × IsAnswerOn o.kind (calls_of o.ops) reason r)
+    → (r ≢ OtherObject → (o : ObjectCalls) × Contains objects o × (o.object ≡ reason.object)
+      × IsAnswerOn o.kind (calls_of o.ops) reason r)
     → is_impossible r ≡ true → Any (λ o. IsNoneValid o.kind (calls_of o.ops)) objects
 refuted_among objects reason r on so =
     let a = on (λ q. unlike (sym (ap is_impossible q) ∙ so)) in

@@ -23,10 +23,12 @@ is_read (e ∷ es) later d (r ∷ rs) h none =
     let more : map reason_in (es ++ d ∷ later) ≡ map (λ r. Some (seen r)) rs = cc in is_read es later d rs more none
 
 pub no_fault : (ds : List Datum) (rs : List Reason) → Denotes ds rs → AreFaultless IsFault ds
-no_fault ds rs h earlier later d NotAReason split fault = is_read earlier later d rs (ap (map reason_in) (sym split) ∙ h) fault
+no_fault ds rs h earlier later d NotAReason split fault =
+    is_read earlier later d rs (ap (map reason_in) (sym split) ∙ h) fault
 no_fault ds rs h earlier later d NoMemory split fault = fault
 
-only_fault : (earlier : List Datum) (d : Datum) (kind other : ReasonFaultKind) → IsFault earlier d kind → IsFault earlier d other
+only_fault : (earlier : List Datum) (d : Datum) (kind other : ReasonFaultKind) → IsFault earlier d kind
+    → IsFault earlier d other
     → number_of kind ≤ number_of other
 only_fault earlier d NotAReason NotAReason h k = omega arith
 only_fault earlier d NotAReason NoMemory h k = omega arith
@@ -74,10 +76,13 @@ sound_before fs i f rs lt is h = record {
   least = no_fault (views (take i fs)) rs h;
 }
 
-pub one_more_read : (fs : List Form) (i : ℕ) (f : Form) (rs : List Reason) (r : Reason) → i < length fs → f ≡ get_or fs i f
-    → Denotes (views (take i fs)) rs → reason_in (view f) ≡ Some (seen r) → Denotes (views (take (i + 1) fs)) (rs ++ r ∷ [])
+pub one_more_read : (fs : List Form) (i : ℕ) (f : Form) (rs : List Reason) (r : Reason) → i < length fs
+    → f ≡ get_or fs i f
+    → Denotes (views (take i fs)) rs → reason_in (view f) ≡ Some (seen r)
+    → Denotes (views (take (i + 1) fs)) (rs ++ r ∷ [])
 one_more_read fs i f rs r lt is h own =
-    let more = ap views (take_more fs i f lt ∙ ap (λ (x : Form). take i fs ++ x ∷ []) (sym is)) ∙ map-append view (take i fs) (f ∷ []) in
+    let more = ap views (take_more fs i f lt ∙ ap (λ (x : Form). take i fs ++ x ∷ []) (sym is))
+      ∙ map-append view (take i fs) (f ∷ []) in
     ap (map reason_in) more ∙ map-append reason_in (views (take i fs)) (view f ∷ [])
     ∙ ap (λ xs. xs ++ reason_in (view f) ∷ []) h
     ∙ ap (λ v. map (λ b. Some (seen b)) rs ++ v ∷ []) own

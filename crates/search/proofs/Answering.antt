@@ -12,19 +12,26 @@ use Rattle.search.specs.Outcomes.{IsNoneValid}
 use Rattle.search.specs.declared.found.SearchOutcome.TheVariants.{TooLarge}
 use Rattle.search.specs.Answers.{IsAnswer, IsSoundAnswer, search_for, outcome_for}
 
-sound_from : (object : ℕ) (kind : Kind) (calls : List Call) (limit : ℕ) (o : Outcome) (steps : ℕ) → order.IfFound o (IsValidOrder kind calls)
+sound_from : (object : ℕ) (kind : Kind) (calls : List Call) (limit : ℕ) (o : Outcome) (steps : ℕ)
+    → order.IfFound o (IsValidOrder kind calls)
     → (o ≡ outcome.Impossible → IsNoneValid kind calls) → steps ≤ limit → (o ≡ outcome.OutOfSteps → steps ≡ limit)
-    → (o ≡ outcome.NoMemory → Any (λ call. IsSome call.returned) calls) → IsSoundAnswer object kind calls limit (search_for object (record { outcome = o; steps = steps }))
+    → (o ≡ outcome.NoMemory → Any (λ call. IsSome call.returned) calls)
+    → IsSoundAnswer object kind calls limit (search_for object (record { outcome = o; steps = steps }))
 sound_from object kind calls limit (outcome.Found order) steps f i s out memory =
-    record { found = (refl, f); impossible = λ e. absurd (cc e); steps = s; out_of_steps = λ e. absurd (cc e); memory = λ e. absurd (cc e) }
+    record { found = (refl, f); impossible = λ e. absurd (cc e); steps = s; out_of_steps = λ e. absurd (cc e);
+        memory = λ e. absurd (cc e) }
 sound_from object kind calls limit outcome.Impossible steps f i s out memory =
-    record { found = tt; impossible = λ e. i refl; steps = s; out_of_steps = λ e. absurd (cc e); memory = λ e. absurd (cc e) }
+    record { found = tt; impossible = λ e. i refl; steps = s; out_of_steps = λ e. absurd (cc e);
+        memory = λ e. absurd (cc e) }
 sound_from object kind calls limit outcome.OutOfSteps steps f i s out memory =
-    record { found = tt; impossible = λ e. absurd (cc e); steps = s; out_of_steps = λ e. out refl; memory = λ e. absurd (cc e) }
+    record { found = tt; impossible = λ e. absurd (cc e); steps = s; out_of_steps = λ e. out refl;
+        memory = λ e. absurd (cc e) }
 sound_from object kind calls limit outcome.TooLarge steps f i s out memory =
-    record { found = tt; impossible = λ e. absurd (cc e); steps = s; out_of_steps = λ e. absurd (cc e); memory = λ e. absurd (cc e) }
+    record { found = tt; impossible = λ e. absurd (cc e); steps = s; out_of_steps = λ e. absurd (cc e);
+        memory = λ e. absurd (cc e) }
 sound_from object kind calls limit outcome.NoMemory steps f i s out memory =
-    record { found = tt; impossible = λ e. absurd (cc e); steps = s; out_of_steps = λ e. absurd (cc e); memory = λ e. memory refl }
+    record { found = tt; impossible = λ e. absurd (cc e); steps = s; out_of_steps = λ e. absurd (cc e);
+        memory = λ e. memory refl }
 
 -- what is too large is so in both words
 large_in : (object : ℕ) (o : Outcome) → (outcome_for object o ≡ TooLarge) ↔ (o ≡ outcome.TooLarge)
@@ -34,9 +41,12 @@ large_in object outcome.OutOfSteps = (λ e. absurd (cc e), λ e. absurd (cc e))
 large_in object outcome.TooLarge = (λ e. refl, λ e. refl)
 large_in object outcome.NoMemory = (λ e. absurd (cc e), λ e. absurd (cc e))
 
-pub answer_from : (object : ℕ) (kind : Kind) (calls : List Call) (limit : ℕ) (a : Attempt) → order.IfFound a.outcome (IsValidOrder kind calls)
-    → (a.outcome ≡ outcome.Impossible → IsNoneValid kind calls) → a.steps ≤ limit → (a.outcome ≡ outcome.OutOfSteps → a.steps ≡ limit)
-    → ((a.outcome ≡ outcome.TooLarge) ↔ (max_operations < length calls)) → (a.outcome ≡ outcome.NoMemory → Any (λ call. IsSome call.returned) calls)
+pub answer_from : (object : ℕ) (kind : Kind) (calls : List Call) (limit : ℕ) (a : Attempt)
+    → order.IfFound a.outcome (IsValidOrder kind calls)
+    → (a.outcome ≡ outcome.Impossible → IsNoneValid kind calls) → a.steps ≤ limit
+    → (a.outcome ≡ outcome.OutOfSteps → a.steps ≡ limit)
+    → ((a.outcome ≡ outcome.TooLarge) ↔ (max_operations < length calls))
+    → (a.outcome ≡ outcome.NoMemory → Any (λ call. IsSome call.returned) calls)
     → IsAnswer object kind calls limit (search_for object a)
 answer_from object kind calls limit a f i s out large memory = record {
   sound = sound_from object kind calls limit a.outcome a.steps f i s out memory;

@@ -22,7 +22,8 @@ abbrev pub IsWithin : ℕ → ℕ → Kind → List Call → Search → Type 0
 IsWithin limit object kind calls s = IsAnswer object kind calls limit s
 
 -- what holds of a certificate that was found
-if_found : (f : SearchOutcome) (P : Certificate → Type 0) (c : Certificate) → IfFound f P → certificate_in f ≡ Some c → P c
+if_found : (f : SearchOutcome) (P : Certificate → Type 0) (c : Certificate) → IfFound f P
+    → certificate_in f ≡ Some c → P c
 if_found (found.Found d) P c h e = subst P (same_Some d c e) h
 if_found Impossible P c h e = absurd (cc e)
 if_found OutOfSteps P c h e = absurd (cc e)
@@ -31,16 +32,21 @@ if_found NoMemory P c h e = absurd (cc e)
 
 -- what is found is certified
 pub certifies : (Is : ℕ → Kind → List Call → Search → Type 0)
-    → ((x : ℕ) (kind : Kind) (calls : List Call) (s : Search) → Is x kind calls s → IfFound s.found (IsCertificateOf x kind calls)) → Certifies (λ s. certificate_in s.found) Is
+    → ((x : ℕ) (kind : Kind) (calls : List Call) (s : Search) → Is x kind calls s
+      → IfFound s.found (IsCertificateOf x kind calls)) → Certifies (λ s. certificate_in s.found) Is
 certifies Is found x kind calls s c h e = if_found s.found (IsCertificateOf x kind calls) c (found x kind calls s h) e
 
 -- an object of which no order is valid, against locality
 pub not_linearizable : (es : List Event) (Is : ℕ → Kind → List Call → Search → Type 0) (answers : List (ℕ × Search))
-    → ((x : ℕ) (kind : Kind) (calls : List Call) (s : Search) → Is x kind calls s → s.found ≡ Impossible → IsNoneValid kind calls)
-    → ((kinds : ℕ → Kind) (h : List Numbered) → IsHistory h → IsLinearizable kinds (events h) → (x : ℕ) → HasValidOrder kinds h x)
-    → IsHistory (denoted es) → AreOnAll es Is answers → Any (λ a. a.1.found ≡ Impossible) answers → IsLinearizable (kind_at es) (events (denoted es)) → ⊥
+    → ((x : ℕ) (kind : Kind) (calls : List Call) (s : Search) → Is x kind calls s → s.found ≡ Impossible
+      → IsNoneValid kind calls)
+    → ((kinds : ℕ → Kind) (h : List Numbered) → IsHistory h → IsLinearizable kinds (events h) → (x : ℕ)
+      → HasValidOrder kinds h x)
+    → IsHistory (denoted es) → AreOnAll es Is answers → Any (λ a. a.1.found ≡ Impossible) answers
+    → IsLinearizable (kind_at es) (events (denoted es)) → ⊥
 not_linearizable es Is answers none orders h all some lin =
     let a : ℕ × Search = some.1 in
-    let answer = all_at (λ (a : ℕ × Search). Is a.0 (kind_at es a.0) (calls_on a.0 (denoted es)) a.1) answers all.each a (in_from_contains answers a (some.0, some.2, some.3)) in
+    let answer = all_at (λ (a : ℕ × Search). Is a.0 (kind_at es a.0) (calls_on a.0 (denoted es)) a.1) answers all.each
+      a (in_from_contains answers a (some.0, some.2, some.3)) in
     let o = orders (kind_at es) (denoted es) h lin a.0 in
     none a.0 (kind_at es a.0) (calls_on a.0 (denoted es)) a.1 answer some.4 o.0 o.1

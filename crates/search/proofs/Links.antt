@@ -1,10 +1,12 @@
 -- The linked list of the places that are left.
-use Rattle.std.proofs.Common.{◌≡◌, ◌≢◌, ℕ, zero, suc, ◌<◌, ◌≤◌, inl, inr, List, [], ◌∷◌, length, set, get_or, refl, ap, sym, ◌∙◌, subst, arith}
+use Rattle.std.proofs.Common.{◌≡◌, ◌≢◌, ℕ, zero, suc, ◌<◌, ◌≤◌, inl, inr, List, [], ◌∷◌, length, set, get_or, refl}
+use Rattle.std.proofs.Common.{ap, sym, ◌∙◌, subst, arith}
 use Rattle.std.proofs.lemmas.List.{length-set, get_or-set_same, get_or-set_other, set-get_or}
 use Rattle.std.proofs.lemmas.Bool.{cases_eq, cases_order}
 use Rattle.model.proofs.Lists.{In}
 use Rattle.search.specs.Continuations.{IsLeft, Describes}
-use Rattle.search.specs.Links.{IsSlot, IsStop, IsGap, IsForth, IsBack, Linked, next_without, before_without, next_with, before_with, AreWithin, Lists}
+use Rattle.search.specs.Links.{IsSlot, IsStop, IsGap, IsForth, IsBack, Linked, next_without, before_without}
+use Rattle.search.specs.Links.{next_with, before_with, AreWithin, Lists}
 use Rattle.search.specs.Searching.{IsBound}
 
 pub slot_within : (n : ℕ) (done : List ℕ) (s : ℕ) → IsSlot n done s → s ≤ n
@@ -16,13 +18,18 @@ same_slot_le : (n : ℕ) (done : List ℕ) (s t q : ℕ) → IsSlot n done t →
 same_slot_le n done s zero q h le gap l = omega arith
 same_slot_le n done s (suc k) q h le gap l = h.1 (gap k (omega arith) (omega arith))
 
-pub same_slot : (n : ℕ) (done : List ℕ) (s t q : ℕ) → IsSlot n done s → IsSlot n done t → s ≤ q → t ≤ q → IsGap done s q → IsGap done t q → s ≡ t
+pub same_slot : (n : ℕ) (done : List ℕ) (s t q : ℕ) → IsSlot n done s → IsSlot n done t → s ≤ q → t ≤ q
+    → IsGap done s q → IsGap done t q → s ≡ t
 same_slot n done s t q hs ht ls lt gs gt = elim (cases_order s t) [
   | inl e ↦ e
-  | inr o ↦ elim o [ inl l ↦ absurd (same_slot_le n done s t q ht lt gs l) | inr l ↦ absurd (same_slot_le n done t s q hs ls gt l) ]
+  | inr o ↦ elim o [
+    | inl l ↦ absurd (same_slot_le n done s t q ht lt gs l)
+    | inr l ↦ absurd (same_slot_le n done t s q hs ls gt l)
+  ]
 ]
 
-pub same_stop : (n : ℕ) (done : List ℕ) (s p q : ℕ) → IsStop n done p → IsStop n done q → s ≤ p → s ≤ q → IsGap done s p → IsGap done s q → p ≡ q
+pub same_stop : (n : ℕ) (done : List ℕ) (s p q : ℕ) → IsStop n done p → IsStop n done q → s ≤ p → s ≤ q
+    → IsGap done s p → IsGap done s q → p ≡ q
 same_stop n done s p q hp hq lp lq gp gq = elim (cases_order p q) [
   | inl e ↦ e
   | inr o ↦ elim o [
@@ -59,8 +66,10 @@ around n done nx pv k h l =
       left = l;
       behind = f;
       front = b;
-      first = same_stop n done (get_or pv k 0) (get_or nx (get_or pv k 0) 0) k g.stop (stop_of_left n done k l) g.rises b.rises g.gap b.gap;
-      last = same_slot n done (get_or pv (get_or nx (suc k) 0) 0) (suc k) (get_or nx (suc k) 0) a.slot l a.rises f.rises a.gap f.gap;
+      first = same_stop n done (get_or pv k 0) (get_or nx (get_or pv k 0) 0) k g.stop
+        (stop_of_left n done k l) g.rises b.rises g.gap b.gap;
+      last = same_slot n done (get_or pv (get_or nx (suc k) 0) 0) (suc k)
+        (get_or nx (suc k) 0) a.slot l a.rises f.rises a.gap f.gap;
       next_in = omega arith;
       before_in = omega arith;
     }
@@ -89,7 +98,8 @@ gap_joined done k s q g h j a b = elim (cases_order j k) [
   | inr o ↦ elim o [ inl l ↦ inr (g j a l) | inr l ↦ inr (h j (omega arith) b) ]
 ]
 
-pub linked_without : (n : ℕ) (done nx pv : List ℕ) (k : ℕ) → Linked n done nx pv → IsLeft n done k → Linked n (k ∷ done) (next_without nx pv k) (before_without nx pv k)
+pub linked_without : (n : ℕ) (done nx pv : List ℕ) (k : ℕ) → Linked n done nx pv → IsLeft n done k
+    → Linked n (k ∷ done) (next_without nx pv k) (before_without nx pv k)
 linked_without n done nx pv k h l =
     let a = around n done nx pv k h l in
     let p : ℕ = get_or pv k 0 in
@@ -101,7 +111,8 @@ linked_without n done nx pv k h l =
       long_before = length-set pv q p ∙ h.long_before;
       forth = λ s le sl. elim (cases_eq s p) [
         | inl e ↦
-            let is : get_or (set nx p q) s 0 ≡ q = ap (λ (x : ℕ). get_or (set nx p q) x 0) e ∙ get_or-set_same nx p q 0 a.next_in in
+            let is : get_or (set nx p q) s 0 ≡ q =
+              ap (λ (x : ℕ). get_or (set nx p q) x 0) e ∙ get_or-set_same nx p q 0 a.next_in in
             let e' : s ≡ p = e in
             subst (IsForth n (k ∷ done) s) (sym is) (record {
               rises = omega arith;
@@ -113,14 +124,17 @@ linked_without n done nx pv k h l =
             let f = h.forth s le (slot_less n done k s sl) in
             subst (IsForth n (k ∷ done) s) (sym is) (record {
               rises = f.rises;
-              stop = stop_more n done k (get_or nx s 0) f.stop (λ m. let m' : get_or nx s 0 ≡ k = m in let fr = f.rises in
-                  ne (same_slot n done s p k (slot_less n done k s sl) a.front.slot (omega arith) pk (subst (IsGap done s) m f.gap) a.front.gap));
+              stop = stop_more n done k (get_or nx s 0) f.stop
+                (λ m. let m' : get_or nx s 0 ≡ k = m in let fr = f.rises in
+                  ne (same_slot n done s p k (slot_less n done k s sl) a.front.slot (omega arith) pk
+                    (subst (IsGap done s) m f.gap) a.front.gap));
               gap = gap_more done k s (get_or nx s 0) f.gap;
             })
       ];
       back = λ t st. elim (cases_eq t q) [
         | inl e ↦
-            let is : get_or (set pv q p) t 0 ≡ p = ap (λ (x : ℕ). get_or (set pv q p) x 0) e ∙ get_or-set_same pv q p 0 a.before_in in
+            let is : get_or (set pv q p) t 0 ≡ p =
+              ap (λ (x : ℕ). get_or (set pv q p) x 0) e ∙ get_or-set_same pv q p 0 a.before_in in
             let e' : t ≡ q = e in
             subst (λ (x : ℕ). IsBack n (k ∷ done) x t) (sym is) (record {
               rises = omega arith;
@@ -132,23 +146,29 @@ linked_without n done nx pv k h l =
             let b = h.back t (stop_less n done k t st) in
             subst (λ (x : ℕ). IsBack n (k ∷ done) x t) (sym is) (record {
               rises = b.rises;
-              slot = slot_more n done k (get_or pv t 0) b.slot (λ m. let m' : get_or pv t 0 ≡ suc k = m in let br = b.rises in
-                  ne (same_stop n done (suc k) t q (stop_less n done k t st) a.behind.stop (omega arith) kq (subst (λ (x : ℕ). IsGap done x t) m b.gap) a.behind.gap));
+              slot = slot_more n done k (get_or pv t 0) b.slot
+                (λ m. let m' : get_or pv t 0 ≡ suc k = m in let br = b.rises in
+                  ne (same_stop n done (suc k) t q (stop_less n done k t st) a.behind.stop (omega arith) kq
+                    (subst (λ (x : ℕ). IsGap done x t) m b.gap) a.behind.gap));
               gap = gap_more done k (get_or pv t 0) t b.gap;
             })
       ];
     }
 
 -- what put_back reads after take_out is as it was
-pub kept_next : (n : ℕ) (done nx pv : List ℕ) (k : ℕ) → Around n done nx pv k → get_or (next_without nx pv k) (suc k) 0 ≡ get_or nx (suc k) 0
+pub kept_next : (n : ℕ) (done nx pv : List ℕ) (k : ℕ) → Around n done nx pv k
+    → get_or (next_without nx pv k) (suc k) 0 ≡ get_or nx (suc k) 0
 kept_next n done nx pv k a =
     let r = a.front.rises in
-    get_or-set_other nx (get_or pv k 0) (suc k) (get_or nx (suc k) 0) 0 (λ e. let e' : suc k ≡ get_or pv k 0 = e in omega arith)
+    get_or-set_other nx (get_or pv k 0) (suc k) (get_or nx (suc k) 0) 0
+      (λ e. let e' : suc k ≡ get_or pv k 0 = e in omega arith)
 
-pub kept_before : (n : ℕ) (done nx pv : List ℕ) (k : ℕ) → Around n done nx pv k → get_or (before_without nx pv k) k 0 ≡ get_or pv k 0
+pub kept_before : (n : ℕ) (done nx pv : List ℕ) (k : ℕ) → Around n done nx pv k
+    → get_or (before_without nx pv k) k 0 ≡ get_or pv k 0
 kept_before n done nx pv k a =
     let r = a.behind.rises in
-    get_or-set_other pv (get_or nx (suc k) 0) k (get_or pv k 0) 0 (λ e. let e' : k ≡ get_or nx (suc k) 0 = e in omega arith)
+    get_or-set_other pv (get_or nx (suc k) 0) k (get_or pv k 0) 0
+      (λ e. let e' : k ≡ get_or nx (suc k) 0 = e in omega arith)
 
 -- the place and its neighbours are within the lists, before and after
 pub within_before : (n : ℕ) (done nx pv : List ℕ) (k : ℕ) → Linked n done nx pv → IsLeft n done k → AreWithin nx pv k
@@ -159,7 +179,8 @@ within_before n done nx pv k h l =
     let lb = h.long_before in
     record { here_next = omega arith; here_before = omega arith; next_in = a.next_in; before_in = a.before_in }
 
-pub within_after : (n : ℕ) (done nx pv : List ℕ) (k : ℕ) → Around n done nx pv k → Linked n done nx pv → AreWithin (next_without nx pv k) (before_without nx pv k) k
+pub within_after : (n : ℕ) (done nx pv : List ℕ) (k : ℕ) → Around n done nx pv k → Linked n done nx pv
+    → AreWithin (next_without nx pv k) (before_without nx pv k) k
 within_after n done nx pv k a h =
     let kn = a.left.0 in
     let ln = h.long_next in
@@ -181,15 +202,22 @@ set_back : (xs : List ℕ) (i a b : ℕ) → get_or xs i 0 ≡ b → set (set xs
 set_back xs i a b e = set_twice xs i a b ∙ ap (set xs i) (sym e) ∙ set-get_or xs i 0
 
 -- put_back undoes take_out
-pub next_again : (n : ℕ) (done nx pv : List ℕ) (k : ℕ) → Around n done nx pv k → next_with (next_without nx pv k) (before_without nx pv k) k ≡ nx
-next_again n done nx pv k a = ap (λ (s : ℕ). set (next_without nx pv k) s k) (kept_before n done nx pv k a) ∙ set_back nx (get_or pv k 0) (get_or nx (suc k) 0) k a.first
+pub next_again : (n : ℕ) (done nx pv : List ℕ) (k : ℕ) → Around n done nx pv k
+    → next_with (next_without nx pv k) (before_without nx pv k) k ≡ nx
+next_again n done nx pv k a =
+    ap (λ (s : ℕ). set (next_without nx pv k) s k) (kept_before n done nx pv k a)
+    ∙ set_back nx (get_or pv k 0) (get_or nx (suc k) 0) k a.first
 
-pub before_again : (n : ℕ) (done nx pv : List ℕ) (k : ℕ) → Around n done nx pv k → before_with (next_without nx pv k) (before_without nx pv k) k ≡ pv
-before_again n done nx pv k a = ap (λ (s : ℕ). set (before_without nx pv k) s (suc k)) (kept_next n done nx pv k a) ∙ set_back pv (get_or nx (suc k) 0) (get_or pv k 0) (suc k) a.last
+pub before_again : (n : ℕ) (done nx pv : List ℕ) (k : ℕ) → Around n done nx pv k
+    → before_with (next_without nx pv k) (before_without nx pv k) k ≡ pv
+before_again n done nx pv k a =
+    ap (λ (s : ℕ). set (before_without nx pv k) s (suc k)) (kept_next n done nx pv k a)
+    ∙ set_back pv (get_or nx (suc k) 0) (get_or pv k 0) (suc k) a.last
 
 -- ---- the places that the list of links gives
 
-pub listed_left : (n : ℕ) (done nx pv : List ℕ) (s : ℕ) (us : List ℕ) (high : ℕ) → Linked n done nx pv → s ≤ n → IsSlot n done s → Lists nx s us high → (k : ℕ) → In k us → IsLeft n done k
+pub listed_left : (n : ℕ) (done nx pv : List ℕ) (s : ℕ) (us : List ℕ) (high : ℕ) → Linked n done nx pv → s ≤ n
+    → IsSlot n done s → Lists nx s us high → (k : ℕ) → In k us → IsLeft n done k
 listed_left n done nx pv s [] high h le sl w k i = absurd i
 listed_left n done nx pv s (u ∷ us) high h le sl w k i =
     let f = h.forth s le sl in
@@ -203,7 +231,8 @@ listed_left n done nx pv s (u ∷ us) high h le sl w k i =
     inside nx u [] high w = w.0
     inside nx u (v ∷ us) high w = w.0
 
-    listed_here : (n : ℕ) (done nx pv : List ℕ) (s u : ℕ) (us : List ℕ) (high : ℕ) → Linked n done nx pv → IsForth n done s (get_or nx s 0)
+    listed_here : (n : ℕ) (done nx pv : List ℕ) (s u : ℕ) (us : List ℕ) (high : ℕ) → Linked n done nx pv
+      → IsForth n done s (get_or nx s 0)
         → get_or nx s 0 ≡ u → Lists nx (suc u) us high → IsLeft n done u
     listed_here n done nx pv s u us high h f e w =
         let long = h.long_next in
@@ -212,7 +241,8 @@ listed_left n done nx pv s (u ∷ us) high h le sl w k i =
         let un : u < n = omega arith in
         (un, st.left un)
 
-pub listed_cover : (n : ℕ) (done nx pv : List ℕ) (s : ℕ) (us : List ℕ) (high : ℕ) → Linked n done nx pv → s ≤ n → IsSlot n done s → Lists nx s us high
+pub listed_cover : (n : ℕ) (done nx pv : List ℕ) (s : ℕ) (us : List ℕ) (high : ℕ) → Linked n done nx pv → s ≤ n
+    → IsSlot n done s → Lists nx s us high
     → (k : ℕ) → s ≤ k → k < n → k < high → (In k us → ⊥) → In k done
 listed_cover n done nx pv s [] high h le sl w k sk kn kh out =
     let f = h.forth s le sl in
@@ -226,11 +256,14 @@ listed_cover n done nx pv s (u ∷ us) high h le sl w k sk kn kh out =
       | inl q ↦ absurd (out (inl q))
       | inr o ↦ elim o [
         | inl l ↦ f.gap k sk (omega arith)
-        | inr l ↦ let un = here.0 in listed_cover n done nx pv (suc u) us high h (omega arith) here w.2 k (omega arith) kn kh (λ i. out (inr i))
+        | inr l ↦
+            let un = here.0 in listed_cover n done nx pv (suc u) us high h (omega arith) here w.2 k
+              (omega arith) kn kh (λ i. out (inr i))
       ]
     ]
 
-pub listed : (n : ℕ) (done nx pv : List ℕ) (us : List ℕ) (high : ℕ) → Linked n done nx pv → IsBound done high → Lists nx 0 us high → Describes n high us done
+pub listed : (n : ℕ) (done nx pv : List ℕ) (us : List ℕ) (high : ℕ) → Linked n done nx pv → IsBound done high
+    → Lists nx 0 us high → Describes n high us done
 listed n done nx pv us high h b w = record {
   bound = b;
   apart = λ k i. (listed_left n done nx pv 0 us high h (omega arith) tt w k i).1;

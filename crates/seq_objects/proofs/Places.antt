@@ -1,7 +1,9 @@
 -- Where each function stands among all.
 use Rattle.std.proofs.Common.{◌≡◌, ℕ, ◌<◌, get_or, refl, lit<}
 use Rattle.seq_objects.specs.declared.function.Function.{Function}
-use Rattle.seq_objects.specs.declared.function.Function.TheVariants.{Enqueue, Dequeue, Push, Pop, Insert, ExtractMin, Write, Read, Cas, Put, Get, Del, Acquire, Release}
+use Rattle.seq_objects.specs.declared.function.Function.TheVariants.{Enqueue, Dequeue, Push, Pop, Insert}
+use Rattle.seq_objects.specs.declared.function.Function.TheVariants.{ExtractMin, Write, Read, Cas, Put, Get, Del}
+use Rattle.seq_objects.specs.declared.function.Function.TheVariants.{Acquire, Release}
 use Rattle.seq_objects.specs.declared.function.Function.TheVariants.{Clear, Create, PutIfAbsent, Replace, Assoc}
 use Rattle.seq_objects.specs.declared.function.Function.TheVariants.{Dissoc, Add, Remove, Has, FetchAdd, GetCount}
 use Rattle.seq_objects.specs.declared.function.Function.TheVariants.{LockBy, UnlockBy}

@@ -9,7 +9,8 @@ use Rattle.std.specs.List.{AllByRecursion}
 use Rattle.std.specs.List.Sorted.{IsStrictlySortedBy}
 use Rattle.std.specs.Map.{keys_of, lookup}
 use Rattle.std.specs.BTreeMap.{is_at}
-use Rattle.std.specs.FinMap.{FinMap, empty, empty_of_len, len-entries, find, is_sorted, from_sorted, get, insert, remove, get-from_sorted, get-insert}
+use Rattle.std.specs.FinMap.{FinMap, empty, empty_of_len, len-entries, find, is_sorted, from_sorted, get, insert}
+use Rattle.std.specs.FinMap.{remove, get-from_sorted, get-insert}
 use Rattle.std.specs.FinMap.{get-remove, entries-from_sorted, entries, same_map, int_cmp-IsAntisymmetric}
 use Rattle.std.specs.FinMap.Entries.{below_all}
 use Rattle.model.specs.declared.AnyOp.TheVariants.{Put, Get, Del, Assoc, Dissoc}
@@ -61,38 +62,50 @@ get-changed es fs k w he hf changes q =
     get-at_key fs q hf ∙ changes q ∙ ap (λ b. cond b w (at_key q es)) ((eq_by_cmp_equiv int_cmp_total).symm k q)
     ∙ ap (cond (eq_by_cmp int_cmp q k) w) (sym (get-at_key es q he))
 
-from_sorted-insert : (es fs : Entries) (k v : ℤ) → Ordered es → Ordered fs → Changes es fs k (Some v) → from_sorted {R = int_cmp} fs ≡ insert (from_sorted {R = int_cmp} es) k v
+from_sorted-insert : (es fs : Entries) (k v : ℤ) → Ordered es → Ordered fs → Changes es fs k (Some v)
+    → from_sorted {R = int_cmp} fs ≡ insert (from_sorted {R = int_cmp} es) k v
 from_sorted-insert es fs k v he hf changes =
-    same_map int_cmp_total int_cmp-IsAntisymmetric _ _ (λ q. get-changed es fs k (Some v) he hf changes q ∙ sym (get-insert int_cmp_total _ k v q))
+    same_map int_cmp_total int_cmp-IsAntisymmetric _ _
+      (λ q. get-changed es fs k (Some v) he hf changes q ∙ sym (get-insert int_cmp_total _ k v q))
 
-from_sorted-remove : (es fs : Entries) (k : ℤ) → Ordered es → Ordered fs → Changes es fs k None → from_sorted {R = int_cmp} fs ≡ remove (from_sorted {R = int_cmp} es) k
+from_sorted-remove : (es fs : Entries) (k : ℤ) → Ordered es → Ordered fs → Changes es fs k None
+    → from_sorted {R = int_cmp} fs ≡ remove (from_sorted {R = int_cmp} es) k
 from_sorted-remove es fs k he hf changes =
-    same_map int_cmp_total int_cmp-IsAntisymmetric _ _ (λ q. get-changed es fs k None he hf changes q ∙ sym (get-remove int_cmp_total _ k q))
+    same_map int_cmp_total int_cmp-IsAntisymmetric _ _
+      (λ q. get-changed es fs k None he hf changes q ∙ sym (get-remove int_cmp_total _ k q))
 
 -- maps of ordered entries are equal only where the entries are
-from_sorted-injective : (es fs : Entries) → Ordered es → Ordered fs → from_sorted {R = int_cmp} es ≡ from_sorted {R = int_cmp} fs → es ≡ fs
+from_sorted-injective : (es fs : Entries) → Ordered es → Ordered fs
+    → from_sorted {R = int_cmp} es ≡ from_sorted {R = int_cmp} fs → es ≡ fs
 from_sorted-injective es fs he hf e =
-    sym (entries-from_sorted int_cmp es (is_sorted-entries es he)) ∙ ap entries e ∙ entries-from_sorted int_cmp fs (is_sorted-entries fs hf)
+    sym (entries-from_sorted int_cmp es (is_sorted-entries es he)) ∙ ap entries e
+      ∙ entries-from_sorted int_cmp fs (is_sorted-entries fs hf)
 
 pub from_sorted-empty : (es : Entries) → es ≡ [] → Ordered es → from_sorted {R = int_cmp} es ≡ empty
-from_sorted-empty es e h = empty_of_len _ (len-entries _ ∙ ap length (entries-from_sorted int_cmp es (is_sorted-entries es h) ∙ e))
+from_sorted-empty es e h =
+    empty_of_len _ (len-entries _ ∙ ap length (entries-from_sorted int_cmp es (is_sorted-entries es h) ∙ e))
 
 -- The step of each operation. The table m has the entries es before it, and fs after it.
-pub next-put : (m : FinMap int_cmp ℤ) (es fs : Entries) (k v : ℤ) (r : Option ℤ) → from_sorted es ≡ m → Ordered es → Ordered fs → Changes es fs k (Some v) → r ≡ at_key k es
+pub next-put : (m : FinMap int_cmp ℤ) (es fs : Entries) (k v : ℤ) (r : Option ℤ) → from_sorted es ≡ m → Ordered es
+    → Ordered fs → Changes es fs k (Some v) → r ≡ at_key k es
     → next (table m) (Put k v) ≡ Some (table (from_sorted fs), Value r)
 next-put m es fs k v r is he hf changes old =
-    ap (λ n. Some (table n, Value (get m k))) (ap (λ n. insert n k v) (sym is) ∙ sym (from_sorted-insert es fs k v he hf changes))
+    ap (λ n. Some (table n, Value (get m k)))
+      (ap (λ n. insert n k v) (sym is) ∙ sym (from_sorted-insert es fs k v he hf changes))
     ∙ ap (λ o. Some (table (from_sorted fs), Value o)) (ap (λ n. get n k) (sym is) ∙ get-at_key es k he ∙ sym old)
 
-pub next-get : (m : FinMap int_cmp ℤ) (es : Entries) (k : ℤ) (r : Option ℤ) → from_sorted es ≡ m → Ordered es → r ≡ at_key k es
+pub next-get : (m : FinMap int_cmp ℤ) (es : Entries) (k : ℤ) (r : Option ℤ) → from_sorted es ≡ m → Ordered es
+    → r ≡ at_key k es
     → next (table m) (Get k) ≡ Some (table m, Value r)
 next-get m es k r is he found =
     ap (λ o. Some (table m, Value o)) (ap (λ n. get n k) (sym is) ∙ get-at_key es k he ∙ sym found)
 
-pub next-del : (m : FinMap int_cmp ℤ) (es fs : Entries) (k : ℤ) (r : Option ℤ) → from_sorted es ≡ m → Ordered es → Ordered fs → Changes es fs k None → r ≡ at_key k es
+pub next-del : (m : FinMap int_cmp ℤ) (es fs : Entries) (k : ℤ) (r : Option ℤ) → from_sorted es ≡ m → Ordered es
+    → Ordered fs → Changes es fs k None → r ≡ at_key k es
     → next (table m) (Del k) ≡ Some (table (from_sorted fs), Value r)
 next-del m es fs k r is he hf changes old =
-    ap (λ n. Some (table n, Value (get m k))) (ap (λ n. remove n k) (sym is) ∙ sym (from_sorted-remove es fs k he hf changes))
+    ap (λ n. Some (table n, Value (get m k)))
+      (ap (λ n. remove n k) (sym is) ∙ sym (from_sorted-remove es fs k he hf changes))
     ∙ ap (λ o. Some (table (from_sorted fs), Value o)) (ap (λ n. get n k) (sym is) ∙ get-at_key es k he ∙ sym old)
 
 table_inserted : (m : FinMap int_cmp ℤ) (es fs : Entries) (k v : ℤ) → from_sorted es ≡ m → Ordered es
@@ -157,7 +170,8 @@ table-injective : (m n : FinMap int_cmp ℤ) → table m ≡ table n → m ≡ n
 unfolding in_table
 table-injective m n e = ap in_table e
 
-pub same_tables : (m n : FinMap int_cmp ℤ) (es fs : Entries) (r : Bool) → from_sorted es ≡ m → from_sorted fs ≡ n → Ordered es → Ordered fs → Decides r (es ≡ fs) → Decides r (table m ≡ table n)
+pub same_tables : (m n : FinMap int_cmp ℤ) (es fs : Entries) (r : Bool) → from_sorted es ≡ m → from_sorted fs ≡ n
+    → Ordered es → Ordered fs → Decides r (es ≡ fs) → Decides r (table m ≡ table n)
 same_tables m n es fs r em fn he hf decides = (
   λ t. ap table (sym em ∙ ap from_sorted (decides.0 t) ∙ fn),
   λ e. decides.1 (from_sorted-injective es fs he hf (em ∙ table-injective m n e ∙ sym fn)),

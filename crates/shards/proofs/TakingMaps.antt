@@ -26,7 +26,8 @@ use Rattle.shards.specs.declared.waiting.Waiting.{Waiting}
 use Rattle.shards.specs.Forms.{is_on}
 use Rattle.shards.specs.LargeObjects.{maps_on}
 use Rattle.shards.specs.ShardTexts.{IsSpelled, SaysRenamed, SpelledMap, lines_of, maps_of_shard}
-use Rattle.shards.specs.Dividing.{Files, Fits, FitsAmong, most_names, name_in_shard, places_from, shard_among, table_text}
+use Rattle.shards.specs.Dividing.{Files, Fits, FitsAmong, most_names, name_in_shard, places_from, shard_among}
+use Rattle.shards.specs.Dividing.{table_text}
 use Rattle.history.specs.Faults.{IsFaultlessAtAnyLength}
 use Rattle.shards.specs.SplitFaults.{IsFoundAmong, NeedsMoreShards, most_maps}
 use Rattle.shards.specs.Taking.{AddsLine, AddsMap, AreTaken, AreTakenOf, AreTakenWith, IsMapFoundAmong}

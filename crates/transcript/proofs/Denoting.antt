@@ -1,5 +1,6 @@
 -- What the events of journals denote is the history of the journals.
-use Rattle.std.proofs.Common.{◌≡◌, ℕ, ◌==◌, Bool, true, false, cond, inl, inr, List, [], ◌∷◌, ◌++◌, filter, find, Some, refl, ap, sym, ◌∙◌, subst}
+use Rattle.std.proofs.Common.{◌≡◌, ℕ, ◌==◌, Bool, true, false, cond, inl, inr, List, [], ◌∷◌, ◌++◌, filter, find}
+use Rattle.std.proofs.Common.{Some, refl, ap, sym, ◌∙◌, subst}
 use Rattle.std.proofs.lemmas.List.Elements.{filter-append}
 use Rattle.std.proofs.lemmas.Bool.{eqb-true, eq-eqb}
 use Rattle.model.specs.Histories.{Inv, Res, process_of}
@@ -23,14 +24,19 @@ next_part p [] = refl
 next_part p (e ∷ es) = go (e.process == p) refl (next_part p es)
   where
     go : (b : Bool) → (e.process == p) ≡ b → next_event p (filter (λ e. e.process == p) es) ≡ next_event p es
-        → find (λ (x : Event). x.process == p) (cond b (e ∷ filter (λ (x : Event). x.process == p) es) (filter (λ (x : Event). x.process == p) es))
+        → find (λ (x : Event). x.process == p)
+          (cond b (e ∷ filter (λ (x : Event). x.process == p) es) (filter (λ (x : Event). x.process == p) es))
         ≡ cond b (Some e) (find (λ (x : Event). x.process == p) es)
-    go true q later = ap (λ b. cond b (Some e) (find (λ (x : Event). x.process == p) (filter (λ (x : Event). x.process == p) es))) q
+    go true q later = ap (λ b.
+      cond b (Some e) (find (λ (x : Event). x.process == p) (filter (λ (x : Event). x.process == p) es))) q
     go false q later = later
 
 of_process : (n p x : ℕ) (a : Action) (b : Bool) (m : Numbered) → In m (denoted_by n p x a b) → process_of m.event ≡ p
 of_process n p x (Invoke op) true m i = absurd i
-of_process n p x (Invoke op) false m i = elim i [ inl e ↦ ap (λ (k : Numbered). process_of k.event) e | inr j ↦ absurd j ]
+of_process n p x (Invoke op) false m i = elim i [
+  | inl e ↦ ap (λ (k : Numbered). process_of k.event) e
+  | inr j ↦ absurd j
+]
 of_process n p x (Ok r) b m i = elim i [ inl e ↦ ap (λ (k : Numbered). process_of k.event) e | inr j ↦ absurd j ]
 of_process n p x Fail b m i = absurd i
 of_process n p x Info b m i = absurd i
@@ -39,26 +45,35 @@ of_process n p x Info b m i = absurd i
 part_denoted : (c : ℕ) (es : List Event) → part c (denoted es) ≡ denoted (filter (λ e. e.process == c) es)
 part_denoted c [] = refl
 part_denoted c (e ∷ es) =
-    filter-append (λ (m : Numbered). process_of m.event == c) (denoted_by e.number e.process e.object e.action (fails (next_event e.process es)))
+    filter-append (λ (m : Numbered). process_of m.event == c)
+      (denoted_by e.number e.process e.object e.action (fails (next_event e.process es)))
     (denoted es) ∙ go (e.process == c) refl (part_denoted c es)
   where
     go : (b : Bool) → (e.process == c) ≡ b → part c (denoted es) ≡ denoted (filter (λ (x : Event). x.process == c) es)
-        → part c (denoted_by e.number e.process e.object e.action (fails (next_event e.process es))) ++ part c (denoted es)
+        → part c (denoted_by e.number e.process e.object e.action (fails (next_event e.process es)))
+          ++ part c (denoted es)
         ≡ denoted (cond b (e ∷ filter (λ (x : Event). x.process == c) es) (filter (λ (x : Event). x.process == c) es))
     go true q later =
         let own : e.process ≡ c = eqb-true e.process c q in
-        let here : part c (denoted_by e.number e.process e.object e.action (fails (next_event e.process es))) ≡ denoted_by e.number e.process e.object e.action (fails (next_event e.process es)) =
-        filter_all (λ (m : Numbered). process_of m.event == c) (denoted_by e.number e.process e.object e.action (fails (next_event e.process es)))
-        (λ m i. eq-eqb (process_of m.event) c (of_process e.number e.process e.object e.action (fails (next_event e.process es)) m i ∙ own)) in
+        let here : part c (denoted_by e.number e.process e.object e.action (fails (next_event e.process es)))
+          ≡ denoted_by e.number e.process e.object e.action (fails (next_event e.process es)) =
+        filter_all (λ (m : Numbered). process_of m.event == c)
+          (denoted_by e.number e.process e.object e.action (fails (next_event e.process es)))
+        (λ m i. eq-eqb (process_of m.event) c
+          (of_process e.number e.process e.object e.action (fails (next_event e.process es)) m i ∙ own)) in
         let next : next_event e.process es ≡ next_event e.process (filter (λ (x : Event). x.process == c) es) =
-        subst (λ (p : ℕ). next_event p es ≡ next_event p (filter (λ (x : Event). x.process == c) es)) (sym own) (sym (next_part c es)) in
+        subst (λ (p : ℕ). next_event p es ≡ next_event p (filter (λ (x : Event). x.process == c) es)) (sym own)
+          (sym (next_part c es)) in
         ap (λ xs. xs ++ part c (denoted es)) here
         ∙ (ap (λ o. denoted_by e.number e.process e.object e.action (fails o) ++ part c (denoted es)) next
-        ∙ ap (λ xs. denoted_by e.number e.process e.object e.action (fails (next_event e.process (filter (λ (x : Event). x.process == c) es))) ++ xs) later)
+        ∙ ap (λ xs. denoted_by e.number e.process e.object e.action
+          (fails (next_event e.process (filter (λ (x : Event). x.process == c) es))) ++ xs) later)
     go false q later =
         let here : part c (denoted_by e.number e.process e.object e.action (fails (next_event e.process es))) ≡ [] =
-        filter_none (λ (m : Numbered). process_of m.event == c) (denoted_by e.number e.process e.object e.action (fails (next_event e.process es)))
-        (λ m i. ap (λ p. p == c) (of_process e.number e.process e.object e.action (fails (next_event e.process es)) m i) ∙ q) in
+        filter_none (λ (m : Numbered). process_of m.event == c)
+          (denoted_by e.number e.process e.object e.action (fails (next_event e.process es)))
+        (λ m i. ap (λ p. p == c)
+          (of_process e.number e.process e.object e.action (fails (next_event e.process es)) m i) ∙ q) in
         ap (λ xs. xs ++ part c (denoted es)) here ∙ later
 
 -- the next event is the client's own
@@ -71,28 +86,36 @@ denotes_events c x l none = refl
 denotes_events c x l (last t y op) = refl
 denotes_events c x l (call t y op u a js fits rest) = go a (denotes_events c y js rest)
   where
-    go : (a : AnyAnswer) → Denotes c js (denoted (events_from c y js)) → Denotes c (Invoked t y op ∷ Returned u a ∷ js) (denoted (events_from c x (Invoked t y op ∷ Returned u a ∷ js)))
+    go : (a : AnyAnswer) → Denotes c js (denoted (events_from c y js))
+      → Denotes c (Invoked t y op ∷ Returned u a ∷ js) (denoted (events_from c x (Invoked t y op ∷ Returned u a ∷ js)))
     go (Reply r) h =
         let back : Event = record { number = u; process = c; object = y; action = Ok r } in (
           denoted (events_from c y js),
           ap
-              (λ b. denoted_by t c y (Invoke op) b ++ (record { number = u; event = Res c y r } ∷ denoted (events_from c y js))) (next_own c back (events_from c y js) refl),
+              (λ b. denoted_by t c y (Invoke op) b
+                ++ (record { number = u; event = Res c y r } ∷ denoted (events_from c y js)))
+                (next_own c back (events_from c y js) refl),
           h,
         )
     go Refused h =
         let back : Event = record { number = u; process = c; object = y; action = Fail } in
-        subst (Denotes c js) (sym (ap (λ b. denoted_by t c y (Invoke op) b ++ denoted (events_from c y js)) (next_own c back (events_from c y js) refl))) h
+        subst (Denotes c js) (sym
+          (ap (λ b. denoted_by t c y (Invoke op) b ++ denoted (events_from c y js))
+          (next_own c back (events_from c y js) refl))) h
 
 -- a journal denotes one list of events
 pub denotes_once : (c : ℕ) (js : List AnyEvent) (h k : List Numbered) → Denotes c js h → Denotes c js k → h ≡ k
 denotes_once c [] h k d e = d ∙ sym e
 denotes_once c (Invoked t x op ∷ []) h k d e = d ∙ sym e
 denotes_once c (Invoked t x op ∷ Returned u (Reply r) ∷ js) h k d e =
-    d.1 ∙ (ap (λ ms. record { number = t; event = Inv c x op } ∷ record { number = u; event = Res c x r } ∷ ms) (denotes_once c js d.0 e.0 d.2 e.2) ∙ sym e.1)
+    d.1 ∙ (ap (λ ms. record { number = t; event = Inv c x op } ∷ record { number = u; event = Res c x r } ∷ ms)
+      (denotes_once c js d.0 e.0 d.2 e.2) ∙ sym e.1)
 denotes_once c (Invoked t x op ∷ Returned u Refused ∷ js) h k d e = denotes_once c js h k d e
 denotes_once c (Invoked t x op ∷ Invoked u y o ∷ js) h k d e = absurd d
 denotes_once c (Returned u a ∷ js) h k d e = absurd d
 
 -- the part of a client in what the events denote
-pub part_denotes : (c : ℕ) (js : List AnyEvent) (es : List Event) → filter (λ e. e.process == c) es ≡ events_from c 0 js → InTurn js → Denotes c js (part c (denoted es))
-part_denotes c js es own turn = subst (Denotes c js) (sym (part_denoted c es ∙ ap denoted own)) (denotes_events c 0 js turn)
+pub part_denotes : (c : ℕ) (js : List AnyEvent) (es : List Event)
+    → filter (λ e. e.process == c) es ≡ events_from c 0 js → InTurn js → Denotes c js (part c (denoted es))
+part_denotes c js es own turn =
+    subst (Denotes c js) (sym (part_denoted c es ∙ ap denoted own)) (denotes_events c 0 js turn)

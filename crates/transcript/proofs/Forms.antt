@@ -11,7 +11,8 @@ use Rattle.seq_objects.specs.Values.{function_in, op_with, op_value, reply_value
 use Rattle.events.specs.declared.event.Action.{Action}
 use Rattle.events.specs.declared.event.Action.TheVariants.{Invoke, Ok, Fail, Info}
 use Rattle.edn_fields.specs.Fields.{max_object}
-use Rattle.history.specs.Maps.{ClientMap, MapType, invoke, ok, fail, info, client_of, client_with, short_in, type_named, plain_value}
+use Rattle.history.specs.Maps.{ClientMap, MapType, invoke, ok, fail, info, client_of, client_with, short_in}
+use Rattle.history.specs.Maps.{type_named, plain_value}
 use Rattle.history.specs.Names.{function_named}
 use Rattle.history.specs.Denotes.{action_of}
 use Rattle.history.proofs.Naming.{named_is}
@@ -27,7 +28,8 @@ type_map Info = info
 
 -- the map that a line is
 abbrev pub map_of : Line → ClientMap
-map_of l = record { process = l.event.process; type = type_map l.event.action; function = Some (function_in l.op); object = l.event.object; value = value_form (value_of l.op l.event.action) }
+map_of l = record { process = l.event.process; type = type_map l.event.action; function = Some (function_in l.op);
+    object = l.event.object; value = value_form (value_of l.op l.event.action) }
 
 type_is : (a : Action) → type_named (type_of a) ≡ Some (type_map a)
 type_is (Invoke o) = refl
@@ -42,10 +44,14 @@ pub client_is : (l : Line) → l.event.object ≤ max_object → client_of (form
 client_is l low =
     let p = l.event.process in
     let v = value_form (value_of l.op l.event.action) in
-    let name : Some (function_in l.op) ≡ function_named (name_of (function_in l.op)) = named_is (Some (function_in l.op)) (name_of (function_in l.op)) refl tt in
-    ap (λ t. client_with (Some p) t (Some (name_of (function_in l.op))) (short_in (Some l.event.object)) v) (type_is l.event.action)
-    ∙ (ap (λ x. client_with (Some p) (Some (type_map l.event.action)) (Some (name_of (function_in l.op))) x v) (object_is l.event.object low)
-    ∙ ap (λ f. Some (record { process = p; type = type_map l.event.action; function = f; object = l.event.object; value = v })) (sym name))
+    let name : Some (function_in l.op) ≡ function_named (name_of (function_in l.op)) =
+      named_is (Some (function_in l.op)) (name_of (function_in l.op)) refl tt in
+    ap (λ t. client_with (Some p) t (Some (name_of (function_in l.op))) (short_in (Some l.event.object)) v)
+      (type_is l.event.action)
+    ∙ (ap (λ x. client_with (Some p) (Some (type_map l.event.action)) (Some (name_of (function_in l.op))) x v)
+      (object_is l.event.object low)
+    ∙ ap (λ f. Some (record { process = p; type = type_map l.event.action; function = f; object = l.event.object;
+      value = v })) (sym name))
 
 value_back : (v : Value) → plain_value (value_form v) ≡ Some v
 value_back Nil = refl
@@ -85,12 +91,18 @@ op_back (op.LockBy o) = refl
 op_back (op.UnlockBy o) = refl
 
 -- a line that follows says its action
-pub action_is : (l : Line) (last : Option Line) → Follows last l → action_of (map_of l).type (map_of l) ≡ Some l.event.action
+pub action_is : (l : Line) (last : Option Line) → Follows last l
+    → action_of (map_of l).type (map_of l) ≡ Some l.event.action
 action_is l last h = go l.event.action refl h
   where
     go : (a : Action) → l.event.action ≡ a → MayFollow last l.event.object l.op a
-        → action_of (type_map a) (record { process = l.event.process; type = type_map a; function = Some (function_in l.op); object = l.event.object; value = value_form (value_of l.op a) }) ≡ Some a
-    go (Invoke o) is f = ap (option_map Invoke) (ap (λ v. option_and_then (op_with (function_in l.op)) v) (value_back (op_value l.op)) ∙ op_back l.op) ∙ ap (λ z. Some (Invoke z)) f.0
-    go (Ok r) is f = ap (option_map Ok) (ap (λ v. option_and_then (reply_with (function_in l.op)) v) (value_back (reply_value r)) ∙ f.1)
+        → action_of (type_map a)
+          (record { process = l.event.process; type = type_map a; function = Some (function_in l.op);
+          object = l.event.object; value = value_form (value_of l.op a) }) ≡ Some a
+    go (Invoke o) is f = ap (option_map Invoke)
+      (ap (λ v. option_and_then (op_with (function_in l.op)) v) (value_back (op_value l.op)) ∙ op_back l.op)
+      ∙ ap (λ z. Some (Invoke z)) f.0
+    go (Ok r) is f = ap (option_map Ok)
+      (ap (λ v. option_and_then (reply_with (function_in l.op)) v) (value_back (reply_value r)) ∙ f.1)
     go Fail is f = refl
     go Info is f = refl

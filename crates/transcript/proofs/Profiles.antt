@@ -1,5 +1,6 @@
 -- Lines have integers and names that a text can have.
-use Rattle.std.proofs.Common.{◌≡◌, ℕ, ◌+◌, ◌<◌, ◌≤◌, ◌^◌, ◌==◌, true, List, [], length, map, get_or, take, All, refl, ap, sym, subst, inl, inr, arith, eq-eqb}
+use Rattle.std.proofs.Common.{◌≡◌, ℕ, ◌+◌, ◌<◌, ◌≤◌, ◌^◌, ◌==◌, true, List, [], length, map, get_or, take, All}
+use Rattle.std.proofs.Common.{refl, ap, sym, subst, inl, inr, arith, eq-eqb}
 use Rattle.std.proofs.lemmas.Bool.{cases_lt}
 use Rattle.std.proofs.lemmas.List.{get_or_past, take_all, take_more}
 use Rattle.std.proofs.lemmas.List.Elements.{All-push}
@@ -57,17 +58,21 @@ type_named (Ok r) = refl
 type_named Fail = refl
 type_named Info = refl
 
-pub form_in_profile : (l : Line) → l.event.process < 2 ^ 63 → l.event.object < 2 ^ 63 → InProfile (value_form (value_of l.op l.event.action)) → InProfile (form_of l)
+pub form_in_profile : (l : Line) → l.event.process < 2 ^ 63 → l.event.object < 2 ^ 63
+    → InProfile (value_form (value_of l.op l.event.action)) → InProfile (form_of l)
 unfolding is_name
-form_in_profile l process object value = (refl, process, (refl, type_named l.event.action, (refl, function_named l.op, (refl, value, (refl, object, tt)))))
+form_in_profile l process object value =
+    (refl, process, (refl, type_named l.event.action, (refl, function_named l.op, (refl, value, (refl, object, tt)))))
 
 -- one line more
 pub profiles_more : (ls : List Line) (i : ℕ) (d : Line) → i < length ls → All (λ l. InProfile (form_of l)) (take i ls)
     → InProfile (form_of (get_or ls i d)) → All (λ l. InProfile (form_of l)) (take (i + 1) ls)
 profiles_more ls i d low so_far here =
-    subst (All (λ (l : Line). InProfile (form_of l))) (sym (take_more ls i d low)) (All-push (λ (l : Line). InProfile (form_of l)) (take i ls) (get_or ls i d) so_far here)
+    subst (All (λ (l : Line). InProfile (form_of l))) (sym (take_more ls i d low))
+      (All-push (λ (l : Line). InProfile (form_of l)) (take i ls) (get_or ls i d) so_far here)
 
-pub all_profiles : (ls : List Line) (i : ℕ) → length ls ≤ i → All (λ l. InProfile (form_of l)) (take i ls) → All (λ l. InProfile (form_of l)) ls
+pub all_profiles : (ls : List Line) (i : ℕ) → length ls ≤ i → All (λ l. InProfile (form_of l)) (take i ls)
+    → All (λ l. InProfile (form_of l)) ls
 all_profiles ls i high h = subst (All (λ (l : Line). InProfile (form_of l))) (take_all i ls high) h
 
 module _ {O R : Type 0} (op_in : O → AnyOp) (reply_in : R → AnyReply) (r : Recorded O R) where
@@ -76,14 +81,18 @@ module _ {O R : Type 0} (op_in : O → AnyOp) (reply_in : R → AnyReply) (r : R
   past c high = ap (map (event_in op_in reply_in)) (get_or_past r.journals c [] high)
 
   -- so no line is of a client past the last
-  pub clients_low : (n : ℕ) → length r.journals < n → (ls : List Line) → AreLinesOf (journals_in op_in reply_in r) ls → All (λ l. l.event.process < n) ls
+  pub clients_low : (n : ℕ) → length r.journals < n → (ls : List Line) → AreLinesOf (journals_in op_in reply_in r) ls
+      → All (λ l. l.event.process < n) ls
   clients_low n few ls are = all_from_in (λ (l : Line). l.event.process < n) ls (λ l i. low l i)
     where
       low : (l : Line) → In l ls → l.event.process < n
       low l i =
           let own : In l (lines_of l.event.process (journals_in op_in reply_in r l.event.process)) =
-          subst (In l) (are.each l.event.process) (in_filter_from (λ (k : Line). k.event.process == l.event.process) l ls i (eq-eqb l.event.process l.event.process refl)) in
+          subst (In l) (are.each l.event.process)
+            (in_filter_from (λ (k : Line). k.event.process == l.event.process) l ls i
+            (eq-eqb l.event.process l.event.process refl)) in
           elim (cases_lt l.event.process n) [
             | inl h ↦ h
-            | inr h ↦ absurd (subst (λ (js : List AnyEvent). In l (lines_of l.event.process js)) (past l.event.process (omega arith)) own)
+            | inr h ↦ absurd (subst (λ (js : List AnyEvent). In l (lines_of l.event.process js))
+              (past l.event.process (omega arith)) own)
           ]

@@ -1,5 +1,6 @@
 -- The text of a line's form is that of its segments.
-use Rattle.std.proofs.Common.{◌≡◌, ℕ, ◌+◌, ◌<◌, ◌++◌, [], ◌∷◌, List, length, drop, get_or, refl, ap, sym, ◌∙◌, append_assoc, codes, decimal}
+use Rattle.std.proofs.Common.{◌≡◌, ℕ, ◌+◌, ◌<◌, ◌++◌, [], ◌∷◌, List, length, drop, get_or, refl, ap, sym, ◌∙◌}
+use Rattle.std.proofs.Common.{append_assoc, codes, decimal}
 use Rattle.std.proofs.lemmas.List.{drop_more, append-nil}
 use Rattle.edn_reader.specs.Text.{text_of}
 use Rattle.std.specs.Fmt.{signed_decimal}
@@ -24,7 +25,8 @@ value_is (Pair a b) = simp (append_assoc, append-nil)
 value_is (Triple a b c) = simp (append_assoc, append-nil) (ap (λ l. codes "[" ++ (signed_decimal a ++ l))
     (rest_of_triple (signed_decimal b) (signed_decimal c)))
 
-flat : (o k p l t m f q v r x c n : List ℕ) → (o ++ (((k ++ p) ++ ((l ++ t) ++ ((m ++ f) ++ ((q ++ v) ++ ((r ++ x) ++ []))))) ++ c)) ++ n
+flat : (o k p l t m f q v r x c n : List ℕ)
+    → (o ++ (((k ++ p) ++ ((l ++ t) ++ ((m ++ f) ++ ((q ++ v) ++ ((r ++ x) ++ []))))) ++ c)) ++ n
     ≡ ((o ++ k) ++ (p ++ (l ++ t))) ++ ((m ++ (f ++ (q ++ v))) ++ (r ++ (x ++ (c ++ n))))
 flat o k p l t m f q v r x c n = simp (append_assoc, append-nil)
 
@@ -33,13 +35,17 @@ line_is l =
     let value = value_of l.op l.event.action in
     let t = type_of l.event.action in
     let f = name_of (function_in l.op) in
-    flat (codes "{") (codes ":process ") (decimal l.event.process) (codes ", :type :") t (codes ", :f :") f (codes ", :value ")
+    flat (codes "{") (codes ":process ") (decimal l.event.process) (codes ", :type :") t (codes ", :f :") f
+      (codes ", :value ")
     (text_of (value_form value)) (codes ", :object ") (decimal l.event.object) (codes "}") (10 ∷ [])
-    ∙ ap (λ v. (codes "{:process " ++ (decimal l.event.process ++ (codes ", :type :" ++ t))) ++ ((codes ", :f :" ++ (f ++ (codes ", :value " ++ v))) ++ object_text l.event.object)) (value_is value)
+    ∙ ap (λ v. (codes "{:process " ++ (decimal l.event.process ++ (codes ", :type :" ++ t)))
+      ++ ((codes ", :f :" ++ (f ++ (codes ", :value " ++ v))) ++ object_text l.event.object)) (value_is value)
 
 pub texts_are : (ls : List Line) → history_text ls ≡ lines_text ls
 texts_are [] = refl
-texts_are (l ∷ ls) = sym (append_assoc (text_of (form_of l)) (10 ∷ []) (history_text ls)) ∙ (ap (λ xs. xs ++ history_text ls) (line_is l) ∙ ap (λ xs. line_text l ++ xs) (texts_are ls))
+texts_are (l ∷ ls) = sym (append_assoc (text_of (form_of l)) (10 ∷ []) (history_text ls))
+    ∙ (ap (λ xs. xs ++ history_text ls) (line_is l) ∙ ap (λ xs. line_text l ++ xs) (texts_are ls))
 
-pub lines_left : (ls : List Line) (i : ℕ) (d : Line) → i < length ls → lines_text (drop i ls) ≡ line_text (get_or ls i d) ++ lines_text (drop (i + 1) ls)
+pub lines_left : (ls : List Line) (i : ℕ) (d : Line) → i < length ls
+    → lines_text (drop i ls) ≡ line_text (get_or ls i d) ++ lines_text (drop (i + 1) ls)
 lines_left ls i d lt = ap lines_text (drop_more ls i d lt)

@@ -2,9 +2,11 @@ use Rattle.edn_fields.proofs.Finding.{found_here, passed_over}
 use Rattle.edn_fields.proofs.value_at.Goals as goal
 
 pub returns-then-is_same : goal.returns-then-is_same
-returns-then-is_same c = found_here c.args.key.now c.args.entries.now c.loop-entry.entry-index c.entry-item.result c.loop-entry-test.true
+returns-then-is_same c =
+    found_here c.args.key.now c.args.entries.now c.loop-entry.entry-index c.entry-item.result c.loop-entry-test.true
     c.entry-item.is c.loop-entry.invariant c.as_bytes.result.now c.as_bytes.ensures.text c.if-is_same.ensures
 
 pub loop-entry-preserved : goal.loop-entry-preserved
-loop-entry-preserved c = passed_over c.args.key.now c.args.entries.now c.loop-entry.entry-index c.entry-item.result c.loop-entry-test.true
+loop-entry-preserved c =
+    passed_over c.args.key.now c.args.entries.now c.loop-entry.entry-index c.entry-item.result c.loop-entry-test.true
     c.entry-item.is c.loop-entry.invariant c.as_bytes.result.now c.as_bytes.ensures.text c.if-is_same.ensures

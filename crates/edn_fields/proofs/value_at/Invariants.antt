@@ -5,4 +5,6 @@ use Rattle.edn_fields.specs.Fields as spec
 use Rattle.edn_fields.proofs.value_at.Given as goal
 
 abbrev pub invariant-loop-entry : goal.invariant-loop-entry
-invariant-loop-entry l = spec.value_at l.key (entries_of (pair_views (drop l.entry-index l.entries))) ≡ spec.value_at l.key (entries_of (pair_views l.entries))
+invariant-loop-entry l =
+    spec.value_at l.key (entries_of (pair_views (drop l.entry-index l.entries)))
+    ≡ spec.value_at l.key (entries_of (pair_views l.entries))

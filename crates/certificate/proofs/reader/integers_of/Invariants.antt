@@ -6,4 +6,5 @@ use Rattle.certificate.proofs.Reading.{integers_after}
 use Rattle.certificate.proofs.reader.integers_of.Given as goal
 
 abbrev pub invariant-loop-form : goal.invariant-loop-form
-invariant-loop-form l = integers_after l.integers.items (drop l.form-index l.forms) ≡ integers_in (items_of (views l.forms))
+invariant-loop-form l =
+    integers_after l.integers.items (drop l.form-index l.forms) ≡ integers_in (items_of (views l.forms))

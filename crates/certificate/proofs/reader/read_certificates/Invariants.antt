@@ -6,4 +6,5 @@ use Rattle.certificate.specs.Inside.{AreRead}
 use Rattle.certificate.proofs.reader.read_certificates.Given as goal
 
 abbrev pub invariant-loop-place : goal.invariant-loop-place
-invariant-loop-place l = AreRead (views (take l.place l.fn.forms.items)) l.certificates.items (contains nat_cmp l.objects)
+invariant-loop-place l =
+    AreRead (views (take l.place l.fn.forms.items)) l.certificates.items (contains nat_cmp l.objects)

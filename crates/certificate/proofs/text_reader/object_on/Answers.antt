@@ -5,4 +5,5 @@ use Rattle.certificate.proofs.Orders.{object_is}
 use Rattle.certificate.proofs.text_reader.object_on.Goals as goal
 
 pub returns : goal.returns
-returns c = λ d q. c.object.ensures ∙ ap object_in c.natural_at.ensures ∙ object_is c.in-Some.number.now d (c.in-Some.ensures.value (truncated d) q)
+returns c = λ d q. c.object.ensures ∙ ap object_in c.natural_at.ensures
+    ∙ object_is c.in-Some.number.now d (c.in-Some.ensures.value (truncated d) q)

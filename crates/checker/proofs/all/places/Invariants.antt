@@ -6,4 +6,5 @@ use Rattle.checker.specs.Checking.{ArePlaces}
 use Rattle.checker.proofs.all.places.Given as goal
 
 abbrev pub invariant-loop-k : goal.invariant-loop-k
-invariant-loop-k l = ArePlaces l.places l.certificates × ((c : Certificate) → In c (take l.k l.certificates) → IsSome (value_of l.places c.object))
+invariant-loop-k l = ArePlaces l.places l.certificates
+    × ((c : Certificate) → In c (take l.k l.certificates) → IsSome (value_of l.places c.object))

@@ -6,7 +6,8 @@ pub returns-in-Some-poll-clause-returns : goal.returns-in-Some-poll-clause-retur
 returns-in-Some-poll-clause-returns g c = returned _ _ _ _ c.loop.invariant.3 c.in-Some-poll.ensures.polled
 
 pub loop-preserved : goal.loop-preserved
-loop-preserved g c = let i = c.loop.invariant in let tried = c.enlist.ensures.tried in let made = c.combine-after.ensures in (
+loop-preserved g c =
+    let i = c.loop.invariant in let tried = c.enlist.ensures.tried in let made = c.combine-after.ensures in (
   tt,
   tt,
   made.desk ∙ (ap (λ k. k.desk) tried ∙ (c.in_default.ensures.desk ∙ i.2)),
@@ -14,4 +15,6 @@ loop-preserved g c = let i = c.loop.invariant in let tried = c.enlist.ensures.tr
 )
 
 pub returns-in-NoMemory-clause-stays : goal.returns-in-NoMemory-clause-stays
-returns-in-NoMemory-clause-stays g c = keeps_round _ _ _ _ _ c.loop.invariant.3 c.in_default.ensures.missed (ap (λ k. k.knows) c.enlist.ensures.tried) c.combine-after.ensures.same
+returns-in-NoMemory-clause-stays g c =
+    keeps_round _ _ _ _ _ c.loop.invariant.3 c.in_default.ensures.missed
+    (ap (λ k. k.knows) c.enlist.ensures.tried) c.combine-after.ensures.same

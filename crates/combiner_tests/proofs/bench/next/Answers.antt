@@ -4,8 +4,12 @@ use Rattle.publication.proofs.Growing.{one_fewer}
 use Rattle.combiner_tests.proofs.bench.next.Goals as goal
 
 pub returns-clause-client : goal.returns-clause-client
-returns-clause-client c = let e = one_fewer (begun c.args.desk.now.id) c.pop.new.self.items c.args.clients.now.items c.in-Some.client c.in-Some.ensures.items c.requires.1 in
+returns-clause-client c =
+    let e = one_fewer (begun c.args.desk.now.id) c.pop.new.self.items c.args.clients.now.items c.in-Some.client
+      c.in-Some.ensures.items c.requires.1 in
     ap (λ k. k.desk) e.0
 
 pub returns-clause-others : goal.returns-clause-others
-returns-clause-others c = let e = one_fewer (begun c.args.desk.now.id) c.pop.new.self.items c.args.clients.now.items c.in-Some.client c.in-Some.ensures.items c.requires.1 in (e.1, e.2)
+returns-clause-others c =
+    let e = one_fewer (begun c.args.desk.now.id) c.pop.new.self.items c.args.clients.now.items c.in-Some.client
+      c.in-Some.ensures.items c.requires.1 in (e.1, e.2)

@@ -6,7 +6,8 @@ use Rattle.edn_fields.specs.Operations.{Walk}
 use Rattle.edn_fields.proofs.operation.values_in.Given as goal
 
 abbrev pub invariant-pairs : goal.invariant-pairs
-invariant-pairs l = (es : Entries) → token_buffer_tokens l.inside ≡ entries_tokens es ++ close_map ∷ [] → Walk es (token_buffer_tokens l.rest) l.values
+invariant-pairs l = (es : Entries) → token_buffer_tokens l.inside ≡ entries_tokens es ++ close_map ∷ []
+    → Walk es (token_buffer_tokens l.rest) l.values
 
 abbrev pub decreases-pairs : goal.decreases-pairs
 decreases-pairs l = length l.rest

@@ -4,7 +4,8 @@ use Rattle.edn_fields.specs.Values.{after_open}
 use Rattle.edn_fields.proofs.values.after_open.Given as goal
 
 abbrev pub invariant-pieces : goal.invariant-pieces
-invariant-pieces l = (after_open l.open (token_buffer_tokens l.rest) ≡ after_open 1 (token_buffer_tokens l.pieces)) × (l.open + length l.rest ≤ 1 + length l.pieces) × (length l.rest ≤ length l.pieces)
+invariant-pieces l = (after_open l.open (token_buffer_tokens l.rest) ≡ after_open 1 (token_buffer_tokens l.pieces))
+    × (l.open + length l.rest ≤ 1 + length l.pieces) × (length l.rest ≤ length l.pieces)
 
 abbrev pub decreases-pieces : goal.decreases-pieces
 decreases-pieces l = length l.rest

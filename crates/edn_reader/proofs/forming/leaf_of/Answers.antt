@@ -8,10 +8,14 @@ use Rattle.edn_reader.proofs.Formed.{leaf_own, open_vector_alone, open_map_alone
 use Rattle.edn_reader.proofs.forming.leaf_of.Goals as goal
 
 pub string_in-requires : goal.string_in-requires
-string_in-requires c = leaf_own (string (unquoted c.in-Str.raw.now)) [] (subst (λ (p : Piece). BeginsForm (piece_token p ∷ [])) c.in-Str.is c.requires)
+string_in-requires c = leaf_own (string (unquoted c.in-Str.raw.now)) []
+    (subst (λ (p : Piece). BeginsForm (piece_token p ∷ [])) c.in-Str.is c.requires)
 
 pub from_bytes-requires : goal.from_bytes-requires
-from_bytes-requires c = ap is_name c.as_bytes.ensures.value ∙ leaf_own (keyword c.in-Keyword.name.now) [] (subst (λ (p : Piece). BeginsForm (piece_token p ∷ [])) c.in-Keyword.is c.requires)
+from_bytes-requires c =
+    ap is_name c.as_bytes.ensures.value
+    ∙ leaf_own (keyword c.in-Keyword.name.now) []
+    (subst (λ (p : Piece). BeginsForm (piece_token p ∷ [])) c.in-Keyword.is c.requires)
 
 pub unreachable-requires : goal.unreachable-requires
 unreachable-requires c = elim c.in-OpenVector.is [

@@ -8,8 +8,10 @@ use Rattle.history.specs.UsualForms.{ReadsValue}
 use Rattle.history.proofs.UsualForms.{nil_here, false_here, true_here, integer_here}
 use Rattle.history.proofs.usual.value_at.Goals as goal
 
-word : (text w : List ℕ) (v : Value) (r : Option (Value × Bor (List ℕ))) → ((rest : List ℕ) → EndsToken rest → text ≡ w ++ rest → ReadsValue text v rest)
-    → IfSome r (λ x. (x.0 ≡ v) × EndsToken x.1.now × (text ≡ w ++ x.1.now)) → IfSome r (λ x. ReadsValue text x.0 x.1.now)
+word : (text w : List ℕ) (v : Value) (r : Option (Value × Bor (List ℕ)))
+    → ((rest : List ℕ) → EndsToken rest → text ≡ w ++ rest → ReadsValue text v rest)
+    → IfSome r (λ x. (x.0 ≡ v) × EndsToken x.1.now × (text ≡ w ++ x.1.now))
+    → IfSome r (λ x. ReadsValue text x.0 x.1.now)
 word text w v None h k = tt
 word text w v (Some x) h k = subst (λ (y : Value). ReadsValue text y x.1.now) (sym k.0) (h x.1.now k.1 k.2)
 
@@ -17,7 +19,8 @@ pub returns-in-110 : goal.returns-in-110
 returns-in-110 c = word c.args.text.now (codes "nil") Nil c.word_at.result (nil_here c.args.text.now) c.word_at.ensures
 
 pub returns-in-102 : goal.returns-in-102
-returns-in-102 c = word c.args.text.now (codes "false") False c.word_at-in-102.result (false_here c.args.text.now) c.word_at-in-102.ensures
+returns-in-102 c = word c.args.text.now (codes "false") False c.word_at-in-102.result
+    (false_here c.args.text.now) c.word_at-in-102.ensures
 
 pub returns-in-116 : goal.returns-in-116
 returns-in-116 c = word c.args.text.now (codes "true") True c.word_at-in-116.result
@@ -25,5 +28,7 @@ returns-in-116 c = word c.args.text.now (codes "true") True c.word_at-in-116.res
 
 pub returns-in_ok-number-in_default : goal.returns-in_ok-number-in_default
 returns-in_ok-number-in_default c =
-    let e : to_z w64 (of_z w64 c.in_ok-number-in_default.number) ≡ c.in_ok-number-in_default.number = omega (arith, ints) in
-    rw e (integer_here c.in_ok-number-in_default.number c.args.text.now c.in_ok-number-in_default.rest.now c.in_ok-number-in_default.ensures)
+    let e : to_z w64 (of_z w64 c.in_ok-number-in_default.number) ≡ c.in_ok-number-in_default.number =
+      omega (arith, ints) in
+    rw e (integer_here c.in_ok-number-in_default.number c.args.text.now c.in_ok-number-in_default.rest.now
+      c.in_ok-number-in_default.ensures)

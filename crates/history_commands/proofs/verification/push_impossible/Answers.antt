@@ -12,7 +12,8 @@ returns c =
     on_ok_weaker c.push_reason.result
     (λ last. joined c.args.text.now.items ((codes "; object " ++ decimal c.args.object) ++ codes ": impossible\n")
     (note_line f.note)
-    (operations_text true c.args.history.now f.part.ops) (codes "; " ++ line_of f.reason) c.push_object_line.new.text.items
+    (operations_text true c.args.history.now f.part.ops)
+      (codes "; " ++ line_of f.reason) c.push_object_line.new.text.items
     c.push_note.new.text.items
     c.push_operations.new.text.items c.push_reason.new.text.items c.in_ok-push_object_line.ensures
     c.in_ok-push_note.ensures c.in_ok-push_operations.ensures last)

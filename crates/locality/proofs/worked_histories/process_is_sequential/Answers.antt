@@ -1,4 +1,5 @@
-use Rattle.locality.proofs.RefutedOrders.{invoked_while_pending-refused, returned_unasked-refused, returned_elsewhere-refused, numbered_backwards-refused}
+use Rattle.locality.proofs.RefutedOrders.{invoked_while_pending-refused, returned_unasked-refused}
+use Rattle.locality.proofs.RefutedOrders.{returned_elsewhere-refused, numbered_backwards-refused}
 use Rattle.locality.proofs.worked_histories.process_is_sequential.Goals as goal
 
 pub returns : goal.returns

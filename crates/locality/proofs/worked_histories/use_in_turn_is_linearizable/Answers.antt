@@ -1,5 +1,7 @@
-use Rattle.locality.proofs.RefutedOrders.{enqueued_then_dequeued-repeated, enqueued_then_dequeued-omitted, enqueued_then_dequeued-unknown}
-use Rattle.locality.proofs.WorkedOrders.{enqueued_then_dequeued-history, enqueued_then_dequeued-valid, enqueued_then_dequeued-linearizable}
+use Rattle.locality.proofs.RefutedOrders.{enqueued_then_dequeued-repeated, enqueued_then_dequeued-omitted}
+use Rattle.locality.proofs.RefutedOrders.{enqueued_then_dequeued-unknown}
+use Rattle.locality.proofs.WorkedOrders.{enqueued_then_dequeued-history, enqueued_then_dequeued-valid}
+use Rattle.locality.proofs.WorkedOrders.{enqueued_then_dequeued-linearizable}
 use Rattle.locality.proofs.worked_histories.use_in_turn_is_linearizable.Goals as goal
 
 pub returns : goal.returns

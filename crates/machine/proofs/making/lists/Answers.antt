@@ -8,6 +8,7 @@ listing-preserved g c =
     let long = c.in_ok-push.ensures.len in
     let test = c.listing-test.true in (
       ap items_of c.in_ok-push.ensures.items ∙ items_of-more c.listing.lists.items c.new.result
-          ∙ ap (λ es. items_of c.listing.lists.items ++ es ∷ []) c.new.ensures.items ∙ ap (λ vs. vs ++ [] ∷ []) c.listing.invariant.0 ∙ copies_more _ [] ∙ ap (λ n. replicate n []) (sym long),
+          ∙ ap (λ es. items_of c.listing.lists.items ++ es ∷ []) c.new.ensures.items
+          ∙ ap (λ vs. vs ++ [] ∷ []) c.listing.invariant.0 ∙ copies_more _ [] ∙ ap (λ n. replicate n []) (sym long),
       omega arith,
     )

@@ -7,4 +7,5 @@ pub returns-then-are_on_key-clause-some : goal.returns-then-are_on_key-clause-so
 returns-then-are_on_key-clause-some c =
     let ops = c.args.operations.now in
     let on = subst (λ key. All (IsOnKey key) ops) c.key_of.ensures (c.are_on_key.ensures.yes c.if-are_on_key.true) in
-    start_from ops c.args.operation c.in-Returned.at c.in-Returned.reply c.in_ok-first.first c.requires c.in-Returned.is (sym c.first_of.ensures ∙ c.in_ok-first.was) on
+    start_from ops c.args.operation c.in-Returned.at c.in-Returned.reply c.in_ok-first.first c.requires
+      c.in-Returned.is (sym c.first_of.ensures ∙ c.in_ok-first.was) on

@@ -4,6 +4,8 @@ use Rattle.publication.specs.Closing.{values_of, IsTakenTo, AreJournals, IsSameB
 use Rattle.publication.proofs.closing.take_journals.Given as goal
 
 abbrev pub invariant-loop-client : goal.invariant-loop-client
-invariant-loop-client g l = IsTakenTo (48 + l.client) l.left × (values_of l.left ≡ values_of l.initial.left) × (vec_len l.journals ≡ l.client)
+invariant-loop-client g l =
+    IsTakenTo (48 + l.client) l.left × (values_of l.left ≡ values_of l.initial.left) × (vec_len l.journals ≡ l.client)
     × (vec_capacity l.journals ≡ vec_capacity l.initial.journals)
-    × AreJournals l.from l.client (values_of l.initial.left) (items_of l.journals.items) × IsSameBelow l.from (items_of l.initial.journals.items) (items_of l.journals.items)
+    × AreJournals l.from l.client (values_of l.initial.left) (items_of l.journals.items)
+    × IsSameBelow l.from (items_of l.initial.journals.items) (items_of l.journals.items)

@@ -3,4 +3,5 @@ use Rattle.publication.specs.Making.{HasRoom}
 use Rattle.publication.proofs.making.journals.Given as goal
 
 abbrev pub invariant-loop : goal.invariant-loop
-invariant-loop g l = (vec_len l.journals ≡ l.counter) × (vec_capacity l.journals ≡ l.clients) × All (HasRoom l.quota) l.journals.items
+invariant-loop g l = (vec_len l.journals ≡ l.counter) × (vec_capacity l.journals ≡ l.clients)
+    × All (HasRoom l.quota) l.journals.items

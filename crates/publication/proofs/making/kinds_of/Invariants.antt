@@ -3,4 +3,6 @@ use Rattle.publication.specs.Making.{kinds_with}
 use Rattle.publication.proofs.making.kinds_of.Given as goal
 
 abbrev pub invariant-loop-object : goal.invariant-loop-object
-invariant-loop-object g l = (l.kinds.items ≡ kinds_with g.S.SeqObject.content (take l.object-index l.objects)) × (vec_len l.kinds ≡ l.object-index) × (vec_capacity l.kinds ≡ length l.objects)
+invariant-loop-object g l =
+    (l.kinds.items ≡ kinds_with g.S.SeqObject.content (take l.object-index l.objects))
+    × (vec_len l.kinds ≡ l.object-index) × (vec_capacity l.kinds ≡ length l.objects)

@@ -6,8 +6,11 @@ use Rattle.publication.specs.Making.{AreCores, rosters_of}
 use Rattle.publication.proofs.making.lay.Given as goal
 
 abbrev pub invariant-loop-slots : goal.invariant-loop-slots
-invariant-loop-slots g l = (vec_len l.slots ≤ 80) × (vec_capacity l.slots ≡ 80) × (length l.slots.items ≡ vec_len l.slots) × (length l.fn.objects.items ≤ vec_len l.slots)
-    × AreCores l.fn.objects.items (rosters_of l.fn.lists.items) l.slots.items × ((i : ℕ) → length l.fn.objects.items ≤ i → i < vec_len l.slots → get_elem? l.slots.items i ≡ some slot.Nothing)
+invariant-loop-slots g l =
+    (vec_len l.slots ≤ 80) × (vec_capacity l.slots ≡ 80) × (length l.slots.items ≡ vec_len l.slots)
+    × (length l.fn.objects.items ≤ vec_len l.slots)
+    × AreCores l.fn.objects.items (rosters_of l.fn.lists.items) l.slots.items
+    × ((i : ℕ) → length l.fn.objects.items ≤ i → i < vec_len l.slots → get_elem? l.slots.items i ≡ some slot.Nothing)
 
 abbrev pub decreases-loop-slots : goal.decreases-loop-slots
 decreases-loop-slots g l = 80 - vec_len l.slots

@@ -3,7 +3,8 @@ use Rattle.publication.specs.Making.{AreDealt, AreWalkersOf}
 use Rattle.publication.proofs.making.lists.Given as goal
 
 abbrev pub invariant-loop-alloc : goal.invariant-loop-alloc
-invariant-loop-alloc l = (vec_len l.rosters ≤ 16) × (vec_capacity l.rosters ≡ 16) × (vec_len l.walkers ≡ vec_len l.rosters)
+invariant-loop-alloc l =
+    (vec_len l.rosters ≤ 16) × (vec_capacity l.rosters ≡ 16) × (vec_len l.walkers ≡ vec_len l.rosters)
     × (vec_capacity l.walkers ≡ 16) × AreWalkersOf l.rosters.items l.walkers.items
     × AreDealt 0 (length l.fn.owners.items) l.rosters.items l.owners.items
 

@@ -1,6 +1,7 @@
 use Rattle.std.proofs.Common.{arith, ◌∙◌, sym, subst, true}
 use Rattle.publication_list.specs.Inside.{IsPlace, tries_of}
-use Rattle.publication_list.proofs.PlaceSteps.{see_allowed, link_allowed, link_leaves_linked, enlist_allowed, enlist_leaves_missed}
+use Rattle.publication_list.proofs.PlaceSteps.{see_allowed, link_allowed, link_leaves_linked, enlist_allowed}
+use Rattle.publication_list.proofs.PlaceSteps.{enlist_leaves_missed}
 use Rattle.publication_list.proofs.place.list.Goals as goal
 
 pub load-first-requires : goal.load-first-requires
@@ -12,7 +13,8 @@ store-requires c =
     let low = c.requires.seat.0 in (
       c.load-first.ensures.0 ∙ t.0,
       omega arith,
-      link_allowed _ _ _ _ (tries_of c.args.seat.now.me.0) _ (subst (IsPlace c.args.row true (tries_of c.args.seat.now.me.0)) (sym c.load-first.ensures.2) c.requires.seat),
+      link_allowed _ _ _ _ (tries_of c.args.seat.now.me.0) _
+        (subst (IsPlace c.args.row true (tries_of c.args.seat.now.me.0)) (sym c.load-first.ensures.2) c.requires.seat),
     )
 
 pub compare_exchange-requires : goal.compare_exchange-requires
@@ -20,10 +22,14 @@ compare_exchange-requires c = let t = c.requires.table in (
   c.store.ensures.0 ∙ (c.load-first.ensures.0 ∙ t.0),
   omega arith,
   enlist_allowed _ _ _ _ (tries_of c.args.seat.now.me.0) _
-      (link_leaves_linked _ _ (tries_of c.args.seat.now.me.0) _ _ (subst (IsPlace c.args.row true (tries_of c.args.seat.now.me.0)) (sym c.load-first.ensures.2) c.requires.seat) c.store.ensures.2),
+      (link_leaves_linked _ _ (tries_of c.args.seat.now.me.0) _ _
+        (subst (IsPlace c.args.row true (tries_of c.args.seat.now.me.0)) (sym c.load-first.ensures.2) c.requires.seat)
+        c.store.ensures.2),
 )
 
 pub returns-then-compare_exchange-first-clause-seat : goal.returns-then-compare_exchange-first-clause-seat
-returns-then-compare_exchange-first-clause-seat c = enlist_leaves_missed _ _ _ (tries_of c.args.seat.now.me.0) _ _ c.requires.seat.0
+returns-then-compare_exchange-first-clause-seat c =
+    enlist_leaves_missed _ _ _ (tries_of c.args.seat.now.me.0) _ _ c.requires.seat.0
     (link_leaves_linked _ _ (tries_of c.args.seat.now.me.0) _ _
-    (subst (IsPlace c.args.row true (tries_of c.args.seat.now.me.0)) (sym c.load-first.ensures.2) c.requires.seat) c.store.ensures.2) c.compare_exchange.ensures.2 c.if-compare_exchange-first.true
+    (subst (IsPlace c.args.row true (tries_of c.args.seat.now.me.0)) (sym c.load-first.ensures.2) c.requires.seat)
+      c.store.ensures.2) c.compare_exchange.ensures.2 c.if-compare_exchange-first.true

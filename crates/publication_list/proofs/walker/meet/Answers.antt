@@ -1,7 +1,9 @@
-use Rattle.std.proofs.Common.{arith, ℕ, ◌+◌, ◌-◌, ◌<◌, ◌∷◌, ◌++◌, [], length, length-append, slice_index, sym, ap, ◌∙◌, subst}
+use Rattle.std.proofs.Common.{arith, ℕ, ◌+◌, ◌-◌, ◌<◌, ◌∷◌, ◌++◌, [], length, length-append, slice_index, sym, ap}
+use Rattle.std.proofs.Common.{◌∙◌, subst}
 use Rattle.publication_list.specs.PublicationList.{WalkMeets}
 use Rattle.publication_list.specs.Inside.{Meeting, HasMet, left_of, made_of, walks_of}
-use Rattle.publication_list.proofs.WalkerSteps.{meet_allowed, walk_begins, walk_goes_on, follow_allowed, walk_meets_one_more, walk_gets_shorter, walk_met_all}
+use Rattle.publication_list.proofs.WalkerSteps.{meet_allowed, walk_begins, walk_goes_on, follow_allowed}
+use Rattle.publication_list.proofs.WalkerSteps.{walk_meets_one_more, walk_gets_shorter, walk_met_all}
 use Rattle.publication_list.proofs.walker.meet.Goals as goal
 
 pub load-at-requires : goal.load-at-requires
@@ -12,7 +14,8 @@ loop-at-init c = record {
   table = c.load-at.ensures.0;
   room = c.clear.ensures.capacity;
   long = c.clear.ensures.len ∙ ap length (sym c.clear.ensures.items);
-  meeting = subst (λ z. Meeting (left_of c.args.seat.now.me.0) (walks_of c.args.seat.now.me.0) (made_of c.args.seat.now.me.0) z c.load-at.result
+  meeting = subst (λ z. Meeting (left_of c.args.seat.now.me.0) (walks_of c.args.seat.now.me.0)
+    (made_of c.args.seat.now.me.0) z c.load-at.result
       c.load-at.new.seat.me) (sym c.clear.ensures.items) (walk_begins _ _ _ _ _ c.requires.seat c.load-at.ensures.2);
 }
 
@@ -50,7 +53,8 @@ pub loop-at-smaller : goal.loop-at-smaller
 loop-at-smaller c =
     let k = c.loop-at.invariant.meeting in
     let word = (walk_goes_on _ _ _ _ _ _ k c.loop-at-test.true).1 in
-    walk_gets_shorter _ _ _ _ _ _ k _ (1 + (c.loop-at.at - 1)) _ _ c.loop-at-test.true (omega arith) c.push_reserved.ensures.items c.load-at-in-loop-at.ensures.2
+    walk_gets_shorter _ _ _ _ _ _ k _ (1 + (c.loop-at.at - 1)) _ _ c.loop-at-test.true
+      (omega arith) c.push_reserved.ensures.items c.load-at-in-loop-at.ensures.2
 
 pub loop-at-preserved : goal.loop-at-preserved
 loop-at-preserved c =
@@ -63,14 +67,17 @@ loop-at-preserved c =
     record {
       table = c.load-at-in-loop-at.ensures.0 ∙ i.table;
       room = p.capacity ∙ i.room;
-      long = (let more = ap length p.items ∙ length-append c.loop-at.rows.items ((c.loop-at.at - 1) ∷ []) in omega arith);
-      meeting = walk_meets_one_more _ _ _ _ _ _ k _ (1 + (c.loop-at.at - 1)) _ _ c.loop-at-test.true (omega arith) p.items c.load-at-in-loop-at.ensures.2;
+      long = (let more = ap length p.items ∙ length-append c.loop-at.rows.items ((c.loop-at.at - 1) ∷ []) in
+        omega arith);
+      meeting = walk_meets_one_more _ _ _ _ _ _ k _ (1 + (c.loop-at.at - 1)) _ _ c.loop-at-test.true
+        (omega arith) p.items c.load-at-in-loop-at.ensures.2;
     }
 
 pub returns-clause-seat : goal.returns-clause-seat
 returns-clause-seat c =
     let k = c.loop-at.invariant.meeting in
-    subst (λ z. HasMet z (walks_of c.args.seat.now.me.0 ++ z ∷ []) c.loop-at.seat.me) (sym (walk_met_all _ _ _ _ _ _ k c.loop-at-test.false)) k.met
+    subst (λ z. HasMet z (walks_of c.args.seat.now.me.0 ++ z ∷ []) c.loop-at.seat.me)
+      (sym (walk_met_all _ _ _ _ _ _ k c.loop-at-test.false)) k.met
 
 pub returns-clause-made : goal.returns-clause-made
 returns-clause-made c = c.loop-at.invariant.meeting.made
@@ -83,7 +90,8 @@ returns-clause-met c =
 pub returns-clause-low : goal.returns-clause-low
 returns-clause-low c =
     let k = c.loop-at.invariant.meeting in
-    subst (λ z. (j : ℕ) → j < length z → slice_index z j < made_of c.args.seat.now.me.0) (sym (walk_met_all _ _ _ _ _ _ k c.loop-at-test.false)) k.low
+    subst (λ z. (j : ℕ) → j < length z → slice_index z j < made_of c.args.seat.now.me.0)
+      (sym (walk_met_all _ _ _ _ _ _ k c.loop-at-test.false)) k.low
 
 pub returns-clause-few : goal.returns-clause-few
 returns-clause-few c =

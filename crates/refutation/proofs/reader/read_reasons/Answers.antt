@@ -4,7 +4,8 @@ use Rattle.refutation.proofs.reader.read_reasons.Goals as goal
 
 pub returns-in-Err-clause-fault : goal.returns-in-Err-clause-fault
 returns-in-Err-clause-fault c = λ other.
-    first_fault c.args.forms.now c.loop-place.place c.index-forms-place.result c.loop-place.reasons.items c.in-Err.kind c.loop-place-test.true
+    first_fault c.args.forms.now c.loop-place.place c.index-forms-place.result c.loop-place.reasons.items
+      c.in-Err.kind c.loop-place-test.true
     c.index-forms-place.is c.loop-place.invariant (c.in-Err.ensures.fault other)
 
 pub returns-in-Err-clause-refused : goal.returns-in-Err-clause-refused
@@ -12,16 +13,19 @@ returns-in-Err-clause-refused c = λ other. not_denoted (views c.args.forms.now)
 
 pub returns-in-Err-clause-memory : goal.returns-in-Err-clause-memory
 returns-in-Err-clause-memory c = λ _.
-    sound_before c.args.forms.now c.loop-place.place c.index-forms-place.result c.loop-place.reasons.items c.loop-place-test.true c.index-forms-place.is
+    sound_before c.args.forms.now c.loop-place.place c.index-forms-place.result c.loop-place.reasons.items
+      c.loop-place-test.true c.index-forms-place.is
     c.loop-place.invariant
 
 pub returns-in-Err-push-clause-memory : goal.returns-in-Err-push-clause-memory
 returns-in-Err-push-clause-memory c = λ _.
-    sound_before c.args.forms.now c.loop-place.place c.index-forms-place.result c.loop-place.reasons.items c.loop-place-test.true c.index-forms-place.is
+    sound_before c.args.forms.now c.loop-place.place c.index-forms-place.result c.loop-place.reasons.items
+      c.loop-place-test.true c.index-forms-place.is
     c.loop-place.invariant
 
 pub loop-place-preserved : goal.loop-place-preserved
 loop-place-preserved c =
     rw c.in-Ok-push.ensures.items
-    (one_more_read c.args.forms.now c.loop-place.place c.index-forms-place.result c.loop-place.reasons.items c.in-Ok.reason
+    (one_more_read c.args.forms.now c.loop-place.place c.index-forms-place.result c.loop-place.reasons.items
+      c.in-Ok.reason
     c.loop-place-test.true c.index-forms-place.is c.loop-place.invariant c.in-Ok.ensures.own)

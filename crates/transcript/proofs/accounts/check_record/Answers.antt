@@ -10,19 +10,26 @@ use Rattle.transcript.specs.Accounts.{AreCertificatesOf, IsRecordRefused}
 use Rattle.transcript.proofs.Accepting.{are_valid}
 use Rattle.transcript.proofs.accounts.check_record.Goals as goal
 
-refused : {A : Type 0} (journals : ℕ → List AnyEvent) (logs : ℕ → List AnyEntry) (es : List Event) (cs : List Certificate) → AreEventsOf journals es
-    → AreCertificatesOf journals logs cs → (r : Result A Refusal) → IfErr r (IsFirstRefusal es cs) → IfErr r (λ e. e ≢ NoMemory → IsRecordRefused journals logs e)
+refused : {A : Type 0} (journals : ℕ → List AnyEvent) (logs : ℕ → List AnyEntry) (es : List Event)
+    (cs : List Certificate) → AreEventsOf journals es
+    → AreCertificatesOf journals logs cs → (r : Result A Refusal) → IfErr r (IsFirstRefusal es cs)
+    → IfErr r (λ e. e ≢ NoMemory → IsRecordRefused journals logs e)
 refused journals logs es cs are h (Ok a) i = tt
-refused journals logs es cs are h (Err e) i = λ _. record { events = es; certificates = cs; are_events = are; are_certificates = h; first = i }
+refused journals logs es cs are h (Err e) i =
+    λ _. record { events = es; certificates = cs; are_events = are; are_certificates = h; first = i }
 
 pub returns-clause-accepted : goal.returns-clause-accepted
 returns-clause-accepted g c kinds quota s =
     let journals = journals_in g.S.SeqObject.op_in g.S.SeqObject.reply_in c.args.account.now in
     let logs = logs_in g.S.SeqObject.op_in g.S.SeqObject.reply_in c.args.account.now in
-    c.check_all.ensures.exact (are_valid kinds quota journals logs s _ c.in-Ok.ensures.history _ (subst (AreCertificatesOf journals logs) (sym c.deref.ensures.value) c.in-Ok-certificates.ensures))
+    c.check_all.ensures.exact
+      (are_valid kinds quota journals logs s _ c.in-Ok.ensures.history _
+      (subst (AreCertificatesOf journals logs) (sym c.deref.ensures.value) c.in-Ok-certificates.ensures))
 
 pub returns-clause-checked : goal.returns-clause-checked
 returns-clause-checked g c =
     let journals = journals_in g.S.SeqObject.op_in g.S.SeqObject.reply_in c.args.account.now in
     let logs = logs_in g.S.SeqObject.op_in g.S.SeqObject.reply_in c.args.account.now in
-    refused journals logs _ _ c.in-Ok.ensures.history (subst (AreCertificatesOf journals logs) (sym c.deref.ensures.value) c.in-Ok-certificates.ensures) c.check_all.result c.check_all.ensures.refused
+    refused journals logs _ _ c.in-Ok.ensures.history
+      (subst (AreCertificatesOf journals logs) (sym c.deref.ensures.value) c.in-Ok-certificates.ensures)
+      c.check_all.result c.check_all.ensures.refused

@@ -4,4 +4,6 @@ use Rattle.transcript.proofs.Texts.{texts_are}
 use Rattle.transcript.proofs.text.history_text.Goals as goal
 
 pub returns-in-Ok-clause-text : goal.returns-in-Ok-clause-text
-returns-in-Ok-clause-text c = let written : c.into_inner.result.items ≡ lines_text c.args.lines.now = search rules in written ∙ sym (texts_are c.args.lines.now)
+returns-in-Ok-clause-text c =
+    let written : c.into_inner.result.items ≡ lines_text c.args.lines.now = search rules in
+    written ∙ sym (texts_are c.args.lines.now)

@@ -15,13 +15,17 @@ abbrev pub decreases-map : goal.decreases-map
 decreases-map l = suc (length l.self.now.rest.now + length l.self.now.rest.now)
 
 abbrev pub invariant-vector-items : goal.invariant-vector-items
-invariant-vector-items l = (left_on l.initial.self ≡ list_tokens (views l.forms.items) ++ left_on l.self) × BeginsItems (left_on l.self) × (length l.self.rest.now ≤ length l.initial.self.rest.now)
+invariant-vector-items l =
+    (left_on l.initial.self ≡ list_tokens (views l.forms.items) ++ left_on l.self) × BeginsItems (left_on l.self)
+    × (length l.self.rest.now ≤ length l.initial.self.rest.now)
 
 abbrev pub decreases-vector-items : goal.decreases-vector-items
 decreases-vector-items l = length l.self.rest.now
 
 abbrev pub invariant-map-pairs : goal.invariant-map-pairs
-invariant-map-pairs l = (left_on l.initial.self ≡ pairs_tokens (pair_views l.pairs.items) ++ left_on l.self) × BeginsPairs (left_on l.self) × (length l.self.rest.now ≤ length l.initial.self.rest.now)
+invariant-map-pairs l =
+    (left_on l.initial.self ≡ pairs_tokens (pair_views l.pairs.items) ++ left_on l.self)
+    × BeginsPairs (left_on l.self) × (length l.self.rest.now ≤ length l.initial.self.rest.now)
 
 abbrev pub decreases-map-pairs : goal.decreases-map-pairs
 decreases-map-pairs l = length l.self.rest.now

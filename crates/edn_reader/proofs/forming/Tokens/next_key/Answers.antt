@@ -8,6 +8,7 @@ next-requires c = some_pairs c.args.self.now.rest.now c.requires
 pub returns-in_default : goal.returns-in_default
 returns-in_default c = record {
   next =
-      map_end c.next.result (left_on c.args.self.now) (left_on c.next.new.self) c.in_default.not-Keyword c.next.ensures.token c.requires;
+      map_end c.next.result (left_on c.args.self.now)
+        (left_on c.next.new.self) c.in_default.not-Keyword c.next.ensures.token c.requires;
   shorter = c.next.ensures.shorter;
 }

@@ -5,7 +5,8 @@ use Rattle.edn_reader.proofs.Turns.{Midway}
 use Rattle.edn_reader.proofs.token_buffer.TokenBuffer.try_read.Given as goal
 
 abbrev pub invariant-tokens : goal.invariant-tokens
-invariant-tokens l = Midway (keeping_of l.keeping) l.text l.self.remains.now (open_on l.self) (held_on l.self) × (length l.self.remains.now < length l.text)
+invariant-tokens l = Midway (keeping_of l.keeping) l.text l.self.remains.now (open_on l.self) (held_on l.self)
+    × (length l.self.remains.now < length l.text)
 
 abbrev pub decreases-tokens : goal.decreases-tokens
 decreases-tokens l = length l.self.remains.now

@@ -5,7 +5,8 @@ use Rattle.history.specs.Faults.{last_map}
 use Rattle.history.specs.Seen.{IsKept, IsKindOf, IsNoOther}
 use Rattle.history.specs.Views.{client_map}
 use Rattle.seq_objects.specs.Functions.{kind_of_function}
-use Rattle.history.proofs.FirstFaults.{PassesShape, PassesAll, mixed_first, passes_kind, process_first, process_fault_first, process_allows, none_of_all}
+use Rattle.history.proofs.FirstFaults.{PassesShape, PassesAll, mixed_first, passes_kind, process_first}
+use Rattle.history.proofs.FirstFaults.{process_fault_first, process_allows, none_of_all}
 use Rattle.history.proofs.seen.Seen.check_client.Goals as goal
 
 pub returns-then-is_of_other_kind-clause-fault : goal.returns-then-is_of_other_kind-clause-fault

@@ -7,4 +7,6 @@ use Rattle.projection.specs.Cuts.{keeps_value}
 use Rattle.projection.proofs.keeping.Values.has.Goals as goal
 
 pub returns-in-Only : goal.returns-in-Only
-returns-in-Only c = c.contains.ensures ∙ ap (contains int_cmp c.in-Only.values) (to_z-of_z w64 c.args.value c.ranges.value) ∙ ap (λ (z : Values). keeps_value z c.args.value) (sym c.in-Only.is)
+returns-in-Only c = c.contains.ensures
+    ∙ ap (contains int_cmp c.in-Only.values) (to_z-of_z w64 c.args.value c.ranges.value)
+    ∙ ap (λ (z : Values). keeps_value z c.args.value) (sym c.in-Only.is)

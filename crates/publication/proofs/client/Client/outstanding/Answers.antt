@@ -6,7 +6,11 @@ use Rattle.publication.specs.Handles.{Known}
 use Rattle.publication.proofs.client.Client.outstanding.Goals as goal
 
 pub returns-clause-accounts : goal.returns-clause-accounts
-returns-clause-accounts g c = let k = c.self.invariant.0.agrees in subst (λ (v : DeskView). (x : ℕ) → IsAccount x v (seen_of v x)) (ap (λ k. k.knows) c.self.view_is) k.accounts
+returns-clause-accounts g c =
+    let k = c.self.invariant.0.agrees in
+    subst (λ (v : DeskView). (x : ℕ) → IsAccount x v (seen_of v x)) (ap (λ k. k.knows) c.self.view_is) k.accounts
 
 pub returns-clause-legal : goal.returns-clause-legal
-returns-clause-legal g c = let k = c.self.invariant.0.agrees in subst (λ (k : Known). (x : ℕ) → IsLegal (kind_at k.desk.kinds x) (seen_of k.knows x)) c.self.view_is k.legal
+returns-clause-legal g c =
+    let k = c.self.invariant.0.agrees in
+    subst (λ (k : Known). (x : ℕ) → IsLegal (kind_at k.desk.kinds x) (seen_of k.knows x)) c.self.view_is k.legal

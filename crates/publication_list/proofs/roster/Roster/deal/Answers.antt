@@ -5,7 +5,9 @@ use Rattle.publication_list.proofs.Dealt.{long, popped, none_grown, all_grown, s
 use Rattle.publication_list.proofs.roster.Roster.deal.Goals as goal
 
 pub loop-place-init : goal.loop-place-init
-loop-place-init c = let e = c.in_ok-roster.ensures in let k = e.places in let n = c.len.ensures in let m = long c.args.owners.now in let count =
+loop-place-init c =
+    let e = c.in_ok-roster.ensures in let k = e.places in let n = c.len.ensures in let m = long c.args.owners.now in
+    let count =
     k.0 in let same : length c.in_ok-roster.places.items ≡ length c.args.owners.now.items = omega arith in
     let id = sym (ap (λ r. r.id) c.in_ok-shared.ensures.ok) in (
       subst (λ z. ArePlaces z (length c.in_ok-roster.places.items) c.in_ok-roster.places.items) id
@@ -15,16 +17,20 @@ loop-place-init c = let e = c.in_ok-roster.ensures in let k = e.places in let n 
     )
 
 pub index_mut-requires : goal.index_mut-requires
-index_mut-requires c = let i = c.loop-place.invariant in let p = popped _ _ _ _ _ i.0 c.in-Some.ensures.items in let n = p.2 in let at =
-    c.len-in-Some.ensures in let a = long c.pop.new.self in let b = long c.loop-place.owners in let few = i.1 in let same = i.2.0 in omega arith
+index_mut-requires c =
+    let i = c.loop-place.invariant in let p = popped _ _ _ _ _ i.0 c.in-Some.ensures.items in let n = p.2 in let at =
+    c.len-in-Some.ensures in let a = long c.pop.new.self in let b = long c.loop-place.owners in let few = i.1 in
+        let same = i.2.0 in omega arith
 
 pub push_reserved-requires : goal.push_reserved-requires
-push_reserved-requires c = let i = c.loop-place.invariant in let p = popped _ _ _ _ _ i.0 c.in-Some.ensures.items in let n = p.2 in let at =
+push_reserved-requires c =
+    let i = c.loop-place.invariant in let p = popped _ _ _ _ _ i.0 c.in-Some.ensures.items in let n = p.2 in let at =
     c.len-in-Some.ensures in let a = long c.pop.new.self in let few = i.1 in
     still_room _ c.len-in-Some.result _ _ _ _ c.requires.room i.2 (omega arith) (omega arith) c.index_mut.ensures.value
 
 pub loop-place-preserved : goal.loop-place-preserved
-loop-place-preserved c = let i = c.loop-place.invariant in let p = popped _ _ _ _ _ i.0 c.in-Some.ensures.items in let n = p.2 in let at =
+loop-place-preserved c =
+    let i = c.loop-place.invariant in let p = popped _ _ _ _ _ i.0 c.in-Some.ensures.items in let n = p.2 in let at =
     c.len-in-Some.ensures ∙ long c.pop.new.self in let few = i.1 in let q = c.push_reserved.ensures in (
       p.0,
       omega arith,
@@ -38,7 +44,8 @@ returns-clause-grown c =
     let none = c.in_default.ensures.cases in
     let a = long c.loop-place.places in
     let id = ap (λ r. r.id) (sym c.in_ok-try_clone.ensures) in
-    subst (λ z. AreGrown z c.args.owners.now.items c.loop-place.owners.items) id (all_grown _ (length c.loop-place.places.items) _ _ (omega arith) c.loop-place.invariant.2)
+    subst (λ z. AreGrown z c.args.owners.now.items c.loop-place.owners.items) id
+      (all_grown _ (length c.loop-place.places.items) _ _ (omega arith) c.loop-place.invariant.2)
 
 pub invariant_of-push_reserved : goal.invariant_of-push_reserved
 invariant_of-push_reserved c =

@@ -10,7 +10,8 @@ invariant-loop-places l = record {
   linked : Linked n done l.self.next.items l.self.before.items;
   within : l.slot ≤ n;
   slot : IsSlot n done l.slot;
-  front : (rest : List ℕ) → Lists l.self.next.items l.slot rest l.high → Lists l.self.next.items 0 (l.places.items ++ rest) l.high;
+  front : (rest : List ℕ) → Lists l.self.next.items l.slot rest l.high
+    → Lists l.self.next.items 0 (l.places.items ++ rest) l.high;
 }
 
 abbrev pub decreases-loop-places : goal.decreases-loop-places

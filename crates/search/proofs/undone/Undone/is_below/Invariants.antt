@@ -3,4 +3,6 @@ use Rattle.search.specs.Links.{Lists}
 use Rattle.search.proofs.undone.Undone.is_below.Given as goal
 
 abbrev pub invariant-loop-place : goal.invariant-loop-place
-invariant-loop-place l = (rest : List ℕ) → Lists l.self.next.items l.slot rest l.high → Lists l.self.next.items 0 (take l.place-index l.places ++ rest) l.high
+invariant-loop-place l =
+    (rest : List ℕ) → Lists l.self.next.items l.slot rest l.high
+    → Lists l.self.next.items 0 (take l.place-index l.places ++ rest) l.high

@@ -12,7 +12,9 @@ index-requires c =
     let a = c.args.self.now in
     let items = c.args.trials.now.items.items in
     let r = (pass_rises (length items) (call_at items) (empty c.args.trials.now.kind) (reverse a.levels.items)
-    (befores (reverse a.levels.items) (content_of a.object)) (content_of a.object) a.undone.next.items a.undone.before.items a.high a.at a.window a.left c.requires.search.walk c.requires.at).1 in
+    (befores (reverse a.levels.items) (content_of a.object))
+      (content_of a.object) a.undone.next.items a.undone.before.items a.high a.at a.window a.left
+      c.requires.search.walk c.requires.at).1 in
     omega arith
 
 pub returns-clause-search : goal.returns-clause-search
@@ -21,11 +23,14 @@ returns-clause-search c =
     let items = c.args.trials.now.items.items in
     record {
       walk = pass_walk (length items) (call_at items) (empty c.args.trials.now.kind) (reverse a.levels.items)
-          (befores (reverse a.levels.items) (content_of a.object)) (content_of a.object) a.undone.next.items a.undone.before.items a.high a.at a.window
+          (befores (reverse a.levels.items) (content_of a.object))
+            (content_of a.object) a.undone.next.items a.undone.before.items a.high a.at a.window
           a.left c.index.result.now c.requires.search.walk c.requires.at c.requires.dead_at
           (c.index.ensures ∙ get_or_default a.undone.next.items (a.at + 1) _ 0
           (pass_rises (length items) (call_at items) (empty c.args.trials.now.kind) (reverse a.levels.items)
-          (befores (reverse a.levels.items) (content_of a.object)) (content_of a.object) a.undone.next.items a.undone.before.items a.high a.at a.window a.left c.requires.search.walk c.requires.at).1);
+          (befores (reverse a.levels.items) (content_of a.object))
+            (content_of a.object) a.undone.next.items a.undone.before.items a.high a.at a.window a.left
+            c.requires.search.walk c.requires.at).1);
       dead = c.requires.search.dead;
     }
 
@@ -34,7 +39,9 @@ returns-clause-rises c =
     let a = c.args.self.now in
     let items = c.args.trials.now.items.items in
     let r = (pass_rises (length items) (call_at items) (empty c.args.trials.now.kind) (reverse a.levels.items)
-    (befores (reverse a.levels.items) (content_of a.object)) (content_of a.object) a.undone.next.items a.undone.before.items a.high a.at a.window a.left c.requires.search.walk c.requires.at) in
+    (befores (reverse a.levels.items) (content_of a.object))
+      (content_of a.object) a.undone.next.items a.undone.before.items a.high a.at a.window a.left
+      c.requires.search.walk c.requires.at) in
     let t = c.index.ensures ∙ get_or_default a.undone.next.items (a.at + 1) _ 0 r.1 in
     let u = r.0 in
     omega arith

@@ -7,19 +7,23 @@ use Rattle.search.specs.Searching.{places, befores}
 use Rattle.search.proofs.Measure.{step_smaller}
 use Rattle.search.proofs.Steps.{dead_here, dead_too_late, dead_impossible, call_read}
 use Rattle.search.proofs.walk.State.run.Goals.{then-at-len-via-then-at-len, then-at-len-via-else-at-len+then-index-self}
-use Rattle.search.proofs.walk.State.run.Goals.{then-item-self-via-then-item-self, then-item-self-via-else-item-self+then-not-is_possible}
+use Rattle.search.proofs.walk.State.run.Goals.{then-item-self-via-then-item-self}
+use Rattle.search.proofs.walk.State.run.Goals.{then-item-self-via-else-item-self+then-not-is_possible}
 use Rattle.search.proofs.walk.State.run.Goals as goal
 
 pub come_back-requires-clause-dead_here : goal.come_back-requires-clause-dead_here
 come_back-requires-clause-dead_here c =
     let s = c.loop-self.self in
     let t = c.args.trials.now in
-    dead_here t.kind t.items.items t.floors.items t.return_floors.items t.pending (empty t.kind) (reverse s.levels.items) (befores (reverse s.levels.items) (content_of s.object))
-    (content_of s.object) s.undone.next.items s.undone.before.items s.high s.at s.window s.left c.requires.trials c.loop-self.invariant.search.walk
+    dead_here t.kind t.items.items t.floors.items t.return_floors.items t.pending (empty t.kind)
+      (reverse s.levels.items) (befores (reverse s.levels.items) (content_of s.object))
+    (content_of s.object) s.undone.next.items s.undone.before.items s.high s.at s.window s.left c.requires.trials
+      c.loop-self.invariant.search.walk
     (elim c.then-at-len.branch [
       | then-at-len-via-then-at-len w ↦ inl (omega (arith, w.if-at-len.true))
       | then-at-len-via-else-at-len+then-index-self w ↦
-          let inside : s.at < length t.floors.items = omega (arith, w.if-at-len.false, c.requires.trials.floors_right.long) in
+          let inside : s.at < length t.floors.items =
+            omega (arith, w.if-at-len.false, c.requires.trials.floors_right.long) in
           let e = w.index.ensures ∙ get_or_default t.floors.items s.at _ 0 inside in
           inr (omega (arith, w.if-index-self.true), omega (arith, w.if-index-self.true, e))
     ])
@@ -31,11 +35,16 @@ pass-requires-clause-dead_at c =
     let l : s.at < length t.items.items = omega (arith, c.if-at-len.false) in
     let here = ap as_call c.index-item.ensures ∙ call_read t.items.items s.at _ l in
     elim c.then-item-self.branch [
-      | then-item-self-via-then-item-self w ↦ dead_too_late t.kind t.items.items t.floors.items t.return_floors.items t.pending c.index-item.result.now (empty t.kind)
-          (reverse s.levels.items) (befores (reverse s.levels.items) (content_of s.object)) (content_of s.object) s.undone.next.items
-          s.undone.before.items s.high s.at s.window s.left c.requires.trials c.loop-self.invariant.search.walk l here (omega (arith, w.if-item-self.true)) w.if-item-self.true
+      | then-item-self-via-then-item-self w ↦
+          dead_too_late t.kind t.items.items t.floors.items t.return_floors.items t.pending c.index-item.result.now
+          (empty t.kind)
+          (reverse s.levels.items) (befores (reverse s.levels.items) (content_of s.object))
+            (content_of s.object) s.undone.next.items
+          s.undone.before.items s.high s.at s.window s.left c.requires.trials c.loop-self.invariant.search.walk l here
+            (omega (arith, w.if-item-self.true)) w.if-item-self.true
       | then-item-self-via-else-item-self+then-not-is_possible w ↦ dead_impossible t.items.items c.index-item.result.now
-          (places (reverse s.levels.items)) (content_of s.object) s.at here (λ h. let p = w.is_possible.ensures.1 h in let f = w.if-not-is_possible.true in absurd (cc (p, f)))
+          (places (reverse s.levels.items)) (content_of s.object) s.at here
+            (λ h. let p = w.is_possible.ensures.1 h in let f = w.if-not-is_possible.true in absurd (cc (p, f)))
     ]
 
 pub loop-self-smaller : goal.loop-self-smaller
@@ -45,4 +54,5 @@ loop-self-smaller c =
     let f = c.if-steps-limit.false in
     let st = c.loop-self.invariant.steps in
     let deep = c.attempt.ensures.deep in
-    step_smaller c.args.limit c.loop-self.steps (length t.items.items) (length s.levels.items) (length c.attempt.new.self.levels.items) s.at c.attempt.new.self.at (omega arith) deep
+    step_smaller c.args.limit c.loop-self.steps (length t.items.items) (length s.levels.items)
+      (length c.attempt.new.self.levels.items) s.at c.attempt.new.self.at (omega arith) deep

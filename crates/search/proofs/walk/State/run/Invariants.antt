@@ -10,4 +10,6 @@ invariant-loop-self l = record {
 
 -- each level took a step, and a step adds one level at most
 abbrev pub decreases-loop-self : goal.decreases-loop-self
-decreases-loop-self l = (l.limit - l.steps) * (2 * (length l.trials.items.items + 2)) + length l.self.levels.items * (length l.trials.items.items + 2) + (length l.trials.items.items + 1 - l.self.at)
+decreases-loop-self l =
+    (l.limit - l.steps) * (2 * (length l.trials.items.items + 2))
+    + length l.self.levels.items * (length l.trials.items.items + 2) + (length l.trials.items.items + 1 - l.self.at)

@@ -1,5 +1,6 @@
 use Rattle.std.proofs.lemmas.Bool.{cases_lt}
-use Rattle.std.proofs.Common.{◌≡◌, ◌≤◌, ◌/◌, inl, inr, ◌++◌, ◌∷◌, ◌∙◌, [], Option, arith, refl, sym, subst, option_to_list, rules}
+use Rattle.std.proofs.Common.{◌≡◌, ◌≤◌, ◌/◌, inl, inr, ◌++◌, ◌∷◌, ◌∙◌, [], Option, arith, refl, sym, subst}
+use Rattle.std.proofs.Common.{option_to_list, rules}
 use Rattle.std.proofs.lemmas.List.{length-append}
 use Rattle.events.specs.declared.event.Event.{Event}
 use Rattle.history.specs.declared.client_map.OperationMap.{OperationMap}
