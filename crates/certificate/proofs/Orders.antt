@@ -20,7 +20,7 @@ object_is number (atom a) h = absurd h
 object_is number (vector ds) h = absurd h
 object_is number (dictionary es) h =
     ap object_in (natural_is number (value_at (codes "object") (truncated_entries es)) h
-      ∙ ap natural_in (value_of_truncated (codes "object") es) ∙ natural_of_truncated (value_at (codes "object") es))
+    ∙ ap natural_in (value_of_truncated (codes "object") es) ∙ natural_of_truncated (value_at (codes "object") es))
 
 -- ---- the certificate
 

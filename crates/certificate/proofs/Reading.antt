@@ -45,7 +45,7 @@ pub both_keys : (es : Entries) (v w : Option Datum) (n x : Option ℕ) (o : Opti
     → reading_with x o ≡ certificate_of (dictionary es)
 both_keys es v w n x o h k e g q =
     ap (λ y. reading_with y o) (e ∙ ap object_in k ∙ ap (λ u. object_in (natural_in u)) h)
-      ∙ ap (reading_with (object_in (natural_in (value_at (codes "object") es)))) (q ∙ ap order_in g)
+    ∙ ap (reading_with (object_in (natural_in (value_at (codes "object") es)))) (q ∙ ap order_in g)
 
 -- ---- the forms so far
 
@@ -98,10 +98,10 @@ one_more_read ds cs among after d c h own new more = record {
     distinct = all_pairs_push (λ (a b : Certificate). a.object ≢ b.object) cs c h.denoted.distinct
         (λ k e lt same. both_ways ((get_or cs k e).object == c.object)
         (list_any-none (λ b. b.object == c.object) cs k e (sym (h.objects c.object) ∙ new) lt)
-          (eq-eqb (get_or cs k e).object c.object same));
+        (eq-eqb (get_or cs k e).object c.object same));
   };
   objects = λ x. more x ∙ ap (λ v. cond (c.object == x) true v) (h.objects x)
-    ∙ sym (list_any-push (λ b. b.object == x) cs c);
+      ∙ sym (list_any-push (λ b. b.object == x) cs c);
 }
 
 -- ---- faults
@@ -159,12 +159,12 @@ apart : (cs before later : List Certificate) (c b : Certificate) → AreDistinct
     → Contains before b → b.object ≡ c.object → ⊥
 apart cs before later c b h split (k, lt, is) same =
     let at_b : get_or cs k b ≡ b =
-      ap (λ (xs : List Certificate). get_or xs k b) split ∙ get_or-append before (c ∷ later) b k lt ∙ is in
+    ap (λ (xs : List Certificate). get_or xs k b) split ∙ get_or-append before (c ∷ later) b k lt ∙ is in
     let at_c : get_or cs (length before) b ≡ c =
-      ap (λ (xs : List Certificate). get_or xs (length before) b) split ∙ get_or-append_seam before c later b in
+    ap (λ (xs : List Certificate). get_or xs (length before) b) split ∙ get_or-append_seam before c later b in
     let long : length cs ≡ length before + length (c ∷ later) = ap length split ∙ length-append before (c ∷ later) in
     h k (length before) b lt (omega (arith, long))
-      (ap (λ (x : Certificate). x.object) at_b ∙ same ∙ sym (ap (λ (x : Certificate). x.object) at_c))
+    (ap (λ (x : Certificate). x.object) at_b ∙ same ∙ sym (ap (λ (x : Certificate). x.object) at_c))
 
 same_objects : (a b r s : Reading) → Some a ≡ Some r → Some b ≡ Some s → r.object ≡ s.object → a.object ≡ b.object
 same_objects a b r s p q e =
@@ -192,8 +192,15 @@ fault_here ds cs among d NotACertificate h fault other = fault
 fault_here ds cs among d TwoForOneObject h (r, own, stands) other =
     let some = list_any-some (λ c. c.object == r.object) cs (sym (h.objects r.object) ∙ stands) in
     let first = form_from ds cs some.0 some.1.0 h.denoted.each some.1.1 some.1.2 in
-    record { own = r; first = first.0; first_own = reading_of some.0; is_own = own; stands = first.1;
-        is_first_own = first.2; same_object = eqb-true some.0.object r.object some.2 }
+    record {
+      own = r;
+      first = first.0;
+      first_own = reading_of some.0;
+      is_own = own;
+      stands = first.1;
+      is_first_own = first.2;
+      same_object = eqb-true some.0.object r.object some.2;
+    }
 fault_here ds cs among d NoMemory h fault other = absurd (other refl)
 
 -- a form has one fault at most
@@ -230,7 +237,7 @@ first_fault fs i f cs among kind lt is h fault other = record {
   stands = fault_here (views (take i fs)) cs among (view f) kind h fault other;
   least = no_fault (views (take i fs)) cs h.denoted;
   first = λ k. only_fault (views (take i fs)) (view f) kind k
-    (fault_here (views (take i fs)) cs among (view f) kind h fault other);
+      (fault_here (views (take i fs)) cs among (view f) kind h fault other);
 }
 
 -- a certificate of an object that no earlier form has
@@ -242,10 +249,10 @@ nothing_here ds cs among d r h own new TwoForOneObject fault =
     let f = read_from ds cs fault.first fault.stands.0 h.denoted.each fault.stands.1 fault.stands.2 in
     let x = r.object in
     let same : f.0.object ≡ x =
-      same_objects _ _ _ _ (sym f.2 ∙ fault.is_first_own) (sym own ∙ fault.is_own) fault.same_object in
+    same_objects _ _ _ _ (sym f.2 ∙ fault.is_first_own) (sym own ∙ fault.is_own) fault.same_object in
     let none = list_any-none (λ b. b.object == x) cs f.1.0 f.0 (sym (h.objects x) ∙ new) f.1.1 in
     both_ways ((get_or cs f.1.0 f.0).object == x) none
-      (eq-eqb (get_or cs f.1.0 f.0).object x (ap (λ (b : Certificate). b.object) f.1.2 ∙ same))
+    (eq-eqb (get_or cs f.1.0 f.0).object x (ap (λ (b : Certificate). b.object) f.1.2 ∙ same))
 nothing_here ds cs among d r h own new NoMemory fault = fault
 
 pub sound_at : (fs : List Form) (i : ℕ) (f : Form) (cs : List Certificate) (among : ℕ → Bool) (r : Reading)

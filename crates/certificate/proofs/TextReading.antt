@@ -33,7 +33,7 @@ faulty_more : (r : Reading) (f : CertFault) (ds : List Datum) (d : Datum) → r.
     → IsReading r (ds ++ d ∷ [])
 faulty_more r f ds d e h =
     let a : IsFoundIn ds f =
-      subst (λ (o : Option CertFault). IsReadOrFaulty o ds r.certificates.items (has r.objects)) e h in
+    subst (λ (o : Option CertFault). IsReadOrFaulty o ds r.certificates.items (has r.objects)) e h in
     subst (λ (o : Option CertFault). IsReadOrFaulty o (ds ++ d ∷ []) r.certificates.items (has r.objects)) (sym e)
     (λ n. first_more ds d f.form f.kind (a.0 n), λ m. sound_more ds d f.form (a.1 m))
 
@@ -69,8 +69,15 @@ found ds cs among d kind h fault = (
   },
   λ m. (
       let r = subst (IsFaultAmong among d) m fault in
-      record { earlier = ds; form = d; later = []; split = refl; stands_at = one_each ds cs h.denoted;
-          least = no_fault ds cs h.denoted; none = nothing_here ds cs among d r.0 h r.1 r.2 }
+      record {
+        earlier = ds;
+        form = d;
+        later = [];
+        split = refl;
+        stands_at = one_each ds cs h.denoted;
+        least = no_fault ds cs h.denoted;
+        none = nothing_here ds cs among d r.0 h r.1 r.2;
+      }
       ),
 )
 
@@ -80,8 +87,12 @@ pub along_passed : (P Q : List Datum → Type 0) (text mid rest : List ℕ) (bef
     → start + length rest ≡ before + length mid → ((ds : List Datum) → P ds → Q (ds ++ d ∷ []))
     → Along P text mid before → Along Q text rest start
 along_passed P Q text mid rest before start d f moves put a =
-    record { forms = a.forms ++ d ∷ []; front = front_more text mid rest a.forms (d ∷ []) a.front f;
-        holds = put a.forms a.holds; place = moves ∙ a.place }
+    record {
+      forms = a.forms ++ d ∷ [];
+      front = front_more text mid rest a.forms (d ∷ []) a.front f;
+      holds = put a.forms a.holds;
+      place = moves ∙ a.place;
+    }
 
 pub no_fault_yet : (o : Option CertFault) → is_some o ≡ false → o ≡ None
 no_fault_yet None e = refl

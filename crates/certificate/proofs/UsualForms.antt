@@ -28,14 +28,14 @@ pub one_more : (zs : List ℤ) (z : ℤ) (text mid own tail : List ℕ) → Begi
 one_more zs z text mid own tail a s b =
     subst (λ (ts : List Token). BeginWith ts text tail) (sym (numbers_more zs z))
     (both_begin (numbers_tokens zs) (leaf (atom (integer z)) ∷ []) text mid tail a
-      (after_one 32 (leaf (atom (integer z))) [] mid own tail refl s b))
+    (after_one 32 (leaf (atom (integer z))) [] mid own tail refl s b))
 
 -- the bracket that closes it
 pub order_ends : (zs : List ℤ) (text mid own rest : List ℕ) → BeginWith (numbers_tokens zs) text mid
     → (mid ≡ own) ⊎ (mid ≡ 32 ∷ own) → own ≡ 93 ∷ rest → ReadsOrder text zs rest
 order_ends zs text mid own rest a s q =
     both_begin (numbers_tokens zs) (close_vector ∷ []) text mid rest a
-      (after_one 32 close_vector [] mid own rest refl s (here own rest close_vector q))
+    (after_one 32 close_vector [] mid own rest refl s (here own rest close_vector q))
 
 -- ---- the whole certificate
 
@@ -60,26 +60,26 @@ usual_is n c text own from_n after_n from_o after_o rest u feed qn bn eo qo bo q
     let inside : List Token = numbers ++ close_vector ∷ [] in
     let last : BeginWith (close_map ∷ []) after_o rest = here after_o rest close_map qr in
     let o1 : BeginWith (inside ++ close_map ∷ []) from_o rest =
-      both_begin inside (close_map ∷ []) from_o after_o rest bo last in
+    both_begin inside (close_map ∷ []) from_o after_o rest bo last in
     let o2 : BeginWith (open_vector ∷ (inside ++ close_map ∷ [])) (91 ∷ from_o) rest =
-      both_begin (open_vector ∷ []) (inside ++ close_map ∷ []) (91 ∷ from_o) from_o rest
-      (here (91 ∷ from_o) from_o open_vector refl) o1 in
+    both_begin (open_vector ∷ []) (inside ++ close_map ∷ []) (91 ∷ from_o) from_o rest
+    (here (91 ∷ from_o) from_o open_vector refl) o1 in
     let o3 = field (codes "order") open_vector (inside ++ close_map ∷ []) after_n (91 ∷ from_o) rest refl qo o2 in
     let ts : List Token = leaf (atom (keyword (codes "order"))) ∷ open_vector ∷ (inside ++ close_map ∷ []) in
     let n1 : BeginWith (leaf (atom (integer (pos n))) ∷ ts) from_n rest =
-      both_begin (leaf (atom (integer (pos n))) ∷ []) ts from_n after_n rest bn o3 in
+    both_begin (leaf (atom (integer (pos n))) ∷ []) ts from_n after_n rest bn o3 in
     let n2 = first_field (codes "object") (leaf (atom (integer (pos n)))) ts own from_n rest refl qn n1 in
     let all = after_one 10 open_map
-      (leaf (atom (keyword (codes "object"))) ∷ leaf (atom (integer (pos n))) ∷ ts) text own rest refl feed n2 in
+    (leaf (atom (keyword (codes "object"))) ∷ leaf (atom (integer (pos n))) ∷ ts) text own rest refl feed n2 in
     let at_object : BeginWith
-      (open_map ∷ leaf (atom (keyword (codes "object"))) ∷ leaf (atom (integer (pos c.object))) ∷ ts) text rest =
+    (open_map ∷ leaf (atom (keyword (codes "object"))) ∷ leaf (atom (integer (pos c.object))) ∷ ts) text rest =
     subst (λ (x : ℕ). BeginWith
-      (open_map ∷ leaf (atom (keyword (codes "object"))) ∷ leaf (atom (integer (pos x))) ∷ ts) text rest)
-      (sym same) all in
+    (open_map ∷ leaf (atom (keyword (codes "object"))) ∷ leaf (atom (integer (pos x))) ∷ ts) text rest)
+    (sym same) all in
     let begins : BeginWith (tokens_of (datum_of c)) text rest =
     subst (λ (us : List Token). BeginWith
-      (open_map ∷ leaf (atom (keyword (codes "object"))) ∷ leaf (atom (integer (pos c.object)))
-      ∷ leaf (atom (keyword (codes "order"))) ∷ open_vector ∷ (us ++ close_map ∷ [])) text rest)
+    (open_map ∷ leaf (atom (keyword (codes "object"))) ∷ leaf (atom (integer (pos c.object)))
+    ∷ leaf (atom (keyword (codes "order"))) ∷ open_vector ∷ (us ++ close_map ∷ [])) text rest)
     (sym (append-nil inside)) at_object in
     let front = front_of text rest (datum_of c) u (datum_fits c) begins in
     record { form = datum_of c; front = front.0; utf8 = front.1; own = datum_denotes c is_small }

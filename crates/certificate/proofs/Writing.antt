@@ -24,7 +24,7 @@ use Rattle.certificate.specs.declared.Certificate.{Certificate}
 
 pub numbers_left : (zs : List ℤ) (i : ℕ) (d : ℤ) (first : Bool) → i < length zs
     → numbers_text first (drop i zs)
-      ≡ (between first (codes " ") ++ signed_decimal (get_or zs i d)) ++ numbers_text false (drop (i + 1) zs)
+    ≡ (between first (codes " ") ++ signed_decimal (get_or zs i d)) ++ numbers_text false (drop (i + 1) zs)
 numbers_left zs i d first lt = ap (numbers_text first) (drop_more zs i d lt)
 
 all_with : {X : Type 0} (P : X → Type 0) (xs : List X) (x : X) → AllByRecursion P xs → P x
@@ -47,7 +47,7 @@ pub lines_left : (cs : List Certificate) (i : ℕ) (c : Certificate) → i < len
     → lines_of (drop i cs) ≡ line_of c ++ lines_of (drop (i + 1) cs)
 lines_left cs i c lt e =
     let here : drop i cs ≡ c ∷ drop (i + 1) cs =
-      drop_more cs i c lt ∙ ap (λ (y : Certificate). y ∷ drop (i + 1) cs) (sym e) in
+    drop_more cs i c lt ∙ ap (λ (y : Certificate). y ∷ drop (i + 1) cs) (sym e) in
     rw here refl
 
 -- ---- what the lines spell
@@ -78,10 +78,10 @@ line_is_text c =
     let items = items_text true (items_of (numbers_data c.order.items)) in
     let order = codes ", :order [" ++ ((items ++ codes "]") ++ []) in
     ap (λ t. codes "{:object " ++ (x ++ (codes ", :order [" ++ (t ++ codes "]}\n"))))
-      (numbers_are_items true c.order.items)
+    (numbers_are_items true c.order.items)
     ∙ sym (ap (λ t. codes "{:object " ++ t)
-      (append_assoc (x ++ order) (codes "}") (codes "\n") ∙ append_assoc x order (codes "}\n")
-      ∙ ap (λ t. x ++ (codes ", :order [" ++ t)) (closed items)))
+    (append_assoc (x ++ order) (codes "}") (codes "\n") ∙ append_assoc x order (codes "}\n")
+    ∙ ap (λ t. x ++ (codes ", :order [" ++ t)) (closed items)))
 
 numbers_fit : (n : ℕ) (zs : List ℤ) → ItemsFit n (items_of (numbers_data zs))
 unfolding numbers_data
@@ -129,9 +129,10 @@ InProfiles cs = AllByRecursion (λ c. AllByRecursion IsInt64 c.order.items) cs
 each_spelled : (cs : List Certificate) → AreInRange cs → InProfiles cs → EachSpelled (data_of cs)
 unfolding data_of
 each_spelled [] r p = tt
-each_spelled (c ∷ cs) r p =
-    (text_spells_it (datum_of c) (datum_fits c) (datum_in_profile c (r 0 c (omega arith)) p.0),
-      each_spelled cs (λ k d lt. r (suc k) d (omega arith)) p.1)
+each_spelled (c ∷ cs) r p = (
+  text_spells_it (datum_of c) (datum_fits c) (datum_in_profile c (r 0 c (omega arith)) p.0),
+  each_spelled cs (λ k d lt. r (suc k) d (omega arith)) p.1,
+)
 
 each_denoted : (cs : List Certificate) → AreInRange cs
     → map certificate_of (data_of cs) ≡ map (λ c. Some (reading_of c)) cs
@@ -145,6 +146,6 @@ pub lines_spell : (cs : List Certificate) → InProfiles cs → AreDistinct cs �
 lines_spell cs p apart r = record {
   forms = data_of cs;
   spelled = subst (Spells (data_of cs)) (sym (lines_are_texts cs))
-    (lines_spell_them (data_of cs) (each_spelled cs r p));
+      (lines_spell_them (data_of cs) (each_spelled cs r p));
   denoted = record { each = each_denoted cs r; distinct = apart };
 }

@@ -46,8 +46,11 @@ one_placed certificates m n k d l is places some own others = (
     | inl e ↦ (
         let same : k ≡ j = same_Some k j (sym own ∙ (ap (value_of n) (sym e) ∙ q)) in
         subst (IsPlace certificates x) same
-          (record { inside = l; for_object =
-          λ c. ap (λ (z : Certificate). z.object) (get_or_default certificates k c d l ∙ sym is) ∙ sym e })
+        (record {
+          inside = l;
+          for_object =
+              λ c. ap (λ (z : Certificate). z.object) (get_or_default certificates k c d l ∙ sym is) ∙ sym e;
+        })
         )
     | inr ne ↦ places x j (sym (others x ne) ∙ q)
   ],
@@ -56,12 +59,12 @@ one_placed certificates m n k d l is places some own others = (
     | inr ne ↦ subst IsSome (sym (others c.object ne))
         (elim (in_append c (take k certificates) (get_or certificates k d ∷ [])
         (subst (In c) (take_more certificates k d l) i)) [
-      | inl j ↦ some c j
-      | inr j ↦ elim j [
-        | inl e ↦ absurd (ne (ap (λ (z : Certificate). z.object) (e ∙ sym is)))
-        | inr z ↦ absurd z
-      ]
-    ])
+          | inl j ↦ some c j
+          | inr j ↦ elim j [
+            | inl e ↦ absurd (ne (ap (λ (z : Certificate). z.object) (e ∙ sym is)))
+            | inr z ↦ absurd z
+          ]
+        ])
   ],
 )
 
@@ -100,7 +103,7 @@ abbrev pub has_here : (certificates : List Certificate) (x k : ℕ) (d : Certifi
 has_here certificates x k d p is = record {
   certificate = d;
   stands = contains_from_in certificates d
-    (subst (λ z. In z certificates) (sym is) (in_from_get certificates k d p.inside));
+      (subst (λ z. In z certificates) (sym is) (in_from_get certificates k d p.inside));
   for_object = ap (λ (c : Certificate). c.object) is ∙ p.for_object d;
 }
 
@@ -135,7 +138,7 @@ pub no_certificate : (certificates : List Certificate) (m : NumberMap ℕ) (x : 
     → value_of m x ≡ None → HasCertificate certificates x → ⊥
 no_certificate certificates m x h none c =
     let some = all_at (λ (c : Certificate). IsSome (value_of m c.object)) certificates h.all c.certificate
-      (in_from_contains certificates c.certificate c.stands) in
+    (in_from_contains certificates c.certificate c.stands) in
     has_some (value_of m c.certificate.object) (ap (value_of m) c.for_object ∙ none) some
 
 -- ---- one after the other
@@ -157,7 +160,7 @@ all_left certificates m h = record {
   places = h.places;
   apart = λ o i. absurd i;
   gone = λ c i q. absurd (has_some (value_of m c.object) q
-    (all_at (λ c. IsSome (value_of m c.object)) certificates h.all c i));
+      (all_at (λ c. IsSome (value_of m c.object)) certificates h.all c i));
 }
 
 pub one_taken : (certificates : List Certificate) (os : List ObjectCalls) (o : ObjectCalls) (left new : NumberMap ℕ)
@@ -221,12 +224,13 @@ least_besides : (certificates : List Certificate) (os : List ObjectCalls) (left 
     → IsLeastPlaced left certificates (Some x) → IsLeastBesides (map (λ o. o.object) os) certificates x
 least_besides certificates os left x h is = record {
   certified = (let p = h.places x there.0 there.1 in let e = element certificates there.0 p.inside in
-    has_here certificates x there.0 e.0 p e.1);
+      has_here certificates x there.0 e.0 p e.1);
   besides = λ stands. let o =
-    in_map (λ (o : ObjectCalls). o.object) x os (in_from_contains (map (λ (o : ObjectCalls). o.object) os) x stands) in
+      in_map (λ (o : ObjectCalls). o.object) x os
+      (in_from_contains (map (λ (o : ObjectCalls). o.object) os) x stands) in
       let n : None ≡ Some there.0 = sym (h.apart o.0 o.1) ∙ (ap (value_of left) (sym o.2) ∙ there.1) in cc n;
   least = all_from_in (λ (c : Certificate). c.object < x → Contains (map (λ o. o.object) os) c.object) certificates
-    (λ c i l. below c i l (value_of left c.object) refl);
+      (λ c i l. below c i l (value_of left c.object) refl);
 }
   where
     the : (o : Option ℕ) → IsSome o → (k : ℕ) × (o ≡ Some k)
@@ -237,19 +241,19 @@ least_besides certificates os left x h is = record {
     there = the (value_of left x) is.0
 
     below : (c : Certificate) → In c certificates → c.object < x → (o : Option ℕ) → value_of left c.object ≡ o
-      → Contains (map (λ o. o.object) os) c.object
+        → Contains (map (λ o. o.object) os) c.object
     below c i l None q =
         let g = h.gone c i q in subst (Contains (map (λ o. o.object) os)) g.2 (number_stands os g.0 g.1)
     below c i l (Some j) q =
         let least = all_at (λ (c : Certificate). IsSome (value_of left c.object) → x ≤ c.object) certificates is.1 c i
-          (subst IsSome (sym q) refl) in
+        (subst IsSome (sym q) refl) in
         absurd (omega (arith, l, least))
 
 pub strange : (certificates : List Certificate) (os : List ObjectCalls) (left : NumberMap ℕ) (r : Option ℕ)
     → AreLeft certificates os left
     → IsLeastPlaced left certificates r
     → IfNone r (AreForThese (map (λ o. o.object) os) certificates)
-      × IfSome r (IsLeastBesides (map (λ o. o.object) os) certificates)
+    × IfSome r (IsLeastBesides (map (λ o. o.object) os) certificates)
 strange certificates os left None h is = (none_besides certificates os left h is, tt)
 strange certificates os left (Some x) h is = (tt, least_besides certificates os left x h is)
 
@@ -292,9 +296,9 @@ pub same_orders : (certificates : List Certificate) → AllPairs (λ a b. a.obje
     → (x : ℕ) (a b : HasCertificate certificates x) → a.certificate ≡ b.certificate
 same_orders certificates d x a b =
     same_certificate certificates
-      (pairs_from_all (λ a b. a.object ≢ b.object) certificates d) a.certificate b.certificate
+    (pairs_from_all (λ a b. a.object ≢ b.object) certificates d) a.certificate b.certificate
     (in_from_contains certificates a.certificate a.stands) (in_from_contains certificates b.certificate b.stands)
-      (a.for_object ∙ sym b.for_object)
+    (a.for_object ∙ sym b.for_object)
 
 no_refusal : (es : List Event) (certificates : List Certificate) → AllPairs (λ a b. a.object ≢ b.object) certificates
     → (x : ℕ)
@@ -303,7 +307,7 @@ no_refusal es certificates d x h (NoCertificate y) s = s.1 h.certificate
 no_refusal es certificates d x h (StrangeObject y) s = s
 no_refusal es certificates d x h (BadOrder y f) s =
     h.faultless f (subst (λ (c : Certificate). IsFirstFault (kind_at es x) (calls_on x (denoted es)) c.order.items f)
-      (same_orders certificates d x s.1 h.certificate) s.2)
+    (same_orders certificates d x s.1 h.certificate) s.2)
 no_refusal es certificates d x h NoMemory s = s
 
 pub all_valid : (es : List Event) (certificates : List Certificate) (os : List ObjectCalls) → AreObjects es os
@@ -313,7 +317,7 @@ all_valid es certificates os objects h besides = record {
   each = λ x named. let f = fine_at es certificates os objects h x named in (f.certificate, f.valid);
   none_besides = all_from_in (λ (c : Certificate). IsNamed es c.object) certificates
       (λ c i. (objects.named c.object).0
-        (all_at (λ (c : Certificate). Contains (map (λ o. o.object) os) c.object) certificates besides c i));
+      (all_at (λ (c : Certificate). Contains (map (λ o. o.object) os) c.object) certificates besides c i));
 }
 
 pub least_strange : (es : List Event) (certificates : List Certificate) (os : List ObjectCalls) (x : ℕ)
@@ -324,8 +328,8 @@ least_strange es certificates os x d objects h s = record {
   not_named = λ named. s.besides ((objects.named x).1 named);
   least = all_from_in (λ (c : Certificate). c.object < x → IsNamed es c.object) certificates
       (λ c i l. (objects.named c.object).0
-        (all_at (λ (c : Certificate). c.object < x → Contains (map (λ o. o.object) os) c.object) certificates s.least
-        c i l));
+      (all_at (λ (c : Certificate). c.object < x → Contains (map (λ o. o.object) os) c.object) certificates s.least
+      c i l));
   none = λ y r named t. no_refusal es certificates d y (fine_at es certificates os objects h y named) r t;
 }
 
@@ -353,7 +357,7 @@ first_refusal es certificates all os o later r d objects split h refused = go r 
   where
     up : Pairs (λ a b. a.object < b.object) (os ++ o ∷ later)
     up = subst (Pairs (λ a b. a.object < b.object)) split
-      (pairs_from_all (λ a b. a.object < b.object) all objects.rising)
+        (pairs_from_all (λ a b. a.object < b.object) all objects.rising)
 
     middle : (os : List ObjectCalls) → In o (os ++ o ∷ later)
     middle [] = inl refl
@@ -370,7 +374,7 @@ first_refusal es certificates all os o later r d objects split h refused = go r 
         no_refusal es certificates d y (subst (IsFineAt es certificates) (sym p.2) (h p.0 i)) s stands
 
     go : (r : Refusal) → IsRefused (kind_at es o.object) (calls_on o.object (denoted es)) certificates o.object r
-      → IsFirstRefusal es certificates r
+        → IsFirstRefusal es certificates r
     go (NoCertificate y) s = record { object = o.object; named = named; stands = (s.0, s.1); least = least }
     go (StrangeObject y) s = absurd s
     go (BadOrder y f) s = record { object = o.object; named = named; stands = (s.0, s.1, s.2); least = least }
@@ -387,13 +391,13 @@ refused_are_not_valid es certificates all os o later r d objects split h refused
     go r (first_refusal es certificates all os o later r d objects split h refused) refused
   where
     go : (r : Refusal) → IsFirstRefusal es certificates r
-      → IsRefused (kind_at es o.object) (calls_on o.object (denoted es)) certificates o.object r → r ≡ NoMemory
+        → IsRefused (kind_at es o.object) (calls_on o.object (denoted es)) certificates o.object r → r ≡ NoMemory
     go (NoCertificate y) f s = absurd (f.stands.1 (valid.each f.object f.named).0)
     go (StrangeObject y) f s = absurd s
     go (BadOrder y g) f s =
         let each = valid.each o.object (subst (IsNamed es) (sym f.stands.0 ∙ s.0) f.named) in
         absurd (s.3 (subst (λ (c : Certificate). IsValidOrder (kind_at es o.object)
-          (calls_on o.object (denoted es)) c.order.items) (same_orders certificates d o.object each.0 s.1) each.1))
+        (calls_on o.object (denoted es)) c.order.items) (same_orders certificates d o.object each.0 s.1) each.1))
     go NoMemory f s = refl
 
 pub strange_is_not_valid : (es : List Event) (certificates : List Certificate) (x : ℕ)
@@ -401,7 +405,7 @@ pub strange_is_not_valid : (es : List Event) (certificates : List Certificate) (
 strange_is_not_valid es certificates x h valid =
     h.not_named (subst (IsNamed es) h.certified.for_object
     (all_at (λ (c : Certificate). IsNamed es c.object) certificates valid.none_besides h.certified.certificate
-      (in_from_contains certificates h.certified.certificate h.certified.stands)))
+    (in_from_contains certificates h.certified.certificate h.certified.stands)))
 
 -- ---- the list of objects
 
@@ -431,9 +435,9 @@ pub next_is : (es : List Event) (fs : List ObjectCalls) (i : ℕ) (o : ObjectCal
 next_is es fs i o P h l is p =
     let j = in_objects fs i o l is in
     let its_kind = subst (λ k. P k (calls_of o.ops))
-      (all_at (λ (o : ObjectCalls). o.kind ≡ kind_at es o.object) fs h.kinds o j) p in
+    (all_at (λ (o : ObjectCalls). o.kind ≡ kind_at es o.object) fs h.kinds o j) p in
     subst (P (kind_at es o.object))
-      (all_at (λ (o : ObjectCalls). calls_of o.ops ≡ calls_on o.object (denoted es)) fs h.calls o j) its_kind
+    (all_at (λ (o : ObjectCalls). calls_of o.ops ≡ calls_on o.object (denoted es)) fs h.calls o j) its_kind
 
 pub next_fine : (es : List Event) (certificates : List Certificate) (fs : List ObjectCalls) (i : ℕ) (o : ObjectCalls)
     → AreObjects es fs

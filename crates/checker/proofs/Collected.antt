@@ -30,7 +30,7 @@ in_found {A} certificate_of [] c i = absurd i
 in_found {A} certificate_of (a ∷ answers) c i = go (certificate_of a.1) refl i (in_found certificate_of answers c)
   where
     later : ((b : ℕ × A) × In b answers × (certificate_of b.1 ≡ Some c))
-      → (b : ℕ × A) × In b (a ∷ answers) × (certificate_of b.1 ≡ Some c)
+        → (b : ℕ × A) × In b (a ∷ answers) × (certificate_of b.1 ≡ Some c)
     later r = (r.0, inr r.1, r.2)
 
     go : (o : Option Certificate) → certificate_of a.1 ≡ o → In c (cons_option o (collected certificate_of answers))
@@ -51,10 +51,10 @@ found_in_answers {A} certificate_of (b ∷ answers) a c i e = elim i [
   where
     here : (o : Option Certificate) → o ≡ Some c → In c (cons_option o (collected certificate_of answers))
     here o q = subst (λ (x : Option Certificate). In c (cons_option x (collected certificate_of answers))) (sym q)
-      (inl refl)
+        (inl refl)
 
     behind : (o : Option Certificate) → In c (collected certificate_of answers)
-      → In c (cons_option o (collected certificate_of answers))
+        → In c (cons_option o (collected certificate_of answers))
     behind None j = j
     behind (Some d) j = inr j
 
@@ -89,13 +89,13 @@ no_answers {A} es Is objects answers h none =
 pub one_more_answer : {A : Type 0} (es : List Event) (Is : ℕ → Kind → List Call → A → Type 0)
     (objects : List ObjectCalls) (k : ℕ) (o : ObjectCalls)
     (old new : List (ℕ × A)) (n : ℕ) (s : A) → k < length objects → o ≡ get_or objects k o → n ≡ o.object
-      → new ≡ old ++ (n, s) ∷ []
+    → new ≡ old ++ (n, s) ∷ []
     → Is o.object o.kind (calls_of o.ops) s → AreAnswers es Is objects k old → AreAnswers es Is objects (k + 1) new
 one_more_answer {A} es Is objects k o old new n s l is en ex h are = record {
   objects_are = are.objects_are;
   numbers =
       ap (map (λ a. a.0)) ex ∙ map-append (λ (a : ℕ × A). a.0) old ((n, s) ∷ []) ∙ ap (λ xs. xs ++ n ∷ []) are.numbers
-        ∙ ap (λ (x : ℕ). map number (take k objects) ++ x ∷ []) (en ∙ ap number is)
+      ∙ ap (λ (x : ℕ). map number (take k objects) ++ x ∷ []) (en ∙ ap number is)
       ∙ sym (ap (map number) (take_more objects k o l) ∙ map-append number (take k objects) (get_or objects k o ∷ []));
   each = rw ex (All-push (λ (a : ℕ × A). Is a.0 (kind_at es a.0) (calls_on a.0 (denoted es)) a.1) old (n, s) are.each
       (subst (λ (y : ℕ). Is y (kind_at es y) (calls_on y (denoted es)) s) (sym en) here));
@@ -121,8 +121,8 @@ on_all {A} es Is objects k answers l h = record {
   rising = all_from_pairs (λ a b. a.0 < b.0) answers
       (pairs_from_map (λ m n. m < n) (λ a. a.0) answers
       (subst (Pairs (λ m n. m < n)) (sym numbers)
-        (pairs_map (λ m n. m < n) (λ o. o.object) objects
-        (pairs_from_all (λ a b. a.object < b.object) objects h.objects_are.rising))));
+      (pairs_map (λ m n. m < n) (λ o. o.object) objects
+      (pairs_from_all (λ a b. a.object < b.object) objects h.objects_are.rising))));
   named = subst (λ (xs : List ℕ). (x : ℕ) → Contains xs x ↔ IsNamed es x) (sym numbers) h.objects_are.named;
   each = h.each;
 }
@@ -143,25 +143,25 @@ own : {A : Type 0} (certificate_of : A → Option Certificate) (es : List Event)
     → (c.object ≡ a.0) × IsValidOrder (kind_at es a.0) (calls_on a.0 (denoted es)) c.order.items
 own {A} certificate_of es Is answers certifies h a c i e =
     certifies a.0 (kind_at es a.0) (calls_on a.0 (denoted es)) a.1 c
-      (all_at (λ (a : ℕ × A). Is a.0 (kind_at es a.0) (calls_on a.0 (denoted es)) a.1) answers h.each a i) e
+    (all_at (λ (a : ℕ × A). Is a.0 (kind_at es a.0) (calls_on a.0 (denoted es)) a.1) answers h.each a i) e
 
 pub distinct : {A : Type 0} (certificate_of : A → Option Certificate) (es : List Event)
     (Is : ℕ → Kind → List Call → A → Type 0)
     (answers : List (ℕ × A)) → Certifies certificate_of Is → AreOnAll es Is answers
-      → AreDistinct (collected certificate_of answers)
+    → AreDistinct (collected certificate_of answers)
 distinct {A} certificate_of es Is answers certifies h =
     all_from_pairs (λ a b. a.object ≢ b.object) (collected certificate_of answers)
     (go answers (λ a c i e. (own certificate_of es Is answers certifies h a c i e).0)
-      (pairs_from_all (λ a b. a.0 < b.0) answers h.rising))
+    (pairs_from_all (λ a b. a.0 < b.0) answers h.rising))
   where
     go : (rest_of : List (ℕ × A))
-      → ((a : ℕ × A) (c : Certificate) → In a rest_of → certificate_of a.1 ≡ Some c → c.object ≡ a.0)
+        → ((a : ℕ × A) (c : Certificate) → In a rest_of → certificate_of a.1 ≡ Some c → c.object ≡ a.0)
         → Pairs (λ a b. a.0 < b.0) rest_of → Pairs (λ a b. a.object ≢ b.object) (collected certificate_of rest_of)
     go [] own up = tt
     go (a ∷ rest_of) own up = more (certificate_of a.1) refl (go rest_of (λ b c i e. own b c (inr i) e) up.1)
       where
         more : (o : Option Certificate) → certificate_of a.1 ≡ o
-          → Pairs (λ a b. a.object ≢ b.object) (collected certificate_of rest_of)
+            → Pairs (λ a b. a.object ≢ b.object) (collected certificate_of rest_of)
             → Pairs (λ a b. a.object ≢ b.object) (cons_option o (collected certificate_of rest_of))
         more None e rest = rest
         more (Some c) e rest = (
@@ -184,15 +184,20 @@ valid {A} certificate_of es Is answers certifies h all = record {
       let c = some_certificate (certificate_of a.0.1) (all_at (λ a. IsSome (certificate_of a.1)) answers all a.0 a.1) in
       let of_it = own certificate_of es Is answers certifies h a.0 c.0 a.1 c.1 in
       let certificate : HasCertificate (collected certificate_of answers) x =
-      record { certificate = c.0;
-          stands = contains_from_in (collected certificate_of answers) c.0
-          (found_in_answers certificate_of answers a.0 c.0 a.1 c.1); for_object = of_it.0 ∙ sym a.2 } in
-      (certificate, subst (λ (y : ℕ). IsValidOrder (kind_at es y) (calls_on y (denoted es)) c.0.order.items)
-        (sym a.2) of_it.1);
+      record {
+        certificate = c.0;
+        stands = contains_from_in (collected certificate_of answers) c.0
+            (found_in_answers certificate_of answers a.0 c.0 a.1 c.1);
+        for_object = of_it.0 ∙ sym a.2;
+      } in (
+        certificate,
+        subst (λ (y : ℕ). IsValidOrder (kind_at es y) (calls_on y (denoted es)) c.0.order.items)
+            (sym a.2) of_it.1,
+      );
   none_besides = all_from_in (λ c. IsNamed es c.object) (collected certificate_of answers) (λ c i.
       let a = in_found certificate_of answers c i in
       let of_it = own certificate_of es Is answers certifies h a.0 c a.1 a.2 in
       subst (IsNamed es) (sym of_it.0)
-        ((h.named a.0.0).0 (contains_from_in (map (λ a. a.0) answers) a.0.0
-        (in_map_from (λ (a : ℕ × A). a.0) a.0 answers a.1))));
+      ((h.named a.0.0).0 (contains_from_in (map (λ a. a.0) answers) a.0.0
+      (in_map_from (λ (a : ℕ × A). a.0) a.0 answers a.1))));
 }

@@ -53,7 +53,7 @@ numbers_named calls (z ∷ o) h =
     let rest = numbers_named calls o (λ y i. h y (inr i)) in
     let here : z ≡ pos c.0.number = found_number calls z c.0 c.1 in
     subst (λ (r : Option Call). z ∷ o ≡ map (λ (c : Call). pos c.number) (cons_option r (named calls o))) (sym c.1)
-      (cc (here, rest))
+    (cc (here, rest))
 
 order_named : (calls : List Call) (o : List ℤ) → Pairs (InOrder calls) o
     → Pairs (λ (a b : Call). ReturnsBefore b a → ⊥) (named calls o)
@@ -61,8 +61,8 @@ order_named calls [] h = tt
 order_named calls (z ∷ o) h = go (call_with_number calls z) refl (order_named calls o h.1)
   where
     go : (r : Option Call) → call_with_number calls z ≡ r
-      → Pairs (λ (a b : Call). ReturnsBefore b a → ⊥) (named calls o)
-      → Pairs (λ (a b : Call). ReturnsBefore b a → ⊥) (cons_option r (named calls o))
+        → Pairs (λ (a b : Call). ReturnsBefore b a → ⊥) (named calls o)
+        → Pairs (λ (a b : Call). ReturnsBefore b a → ⊥) (cons_option r (named calls o))
     go None q rest = rest
     go (Some c) q rest = (λ d i before. let y = in_named calls o d i in h.0 y.0 y.1 c d q y.2 before, rest)
 
@@ -79,7 +79,7 @@ replies_named calls c (z ∷ o) d h =
     let e : Call = h.0 in
     let s = h.3 in
     let rest : RepliesAlong c (e ∷ named calls o) =
-      (h.1, s.reply, s.possible, said e e.returned s.reply refl s.replied, replies_named calls h.1 o d h.4) in
+    (h.1, s.reply, s.possible, said e e.returned s.reply refl s.replied, replies_named calls h.1 o d h.4) in
     subst (λ (r : Option Call). RepliesAlong c (cons_option r (named calls o))) (sym h.2) rest
 
 -- an order without a faulty place, in which each call that returned stands, is valid
@@ -90,10 +90,10 @@ valid_from kind calls o d s whole = record {
   entries = named calls o;
   numbers = numbers_named calls o s.known;
   known = all_from_in (Contains calls) (named calls o)
-    (λ c i. let z = in_named calls o c i in contains_from_in calls c (found_known calls z.0 c z.2));
+      (λ c i. let z = in_named calls o c i in contains_from_in calls c (found_known calls z.0 c z.2));
   once = all_from_pairs (λ a b. a ≢ b) o s.once;
   whole = all_from_in (λ c. IsSome c.returned → Contains (named calls o) c) calls
-    (λ c i r. let z = whole c i r in contains_from_in (named calls o) c (named_in calls o z.0 c z.1 z.2));
+      (λ c i r. let z = whole c i r in contains_from_in (named calls o) c (named_in calls o z.0 c z.1 z.2));
   in_order = all_from_pairs (λ (a b : Call). ReturnsBefore b a → ⊥) (named calls o) (order_named calls o s.in_order);
   replies = replies_named calls (empty kind) o d s.replies;
 }
@@ -114,8 +114,12 @@ pub unknown_first : (kind : Kind) (calls : List Call) (o : List ℤ) (i : ℕ) (
     → SoFar kind calls (take i o) d
     → slice_get o i ≡ Some z → call_with_number calls z ≡ None → IsFirstAtPlace kind calls o (UnknownOperation z)
 unknown_first kind calls o i z d s at none =
-    record { place = i; stands = (at, none); earlier = λ j f l h. none_before kind calls o d i s j f l h;
-    first = least }
+    record {
+      place = i;
+      stands = (at, none);
+      earlier = λ j f l h. none_before kind calls o d i s j f l h;
+      first = least;
+    }
   where
     least : (f : OrderFault) → IsFaultAt kind calls o i f → 1 ≤ rank f
     least (UnknownOperation z) h = omega arith
@@ -149,7 +153,7 @@ no_late : (kind : Kind) (calls : List Call) (o : List ℤ) (i : ℕ) (z y : ℤ)
 no_late kind calls o i z y by c at found early h =
     let same : c ≡ h.0 = same_call calls o i z y c h.0 at found h.2.here h.2.named in
     let l : pos by ≤ℤ pos h.1.at =
-      early h.1 (ap (λ (x : Call). x.returned) same ∙ h.3) (pos by) (in_from_contains (take i o) (pos by) h.5.stands) in
+    early h.1 (ap (λ (x : Call). x.returned) same ∙ h.3) (pos by) (in_from_contains (take i o) (pos by) h.5.stands) in
     let k : h.1.at < by = h.4 in
     omega (arith, ints)
 
@@ -161,7 +165,7 @@ no_impossible kind calls o i z y c d after reply s at found can h =
     let same : c ≡ h.0 = same_call calls o i z y c h.0 at found h.2.here h.2.named in
     let there : d ≡ h.1 = same_Some d h.1 (sym (along_content calls (empty kind) (take i o) d s.replies) ∙ h.3) in
     let never : next d c.op ≡ None =
-      ap (λ (x : Call). next d x.op) same ∙ (ap (λ (x : Content). next x h.0.op) there ∙ h.4) in
+    ap (λ (x : Call). next d x.op) same ∙ (ap (λ (x : Content). next x h.0.op) there ∙ h.4) in
     absurd (cc (can, never))
 
 pub repeated_first : (kind : Kind) (calls : List Call) (o : List ℤ) (i : ℕ) (z : ℤ) (c : Call) (d : Content)
@@ -169,8 +173,12 @@ pub repeated_first : (kind : Kind) (calls : List Call) (o : List ℤ) (i : ℕ) 
     → slice_get o i ≡ Some z → call_with_number calls z ≡ Some c → In z (take i o)
     → IsFirstAtPlace kind calls o (Repeated z)
 repeated_first kind calls o i z c d s at found twice =
-    record { place = i; stands = (at, contains_from_in (take i o) z twice);
-        earlier = λ j f l h. none_before kind calls o d i s j f l h; first = least }
+    record {
+      place = i;
+      stands = (at, contains_from_in (take i o) z twice);
+      earlier = λ j f l h. none_before kind calls o d i s j f l h;
+      first = least;
+    }
   where
     least : (f : OrderFault) → IsFaultAt kind calls o i f → 2 ≤ rank f
     least (UnknownOperation y) h = absurd (no_unknown kind calls o i z y c at found h)
@@ -185,8 +193,12 @@ pub late_first : (kind : Kind) (calls : List Call) (o : List ℤ) (i : ℕ) (z :
     → Reaches kind calls o i z c d → c.returned ≡ Some r → r.at < by → IsGreatest (pos by) (take i o)
     → IsFirstAtPlace kind calls o (TooLate z by)
 late_first kind calls o i z c d r by s ret l top =
-    record { place = i; stands = (c, r, record { here = s.here; named = s.named }, ret, l, top);
-        earlier = λ j f l h. none_before kind calls o d i s.so_far j f l h; first = least }
+    record {
+      place = i;
+      stands = (c, r, record { here = s.here; named = s.named }, ret, l, top);
+      earlier = λ j f l h. none_before kind calls o d i s.so_far j f l h;
+      first = least;
+    }
   where
     least : (f : OrderFault) → IsFaultAt kind calls o i f → 3 ≤ rank f
     least (UnknownOperation y) h = absurd (no_unknown kind calls o i z y c s.here s.named h)
@@ -227,8 +239,17 @@ pub wrong_first : (kind : Kind) (calls : List Call) (o : List ℤ) (i : ℕ) (z 
     → r.reply ≢ gives → IsFirstAtPlace kind calls o (WrongReply z gives)
 wrong_first kind calls o i z c d after r gives s early ret can ne = record {
   place = i;
-  stands = (c, r, d, after, record { here = s.here; named = s.named }, ret,
-    along_content calls (empty kind) (take i o) d s.so_far.replies, can, ne);
+  stands = (
+    c,
+    r,
+    d,
+    after,
+    record { here = s.here; named = s.named },
+    ret,
+    along_content calls (empty kind) (take i o) d s.so_far.replies,
+    can,
+    ne,
+  );
   earlier = λ j f l h. none_before kind calls o d i s.so_far j f l h;
   first = least;
 }

@@ -56,7 +56,7 @@ pub record IsHere (kind : Kind) (ops : List Invocation) (order : List ℤ) (i : 
 reaches : (kind : Kind) (ops : List Invocation) (order : List ℤ) (i : ℕ) (seen : List Bool) (content : Content)
     (greatest : Option ℕ) (z : ℤ) (k : ℕ)
     (c : Call) (d : Invocation) → IsHere kind ops order i seen content greatest z k c
-      → Reaches kind (calls_of ops) order i z c content
+    → Reaches kind (calls_of ops) order i z c content
 reaches kind ops order i seen content greatest z k c d h = record {
   so_far = h.walk.so_far;
   here = h.at;
@@ -67,32 +67,32 @@ reaches kind ops order i seen content greatest z k c d h = record {
 in_time : (kind : Kind) (ops : List Invocation) (order : List ℤ) (i : ℕ) (seen : List Bool) (content : Content)
     (greatest : Option ℕ) (z : ℤ) (k : ℕ)
     (c : Call) (d : Invocation) → IsHere kind ops order i seen content greatest z k c
-      → IsEarly (get_or ops k d).«end» greatest → IsInTime order i c
+    → IsEarly (get_or ops k d).«end» greatest → IsInTime order i c
 in_time kind ops order i seen content greatest z k c d h early r q y j =
     all_early greatest (take i order) (get_or ops k d).«end» r h.walk.top early
-      ((call_parts (get_or ops k d) c (h.hand.is d)).2 ∙ q) y j
+    ((call_parts (get_or ops k d) c (h.hand.is d)).2 ∙ q) y j
 
 pub repeated_at : (kind : Kind) (ops : List Invocation) (order : List ℤ) (i : ℕ) (seen : List Bool)
     (content : Content) (greatest : Option ℕ) (z : ℤ)
     (k : ℕ) (c : Call) (d : Invocation) → Walk kind ops (take i order) seen content greatest
-      → slice_get order i ≡ Some z → AtHand ops z k c
+    → slice_get order i ≡ Some z → AtHand ops z k c
     → get_or seen k false ≡ true → IsFirstAtPlace kind (calls_of ops) order (Repeated z)
 repeated_at kind ops order i seen content greatest z k c d w at h twice =
     let stands : In z (take i order) =
-      subst (λ y. In y (take i order)) (sym (number_at ops z k c d h))
-      (stands_true (get_or ops k d).number (take i order) (sym (w.marks k d h.within) ∙ twice)) in
+    subst (λ y. In y (take i order)) (sym (number_at ops z k c d h))
+    (stands_true (get_or ops k d).number (take i order) (sym (w.marks k d h.within) ∙ twice)) in
     repeated_first kind (calls_of ops) order i z c content w.so_far at h.found stands
 
 pub late_at : (kind : Kind) (ops : List Invocation) (order : List ℤ) (i : ℕ) (seen : List Bool) (content : Content)
     (greatest : Option ℕ) (z : ℤ)
     (k : ℕ) (c : Call) (d : Invocation) (by : ℕ) → IsHere kind ops order i seen content greatest z k c
-      → greatest ≡ Some by
+    → greatest ≡ Some by
     → IsLate (get_or ops k d).«end» by → IsFirstAtPlace kind (calls_of ops) order (TooLate z by)
 late_at kind ops order i seen content greatest z k c d by h g late =
     let parts = call_parts (get_or ops k d) c (h.hand.is d) in
     let top : IsGreatest (pos by) (take i order) = top_of greatest by (take i order) h.walk g in
     late_first kind (calls_of ops) order i z c content late.0
-      by (reaches kind ops order i seen content greatest z k c d h) (sym parts.2 ∙ late.1) late.2 top
+    by (reaches kind ops order i seen content greatest z k c d h) (sym parts.2 ∙ late.1) late.2 top
   where
     top_of : (g : Option ℕ) (by : ℕ) (o : List ℤ) → Walk kind ops o seen content g → g ≡ Some by → IsGreatest (pos by) o
     top_of None by o w e = absurd (cc e)
@@ -110,14 +110,14 @@ none_from (Some x) h = absurd (h refl)
 pub impossible_at : (kind : Kind) (ops : List Invocation) (order : List ℤ) (i : ℕ) (seen : List Bool)
     (content : Content) (greatest : Option ℕ)
     (z : ℤ) (k : ℕ) (c : Call) (d : Invocation) (op : AnyOp) (can : Bool)
-      → IsHere kind ops order i seen content greatest z k c
+    → IsHere kind ops order i seen content greatest z k c
     → IsEarly (get_or ops k d).«end» greatest → op ≡ (get_or ops k d).op → (IsTrue can ↔ IsSome (next content op))
     → can ≡ false → IsFirstAtPlace kind (calls_of ops) order (NotPossible z)
 impossible_at kind ops order i seen content greatest z k c d op can h early is tells not =
     let never : next content op ≡ None = none_from (next content op) (λ some. refute can not (tells.1 some)) in
     impossible_first kind (calls_of ops) order i z c content
-      (reaches kind ops order i seen content greatest z k c d h)
-      (in_time kind ops order i seen content greatest z k c d h early)
+    (reaches kind ops order i seen content greatest z k c d h)
+    (in_time kind ops order i seen content greatest z k c d h early)
     (ap (next content) (sym (is ∙ op_is ops z k c d h.hand)) ∙ never)
   where
     refute : (b : Bool) → b ≡ false → IsTrue b → ⊥
@@ -126,13 +126,13 @@ impossible_at kind ops order i seen content greatest z k c d op can h early is t
 pub wrong_at : (kind : Kind) (ops : List Invocation) (order : List ℤ) (i : ℕ) (seen : List Bool)
     (content after : Content) (greatest : Option ℕ)
     (z : ℤ) (k : ℕ) (c : Call) (d : Invocation) (op : AnyOp) (gives : AnyReply)
-      → IsHere kind ops order i seen content greatest z k c
+    → IsHere kind ops order i seen content greatest z k c
     → IsEarly (get_or ops k d).«end» greatest → op ≡ (get_or ops k d).op → next content op ≡ Some (after, gives)
     → Differs (return_of (get_or ops k d).«end») gives → IsFirstAtPlace kind (calls_of ops) order (WrongReply z gives)
 wrong_at kind ops order i seen content after greatest z k c d op gives h early is can differs =
     let parts = call_parts (get_or ops k d) c (h.hand.is d) in
     wrong_first kind (calls_of ops) order i z c content after differs.0 gives
-      (reaches kind ops order i seen content greatest z k c d h)
+    (reaches kind ops order i seen content greatest z k c d h)
     (in_time kind ops order i seen content greatest z k c d h early)
     (sym parts.2 ∙ differs.1) (ap (next content) (sym (is ∙ parts.1)) ∙ can) differs.2
 
@@ -148,12 +148,15 @@ pub next_at : (kind : Kind) (ops : List Invocation) (order : List ℤ) (i : ℕ)
 next_at kind ops order i seen content after greatest z k c d op top gives up h l at early is can agrees kept new_top =
     let parts = call_parts (get_or ops k d) c (h.hand.is d) in
     let step : IsStep content c after =
-      record { reply = gives; possible = ap (next content) (sym (is ∙ parts.1)) ∙ can;
-      replied = λ r q. agrees r (parts.2 ∙ q) } in
+    record {
+      reply = gives;
+      possible = ap (next content) (sym (is ∙ parts.1)) ∙ can;
+      replied = λ r q. agrees r (parts.2 ∙ q);
+    } in
     subst (λ o. Walk kind ops o (set seen k true) after (Some top))
-      (ap (λ y. take i order ++ y ∷ []) at ∙ sym (take_more order i (pos 0) l))
+    (ap (λ y. take i order ++ y ∷ []) at ∙ sym (take_more order i (pos 0) l))
     (walk_more kind ops (take i order) seen content after greatest z k c d top up h.walk h.hand h.fresh early step
-      kept new_top)
+    kept new_top)
 
 -- ---- at the end
 
@@ -168,7 +171,7 @@ at_end kind ops order i seen content greatest w l =
 stands_marked : (kind : Kind) (ops : List Invocation) (order : List ℤ) (seen : List Bool) (content : Content)
     (greatest : Option ℕ) (k : ℕ)
     (d : Invocation) (c : Call) → Walk kind ops order seen content greatest → k < length ops
-      → call_of (get_or ops k d) ≡ Some c → get_or seen k false ≡ true → In (pos c.number) order
+    → call_of (get_or ops k d) ≡ Some c → get_or seen k false ≡ true → In (pos c.number) order
 stands_marked kind ops order seen content greatest k d c w l e m =
     let parts = call_parts (get_or ops k d) c e in
     subst (λ n. In (pos n) order) parts.0 (stands_true (get_or ops k d).number order (sym (w.marks k d l) ∙ m))
@@ -182,32 +185,38 @@ all_marked kind ops order seen content greatest d up w marked =
     let p = place_of_call ops c i in
     let parts = call_parts (get_or ops p.0 d) c (p.2 d) in
     let stands = stands_marked kind ops order seen content greatest p.0 d c w p.1 (p.2 d)
-      (marked p.0 d p.1 (ap is_some parts.2 ∙ r)) in
+    (marked p.0 d p.1 (ap is_some parts.2 ∙ r)) in
     let k = w.so_far.known (pos c.number) stands in
     let n = found_number (calls_of ops) (pos c.number) k.0 k.1 in
     let same : k.0 ≡ c = one_call ops k.0 c d up (found_known (calls_of ops) (pos c.number) k.0 k.1) i
-      (same_pos k.0.number c.number (sym n)) in
+    (same_pos k.0.number c.number (sym n)) in
     (pos c.number, stands, k.1 ∙ ap Some same))
 
 returned_call : (o : Invocation) → is_some (return_of o.«end») ≡ true → (c : Call) × (call_of o ≡ Some c)
 returned_call o e = go o.«end» e
   where
     go : (f : End) → is_some (return_of f) ≡ true → (c : Call) × (call_with o.number o.op f ≡ Some c)
-    go (Returned at r) q = (record { number = o.number; op = o.op;
-      returned = Some (record { at = at; reply = r }) }, refl)
+    go (Returned at r) q = (
+      record {
+        number = o.number;
+        op = o.op;
+        returned = Some (record { at = at; reply = r });
+      },
+      refl,
+    )
     go Pending q = absurd (cc q)
     go Failed q = absurd (cc q)
 
 pub omitted_at : (kind : Kind) (ops : List Invocation) (order : List ℤ) (seen : List Bool) (content : Content)
     (greatest : Option ℕ) (n : ℕ)
     (d : Invocation) → AllPairs (λ a b. a.number < b.number) ops → Walk kind ops order seen content greatest
-      → IsFirstUnmarked ops seen n → IsLeastOmitted kind (calls_of ops) order n
+    → IsFirstUnmarked ops seen n → IsLeastOmitted kind (calls_of ops) order n
 omitted_at kind ops order seen content greatest n d up w first =
     let o : Invocation = get_or ops first.place d in
     let c = returned_call o (first.returned d) in
     let parts = call_parts o c.0 c.1 in
     let fresh : In (pos o.number) order → ⊥ =
-      stands_false o.number order (sym (w.marks first.place d first.within) ∙ first.unmarked) in
+    stands_false o.number order (sym (w.marks first.place d first.within) ∙ first.unmarked) in
     record {
       places = no_fault kind (calls_of ops) order content w.so_far;
       call = c.0;
@@ -216,15 +225,15 @@ omitted_at kind ops order seen content greatest n d up w first =
       returned = sym (ap is_some parts.2) ∙ first.returned d;
       left_out = λ i. fresh (subst (λ m. In (pos m) order) (first.is d) (in_from_contains order (pos n) i));
       least = all_from_in (λ c. IsSome c.returned → c.number < n → Contains order (pos c.number)) (calls_of ops)
-        (λ e i r m.
+          (λ e i r m.
           let p = place_of_call ops e i in
           let q = call_parts (get_or ops p.0 d) e (p.2 d) in
           let before : p.0 < first.place =
-            earlier p.0 p.1 (subst (λ x. (get_or ops p.0 d).number < x) (first.is d)
-            (subst (λ x. x < n) (sym q.0) m)) in
+          earlier p.0 p.1 (subst (λ x. (get_or ops p.0 d).number < x) (first.is d)
+          (subst (λ x. x < n) (sym q.0) m)) in
           contains_from_in order (pos e.number)
-            (stands_marked kind ops order seen content greatest p.0 d e w p.1 (p.2 d)
-            (first.before p.0 d before (ap is_some q.2 ∙ r))));
+          (stands_marked kind ops order seen content greatest p.0 d e w p.1 (p.2 d)
+          (first.before p.0 d before (ap is_some q.2 ∙ r))));
     }
   where
     earlier : (j : ℕ) → j < length ops → (get_or ops j d).number < (get_or ops first.place d).number → j < first.place

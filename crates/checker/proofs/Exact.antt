@@ -58,15 +58,22 @@ replies_along : (calls : List Call) (c : Content) (es : List Call)
     → RepliesAlong c es → (d : Content) × Along calls c (map (λ (c : Call). pos c.number) es) d
 replies_along calls c [] h r = (c, refl)
 replies_along calls c (e ∷ es) h r =
-    let rest = replies_along calls r.0 es (λ d j. h d (inr j)) r.4 in
-    (rest.0, (e, r.0, h e (inl refl),
-      record { reply = r.1; possible = r.2; replied = said e e.returned r.1 refl r.3 }, rest.1))
+    let rest = replies_along calls r.0 es (λ d j. h d (inr j)) r.4 in (
+      rest.0,
+      (
+        e,
+        r.0,
+        h e (inl refl),
+        record { reply = r.1; possible = r.2; replied = said e e.returned r.1 refl r.3 },
+        rest.1,
+      ),
+    )
 
 pub valid_so_far : (kind : Kind) (calls : List Call) (order : List ℤ) → Rising calls → IsValidOrder kind calls order
     → (d : Content) × SoFar kind calls order d
 valid_so_far kind calls order u v =
     let own : (c : Call) → In c v.entries → call_with_number calls (pos c.number) ≡ Some c =
-      λ c i. names_itself calls c u (in_from_contains calls c (all_at (Contains calls) v.entries v.known c i)) in
+    λ c i. names_itself calls c u (in_from_contains calls c (all_at (Contains calls) v.entries v.known c i)) in
     let is = v.numbers in
     let along = replies_along calls (empty kind) v.entries own v.replies in (
       along.0,
@@ -74,8 +81,8 @@ valid_so_far kind calls order u v =
         known = λ z i. let f = named_entry calls v.entries own z (subst (In z) is i) in (f.0, f.2);
         once = pairs_from_all (λ a b. a ≢ b) order v.once;
         in_order = subst (Pairs (InOrder calls)) (sym is)
-          (order_along calls v.entries own
-          (pairs_from_all (λ (a b : Call). ReturnsBefore b a → ⊥) v.entries v.in_order));
+            (order_along calls v.entries own
+            (pairs_from_all (λ (a b : Call). ReturnsBefore b a → ⊥) v.entries v.in_order));
         replies = subst (λ o. Along calls (empty kind) o along.0) (sym is) along.1;
       },
     )
@@ -95,10 +102,10 @@ fault_refutes kind calls order (WrongReply z gives) u h v =
     let s = valid_so_far kind calls order u v in no_fault kind calls order s.0 s.1 h.place (WrongReply z gives) h.stands
 fault_refutes kind calls order (Omitted n) u h v =
     let stands = in_from_contains v.entries h.call
-      (all_at (λ c. IsSome c.returned → Contains v.entries c) calls v.whole h.call
-      (in_from_contains calls h.call h.known) h.returned) in
+    (all_at (λ c. IsSome c.returned → Contains v.entries c) calls v.whole h.call
+    (in_from_contains calls h.call h.known) h.returned) in
     let there : In (pos n) order =
-      subst (λ k. In (pos k) order) h.number
-      (subst (In (pos h.call.number)) (sym v.numbers)
-      (in_map_from (λ (c : Call). pos c.number) h.call v.entries stands)) in
+    subst (λ k. In (pos k) order) h.number
+    (subst (In (pos h.call.number)) (sym v.numbers)
+    (in_map_from (λ (c : Call). pos c.number) h.call v.entries stands)) in
     h.left_out (contains_from_in order (pos n) there)

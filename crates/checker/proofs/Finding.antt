@@ -29,7 +29,7 @@ index_rises a b z l = go (int_cmp (pos a) z) (int_cmp (pos b) z) (int_ranked (po
     (int_ranked (pos b) z _ refl)
   where
     go : (r s : Ordering) → MatchOrdering r (pos a <ℤ z) (pos a ≡ z) (z <ℤ pos a)
-      → MatchOrdering s (pos b <ℤ z) (pos b ≡ z) (z <ℤ pos b) → ordering_index r ≤ ordering_index s
+        → MatchOrdering s (pos b <ℤ z) (pos b ≡ z) (z <ℤ pos b) → ordering_index r ≤ ordering_index s
     go Less Less p q = omega arith
     go Less Equal p q = omega arith
     go Less Greater p q = omega arith
@@ -45,7 +45,7 @@ pub search_rises : (ops : List Invocation) (z : ℤ) → AllPairs (λ a b. a.num
     → IsNonDecreasingBy (λ o. ordering_index (int_cmp (pos o.number) z)) ops
 search_rises ops z up i j d l m = elim (cases_order i j) [
   | inl s ↦ subst (λ k. ordering_index (int_cmp (pos (get_or ops i d).number) z)
-    ≤ ordering_index (int_cmp (pos (get_or ops k d).number) z)) s (omega arith)
+      ≤ ordering_index (int_cmp (pos (get_or ops k d).number) z)) s (omega arith)
   | inr r ↦ elim r [
     | inl t ↦ let g = up i j d t m in index_rises (get_or ops i d).number (get_or ops j d).number z (omega arith)
     | inr t ↦ absurd (omega arith)
@@ -64,7 +64,7 @@ rising_calls (o ∷ ops) h = go (call_of o) refl (rising_calls ops h.1)
         below p = let g = h.0 p.0 p.1 in let n = (call_parts o c q).0 in let m = p.2 in omega arith
 
         operation_of : (os : List Invocation) (e : Call) → In e (calls_of os)
-          → (p : Invocation) × In p os × (p.number ≡ e.number)
+            → (p : Invocation) × In p os × (p.number ≡ e.number)
         operation_of [] e i = absurd i
         operation_of (p ∷ os) e i = pick (call_of p) refl i (operation_of os e)
           where
@@ -96,7 +96,7 @@ not_named ops z d h = go (call_with_number (calls_of ops) z) refl
     go (Some c) q =
         let p = place_of_call ops c (found_known (calls_of ops) z c q) in
         let n : pos (get_or ops p.0 d).number ≡ z =
-          ap pos (call_parts (get_or ops p.0 d) c (p.2 d)).0 ∙ sym (found_number (calls_of ops) z c q) in
+        ap pos (call_parts (get_or ops p.0 d) c (p.2 d)).0 ∙ sym (found_number (calls_of ops) z c q) in
         absurd (h p.0 c p.1 n (p.2 d))
 
 -- what the search found names the call
@@ -108,9 +108,14 @@ found_by_number ops z k d up l n ne =
     let c = call_from o ne in
     let m : pos c.0.number ≡ z = ap pos (sym (call_parts o c.0 c.1).0) ∙ n in
     let own = names_itself (calls_of ops) c.0 (rising_calls ops (pairs_from_all (λ a b. a.number < b.number) ops up))
-      (call_at_place ops k d c.0 l c.1) in
-    (c.0, record { within = l; found = ap (call_with_number (calls_of ops)) (sym m) ∙ own;
-      is = λ e. ap call_of (get_or_default ops k e d l) ∙ c.1 })
+    (call_at_place ops k d c.0 l c.1) in (
+      c.0,
+      record {
+        within = l;
+        found = ap (call_with_number (calls_of ops)) (sym m) ∙ own;
+        is = λ e. ap call_of (get_or_default ops k e d l) ∙ c.1;
+      },
+    )
 
 pub found_here : (ops : List Invocation) (z : ℤ) (k : ℕ) (d : Invocation) → AllPairs (λ a b. a.number < b.number) ops
     → k < length ops
@@ -126,7 +131,7 @@ pub failed_here : (ops : List Invocation) (z : ℤ) (k : ℕ) (d : Invocation) �
 failed_here ops z k d up l eq none = not_named ops z d (λ j c m n q.
     let here : pos (get_or ops k d).number ≡ z = int_ranked (pos (get_or ops k d).number) z Equal (sym eq) in
     let same : (get_or ops k d).number ≡ (get_or ops j d).number =
-      same_pos (get_or ops k d).number (get_or ops j d).number (here ∙ sym n) in
+    same_pos (get_or ops k d).number (get_or ops j d).number (here ∙ sym n) in
     elim (cases_order k j) [
       | inl s ↦ let t : None ≡ Some c = sym none ∙ (ap (λ i. call_of (get_or ops i d)) s ∙ q) in absurd (cc (t))
       | inr r ↦ numbers_apart ops k j d d up l m (λ s. elim r [ inl a ↦ omega arith | inr a ↦ omega arith ]) same
@@ -141,7 +146,7 @@ none_here ops z i d h =
   where
     apart : (k : ℕ) → ((r : Ordering) → r ≡ int_cmp (pos (get_or ops k d).number) z
         → MatchOrdering r (pos (get_or ops k d).number <ℤ z) (pos (get_or ops k d).number ≡ z)
-          (z <ℤ pos (get_or ops k d).number)) → k < length ops
+        (z <ℤ pos (get_or ops k d).number)) → k < length ops
         → pos (get_or ops k d).number ≡ z → (k ≡ i) ⊎ ((k < i) ⊎ (i < k)) → ⊥
     apart k rank l n (inl s) = let g = rank Greater (sym (h.1 k d (omega arith) l)) in omega (arith, ints)
     apart k rank l n (inr (inl t)) = let g = rank Less (sym (h.0 k d (omega arith) t)) in omega (arith, ints)

@@ -32,29 +32,29 @@ module _ (kind : Kind) (calls : List Call) (order : List ℤ) (i : ℕ) where
 
   same_named : (z y : ℤ) (c e : Call) → HasNumberAt calls order i z c → HasNumberAt calls order i y e → c ≡ e
   same_named z y c e a b =
-    same_Some c e (sym a.named ∙ (ap (call_with_number calls) (same_entry z y a.here b.here) ∙ b.named))
+      same_Some c e (sym a.named ∙ (ap (call_with_number calls) (same_entry z y a.here b.here) ∙ b.named))
 
   same_greatest : (by k : ℕ) → IsGreatest (pos by) (take i order) → IsGreatest (pos k) (take i order) → by ≡ k
   same_greatest by k g h =
       let below : pos k ≤ℤ pos by =
-        all_at (λ z. z ≤ℤ pos by) (take i order) g.above (pos k) (in_from_contains (take i order) (pos k) h.stands) in
+      all_at (λ z. z ≤ℤ pos by) (take i order) g.above (pos k) (in_from_contains (take i order) (pos k) h.stands) in
       let above : pos by ≤ℤ pos k =
-        all_at (λ z. z ≤ℤ pos k) (take i order) h.above (pos by) (in_from_contains (take i order) (pos by) g.stands) in
+      all_at (λ z. z ≤ℤ pos k) (take i order) h.above (pos by) (in_from_contains (take i order) (pos by) g.stands) in
       omega (arith, ints)
 
   same_reply : (c e : Call) (d f after later : Content) (gives says : AnyReply) → c ≡ e
-    → content_at kind calls order i ≡ Some d
+      → content_at kind calls order i ≡ Some d
       → content_at kind calls order i ≡ Some f → next d c.op ≡ Some (after, gives) → next f e.op ≡ Some (later, says)
       → gives ≡ says
   same_reply c e d f after later gives says same at at' n m =
       let there : d ≡ f = same_Some d f (sym at ∙ at') in
       let both : next d c.op ≡ next f e.op =
-        ap (λ (x : Content). next x c.op) there ∙ ap (λ (x : Call). next f x.op) same in
+      ap (λ (x : Content). next x c.op) there ∙ ap (λ (x : Call). next f x.op) same in
       ap (λ (p : Content × AnyReply). p.1) (same_Some (after, gives) (later, says) (sym n ∙ (both ∙ m)))
 
   -- two faults of one place and one rank are one
   same_at : (f g : OrderFault) → IsFaultAt kind calls order i f → IsFaultAt kind calls order i g
-    → rank f ≡ rank g → f ≡ g
+      → rank f ≡ rank g → f ≡ g
   same_at (UnknownOperation z) (UnknownOperation y) a b r = ap UnknownOperation (same_entry z y a.0 b.0)
   same_at (Repeated z) (Repeated y) a b r = ap Repeated (same_entry z y a.0 b.0)
   same_at (TooLate z by) (TooLate y k) a b r =
@@ -92,7 +92,7 @@ module _ (kind : Kind) (calls : List Call) (order : List ℤ) where
       let c = a.call in
       let known = in_from_contains calls c a.known in
       let there = all_at (λ (c : Call). IsSome c.returned → c.number < m → Contains order (pos c.number)) calls
-        b.least c known a.returned (subst (λ k. k < m) (sym a.number) less) in
+      b.least c known a.returned (subst (λ k. k < m) (sym a.number) less) in
       a.left_out (subst (λ k. Contains order (pos k)) a.number there)
 
   same_omitted : (n m : ℕ) → IsLeastOmitted kind calls order n → IsLeastOmitted kind calls order m → n ≡ m
@@ -105,7 +105,7 @@ module _ (kind : Kind) (calls : List Call) (order : List ℤ) where
   ]
 
   at_no_place : (f : OrderFault) (n : ℕ) {X : Type 0} → IsFirstAtPlace kind calls order f
-    → IsLeastOmitted kind calls order n → X
+      → IsLeastOmitted kind calls order n → X
   at_no_place f n a b = absurd (b.places a.place f a.stands)
 
   pub one_fault : (f g : OrderFault) → IsFirstFault kind calls order f → IsFirstFault kind calls order g → f ≡ g
@@ -175,7 +175,7 @@ module _ (es : List Event) (certificates : List Certificate)
   same_refusal x (BadOrder y f) (BadOrder z g) a b =
       let same = same_orders certificates d x b.1 a.1 in
       let there = subst (λ (c : Certificate). IsFirstFault (kind_at es x) (calls_on x (denoted es)) c.order.items g)
-        same b.2 in
+      same b.2 in
       let fault = one_fault (kind_at es x) (calls_on x (denoted es)) a.1.certificate.order.items f g a.2 there in
       ap (λ y. BadOrder y f) (a.0 ∙ sym b.0) ∙ ap (BadOrder z) fault
   same_refusal x (BadOrder y f) (StrangeObject z) a b = absurd b
@@ -200,8 +200,8 @@ module _ (es : List Event) (certificates : List Certificate)
       let known = in_from_contains certificates c a.certified.stands in
       let on = a.certified.for_object in
       a.not_named (subst (IsNamed es) on
-        (all_at (λ (c : Certificate). c.object < y → IsNamed es c.object) certificates b.least c known
-        (subst (λ k. k < y) (sym on) less)))
+      (all_at (λ (c : Certificate). c.object < y → IsNamed es c.object) certificates b.least c known
+      (subst (λ k. k < y) (sym on) less)))
 
   same_strange : (x y : ℕ) → IsLeastStrange es certificates x → IsLeastStrange es certificates y → x ≡ y
   same_strange x y a b = elim (cases_lt x y) [
@@ -213,7 +213,7 @@ module _ (es : List Event) (certificates : List Certificate)
   ]
 
   not_strange : (r : Refusal) (x : ℕ) {X : Type 0} → IsLeastRefusal es certificates r
-    → IsLeastStrange es certificates x → X
+      → IsLeastStrange es certificates x → X
   not_strange r x a b = absurd (b.none a.object r a.named a.stands)
 
   pub one_refusal : (r s : Refusal) → r ≢ NoMemory → s ≢ NoMemory → IsFirstRefusal es certificates r

@@ -106,10 +106,13 @@ pub call_parts : (o : Invocation) (c : Call) → call_of o ≡ Some c
 call_parts o c e = go o.«end» e
   where
     go : (f : End) → call_with o.number o.op f ≡ Some c
-      → (o.number ≡ c.number) × (o.op ≡ c.op) × (return_of f ≡ c.returned)
+        → (o.number ≡ c.number) × (o.op ≡ c.op) × (return_of f ≡ c.returned)
     go (Returned at r) q =
-        let s = same_Some (record { number = o.number; op = o.op;
-          returned = Some (record { at = at; reply = r }) }) c q in
+        let s = same_Some (record {
+          number = o.number;
+          op = o.op;
+          returned = Some (record { at = at; reply = r });
+        }) c q in
         (ap (λ (x : Call). x.number) s, ap (λ (x : Call). x.op) s, ap (λ (x : Call). x.returned) s)
     go Pending q =
         let s = same_Some (record { number = o.number; op = o.op; returned = None }) c q in
@@ -121,8 +124,14 @@ pub call_from : (o : Invocation) → o.«end» ≢ Failed → (c : Call) × (cal
 call_from o ne = go o.«end» ne
   where
     go : (f : End) → f ≢ Failed → (c : Call) × (call_with o.number o.op f ≡ Some c)
-    go (Returned at r) h = (record { number = o.number; op = o.op;
-      returned = Some (record { at = at; reply = r }) }, refl)
+    go (Returned at r) h = (
+      record {
+        number = o.number;
+        op = o.op;
+        returned = Some (record { at = at; reply = r });
+      },
+      refl,
+    )
     go Pending h = (record { number = o.number; op = o.op; returned = None }, refl)
     go Failed h = absurd (h refl)
 
@@ -133,7 +142,7 @@ place_of_call [] c i = absurd i
 place_of_call (o ∷ ops) c i = go (call_of o) refl i (place_of_call ops c)
   where
     behind : ((k : ℕ) × (k < length ops) × ((d : Invocation) → call_of (get_or ops k d) ≡ Some c))
-      → (k : ℕ) × (k < suc (length ops)) × ((d : Invocation) → call_of (get_or (o ∷ ops) k d) ≡ Some c)
+        → (k : ℕ) × (k < suc (length ops)) × ((d : Invocation) → call_of (get_or (o ∷ ops) k d) ≡ Some c)
     behind k = (suc k.0, omega (arith, k.1), k.2)
 
     go : (r : Option Call) → call_of o ≡ r → In c (cons_option r (calls_of ops))
@@ -185,9 +194,9 @@ pub top_more : (greatest : Option ℕ) (o : List ℤ) (n top : ℕ) → TopIs gr
 top_more None o n top t e =
     subst (λ o. IsGreatest (pos top) (o ++ pos n ∷ [])) (sym t)
     (subst (λ k. IsGreatest (pos k) (pos n ∷ [])) (sym e) (record {
-  stands = contains_from_in (pos n ∷ []) (pos n) (inl refl);
-  above = all_from_in (λ z. z ≤ℤ pos n) (pos n ∷ []) (λ z i. elim i [ inl q ↦ at_most n z q | inr j ↦ absurd j ]);
-}))
+      stands = contains_from_in (pos n ∷ []) (pos n) (inl refl);
+      above = all_from_in (λ z. z ≤ℤ pos n) (pos n ∷ []) (λ z i. elim i [ inl q ↦ at_most n z q | inr j ↦ absurd j ]);
+    }))
 top_more (Some g) o n top t e = record {
   stands = contains_from_in (o ++ pos n ∷ []) (pos top) (elim (max_either g n) [
     | inl q ↦ subst (λ k. In (pos k) (o ++ pos n ∷ [])) (sym (e ∙ q))
@@ -216,7 +225,7 @@ number_at ops z k c d h =
 pub away : (kind : Kind) (ops : List Invocation) (o : List ℤ) (seen : List Bool) (content : Content)
     (greatest : Option ℕ) (z : ℤ) (k : ℕ) (c : Call)
     (d : Invocation) → Walk kind ops o seen content greatest → AtHand ops z k c → get_or seen k false ≡ false
-      → In z o → ⊥
+    → In z o → ⊥
 away kind ops o seen content greatest z k c d w h fresh i =
     stands_false (get_or ops k d).number o (sym (w.marks k d h.within) ∙ fresh)
     (subst (λ y. In y o) (number_at ops z k c d h) i)
@@ -235,34 +244,34 @@ walk_more kind ops o seen content after greatest z k c d top up w h fresh early 
     let is_z : z ≡ pos x.number = number_at ops z k c d h in
     record {
       so_far = more kind (calls_of ops) o content after z c w.so_far h.found
-        (away kind ops o seen content greatest z k c d w h fresh)
+          (away kind ops o seen content greatest z k c d w h fresh)
           (λ r q y i. all_early greatest o x.«end» r w.top early (parts.2 ∙ q) y i) step;
       of_kind = kept ∙ w.of_kind;
       long = length-set seen k true ∙ w.long;
       marks = λ j e m. subst (λ y. get_or (set seen k true) j false ≡ stands_in (get_or ops j e).number (o ++ y ∷ []))
-        (sym is_z) (mark j e m);
+          (sym is_z) (mark j e m);
       top = subst (λ y. IsGreatest (pos top) (o ++ y ∷ [])) (sym is_z) (top_more greatest o x.number top w.top new_top);
     }
   where
     mark : (j : ℕ) (e : Invocation) → j < length ops
-      → get_or (set seen k true) j false ≡ stands_in (get_or ops j e).number (o ++ pos (get_or ops k d).number ∷ [])
+        → get_or (set seen k true) j false ≡ stands_in (get_or ops j e).number (o ++ pos (get_or ops k d).number ∷ [])
     mark j e m = elim (cases_eq j k) [
       | inl q ↦
           let same : (get_or ops j e).number ≡ (get_or ops k d).number =
-            ap (λ i. (get_or ops i e).number) q
-            ∙ ap (λ (y : Invocation). y.number) (get_or_default ops k e d h.within) in
+          ap (λ i. (get_or ops i e).number) q
+          ∙ ap (λ (y : Invocation). y.number) (get_or_default ops k e d h.within) in
           let len = w.long in
           let l = h.within in
           let here : get_or (set seen k true) j false ≡ true =
-            ap (λ i. get_or (set seen k true) i false) q ∙ get_or-set_same seen k true false (omega arith) in
+          ap (λ i. get_or (set seen k true) i false) q ∙ get_or-set_same seen k true false (omega arith) in
           here ∙ sym (stands_push (get_or ops j e).number (get_or ops k d).number o
           ∙ or_right (stands_in (get_or ops j e).number o) ((get_or ops k d).number == (get_or ops j e).number)
-            (eq-eqb (get_or ops k d).number (get_or ops j e).number (sym same)))
+          (eq-eqb (get_or ops k d).number (get_or ops j e).number (sym same)))
       | inr ne ↦
           let other : (get_or ops k d).number ≢ (get_or ops j e).number =
-            numbers_apart ops k j d e up h.within m (λ q. ne (sym q)) in
+          numbers_apart ops k j d e up h.within m (λ q. ne (sym q)) in
           get_or-set_other seen k j true false ne
           ∙ (w.marks j e m ∙ sym (stands_push (get_or ops j e).number (get_or ops k d).number o
           ∙ or_nothing (stands_in (get_or ops j e).number o) ((get_or ops k d).number == (get_or ops j e).number)
-            (ne_eqb (get_or ops k d).number (get_or ops j e).number other)))
+          (ne_eqb (get_or ops k d).number (get_or ops j e).number other)))
     ]

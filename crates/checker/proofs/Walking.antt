@@ -74,7 +74,7 @@ found_number [] (pos n) c h = absurd (cc h)
 found_number (d ∷ calls) (pos n) c h = go (d.number == n) refl h (found_number calls (pos n) c)
   where
     go : (b : Bool) → (d.number == n) ≡ b → cond b (Some d) (call_with_number calls (pos n)) ≡ Some c
-      → (call_with_number calls (pos n) ≡ Some c → pos n ≡ pos c.number) → pos n ≡ pos c.number
+        → (call_with_number calls (pos n) ≡ Some c → pos n ≡ pos c.number) → pos n ≡ pos c.number
     go true q k f = ap pos (sym (eqb-true d.number n q) ∙ ap (λ (x : Call). x.number) (same_Some d c k))
     go false q k f = f k
 
@@ -84,7 +84,7 @@ found_known [] (pos n) c h = absurd (cc h)
 found_known (d ∷ calls) (pos n) c h = go (d.number == n) h (found_known calls (pos n) c)
   where
     go : (b : Bool) → cond b (Some d) (call_with_number calls (pos n)) ≡ Some c
-      → (call_with_number calls (pos n) ≡ Some c → In c calls) → In c (d ∷ calls)
+        → (call_with_number calls (pos n) ≡ Some c → In c calls) → In c (d ∷ calls)
     go true k f = inl (sym (same_Some d c k))
     go false k f = inr (f k)
 
@@ -114,7 +114,7 @@ along_at calls c (y ∷ o) d zero z e at h g f q =
     (h.1, subst (λ x. IsStep at x h.1) same (subst (λ x. IsStep x h.0 h.1) (same_Some c at q) h.3))
 along_at calls c (y ∷ o) d (suc j) z e at h g f q =
     along_at calls h.1 o d j z e at h.4 g f
-      (sym (ap (λ (x : Option Content). content_after calls x (take j o)) (after_step calls c h.1 y h.0 h.2 h.3)) ∙ q)
+    (sym (ap (λ (x : Option Content). content_after calls x (take j o)) (after_step calls c h.1 y h.0 h.2 h.3)) ∙ q)
 
 pub along_push : (calls : List Call) (c : Content) (o : List ℤ) (d : Content) (z : ℤ) (e : Call) (after : Content)
     → Along calls c o d
@@ -172,7 +172,7 @@ no_fault kind calls o content s j (TooLate z by) h =
     let n : pos by ≡ pos a.0.number = found_number calls (pos by) a.0 a.1 in
     let l = h.4 in
     pairs_at (InOrder calls) o j (pos by) z s.in_order h.2.here i a.0 h.0 a.1 h.2.named
-      (h.1, h.3, past_by by a.0.number h.1.at n l)
+    (h.1, h.3, past_by by a.0.number h.1.at n l)
 no_fault kind calls o content s j (NotPossible z) h =
     let a = along_at calls (empty kind) o content j z h.0 h.1 s.replies h.2.here h.2.named h.3 in
     let can = a.1.possible in
@@ -180,7 +180,7 @@ no_fault kind calls o content s j (NotPossible z) h =
 no_fault kind calls o content s j (WrongReply z gives) h =
     let a = along_at calls (empty kind) o content j z h.0 h.2 s.replies h.4.here h.4.named h.6 in
     let same : a.1.reply ≡ gives =
-      ap (λ (x : Content × AnyReply). x.1) (same_Some (a.0, a.1.reply) (h.3, gives) (sym a.1.possible ∙ h.7)) in
+    ap (λ (x : Content × AnyReply). x.1) (same_Some (a.0, a.1.reply) (h.3, gives) (sym a.1.possible ∙ h.7)) in
     h.8 (a.1.replied h.1 h.5 ∙ same)
 no_fault kind calls o content s j (Omitted n) h = h
 
@@ -198,9 +198,14 @@ pub fault_in_front : (kind : Kind) (calls : List Call) (o : List ℤ) (i j : ℕ
 fault_in_front kind calls o i j (UnknownOperation z) l h = (get_front o i j l ∙ h.0, h.1)
 fault_in_front kind calls o i j (Repeated z) l h =
     (get_front o i j l ∙ h.0, subst (λ ys. Contains ys z) (sym (take-take j i o (omega arith))) h.1)
-fault_in_front kind calls o i j (TooLate z by) l h =
-    (h.0, h.1, names_front calls o i j z h.0 l h.2, h.3, h.4,
-    subst (IsGreatest (pos by)) (sym (take-take j i o (omega arith))) h.5)
+fault_in_front kind calls o i j (TooLate z by) l h = (
+  h.0,
+  h.1,
+  names_front calls o i j z h.0 l h.2,
+  h.3,
+  h.4,
+  subst (IsGreatest (pos by)) (sym (take-take j i o (omega arith))) h.5,
+)
 fault_in_front kind calls o i j (NotPossible z) l h =
     (h.0, h.1, names_front calls o i j z h.0 l h.2, content_front kind calls o i j h.1 l h.3, h.4)
 fault_in_front kind calls o i j (WrongReply z gives) l h =

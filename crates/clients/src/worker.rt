@@ -14,9 +14,9 @@ use publication::{Client, Desk};
 use seq_objects::{AnyObject, Gate};
 use std::sync::Wait;
 
-/// Makes the client's calls of the workload, one after another, and hands the client back. Where
-/// memory is refused to a call it makes no more, and that one is outstanding. The clause does not
-/// say that memory was refused.
+/// Makes the client's calls of the workload, one after another, and hands the client back. If
+/// an allocation fails in a call it makes no more, and that one is outstanding. The clause does not
+/// say that an allocation failed.
 pub(crate) fn work<R: Wait, G: Gate>(
     rt: &R,
     gate: &G,
@@ -31,7 +31,7 @@ pub(crate) fn work<R: Wait, G: Gate>(
     make_all(rt, gate, desk, client, calls)
 }
 
-/// Makes these calls, one after another, up to the first to which memory is refused.
+/// Makes these calls, one after another, up to the first in which an allocation fails.
 fn make_all<R: Wait, G: Gate>(
     rt: &R,
     gate: &G,

@@ -42,8 +42,15 @@ pub keeps_held : (v : DeskView) {h : Held} {back : List PutBack} {missed : List 
 keeps_held v = record { number = refl; kinds = refl; own = refl; done = refl; seen = λ x. starts_same (seen_of v x) }
 
 pub goes_nowhere : (p : Holding) → Goes p p
-goes_nowhere p = record { desk = refl; object = refl; places = refl; log = starts_same p.log; seen = refl;
-    calls = keeps_all p.knows; ready = λ e. e }
+goes_nowhere p = record {
+  desk = refl;
+  object = refl;
+  places = refl;
+  log = starts_same p.log;
+  seen = refl;
+  calls = keeps_all p.knows;
+  ready = λ e. e;
+}
 
 pub goes_on : (p q r : Holding) → Goes p q → Goes q r → Goes p r
 goes_on p q r a b = record {
@@ -59,18 +66,35 @@ goes_on p q r a b = record {
 -- where only the list and the ages changed
 pub goes_same : (p q : Holding) → IsSameBut p q → Goes p q
 goes_same p q s = subst (Goes p)
-    (sym s.2) record { desk = refl; object = refl; places = refl; log = starts_same p.log; seen = refl;
-    calls = keeps_all p.knows; ready = λ e. e }
+    (sym s.2) record {
+      desk = refl;
+      object = refl;
+      places = refl;
+      log = starts_same p.log;
+      seen = refl;
+      calls = keeps_all p.knows;
+      ready = λ e. e;
+    }
 
 -- where only the room for entries changed
 pub goes_room : (p q : Holding) (n : ℕ) → q ≡ record p { state = record p.state { room = n } } → Goes p q
 goes_room p q n is = subst (Goes p)
-    (sym is) record { desk = refl; object = refl; places = refl; log = starts_same p.log; seen = refl;
-    calls = keeps_all p.knows; ready = λ e. e }
+    (sym is) record {
+      desk = refl;
+      object = refl;
+      places = refl;
+      log = starts_same p.log;
+      seen = refl;
+      calls = keeps_all p.knows;
+      ready = λ e. e;
+    }
 
 pub same_on : (p q r : Holding) → IsSameBut p q → IsSameBut q r → IsSameBut p r
-same_on p q r a b = (b.0, b.1,
-    b.2 ∙ ap (λ (z : Holding). record z { state = record z.state { list = b.0; ages = b.1 } }) a.2)
+same_on p q r a b = (
+  b.0,
+  b.1,
+  b.2 ∙ ap (λ (z : Holding). record z { state = record z.state { list = b.0; ages = b.1 } }) a.2,
+)
 
 pub same_settled : (p q : Holding) → IsSameBut p q → IsSettledNow p → IsSettledNow q
 same_settled p q s k = subst IsSettledNow (sym s.2) (λ r waiting on. k r waiting on)
@@ -102,8 +126,8 @@ not_tried p q row n here r waiting on =
     let k = n.knows in let waiting' : p.knows.own ≡ own.Waiting r = sym (ap (λ z. z.own) k) ∙ waiting in
     let on' : r.object ≡ p.object = on ∙ n.object in
     ap (λ z. z.ready) k ∙ ((λ i. p.knows.ready
-      || (eq-eqb (row_place row) (row_place p.knows.number) (ap row_place here) i
-      && waits p.object p.knows.own r waiting' on' i)) ∙ or-true p.knows.ready)
+    || (eq-eqb (row_place row) (row_place p.knows.number) (ap row_place here) i
+    && waits p.object p.knows.own r waiting' on' i)) ∙ or-true p.knows.ready)
 
 pub answered_goes : (p : Holding) (h : Handling) (q : Holding) (row : ℕ) (a : AnyAnswer) → h.desk ≡ p.desk
     → q.desk ≡ h.desk → h.state ≡ p.state
@@ -115,7 +139,7 @@ answered_goes p h q row a d d' s s' g k = record {
   log = (logged h.row h.request a, k.log ∙ ap (λ z. z ++ logged h.row h.request a) g.log);
   seen = ap (λ z. z.seen) k.knows ∙ ap (λ z. z.seen) g.knows;
   calls = keeps_on p.knows h.knows q.knows (keeps_same p.knows h.knows _ g.knows (keeps_held p.knows))
-    (keeps_same h.knows q.knows _ k.knows (keeps_held h.knows));
+      (keeps_same h.knows q.knows _ k.knows (keeps_held h.knows));
   ready = λ e. ap (λ z. z.ready) k.knows ∙ or_left _ _ (ap (λ z. z.ready) g.knows ∙ e);
 }
 
@@ -123,8 +147,8 @@ pub answered_tried : (p : Holding) (h : Handling) (q : Holding) (row : ℕ) (a :
     → Answered h a q → row ≡ p.knows.number → IsTried q tried.Answered
 answered_tried p h q row a g k here r waiting on =
     ap (λ z. z.ready) k.knows
-      ∙ (ap (λ z. h.knows.ready || z)
-        (eq-eqb h.row h.knows.number (g.row ∙ (here ∙ sym (ap (λ z. z.number) g.knows)))) ∙ or-true h.knows.ready)
+    ∙ (ap (λ z. h.knows.ready || z)
+    (eq-eqb h.row h.knows.number (g.row ∙ (here ∙ sym (ap (λ z. z.number) g.knows)))) ∙ or-true h.knows.ready)
 
 pub back_goes : (p : Holding) (h : Handling) (q : Holding) (row : ℕ) → h.desk ≡ p.desk → q.desk ≡ h.desk
     → h.state ≡ p.state → q.state ≡ h.state → Got p row h → IsPutBack h q → Goes p q
@@ -135,7 +159,7 @@ back_goes p h q row d d' s s' g k = record {
   log = subst (λ l. StartsWith l p.log) (sym (k.log ∙ g.log)) (starts_same p.log);
   seen = ap (λ z. z.seen) k.knows ∙ ap (λ z. z.seen) g.knows;
   calls = keeps_on p.knows h.knows q.knows (keeps_same p.knows h.knows _ g.knows (keeps_held p.knows))
-    (keeps_same h.knows q.knows _ k.knows (keeps_held h.knows));
+      (keeps_same h.knows q.knows _ k.knows (keeps_held h.knows));
   ready = λ e. ap (λ z. z.ready) k.knows ∙ (ap (λ z. z.ready) g.knows ∙ e);
 }
 
@@ -143,12 +167,12 @@ pub back_tried : (p : Holding) (h : Handling) (q : Holding) (row : ℕ) → Got 
     → (CanDo (kind_held h) h.log h.request.op → ⊥) → row ≡ p.knows.number → IsTried q tried.PutBack
 back_tried p h q row g k cannot here r waiting can =
     let waits_here : p.knows.own ≡ own.Waiting r =
-      sym (ap (λ z. z.own) k.knows ∙ ap (λ z. z.own) g.knows) ∙ waiting in
-          let is : h.request ≡ r = g.mine r here waits_here in
+    sym (ap (λ z. z.own) k.knows ∙ ap (λ z. z.own) g.knows) ∙ waiting in
+    let is : h.request ≡ r = g.mine r here waits_here in
     let kinds : CanDo (kind_at h.knows.kinds q.object) q.log r.op =
-      subst (λ z. CanDo (kind_at z q.object) q.log r.op) (ap (λ z. z.kinds) k.knows) can in
+    subst (λ z. CanDo (kind_at z q.object) q.log r.op) (ap (λ z. z.kinds) k.knows) can in
     let object : CanDo (kind_held h) q.log r.op =
-      subst (λ z. CanDo (kind_at h.knows.kinds z) q.log r.op) k.object kinds in
+    subst (λ z. CanDo (kind_at h.knows.kinds z) q.log r.op) k.object kinds in
     let log : CanDo (kind_held h) h.log r.op = subst (λ z. CanDo (kind_held h) z r.op) k.log object in
     cannot (subst (λ (z : AnyRequest). CanDo (kind_held h) h.log z.op) (sym is) log)
 
@@ -172,8 +196,8 @@ pub settled_after : (x : ℕ) (q : Holding) (v : DeskView) → q.object ≡ x �
     → seen_of v q.object ≡ q.log → IsSettledNow q → IsSettled x v
 settled_after x q v on is seen s =
     subst (λ y. IsSettled y v) on
-      (subst (λ l. IsSettledBy q.object l v) (sym seen)
-      (subst (IsSettledBy q.object q.log) (sym is) (λ p waiting at. s p waiting at)))
+    (subst (λ l. IsSettledBy q.object l v) (sym seen)
+    (subst (IsSettledBy q.object q.log) (sym is) (λ p waiting at. s p waiting at)))
 
 -- what was seen goes on where a longer log is seen
 pub seen_on : (s : List (List AnyEntry)) (x : ℕ) (l : List AnyEntry) → StartsWith l (get_or s x []) → (y : ℕ)
@@ -181,25 +205,30 @@ pub seen_on : (s : List (List AnyEntry)) (x : ℕ) (l : List AnyEntry) → Start
 seen_on s x l begins y = dite (ℕ_discrete y x)
     (λ same. ⊎_elim
     (λ (here : x < length s). subst (λ z. StartsWith (get_or (set s x l) z []) (get_or s z [])) (sym same)
-      (subst (λ z. StartsWith z (get_or s x [])) (sym (get_or-set_same s x l [] here)) begins))
+    (subst (λ z. StartsWith z (get_or s x [])) (sym (get_or-set_same s x l [] here)) begins))
     (λ (past : length s ≤ x). subst (λ z. StartsWith (get_or z y []) (get_or s y [])) (sym (set_past s x l past))
-      (starts_same (get_or s y [])))
+    (starts_same (get_or s y [])))
     (cases_lt x (length s)))
     (λ other. subst (λ z. StartsWith z (get_or s y [])) (sym (get_or-set_other s x y l [] other))
-      (starts_same (get_or s y [])))
+    (starts_same (get_or s y [])))
 
 -- the client after its pass, which began as p, was put back as q
 pub keeps_learnt : (c : DeskView) (x : ℕ) (p q : Holding) (v : DeskView) → p.knows ≡ after_win x p.log c → p.object ≡ x
     → StartsWith p.log (seen_of c x) → Goes p q → v ≡ after_release q.object q.log q.knows → KeepsCalls c v
 keeps_learnt c x p q v opened on begins g is =
     let longer : StartsWith q.log (seen_of q.knows q.object) =
-      subst (λ z. StartsWith q.log (get_or z q.object [])) (sym (g.seen ∙ ap (λ z. z.seen) opened))
+    subst (λ z. StartsWith q.log (get_or z q.object [])) (sym (g.seen ∙ ap (λ z. z.seen) opened))
     (subst (λ y. StartsWith q.log (seen_of c y)) (sym (g.object ∙ on))
-      (starts_longer q.log p.log (seen_of c x) g.log begins)) in
+    (starts_longer q.log p.log (seen_of c x) g.log begins)) in
     keeps_on c q.knows v (keeps_on c p.knows q.knows (keeps_same c p.knows _ opened (keeps_held c)) g.calls)
     (keeps_same q.knows v _
-      is record { number = refl; kinds = refl; own = refl; done = refl;
-      seen = seen_on q.knows.seen q.object q.log longer })
+    is record {
+      number = refl;
+      kinds = refl;
+      own = refl;
+      done = refl;
+      seen = seen_on q.knows.seen q.object q.log longer;
+    })
 
 pub keeps_missed : (x : ℕ) (v w : DeskView) → w ≡ after_miss x v → KeepsCalls v w
 keeps_missed x v w is = keeps_same v w _ is (keeps_held v)

@@ -17,7 +17,7 @@ use Rattle.combiner.proofs.Served.{seen_on, keeps_on, keeps_unpolled}
 pub returned : (v u w : DeskView) (a : AnyAnswer) → KeepsCalls v u → Polled u a w → Returns v a w
 returned v u w a k p =
     let done : length w.done ≡ length u.done + 1 =
-      ap (λ (z : DeskView). length z.done) p.knows ∙ length-append u.done _ in record {
+    ap (λ (z : DeskView). length z.done) p.knows ∙ length-append u.done _ in record {
       ticket = p.ticket;
       number = ap (λ z. z.number) p.knows ∙ k.number;
       kinds = ap (λ z. z.kinds) p.knows ∙ k.kinds;
@@ -28,12 +28,12 @@ returned v u w a k p =
       waited = sym k.own ∙ p.waited;
       seen = λ x. starts_longer (seen_of w x) (seen_of u x) (seen_of v x)
           (subst (λ z. StartsWith (seen_of z x) (seen_of u x)) (sym p.knows)
-            (seen_on u.seen p.request.object p.log p.begins x)) (k.seen x);
+          (seen_on u.seen p.request.object p.log p.begins x)) (k.seen x);
       logged = record {
         legal = subst (IsLegal (kind_at v.kinds p.request.object)) (sym p.seen)
-          (subst (λ z. IsLegal (kind_at z p.request.object) p.log) k.kinds p.legal);
+            (subst (λ z. IsLegal (kind_at z p.request.object) p.log) k.kinds p.legal);
         counted = (λ i. entries_of (sym k.number i) (p.seen i))
-          ∙ (p.counted ∙ λ i. served p.request.object (k.number i) (k.done i) ++ logged (k.number i) p.request a);
+            ∙ (p.counted ∙ λ i. served p.request.object (k.number i) (k.done i) ++ logged (k.number i) p.request a);
         later = subst (All (λ (e : AnyEntry). e.ticket < p.ticket)) (sym p.seen) p.later;
       };
     }
@@ -49,14 +49,14 @@ called v u w object op a p r = record {
   idle = r.idle;
   calls = r.calls ∙ ap (λ (z : DeskView). length z.done + 1) p.knows;
   journal = r.journal ∙ (ap (λ z. z ++ Returned r.ticket a ∷ []) p.journal
-    ∙ append_assoc (journal v) (Invoked p.ticket object op ∷ []) (Returned r.ticket a ∷ []));
+      ∙ append_assoc (journal v) (Invoked p.ticket object op ∷ []) (Returned r.ticket a ∷ []));
   seen = subst (λ (z : DeskView). (x : ℕ) → StartsWith (seen_of w x) (seen_of z x)) p.knows r.seen;
   logged = let q : AnyRequest = record { object = object; ticket = p.ticket; op = op } in
       let is : r.request ≡ q =
-        (let e : own.Waiting r.request ≡ own.Waiting q = sym r.waited ∙ ap (λ z. z.own) p.knows in cc) in
+      (let e : own.Waiting r.request ≡ own.Waiting q = sym r.waited ∙ ap (λ z. z.own) p.knows in cc) in
       let l = subst (λ (z : DeskView). IsLogged z q a r.ticket w) p.knows
-        (subst (λ z. IsLogged u z a r.ticket w) is r.logged) in
-        record { legal = l.legal; counted = l.counted; later = l.later };
+      (subst (λ z. IsLogged u z a r.ticket w) is r.logged) in
+      record { legal = l.legal; counted = l.counted; later = l.later };
 }
 
 -- a round in which nothing was answered: v before the loop, u before the round, p after the poll, e after the enlisting

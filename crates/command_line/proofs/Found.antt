@@ -108,7 +108,7 @@ module _ (a : App) (words : List Text) (is : a ≡ command) where
       asked l f = record { faultless = faultless; finds = subst (λ o. Finds o l) found f }
 
       unfit : (f : LineFault) → ((l : Line) → Finds (subcommand_rows_of m) l → ⊥)
-        → (f ≢ said.NoMemory → AreWordsRefused f)
+          → (f ≢ said.NoMemory → AreWordsRefused f)
           → IsFault words f
       unfit (said.Help t) none refuses = absurd (refuses (λ e. cc))
       unfit (said.Refused t) none refuses =

@@ -107,7 +107,8 @@ rows_in m = rows_of (found_of m)
 -- the line of this command that was read, or there is none, unless an allocation failed
 abbrev pub IsRead : Verb → List Row → Result Line NoLine → Type 0
 IsRead v rows r =
-    MatchResult r (IsLine v rows) (λ u. u ≢ unread.NoMemory → (line : Line) → IsLine v rows line → ⊥)
+    MatchResult r (IsLine v rows)
+    (λ u. u ≢ unread.NoMemory → (line : Line) → IsLine v rows line → ⊥)
 
 -- of each command of the table its name, and which it is
 abbrev pub verbs : List (Text × Verb)

@@ -1,4 +1,4 @@
-//! What is said of words that ask for no line.
+//! The text for a command line that is refused.
 
 ghost use Rattle.std.specs.Prelude.{◌≡◌, ◌≢◌};
 ghost use Rattle.clap.specs.Values.{kind_of};
@@ -31,7 +31,7 @@ pub(crate) fn fault_of(alloc: Global, error: &Error) -> LineFault
     }
 }
 
-/// What is said of a value that `clap` lets pass.
+/// Why a value that `clap` accepted is refused.
 fn reason_of(alloc: Global, unread: &NoLine) -> Result<String, AllocError> {
     let NoLine::Value(name, takes) = unread else {
         return String::from_str(alloc, "error: these words are no command\n");

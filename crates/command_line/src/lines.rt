@@ -73,7 +73,7 @@ fn number_of(found: &ArgMatches<'_>, name: &'static str, bounds: Bounds) -> Resu
 }
 
 /// Which operation a search is to try first.
-fn first_of(found: &ArgMatches<'_>) -> Result<TryFirst, NoLine>
+fn try_first_of(found: &ArgMatches<'_>) -> Result<TryFirst, NoLine>
     ensures is { IfOk result (spec.IsFirst (first_of (codes "first") (rows_in found.now))) }
     ensures none { IfErr result (λ _. (first : TryFirst) →
         spec.IsFirst (first_of (codes "first") (rows_in found.now)) first → ⊥) }
@@ -144,7 +144,7 @@ fn search_of(alloc: Global, found: &ArgMatches<'_>) -> Result<Line, NoLine>
 {
     let history = file_of(alloc, found, "HISTORY")?;
     let steps = number_of(found, "steps", STEPS)? as u32;
-    let first = first_of(found)?;
+    let first = try_first_of(found)?;
     Ok(Line::Search {
         history,
         steps,

@@ -102,9 +102,9 @@ module _ (holds : HoldingStatus) (count : ℕ) (some : 0 < count) (whole : List 
     (divided : AreShardsOf count whole files) where
   module _ (read : List (Option (List ℕ))) (each : length read ≡ count) (are_read : AreStatusesRead holds read) where
     whole_linearizable : finding_by read ≡ Certified → IsEachYesRight holds count files
-      → IsLinearizableAtAnyLength whole
+        → IsLinearizableAtAnyLength whole
     whole_linearizable found right =
-      linearizable_where_judged (shard_among count) name_in_shard whole files.texts divided.split
+        linearizable_where_judged (shard_among count) name_in_shard whole files.texts divided.split
         (λ s. elim (cases_lt s (length read)) [
           | inl below ↦
               let is = yes_read (get_or read s None) (all_certified finding_of read found (get_or read s None)

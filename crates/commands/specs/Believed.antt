@@ -51,16 +51,16 @@ finding_by read = worst (map finding_of read)
 
 -- ---- the lines
 
-abbrev pub shard_note : ℕ → List ℕ → List ℕ
-shard_note shard note = codes "; shard " ++ (decimal shard ++ note)
+abbrev pub shard_line : ℕ → List ℕ → List ℕ
+shard_line shard end = codes "; shard " ++ (decimal shard ++ end)
 
 -- the line of the shard with this number, unless it is a yes
 abbrev pub said_line : ℕ → Option Finding → List ℕ
 said_line shard (Some Certified) = []
-said_line shard (Some Refuted) = shard_note shard (codes ": no\n")
-said_line shard (Some Malformed) = shard_note shard (codes ": malformed\n")
-said_line shard (Some Undecided) = shard_note shard (codes ": undecided\n")
-said_line shard None = shard_note shard (codes ": no status\n")
+said_line shard (Some Refuted) = shard_line shard (codes ": no\n")
+said_line shard (Some Malformed) = shard_line shard (codes ": malformed\n")
+said_line shard (Some Undecided) = shard_line shard (codes ": undecided\n")
+said_line shard None = shard_line shard (codes ": no status\n")
 
 -- the lines of the shards from this number on
 abbrev pub lines_from : ℕ → List (Option (List ℕ)) → List ℕ
@@ -80,7 +80,7 @@ last_line count Undecided = []
 last_line count Refuted = []
 last_line count Malformed = []
 
--- what is put out where these were read of this many shards
+-- what is printed where these were read of this many shards
 abbrev pub believed_text : ℕ → List (Option (List ℕ)) → List ℕ
 believed_text count read =
     first_line count ++ (lines_from 0 read ++ last_line count (finding_by read))

@@ -22,13 +22,13 @@ abbrev pub IsVerificationIn : ℕ → List ℕ → List ℕ → Status → List 
 IsVerificationIn steps first second status out =
     IsVerification first second steps status out ⊎ IsOutOfMemory status out
 
--- The status and the lines are an output of the command that the line asks for, on the texts of its
+-- The status and the lines are an output of the command that the line gives, on the texts of its
 -- first and second file; or one line says that an allocation failed. A check says so by its
--- verdict. A command on a folder is not done on texts: it has no line, and ends as words do that
--- ask for no command.
+-- verdict. A command on a folder is not done on texts: it prints nothing, and ends with the
+-- status of refused words.
 abbrev pub IsPerformed : Line → List ℕ → List ℕ → Status → List ℕ → Type 0
 IsPerformed (Check history certs workers) first second status out = IsCheck first second status out
-IsPerformed (Search history steps order) first second status out =
+IsPerformed (Search history steps tried_first) first second status out =
     IsSearch first steps status out ⊎ IsOutOfMemory status out
 IsPerformed (Refute history reasons steps) first second status out =
     IsRefute first second steps status out ⊎ IsOutOfMemory status out
@@ -39,14 +39,15 @@ IsPerformed (Run options) first second status out =
 IsPerformed (Simulate schedule) first second status out =
     IsSimulation first status out ⊎ IsOutOfMemory status out
 IsPerformed (Split history folder shards) first second status out = IsExactly Usage [] status out
-IsPerformed (Merge folder steps trust_statuses) first second status out = IsExactly Usage [] status out
+IsPerformed (Merge folder steps trust_statuses) first second status out =
+    IsExactly Usage [] status out
 
 -- ---- what the exit status says of the history in the first file
 
 -- whether 0 says that it is linearizable
 abbrev pub says_yes : Line → Bool
 says_yes (Check history certs workers) = true
-says_yes (Search history steps order) = true
+says_yes (Search history steps tried_first) = true
 says_yes (Refute history reasons steps) = false
 says_yes (Verify history evidence steps workers) = true
 says_yes (Run options) = false
@@ -57,7 +58,7 @@ says_yes (Merge folder steps trust_statuses) = false
 -- whether 1 says that it is not
 abbrev pub says_no : Line → Bool
 says_no (Check history certs workers) = false
-says_no (Search history steps order) = true
+says_no (Search history steps tried_first) = true
 says_no (Refute history reasons steps) = true
 says_no (Verify history evidence steps workers) = true
 says_no (Run options) = false
@@ -70,7 +71,7 @@ says_no (Merge folder steps trust_statuses) = false
 -- whether the command reads a file, and whether it reads two
 abbrev pub has_first : Line → Bool
 has_first (Check history certs workers) = true
-has_first (Search history steps order) = true
+has_first (Search history steps tried_first) = true
 has_first (Refute history reasons steps) = true
 has_first (Verify history evidence steps workers) = true
 has_first (Run options) = false
@@ -80,7 +81,7 @@ has_first (Merge folder steps trust_statuses) = false
 
 abbrev pub has_second : Line → Bool
 has_second (Check history certs workers) = true
-has_second (Search history steps order) = false
+has_second (Search history steps tried_first) = false
 has_second (Refute history reasons steps) = true
 has_second (Verify history evidence steps workers) = true
 has_second (Run options) = false
@@ -94,8 +95,8 @@ abbrev pub IsFileText : Bool → Option (List ℕ) → Option (List ℕ) → Lis
 IsFileText true before after text = WasRead read_limit before after text
 IsFileText false before after text = (after ≡ before) × (text ≡ [])
 
--- The texts of a command's files were read, of those that it has, and this holds of them; or memory
--- for a text was refused.
+-- The texts of a command's files were read, of those that it has, and this holds of them; or an
+-- allocation for a text failed.
 abbrev pub OnTexts : Bool → Bool → (List ℕ → List ℕ → Status → List ℕ → Type 0) → Option (List ℕ)
     → Option (List ℕ) → Option (List ℕ) → Option (List ℕ) → Status → List ℕ → Type 0
 OnTexts has_one has_other IsDone first_before first_after second_before second_after status out =
@@ -104,7 +105,7 @@ OnTexts has_one has_other IsDone first_before first_after second_before second_a
     × IsFileText has_other second_before second_after second × IsDone first second status out)
     ⊎ IsOutOfMemory status out
 
--- the command that the line asks for was done on the texts of its files
+-- the command that the line gives was done on the texts of its files
 abbrev pub IsPerformedOn : Line → Option (List ℕ) → Option (List ℕ) → Option (List ℕ)
     → Option (List ℕ) → Status → List ℕ → Type 0
 IsPerformedOn line = OnTexts (has_first line) (has_second line) (IsPerformed line)

@@ -74,7 +74,7 @@ pub record IsReported (journals : ℕ → List AnyEvent) (logs : ℕ → List An
   pub status_is : status ≡ status_of verdict
   pub text_is : text ≡ own ++ verdict_text true verdict
 
--- A thread could not be started, and one line says so. A client alone wants no thread.
+-- A thread could not be started, and one line says so. A client alone needs no thread.
 abbrev pub HasNoThread : ℕ → Status → List ℕ → Type 0
 HasNoThread clients status text =
     (status ≡ status_is.NoThread) × (text ≡ codes "no thread\n") × (1 < clients)

@@ -1,4 +1,4 @@
--- What the commands on a folder of shards put out.
+-- What the commands on a folder of shards print.
 use Rattle.std.specs.Prelude.{◌≡◌, ◌<◌, ◌⊎◌, ℕ, false, List, Option, get_or, length, nat_lt}
 use Rattle.std.specs.Prelude.{⊤, if◌then◌else◌}
 use Rattle.std.specs.List.{list_any}
@@ -47,14 +47,14 @@ IsSplitOutput count left left_after files files_after status out =
     ⊎ ((f : TextFault) × IsSplitFault count (split.Malformed f) left left_after
     × IsExactly ends.Malformed (fault_line f) status out)
 
--- Where a split says that an object needs more shards, this is so: what was read of the source has a
--- map on it.
+-- Where a split says that an object needs more shards, this is so: what was read of the source has
+-- a map on it.
 abbrev pub IsWhereFewShards : ℕ → FolderFault → Option (List ℕ) → Option (List ℕ) → Type 0
 IsWhereFewShards count (fault.FewShards x) left left_after =
     IsSplitFault count (split.FewShards x) left left_after
-IsWhereFewShards count (fault.Shard s file) left left_after = ⊤
-IsWhereFewShards count fault.History left left_after = ⊤
-IsWhereFewShards count fault.Shards left left_after = ⊤
+IsWhereFewShards count (fault.UnreadShard s file) left left_after = ⊤
+IsWhereFewShards count fault.UnreadHistory left left_after = ⊤
+IsWhereFewShards count fault.Unwritten left left_after = ⊤
 IsWhereFewShards count fault.NoMemory left left_after = ⊤
 
 -- ---- a merge

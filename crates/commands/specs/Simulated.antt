@@ -18,7 +18,7 @@ use Rattle.commands.specs.Runs.{IsAcceptedOutput, IsReported, journals_of, logs_
 abbrev pub refused_line : ℕ → List ℕ
 refused_line n = codes "; refused steps: " ++ (decimal n ++ codes "\n")
 
--- the line that says why there is no record; memory that is refused has none
+-- the line that says why there is no record; an allocation failure has none
 abbrev pub fault_line : SimulationFault → List ℕ
 fault_line (Text e) =
     codes "malformed schedule: E"
@@ -29,7 +29,8 @@ fault_line (Form f) =
 fault_line (NotEnded c) = codes "client " ++ (decimal c ++ codes " has not ended\n")
 fault_line NoMemory = []
 
--- The output for a schedule's text: the history, the refused steps, the certificates and the verdict
+-- The output for a schedule's text: the history, the refused steps, the certificates and the
+-- verdict
 -- of the record that it gives, or the line that says why there is none.
 abbrev pub IsSimulateOutput : List ℕ → Status → List ℕ → Type 0
 IsSimulateOutput text status out =

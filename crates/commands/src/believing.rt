@@ -56,12 +56,12 @@ fn said_of(read: &Option<Vec<u8>>) -> Option<Finding>
     }
 }
 
-fn push_note(lines: &mut Vec<u8>, shard: u16, note: &[u8]) -> Result<(), AllocError>
-    ensures { OnOk result (lines.new.items ≡ lines.old.items ++ spec.shard_note shard note.now) }
+fn push_shard_line(lines: &mut Vec<u8>, shard: u16, end: &[u8]) -> Result<(), AllocError>
+    ensures { OnOk result (lines.new.items ≡ lines.old.items ++ spec.shard_line shard end.now) }
 {
     lines.extend_from_slice(b"; shard ")?;
     push_natural(lines, u64::from(shard))?;
-    lines.extend_from_slice(note)
+    lines.extend_from_slice(end)
 }
 
 /// Appends the line of a shard, unless it is a yes.
@@ -70,10 +70,10 @@ fn push_line(lines: &mut Vec<u8>, shard: u16, said: Option<Finding>) -> Result<(
 {
     match said {
         Some(Finding::Certified) => Ok(()),
-        Some(Finding::Refuted) => push_note(lines, shard, b": no\n"),
-        Some(Finding::Malformed) => push_note(lines, shard, b": malformed\n"),
-        Some(Finding::Undecided) => push_note(lines, shard, b": undecided\n"),
-        None => push_note(lines, shard, b": no status\n"),
+        Some(Finding::Refuted) => push_shard_line(lines, shard, b": no\n"),
+        Some(Finding::Malformed) => push_shard_line(lines, shard, b": malformed\n"),
+        Some(Finding::Undecided) => push_shard_line(lines, shard, b": undecided\n"),
+        None => push_shard_line(lines, shard, b": no status\n"),
     }
 }
 
@@ -156,7 +156,7 @@ fn believe_all<F: StatusFiles>(
     for shard in 0..shards {
         let read = match files.read_status(alloc, shard) {
             Ok(read) => read,
-            Err(ShardFault::Unread(file)) => return Err(FolderFault::Shard(shard, file)),
+            Err(ShardFault::Unread(file)) => return Err(FolderFault::UnreadShard(shard, file)),
             Err(ShardFault::NoMemory) => return Ok(None),
         };
         let Ok(()) = believed.take(shard, &read) else {

@@ -33,18 +33,19 @@ pub enum ShardFile {
     Status,
 }
 
-/// What a command on a folder could not read or write, or why a history was not divided.
+/// Why a command on a folder has no output.
 #[derive(Clone, Copy, Debug, PartialEq, Eq)]
 pub enum FolderFault {
-    /// The history.
-    History,
-    /// The files of the shards.
-    Shards,
-    /// A file of this shard.
-    Shard(u16, ShardFile),
-    /// Nothing: the history has a map on this object, which needs more shards.
+    /// The history could not be read.
+    UnreadHistory,
+    /// The files of the shards could not be written.
+    Unwritten,
+    /// A file of this shard could not be read.
+    UnreadShard(u16, ShardFile),
+    /// The history has a map on this object, which needs more shards.
     FewShards(u32),
-    /// An allocation failed while a history was divided.
+    /// An allocation failed while a history was divided. It has no status here, since after 3 the
+    /// folder has all maps.
     NoMemory,
 }
 
@@ -179,7 +180,7 @@ fn division_output(alloc: Global, division: &Division) -> Result<Output, AllocEr
     Ok(Output { status, text })
 }
 
-/// Divides a history, and gives what is said of that.
+/// Divides a history, and gives the output.
 fn split_output<F: Source, D: Folder>(
     alloc: Global,
     history: &mut F,
@@ -200,8 +201,8 @@ fn split_output<F: Source, D: Folder>(
         Err(SplitFault::Malformed(fault)) => Ok(malformed_output(alloc, fault)?),
         Err(SplitFault::FewShards(object)) => Err(FolderFault::FewShards(object)),
         Err(SplitFault::NoMemory) => Err(FolderFault::NoMemory),
-        Err(SplitFault::Read) => Err(FolderFault::History),
-        Err(SplitFault::Write) => Err(FolderFault::Shards),
+        Err(SplitFault::Read) => Err(FolderFault::UnreadHistory),
+        Err(SplitFault::Write) => Err(FolderFault::Unwritten),
     }
 }
 
@@ -252,7 +253,7 @@ fn merge_all<F: ShardFiles>(
     for shard in 0..shards {
         let texts = match files.read(alloc, shard) {
             Ok(texts) => texts,
-            Err(ShardFault::Unread(file)) => return Err(FolderFault::Shard(shard, file)),
+            Err(ShardFault::Unread(file)) => return Err(FolderFault::UnreadShard(shard, file)),
             Err(ShardFault::NoMemory) => return Ok(None),
         };
         let ShardFileTexts {

@@ -19,7 +19,8 @@ use std::alloc::Global;
 use std::sync::Wait;
 use std::thread::Threads;
 
-/// The output where a command needs a folder.
+/// The output for a command on a folder, which is not done here: no lines, and the status of
+/// refused words.
 fn no_output(alloc: Global) -> Output
     ensures { IsExactly Status.Usage [] result.status result.text.items }
 {
@@ -49,21 +50,21 @@ pub fn perform<R: Threads + Wait + Sync, S: Sink>(
         (S.sent sink.old) result (S.sent sink.new) (S.broken sink.new) }
 {
     match line {
-        // The program checks and verifies by `perform_over`, which frees the history's text; here a
-        // caller has both texts in memory.
+        // The program does not come here: it checks and verifies by `perform_over`. A caller that
+        // has both texts in memory does.
         Line::Check { workers, .. } => check_bytes(rt, alloc, first, second, *workers, sink),
         Line::Search {
             steps,
-            first: order,
+            first: tried_first,
             ..
-        } => write_output(search(alloc, first, *steps, *order), sink),
+        } => write_output(search(alloc, first, *steps, *tried_first), sink),
         Line::Refute { steps, .. } => write_output(refute(alloc, first, second, *steps), sink),
         // Without the workers: the library for C, which may start no thread, calls this `verify`
         // too.
         Line::Verify { steps, .. } => write_output(verify(alloc, first, second, *steps), sink),
         Line::Run(options) => write_output(run(rt, alloc, *options), sink),
         Line::Simulate { .. } => write_output(play(alloc, first), sink),
-        // `split` and `merge` do these, on a folder.
+        // `split_history`, `merge_shards` and `merge_statuses` do these, on a folder.
         Line::Split { .. } => write_output(Ok(no_output(alloc)), sink),
         Line::Merge { .. } => write_output(Ok(no_output(alloc)), sink),
     }

@@ -98,7 +98,7 @@ fn record_of<R: Threads + Wait + Sync>(
     options: RunOptions,
 ) -> Result<Record<AnyObject>, RunFault>
     ensures ran { IfOk result (Ran (work_of options)) }
-    // No thread is wanted for a client alone.
+    // A client alone needs no thread.
     ensures alone { IfErr result (λ e. e ≡ RunFault.NoThread → 1 < options.clients) }
 {
     let workload = workload(

@@ -38,7 +38,7 @@ pub(crate) fn has_second(line: &Line) -> bool
     )
 }
 
-/// The text of a file of the command, or none if it has no such file.
+/// The text of a file of the command, or the empty one if it has no such file.
 pub(crate) fn file_text<F: Source>(
     alloc: Global,
     has_file: bool,
@@ -58,7 +58,7 @@ pub(crate) fn file_text<F: Source>(
     read_text(alloc, file)
 }
 
-/// How a command ends of which a text was not read.
+/// How a command ends where one of its files was not read.
 pub(crate) fn end_unread<S: Sink>(
     fault: ReadFault,
     which: Unread,

@@ -1,4 +1,4 @@
-//! How the program ends where words ask for nothing.
+//! How the program ends where words give no command.
 
 ghost use Rattle.std.specs.Prelude.{◌≡◌};
 ghost use Rattle.commands.specs.Statuses as spec;

@@ -51,8 +51,8 @@ module _ {S O R : Type 0} (content : S → Content) (op_in : O → AnyOp) (reply
       → clients < 33 → quota < 10001
       → length words ≡ 81 → ((i : ℕ) → get_or words i 0 ≡ 0) → length slots ≡ 80
       → ((x : ℕ) → x < length kinds
-        → (k : Core S O R) × (get_elem? slots x ≡ some (slot.Core k))
-        × Fits content op_in reply_in (kind_at kinds x) (get_elem? lists x) k [])
+      → (k : Core S O R) × (get_elem? slots x ≡ some (slot.Core k))
+      × Fits content op_in reply_in (kind_at kinds x) (get_elem? lists x) k [])
       → ((i : ℕ) → 16 ≤ i → i < 80 → get_elem? slots i ≡ some slot.Nothing)
       → K (opening words slots (first_maker kinds lists))
   opening_keeps_rule lists words slots few people small wide zeros deep cores others = record {
@@ -74,9 +74,11 @@ module _ {S O R : Type 0} (content : S → Content) (op_in : O → AnyOp) (reply
       clock = zeros clock_place;
       cores = λ x l e. let k = cores x l in (k.0, at_map some slots x (slot.Core k.0) k.1, k.2);
       calls = λ r l. at_map some slots (16 + r) slot.Nothing (others (16 + r) (omega arith) (omega arith));
-      journals = λ c l. record { at_first =
-        λ e. at_map some slots (48 + c) slot.Nothing (others (48 + c) (omega arith) (omega arith));
-        at_last = λ e. absurd (cc) };
+      journals = λ c l. record {
+        at_first =
+            λ e. at_map some slots (48 + c) slot.Nothing (others (48 + c) (omega arith) (omega arith));
+        at_last = λ e. absurd (cc);
+      };
     };
     seats = λ j v e. ⊎_elim (λ (t : get_elem? [] j ≡ some v). absurd (some-ne-none v (sym t)))
         (λ (t : first_maker kinds lists ≡ v). subst (λ z. ViewOk kinds lists initial_world (λ _. 0) j z) t record {
@@ -92,16 +94,16 @@ module _ {S O R : Type 0} (content : S → Content) (op_in : O → AnyOp) (reply
     makers = record {
       made = λ j v e is i u f. (
         (λ tc. ⊎_elim (λ (t : get_elem? [] i ≡ some u). absurd (some-ne-none u (sym t)))
-          (λ (t : first_maker kinds lists ≡ u). let g =
+            (λ (t : first_maker kinds lists ≡ u). let g =
             ap (λ z. z.role) t in absurd (cc)) (at_snoc [] (first_maker kinds lists) u i f)),
         λ tm. ⊎_elim (λ (t : get_elem? [] i ≡ some u). absurd (some-ne-none u (sym t)))
-          (λ (t : (i ≡ 0) × (first_maker kinds lists ≡ u)).
+            (λ (t : (i ≡ 0) × (first_maker kinds lists ≡ u)).
             ⊎_elim (λ (h : get_elem? [] j ≡ some v). absurd (some-ne-none v (sym h)))
-              (λ (h : (j ≡ 0) × (first_maker kinds lists ≡ v)). t.0 ∙ sym h.0)
+            (λ (h : (j ≡ 0) × (first_maker kinds lists ≡ v)). t.0 ∙ sym h.0)
             (at_end [] (first_maker kinds lists) v j e)) (at_end [] (first_maker kinds lists) u i f),
       );
       numbers = λ j v e is. ⊎_elim (λ (t : get_elem? [] j ≡ some v). absurd (some-ne-none v (sym t)))
-        (λ (t : first_maker kinds lists ≡ v). let g =
+          (λ (t : first_maker kinds lists ≡ v). let g =
           ap (λ z. z.role) t in absurd (cc)) (at_snoc [] (first_maker kinds lists) v j e);
     };
   }
@@ -139,7 +141,7 @@ module _ {S O R : Type 0} (content : S → Content) (op_in : O → AnyOp) (reply
               received = b.received;
               left = b.left;
               client = λ f. let low' = (k.makers.made id v at is j u h.1).0 f in let g = b.client f in
-                (changed_else k.seat_of c here u.number (λ x. omega arith) ∙ g.0, g.1);
+                  (changed_else k.seat_of c here u.number (λ x. omega arith) ∙ g.0, g.1);
               unmade = b.unmade;
               maker_kinds = b.maker_kinds;
               lists_are = b.lists_are;
@@ -166,7 +168,7 @@ module _ {S O R : Type 0} (content : S → Content) (op_in : O → AnyOp) (reply
                   ended = none_yet.2;
                   retired = All-nil (λ d. w.ended d ≡ true);
                   back = All-nil (λ (b : PutBack). (w.stage b.row ≡ posted b.request)
-                    × (w.holder b.request.object ≡ Some c));
+                      × (w.holder b.request.object ≡ Some c));
                 },
               );
               unmade = λ f. absurd (cc);
@@ -178,50 +180,50 @@ module _ {S O R : Type 0} (content : S → Content) (op_in : O → AnyOp) (reply
         makers = record {
           made = λ j u e f i y g.
               let known : (a : ℕ) (z : DeskView) → get_elem? (set s.views id l ++ new ∷ []) a ≡ some z
-                → ((a ≡ id) × (l ≡ z))
+              → ((a ≡ id) × (l ≡ z))
               ⊎ (((a ≢ id) × (get_elem? s.views a ≡ some z)) ⊎ (new ≡ z)) = λ a z q. ⊎_elim
               (λ (t : get_elem? (set s.views id l) a ≡ some z). ⊎_elim (λ (h : (a ≡ id) × (l ≡ z)). inl h)
-                (λ (h : (a ≢ id) × (get_elem? s.views a ≡ some z)). inr (inl h)) (at_set s.views id a l z t))
+              (λ (h : (a ≢ id) × (get_elem? s.views a ≡ some z)). inr (inl h)) (at_set s.views id a l z t))
               (λ (t : (a ≡ here) × (new ≡ z)). inr (inr t.1)) (at_end (set s.views id l) new z a q) in
               let at_id : (a : ℕ) (z : DeskView) → get_elem? (set s.views id l ++ new ∷ []) a ≡ some z
-                → z.role ≡ role.Maker → (a ≡ id)
+              → z.role ≡ role.Maker → (a ≡ id)
               × (z.made ≡ c + 1) = λ a z q tm. ⊎_elim (λ (h : (a ≡ id) × (l ≡ z)). (h.0, ap (λ p. p.made) (sym h.1)))
               (λ (h : ((a ≢ id) × (get_elem? s.views a ≡ some z)) ⊎ (new ≡ z)). ⊎_elim
               (λ (r : (a ≢ id) × (get_elem? s.views a ≡ some z)). absurd
-                (r.0 ((k.makers.made id v at is a z r.1).1 tm)))
+              (r.0 ((k.makers.made id v at is a z r.1).1 tm)))
               (λ (r : new ≡ z). let o = ap (λ p. p.role) r in absurd (cc)) h) (known a z q) in
               let a = at_id j u e f in (
                 (λ tc. ⊎_elim (λ (h : (i ≡ id) × (l ≡ y)). let o = ap (λ p. p.role) h.1 in absurd (cc))
                     (λ (h : ((i ≢ id) × (get_elem? s.views i ≡ some y)) ⊎ (new ≡ y)). ⊎_elim
                     (λ (r : (i ≢ id) × (get_elem? s.views i ≡ some y)). let o =
-                      (k.makers.made id v at is i y r.1).0 tc in let b = a.1 in
+                    (k.makers.made id v at is i y r.1).0 tc in let b = a.1 in
                     omega arith) (λ (r : new ≡ y). let o = ap (λ p. p.number) r in let b = a.1 in omega arith) h)
-                      (known i y g)),
+                    (known i y g)),
                 λ tm. (at_id i y g tm).0 ∙ sym a.0,
               );
           numbers = λ j u e is'. ⊎_elim
               (λ (t : get_elem? (set s.views id l) j ≡ some u). ⊎_elim
-                (λ (h : (j ≡ id) × (l ≡ u)). let o = ap (λ p. p.role) h.1 in absurd (cc))
+              (λ (h : (j ≡ id) × (l ≡ u)). let o = ap (λ p. p.role) h.1 in absurd (cc))
               (λ (h : (j ≢ id) × (get_elem? s.views j ≡ some u)). k.makers.numbers j u h.1 is')
-                (at_set s.views id j l u t))
+              (at_set s.views id j l u t))
               (λ (t : (j ≡ here) × (new ≡ u)). let o = ap (λ p. p.number) t.1 in omega arith)
-                (at_end (set s.views id l) new u j e);
+              (at_end (set s.views id l) new u j e);
         };
       }
 
   pub begin_keeps_rule : (slots id c : ℕ) (m : Me (Slot S O R) DeskView) → m.0.role ≡ role.Client → m.0.number ≡ c
       → c < 32 → m.0.own ≡ own.Absent → m.0.held ≡ held.Free → m.0.ended ≡ false
       → Allows K slots id m (row_place c) (λ f. f)
-        (play.begins content op_in reply_in (step slots (row_place c) 0 0 maybe.none) m)
+      (play.begins content op_in reply_in (step slots (row_place c) 0 0 maybe.none) m)
   begin_keeps_rule slots id c m cl number low is free going s k deep at small =
       let w : World = k.world in
       let ok = subst (λ z. SeatOk kinds w z m.0) number
-        (mine content op_in reply_in kinds clients quota s k id m.0 cl at) in
-            let v' : DeskView = with_own own.Idle m.0 in
+      (mine content op_in reply_in kinds clients quota s k id m.0 cl at) in
+      let v' : DeskView = with_own own.Idle m.0 in
       let was : w.stage c ≡ absent = subst (λ o. OwnOk o (w.stage c)) is ok.own in let word = k.tied.rows c low in
       let before : (p : AnyRequest) → w.stage c ≢ picked p = λ p e. let g = sym was ∙ e in absurd (cc) in
       let message : get_elem? s.homes (16 + c) ≡ some (some slot.Nothing) =
-        subst (CallAt content op_in reply_in (get_elem? s.homes (16 + c))) was (k.tied.calls c low) in
+      subst (CallAt content op_in reply_in (get_elem? s.homes (16 + c))) was (k.tied.calls c low) in
       let journal = (k.tied.journals c low).at_first was in (
         v',
         chain (takes (48 + c) slot.Nothing) (takes (16 + c) slot.Nothing),
@@ -232,17 +234,17 @@ module _ {S O R : Type 0} (content : S → Content) (op_in : O → AnyOp) (reply
           come = come_after clients w c idle (subst (λ z. z < clients) number (k.makers.numbers id m.0 at cl)) k.come;
           sound = sound_coming kinds quota w c was k.sound;
           tied = tied_coming content op_in reply_in kinds k.lists w c
-            (get_or s.words (row_place c) 0) idle s.words s.homes low (λ e. absurd (cc))
+              (get_or s.words (row_place c) 0) idle s.words s.homes low (λ e. absurd (cc))
               (ok.ended ∙ going) (word ∙ ap row_word was) (λ home. tt) k.tied;
           leave = row_leaves w c idle (ap request_of was);
           others = λ d other. later_gone w w.clock c d idle w.done before
-            (λ p e. let g = sym was ∙ e in absurd (cc)) refl (λ e. other (e ∙ sym number));
+              (λ p e. let g = sym was ∙ e in absurd (cc)) refl (λ e. other (e ∙ sym number));
           own = subst (λ z. SeatOk kinds (staged w c idle) z v') (sym number)
               (seat_unanswered kinds w w.clock c idle w.done m.0 own.Idle m.0.done
-                (λ p e. let g = sym was ∙ e in absurd (cc))
+              (λ p e. let g = sym was ∙ e in absurd (cc))
               (λ p e. let g = sym was ∙ e in absurd (cc)) (λ p a e. let g = sym was ∙ e in absurd (cc)) refl ok.done
-                (covers_own kinds w c m.0 own.Absent is ok) ok);
+              (covers_own kinds w c m.0 own.Absent is ok) ok);
         },
         λ d same. let e : c ≡ d = omega arith in
-          ap (λ (z : ℕ). (v', (16 + z, slot.Nothing) ∷ (48 + z, slot.Nothing) ∷ m.1)) e,
+            ap (λ (z : ℕ). (v', (16 + z, slot.Nothing) ∷ (48 + z, slot.Nothing) ∷ m.1)) e,
       )

@@ -98,7 +98,7 @@ seat_gone kinds w n c t dones v o ds before apart is over covers ok = record {
   ended = ok.ended;
   retired = ok.retired;
   back = λ i d l. let b = ok.back i d l in let p = get_or v.back i d in
-    (changed_else w.stage c t p.row (λ same. apart p.request (ap w.stage (sym same) ∙ b.0)) ∙ b.0, b.1);
+      (changed_else w.stage c t p.row (λ same. apart p.request (ap w.stage (sym same) ∙ b.0)) ∙ b.0, b.1);
 }
 
 -- the same of a client whose row is not answered before either
@@ -111,7 +111,7 @@ pub seat_unanswered : (kinds : List Kind) (w : World) (n c : ℕ) (t : Stage) (d
 seat_unanswered kinds w n c t dones v o ds before apart never is over covers ok =
     let not : v.ready ≡ false = false_from_ne_true v.ready (λ e. let a = ok.ready e in never a.0 a.1 a.2) in
     subst (λ b. SeatOk kinds (gone w n c t dones) c (record v { own = o; done = ds; ready = b })) (sym not)
-      (seat_gone kinds w n c t dones v o ds before apart is over covers ok)
+    (seat_gone kinds w n c t dones v o ds before apart is over covers ok)
 
 -- what the client has seen of each object, where its own call is this
 pub covers_own : (kinds : List Kind) (w : World) (c : ℕ) (v : DeskView) (o : Own) → v.own ≡ o → SeatOk kinds w c v
@@ -135,12 +135,12 @@ module _ {S O R : Type 0} (content : S → Content) (op_in : O → AnyOp) (reply
 
   -- where the object of the request is there in each state
   draws_where : (slots id i : ℕ) (m : Me (Slot S O R) DeskView) (p : Request O) (tl : List (ℕ × Slot S O R))
-    → m.0.role ≡ role.Client
+      → m.0.role ≡ role.Client
       → m.0.own ≡ own.Idle → m.0.ended ≡ false → m.1 ≡ (i, slot.Request p) ∷ tl
       → ((s : State (Slot S O R) DeskView) → K s → get_elem? s.views id ≡ some m.0 → p.object < length kinds)
       → kind_of (op_in p.op) ≡ kind_at kinds p.object → length m.0.done < quota
       → Allows K slots id m clock_place (λ x. (x + 1) % 2 ^ 64)
-        (play.draws content op_in reply_in (step slots clock_place 1 0 maybe.none) m)
+      (play.draws content op_in reply_in (step slots clock_place 1 0 maybe.none) m)
   draws_where slots id i m p tl cl is going carried on fits few s k deep at small =
       let w : World = k.world in let c : ℕ = m.0.number in
       let ok = mine content op_in reply_in kinds clients quota s k id m.0 cl at in
@@ -162,20 +162,20 @@ module _ {S O R : Type 0} (content : S → Content) (op_in : O → AnyOp) (reply
           come = come_after clients w c t (k.makers.numbers id m.0 at cl) k.come;
           sound = sound_called kinds quota w c q ok.small was few' (on s k at) fits ticket k.sound;
           tied = tied_clock content op_in reply_in kinds k.lists w c ((found + 1) % 2 ^ 64) t
-            (w.done c) s.words s.homes (λ e. absurd (cc))
+              (w.done c) s.words s.homes (λ e. absurd (cc))
               (ok.ended ∙ going) (ap row_word was) (λ home. tt) (more_by_one s k) k.tied;
           leave = gone_leaves w (w.clock + 1) c t (changed w.done c (w.done c)) (ok.ended ∙ going)
-            (changed_else w.done c (w.done c));
+              (changed_else w.done c (w.done c));
           others = λ d other. later_gone w (w.clock + 1) c d t (changed w.done c (w.done c)) before
-            (λ r e. let g = sym was ∙ e in absurd (cc)) (changed_else w.done c (w.done c) d other) other;
+              (λ r e. let g = sym was ∙ e in absurd (cc)) (changed_else w.done c (w.done c) d other) other;
           own = seat_unanswered kinds w (w.clock + 1) c t (changed w.done c (w.done c)) m.0
-            (own.Drawn q) m.0.done before
+              (own.Drawn q) m.0.done before
               (λ r e. let g = sym was ∙ e in absurd (cc)) never refl (over ∙ sym (changed_here w.done c (w.done c)))
-                (covers_own kinds w c m.0 own.Idle is ok) ok;
+              (covers_own kinds w c m.0 own.Idle is ok) ok;
         },
         λ i' p' tl' carried'. ap
-          (λ (z : Request O). (with_own (own.Drawn (request_in op_in (record z { ticket = found }))) m.0, m.1))
-          (ap (request_carried p) (sym carried ∙ carried')),
+            (λ (z : Request O). (with_own (own.Drawn (request_in op_in (record z { ticket = found }))) m.0, m.1))
+            (ap (request_carried p) (sym carried ∙ carried')),
       )
 
   pub draw_keeps_rule : (slots id i : ℕ) (m : Me (Slot S O R) DeskView) (p : Request O) (tl : List (ℕ × Slot S O R))
@@ -183,9 +183,9 @@ module _ {S O R : Type 0} (content : S → Content) (op_in : O → AnyOp) (reply
       → m.0.own ≡ own.Idle → m.0.ended ≡ false → m.1 ≡ (i, slot.Request p) ∷ tl
       → p.object < length kinds → kind_of (op_in p.op) ≡ kind_at kinds p.object → length m.0.done < quota
       → Allows K slots id m clock_place (λ x. (x + 1) % 2 ^ 64)
-        (play.draws content op_in reply_in (step slots clock_place 1 0 maybe.none) m)
+      (play.draws content op_in reply_in (step slots clock_place 1 0 maybe.none) m)
   draw_keeps_rule slots id i m p tl cl is going carried on fits few =
-    draws_where slots id i m p tl cl is going carried (λ s k at. on) fits few
+      draws_where slots id i m p tl cl is going carried (λ s k at. on) fits few
 
   abbrev pub request_known : AnyRequest → Own → AnyRequest
   request_known d (own.Drawn q) = q
@@ -198,11 +198,11 @@ module _ {S O R : Type 0} (content : S → Content) (op_in : O → AnyOp) (reply
       → m.0.role ≡ role.Client → m.0.number ≡ j → m.0.own ≡ own.Drawn q → m.0.held ≡ held.Free
       → request_in op_in p ≡ q → n ≡ 1 + q.object → m.1 ≡ (16 + j, slot.Request p) ∷ tl
       → Allows K slots id m (row_place j) (λ _. n)
-        (λ _. play.posts content op_in reply_in (step slots (row_place j) n 0 maybe.none) m n)
+      (λ _. play.posts content op_in reply_in (step slots (row_place j) n 0 maybe.none) m n)
   post_keeps_rule slots id c n m q p tl cl number is free same word carried s k deep at small =
       let w : World = k.world in
       let ok = subst (λ z. SeatOk kinds w z m.0) number
-        (mine content op_in reply_in kinds clients quota s k id m.0 cl at) in let t : Stage = posted q in
+      (mine content op_in reply_in kinds clients quota s k id m.0 cl at) in let t : Stage = posted q in
       let v' : DeskView = with_own (own.Waiting q) m.0 in
       let was : w.stage c ≡ drawn q = subst (λ o. OwnOk o (w.stage c)) is ok.own in
       let before : (r : AnyRequest) → w.stage c ≢ picked r = λ r e. let g = sym was ∙ e in absurd (cc) in
@@ -211,77 +211,87 @@ module _ {S O R : Type 0} (content : S → Content) (op_in : O → AnyOp) (reply
         v',
         gives,
         tt,
-        subst (λ cs. K record { words = set s.words (row_place c) n; homes = put_back s.homes cs;
-          views = set s.views id v' }) (sym carried)
+        subst (λ cs. K record {
+          words = set s.words (row_place c) n;
+          homes = put_back s.homes cs;
+          views = set s.views id v';
+        }) (sym carried)
             (kept_after content op_in reply_in kinds clients quota s k id m.0 v' at cl alike record {
               world = staged w c t;
               holders = k.holders;
               come = come_after clients w c t (subst (λ z. z < clients) number (k.makers.numbers id m.0 at cl)) k.come;
               sound = sound_staged kinds quota w c t before (λ r e. absurd (cc)) (ap request_of (sym was))
-                (λ e. absurd (cc)) (λ y. ap (served_now y c) (sym was)) k.sound;
+                  (λ e. absurd (cc)) (λ y. ap (served_now y c) (sym was)) k.sound;
               tied = tied_row content op_in reply_in kinds k.lists w c n t w.hand w.log s.words s.homes
-                (some (slot.Request p)) ok.small (λ y _. refl)
+                  (some (slot.Request p)) ok.small (λ y _. refl)
                   (λ e. absurd (cc)) (ap request_of (sym was)) word (p, refl, same) k.tied;
               leave = row_leaves w c t (ap request_of was);
               others = λ d other. later_gone w w.clock c d t w.done before
-                (λ r e. let g = sym was ∙ e in absurd (cc)) refl (λ e. other (e ∙ sym number));
+                  (λ r e. let g = sym was ∙ e in absurd (cc)) refl (λ e. other (e ∙ sym number));
               own = subst (λ z. SeatOk kinds (staged w c t) z v') (sym number)
                   (seat_unanswered kinds w w.clock c t w.done m.0 (own.Waiting q) m.0.done before
-                    (λ r e. let g = sym was ∙ e in absurd (cc)) never
+                  (λ r e. let g = sym was ∙ e in absurd (cc)) never
                   (inl refl) ok.done (covers_own kinds w c m.0 (own.Drawn q) is ok) ok);
             }),
         λ r is'. ap (λ (z : AnyRequest). (with_own (own.Waiting z) m.0, rest m.1))
-          (ap (request_known q) (sym is ∙ is')),
+            (ap (request_known q) (sym is ∙ is')),
       )
 
   is_answered : (o : Own) (t : Stage) (q : AnyRequest) → o ≡ own.Waiting q → q.object < 16 → OwnOk o t
-    → row_word t ≡ 33 → (a : AnyAnswer) × (t ≡ answered q a)
+      → row_word t ≡ 33 → (a : AnyAnswer) × (t ≡ answered q a)
   is_answered o t q is low ok e = ⊎_elim (λ (b : t ≡ posted q). let f = ap row_word b in absurd (omega arith))
       (λ (b : (t ≡ picked q) ⊎ ((a : AnyAnswer) × (t ≡ answered q a))). ⊎_elim
-        (λ (c : t ≡ picked q). let f = ap row_word c in absurd (omega arith)) (λ c. c) b) (subst (λ z. OwnOk z t) is ok)
+      (λ (c : t ≡ picked q). let f = ap row_word c in absurd (omega arith)) (λ c. c) b) (subst (λ z. OwnOk z t) is ok)
 
   -- what the client has seen of each object, with the answer, after it has taken it
   covers_taken : (kinds : List Kind) (w : World) (c : ℕ) (v : DeskView) (q : AnyRequest) (a : AnyAnswer)
-    (l : List AnyEntry) → v.own ≡ own.Waiting q → q.object < length v.seen
+      (l : List AnyEntry) → v.own ≡ own.Waiting q → q.object < length v.seen
       → entries_of c l ≡ served q.object c v.done ++ logged_on q.object c q a → SeatOk kinds w c v
       → (y : ℕ) → StartsWith (entries_of c (seen_of (after_meet q.object l v) y))
-        (served y c v.done ++ owed y c (own.Taken q a))
+      (served y c v.done ++ owed y c (own.Taken q a))
   covers_taken kinds w c v q a l is low e ok =
-    seen_all (λ y z. StartsWith (entries_of c z) (served y c v.done ++ logged_on y c q a)) v.seen q.object l low
+      seen_all (λ y z. StartsWith (entries_of c z) (served y c v.done ++ logged_on y c q a)) v.seen q.object l low
       ([], e ∙ sym (append-nil (served q.object c v.done ++ logged_on q.object c q a)))
       (λ y other. subst (λ z. StartsWith (entries_of c (seen_of v y)) (served y c v.done ++ z))
-        (sym (logged_else y c q a (λ f. other (sym f)))) (covers_own kinds w c v (own.Waiting q) is ok y))
+      (sym (logged_else y c q a (λ f. other (sym f)))) (covers_own kinds w c v (own.Waiting q) is ok y))
 
   pub look_for_answer_keeps_rule : (slots id j : ℕ) (m : Me (Slot S O R) DeskView) → m.0.role ≡ role.Client
       → m.0.number ≡ j → j < 32
       → Allows K slots id m (row_place j) (λ f. f)
-        (play.looks_for_answer content op_in reply_in (step slots (row_place j) 0 0 maybe.none) m)
+      (play.looks_for_answer content op_in reply_in (step slots (row_place j) 0 0 maybe.none) m)
   look_for_answer_keeps_rule slots id c m cl number few s k deep at small =
       let w : World = k.world in
       let ok = subst (λ z. SeatOk kinds w z m.0) number
-        (mine content op_in reply_in kinds clients quota s k id m.0 cl at) in
+      (mine content op_in reply_in kinds clients quota s k id m.0 cl at) in
       let word : get_or s.words (row_place c) 0 ≡ row_word (w.stage c) = k.tied.rows c few in
       dite (ℕ_discrete (get_or s.words (row_place c) 0) 33)
-      (λ hit. (m.0, keeps, tt, looks content op_in reply_in kinds clients quota s k (row_place c) id m.0 m.1 cl at,
-        λ d p own_row here is. ((λ _. refl), λ miss. absurd (miss hit))))
+      (λ hit. (
+        m.0,
+        keeps,
+        tt,
+        looks content op_in reply_in kinds clients quota s k (row_place c) id m.0 m.1 cl at,
+        λ d p own_row here is. ((λ _. refl), λ miss. absurd (miss hit)),
+      ))
       (λ miss. (
         after_miss (row_place c) m.0,
         keeps,
         tt,
         misses content op_in reply_in kinds clients quota s k (row_place c) id m.0 m.1 cl at,
-        λ d p own_row here is. ((λ hit. absurd (miss hit)),
-          λ _. (refl, false_from_ne_true m.0.ready (λ e. let a = ok.ready e in miss (word ∙ ap row_word a.2)))),
+        λ d p own_row here is. (
+          (λ hit. absurd (miss hit)),
+          λ _. (refl, false_from_ne_true m.0.ready (λ e. let a = ok.ready e in miss (word ∙ ap row_word a.2))),
+        ),
       ))
 
   pub take_keeps_rule : (slots id j : ℕ) (m : Me (Slot S O R) DeskView) (q : AnyRequest) → m.0.role ≡ role.Client
       → m.0.number ≡ j
       → m.0.own ≡ own.Waiting q → m.0.held ≡ held.Free → q.object < 16 → j < 32
       → Allows K slots id m (row_place j) (λ f. either (eqb f 33) 0 f)
-        (play.takes_answer content op_in reply_in (step slots (row_place j) 33 0 maybe.none) m)
+      (play.takes_answer content op_in reply_in (step slots (row_place j) 33 0 maybe.none) m)
   take_keeps_rule slots id c m q cl number is free low few s k deep at small =
       let w : World = k.world in
       let ok = subst (λ z. SeatOk kinds w z m.0) number
-        (mine content op_in reply_in kinds clients quota s k id m.0 cl at) in
+      (mine content op_in reply_in kinds clients quota s k id m.0 cl at) in
       let word : get_or s.words (row_place c) 0 ≡ row_word (w.stage c) = k.tied.rows c few in let wide = ok.wide_seen in
       dite (ℕ_discrete (get_or s.words (row_place c) 0) 33)
       (λ hit.
@@ -293,30 +303,30 @@ module _ {S O R : Type 0} (content : S → Content) (op_in : O → AnyOp) (reply
       let t : Stage = taken q a in let v' : DeskView = after_take q (answer_in reply_in b) l m.0 in
       let before : (p : AnyRequest) → w.stage c ≢ picked p = λ p e. let g = sym was ∙ e in absurd (cc) in
       let calls : entries_of c l ≡ served x c m.0.done ++ logged_on x c q a =
-        k.sound.counted c x ∙ λ i. served x c (sym ok.done i) ++ served_now x c (was i) in
+      k.sound.counted c x ∙ λ i. served x c (sym ok.done i) ++ served_now x c (was i) in
       let begins = saw kinds w c x m.0 l low (starts_same l)
-        (all_covered kinds quota w c x m.0.done m.0.own ok.done ok.own k.sound) ok in (
+      (all_covered kinds quota w c x m.0.done m.0.own ok.done ok.own k.sound) ok in (
         v',
         takes (16 + c) (slot.Answer b),
         home.1,
         subst (λ z. K (stepped s (row_place c) (either z 0 (get_or s.words (row_place c) 0)) id m.1 v'
-          (takes (16 + c) (slot.Answer b))))
+            (takes (16 + c) (slot.Answer b))))
             (sym (eq-eqb (get_or s.words (row_place c) 0) 33 hit))
-              (kept_after content op_in reply_in kinds clients quota s k id m.0 v' at cl alike record {
+            (kept_after content op_in reply_in kinds clients quota s k id m.0 v' at cl alike record {
               world = staged w c t;
               holders = k.holders;
               come = come_after clients w c t (subst (λ z. z < clients) number (k.makers.numbers id m.0 at cl)) k.come;
               sound = sound_staged kinds quota w c t before (λ p e. absurd (cc)) (ap request_of (sym was))
-                (λ e. absurd (cc)) (λ y. ap (served_now y c) (sym was)) k.sound;
+                  (λ e. absurd (cc)) (λ y. ap (served_now y c) (sym was)) k.sound;
               tied = tied_row content op_in reply_in kinds k.lists w c 0 t w.hand w.log s.words s.homes maybe.none few
-                (λ y _. refl) (λ e. absurd (cc)) (ap request_of (sym was)) refl tt k.tied;
+                  (λ y _. refl) (λ e. absurd (cc)) (ap request_of (sym was)) refl tt k.tied;
               leave = row_leaves w c t (ap request_of was);
               others = λ d other. later_gone w w.clock c d t w.done before
-                (λ r e. let g = sym was ∙ e in absurd (cc)) refl (λ e. other (e ∙ sym number));
+                  (λ r e. let g = sym was ∙ e in absurd (cc)) refl (λ e. other (e ∙ sym number));
               own = subst (λ z. SeatOk kinds (staged w c t) z v') (sym number)
-                (subst (λ z. SeatOk kinds (staged w c t) c (after_take q z l m.0)) (sym image)
+                  (subst (λ z. SeatOk kinds (staged w c t) c (after_take q z l m.0)) (sym image)
                   (seat_gone kinds w w.clock c t w.done (after_meet x l m.0) (own.Taken q a) m.0.done before
-                    (λ p e. let g = sym was ∙ e in absurd (cc))
+                  (λ p e. let g = sym was ∙ e in absurd (cc))
                   refl ok.done (covers_taken kinds w c m.0 q a l is (omega arith) calls ok) begins));
             }),
         λ d p own_row here is'. let row : c ≡ d = omega arith in let same = ap (request_known q) (sym is ∙ is') in (
@@ -325,10 +335,10 @@ module _ {S O R : Type 0} (content : S → Content) (op_in : O → AnyOp) (reply
             l,
             (λ i. (after_take (same i) (answer_in reply_in b) l m.0, (16 + row i, slot.Answer b) ∷ m.1)),
             subst (λ z. IsLegal (kind_at m.0.kinds z.object) l) same
-              (subst (λ z. IsLegal (kind_at z x) l) (sym ok.kinds_are) (k.sound.legal x)),
+                (subst (λ z. IsLegal (kind_at z x) l) (sym ok.kinds_are) (k.sound.legal x)),
             subst (λ z. StartsWith l (seen_of m.0 z.object)) same (ok.seen x),
             subst (λ z. entries_of m.0.number l
-              ≡ served z.object m.0.number m.0.done ++ logged m.0.number z (answer_in reply_in b)) same
+                ≡ served z.object m.0.number m.0.done ++ logged m.0.number z (answer_in reply_in b)) same
                 (subst (λ z. entries_of z l ≡ served x z m.0.done ++ logged z q (answer_in reply_in b)) (sym number)
                 (calls ∙ ap (λ z. served x c m.0.done ++ z) (logged_here x c q a refl ∙ ap (logged c q) (sym image)))),
           )),
@@ -340,12 +350,13 @@ module _ {S O R : Type 0} (content : S → Content) (op_in : O → AnyOp) (reply
         keeps,
         tt,
         subst (λ z. K (stepped s (row_place c) (either z 0 (get_or s.words (row_place c) 0)) id m.1
-          (after_miss (row_place c) m.0) keeps))
+            (after_miss (row_place c) m.0) keeps))
             (sym (ne_eqb (get_or s.words (row_place c) 0) 33 miss))
-              (misses content op_in reply_in kinds clients quota s k (row_place c) id m.0 m.1 cl at),
-        λ d p own_row here is'.
-          ((λ hit. absurd (miss hit)),
-          λ _. (refl, false_from_ne_true m.0.ready (λ e. let a = ok.ready e in miss (word ∙ ap row_word a.2)))),
+            (misses content op_in reply_in kinds clients quota s k (row_place c) id m.0 m.1 cl at),
+        λ d p own_row here is'. (
+          (λ hit. absurd (miss hit)),
+          λ _. (refl, false_from_ne_true m.0.ready (λ e. let a = ok.ready e in miss (word ∙ ap row_word a.2))),
+        ),
       ))
 
   abbrev answer_known : AnyAnswer → Own → AnyAnswer
@@ -355,7 +366,7 @@ module _ {S O R : Type 0} (content : S → Content) (op_in : O → AnyOp) (reply
   pub return_keeps_rule : (slots id : ℕ) (m : Me (Slot S O R) DeskView) (q : AnyRequest) (a : AnyAnswer)
       → m.0.role ≡ role.Client → m.0.own ≡ own.Taken q a → m.0.held ≡ held.Free → m.0.ended ≡ false
       → Allows K slots id m clock_place (λ x. (x + 1) % 2 ^ 64)
-        (play.returns content op_in reply_in (step slots clock_place 1 0 maybe.none) m)
+      (play.returns content op_in reply_in (step slots clock_place 1 0 maybe.none) m)
   return_keeps_rule slots id m q a cl is free going s k deep at small =
       let w : World = k.world in let c : ℕ = m.0.number in
       let ok = mine content op_in reply_in kinds clients quota s k id m.0 cl at in
@@ -376,26 +387,26 @@ module _ {S O R : Type 0} (content : S → Content) (op_in : O → AnyOp) (reply
           come = come_after clients w c idle (k.makers.numbers id m.0 at cl) k.come;
           sound = sound_returned kinds quota w c found q a ok.small was k.tied.clock k.sound;
           tied = tied_clock content op_in reply_in kinds k.lists w c ((found + 1) % 2 ^ 64) idle ds s.words s.homes
-            (λ e. absurd (cc))
+              (λ e. absurd (cc))
               (ok.ended ∙ going) (ap row_word was) (λ home. tt) (more_by_one s k) k.tied;
           leave = gone_leaves w (w.clock + 1) c idle (changed w.done c ds) (ok.ended ∙ going)
-            (changed_else w.done c ds);
+              (changed_else w.done c ds);
           others = λ e other. later_gone w (w.clock + 1) c e idle (changed w.done c ds) before
-            (λ r f. let g = sym was ∙ f in absurd (cc)) (changed_else w.done c ds e other) other;
+              (λ r f. let g = sym was ∙ f in absurd (cc)) (changed_else w.done c ds e other) other;
           own = seat_unanswered kinds w (w.clock + 1) c idle (changed w.done c ds) m.0 own.Idle
-            (m.0.done ++ d ∷ []) before
+              (m.0.done ++ d ∷ []) before
               (λ r e. let g = sym was ∙ e in absurd (cc)) never refl
-                (ap (λ z. z ++ d ∷ []) ok.done ∙ sym (changed_here w.done c ds))
+              (ap (λ z. z ++ d ∷ []) ok.done ∙ sym (changed_here w.done c ds))
               (λ y. subst (StartsWith (entries_of c (seen_of m.0 y)))
               (sym (append-nil (served y c (m.0.done ++ d ∷ [])) ∙ served_more y c found m.0.done q a))
-                (covers_own kinds w c m.0 (own.Taken q a) is ok y)) ok;
+              (covers_own kinds w c m.0 (own.Taken q a) is ok y)) ok;
         },
         λ p b is'. let e = sym is ∙ is' in (
           (λ i. (after_return (ap (request_known q) e i) (ap (answer_known a) e i) found m.0, m.1)),
           subst (λ z. All (λ (y : AnyEntry). y.ticket < found) (seen_of m.0 z.object)) (ap (request_known q) e)
               (all_before (λ (y : AnyEntry). y.ticket < found) (seen_of m.0 q.object) prefix.0
-                (subst (All (λ (y : AnyEntry). y.ticket < found)) prefix.1
+              (subst (All (λ (y : AnyEntry). y.ticket < found)) prefix.1
               (subst (λ n. All (λ (y : AnyEntry). y.ticket < n) (w.log q.object)) (sym k.tied.clock)
-                (k.sound.early q.object)))),
+              (k.sound.early q.object)))),
         ),
       )

@@ -60,7 +60,7 @@ own_is (own.Waiting q) t is =
     ⊎_elim (λ (e : t ≡ posted q). ap request_of (sym e))
     (λ (f : (t ≡ picked q) ⊎ ((a : AnyAnswer) × (t ≡ answered q a))).
     ⊎_elim (λ (e : t ≡ picked q). ap request_of (sym e))
-      (λ (e : (a : AnyAnswer) × (t ≡ answered q a)). ap request_of (sym e.1)) f) is
+    (λ (e : (a : AnyAnswer) × (t ≡ answered q a)). ap request_of (sym e.1)) f) is
 own_is (own.Taken q a) t is = ap request_of (sym is)
 
 -- a client at rest has come
@@ -82,27 +82,32 @@ module _ {S O R : Type 0} (content : S → Content) (op_in : O → AnyOp) (reply
       → m.0.number ≡ c → IsAtRest m.0.own → m.0.held ≡ held.Free
       → map (event_in op_in reply_in) j.events.items ≡ journal m.0 → m.1 ≡ (48 + c, slot.Journal j) ∷ tl
       → Allows K slots id m (end_place c) (λ _. 1)
-        (λ _. play.ends content op_in reply_in (step slots (end_place c) 1 0 maybe.none) m 1)
+      (λ _. play.ends content op_in reply_in (step slots (end_place c) 1 0 maybe.none) m 1)
   end_keeps_rule slots id c m j tl cl number calm free says carried s k deep at small =
       let w : World = k.world in
       let ok = subst (λ z. SeatOk kinds w z m.0) number
-        (mine content op_in reply_in kinds clients quota s k id m.0 cl at) in let v' : DeskView = after_end m.0 in
+      (mine content op_in reply_in kinds clients quota s k id m.0 cl at) in let v' : DeskView = after_end m.0 in
       let says' : map (event_in op_in reply_in) j.events.items ≡ journal_of (w.done c) (request_of (w.stage c)) =
-        says ∙ λ i. journal_of (ok.done i) (own_is m.0.own (w.stage c) ok.own i) in (
+      says ∙ λ i. journal_of (ok.done i) (own_is m.0.own (w.stage c) ok.own i) in (
         v',
         gives,
         tt,
-        subst (λ cs. K record { words = set s.words (end_place c) 1; homes = put_back s.homes cs;
-          views = set s.views id v' }) (sym carried)
+        subst (λ cs. K record {
+          words = set s.words (end_place c) 1;
+          homes = put_back s.homes cs;
+          views = set s.views id v';
+        }) (sym carried)
             (kept_after content op_in reply_in kinds clients quota s k id m.0 v' at cl alike record {
               world = ended_by w c;
-              holders = λ x d e. let b = k.holders x d e in
-                (b.0, changed_else w.ended c true d
-                (λ same. subst (HeldOk (length kinds) w c) free ok.held x (e ∙ ap Some same)) ∙ b.1);
+              holders = λ x d e. let b = k.holders x d e in (
+                b.0,
+                changed_else w.ended c true d
+                    (λ same. subst (HeldOk (length kinds) w c) free ok.held x (e ∙ ap Some same)) ∙ b.1,
+              );
               come = k.come;
               sound = sound_ended kinds quota w c k.sound;
               tied = tied_end content op_in reply_in kinds k.lists w c j s.words s.homes ok.small
-                (has_come m.0.own (w.stage c) calm ok.own) says' k.tied;
+                  (has_come m.0.own (w.stage c) calm ok.own) says' k.tied;
               leave = λ d e. (still_ended w c d e, refl);
               others = λ d other. later_ended w c d (λ e. other (e ∙ sym number));
               own = subst (λ z. SeatOk kinds (ended_by w c) z v') (sym number) record {
@@ -126,7 +131,7 @@ module _ {S O R : Type 0} (content : S → Content) (op_in : O → AnyOp) (reply
 
   pub look_at_end_keeps_rule : (slots id d : ℕ) (m : Me (Slot S O R) DeskView) → m.0.role ≡ role.Client → d < 32
       → Allows K slots id m (end_place d) (λ f. f)
-        (play.sees_end content op_in reply_in (step slots (end_place d) 0 0 maybe.none) m)
+      (play.sees_end content op_in reply_in (step slots (end_place d) 0 0 maybe.none) m)
   look_at_end_keeps_rule slots id d m cl low s k deep at small =
       let w : World = k.world in let ok = mine content op_in reply_in kinds clients quota s k id m.0 cl at in
       let word = k.tied.ends d low in dite (ℕ_discrete (get_or s.words (end_place d) 0) 1)
@@ -137,17 +142,19 @@ module _ {S O R : Type 0} (content : S → Content) (op_in : O → AnyOp) (reply
         unmoved content op_in reply_in kinds clients quota s k (end_place d) id m.0 (after_end_seen d m.0) m.1 at cl
             alike (seat_knowing ok.ready (All-push (λ e. w.ended e ≡ true) m.0.retired d ok.retired is) ok),
         λ e same. let f : d ≡ e = omega arith in
-          ((λ _. ap (λ z. (after_end_seen z m.0, m.1)) f), λ miss. absurd (miss hit)),
+            ((λ _. ap (λ z. (after_end_seen z m.0, m.1)) f), λ miss. absurd (miss hit)),
       ))
       (λ miss. (
         after_end_unset d m.0,
         keeps,
         tt,
         unmoved content op_in reply_in kinds clients quota s k (end_place d) id m.0
-          (after_end_unset d m.0) m.1 at cl alike (seat_knowing ok.ready ok.retired ok),
+            (after_end_unset d m.0) m.1 at cl alike (seat_knowing ok.ready ok.retired ok),
         λ e same. let f : d ≡ e = omega arith in (
           (λ hit. absurd (miss hit)),
-          λ _. (ap (λ z. (after_end_unset z m.0, m.1)) f,
-            λ i z l g. miss (word ∙ ap end_word (ap w.ended (f ∙ sym g) ∙ ((k.seats id m.0 at).left i z l).0))),
+          λ _. (
+            ap (λ z. (after_end_unset z m.0, m.1)) f,
+            λ i z l g. miss (word ∙ ap end_word (ap w.ended (f ∙ sym g) ∙ ((k.seats id m.0 at).left i z l).0)),
+          ),
         ),
       ))

@@ -93,15 +93,25 @@ module _ {S O R : Type 0} (content : S → Content) (op_in : O → AnyOp) (reply
   pub look_at_lock_keeps_rule : (slots id x : ℕ) (m : Me (Slot S O R) DeskView) → m.0.role ≡ role.Client
       → Allows K slots id m x (λ f. f) (play.looks_at_lock content op_in reply_in (step slots x 0 0 maybe.none) m)
   look_at_lock_keeps_rule slots id x m cl s k deep at small = dite (ℕ_discrete (get_or s.words x 0) 0)
-      (λ hit. (m.0, keeps, tt, looks content op_in reply_in kinds clients quota s k x id m.0 m.1 cl at,
-        λ _. ((λ _. refl), λ miss. absurd (miss hit))))
-      (λ miss. (after_miss x m.0, keeps, tt, misses content op_in reply_in kinds clients quota s k x id m.0 m.1 cl at,
-        λ _. ((λ hit. absurd (miss hit)), λ _. refl)))
+      (λ hit. (
+        m.0,
+        keeps,
+        tt,
+        looks content op_in reply_in kinds clients quota s k x id m.0 m.1 cl at,
+        λ _. ((λ _. refl), λ miss. absurd (miss hit)),
+      ))
+      (λ miss. (
+        after_miss x m.0,
+        keeps,
+        tt,
+        misses content op_in reply_in kinds clients quota s k x id m.0 m.1 cl at,
+        λ _. ((λ hit. absurd (miss hit)), λ _. refl),
+      ))
 
   pub win_keeps_rule : (slots id x n : ℕ) (m : Me (Slot S O R) DeskView) → m.0.role ≡ role.Client → x < length kinds
       → n ≡ 1 + m.0.number → m.0.held ≡ held.Free → m.0.ended ≡ false
       → Allows K slots id m x (λ f. either (eqb f 0) n f)
-        (play.wins content op_in reply_in (step slots x 0 n maybe.none) m)
+      (play.wins content op_in reply_in (step slots x 0 n maybe.none) m)
   win_keeps_rule slots id x n m cl inside is free going s k deep at small = dite (ℕ_discrete (get_or s.words x 0) 0)
       (λ hit.
       let w : World = k.world in let c : ℕ = m.0.number in
@@ -114,27 +124,29 @@ module _ {S O R : Type 0} (content : S → Content) (op_in : O → AnyOp) (reply
         home.1,
         subst (λ b. K (stepped s x (either b n (get_or s.words x 0)) id m.1 v' (takes x (slot.Core home.0))))
             (sym (eq-eqb (get_or s.words x 0) 0 hit))
-              (kept_after content op_in reply_in kinds clients quota s k id m.0 v' at cl alike record {
+            (kept_after content op_in reply_in kinds clients quota s k id m.0 v' at cl alike record {
               world = held_by w x (Some c);
               holders = λ y d. changed_all (λ y h. h ≡ Some d → (d < clients) × (w.ended d ≡ false)) w.holder x (Some c)
                   (λ e. let same = same_Some c d e in let low = k.makers.numbers id m.0 at cl in
-                    (omega arith, ap w.ended (sym same) ∙ (ok.ended ∙ going))) (λ y _. k.holders y d) y;
+                  (omega arith, ap w.ended (sym same) ∙ (ok.ended ∙ going))) (λ y _. k.holders y d) y;
               come = k.come;
               sound = sound_held kinds quota w x (Some c) (λ e. absurd (cc)) k.sound;
               tied = tied_lock content op_in reply_in kinds k.lists w x n
-                (Some c) s.words s.homes maybe.none inside is (λ e. absurd (cc)) k.tied;
+                  (Some c) s.words s.homes maybe.none inside is (λ e. absurd (cc)) k.tied;
               leave = λ d e. (e, refl);
               others = λ d other. later_held w x d (Some c) (λ e. absurd (cc)) (λ e. other (sym (same_Some c d e)));
               own = seat_held kinds w c x (Some c) m.0 (held.Pass x (w.log x)) m.0.back (m.0.won + 1)
-                  (λ i d l. let b = ok.back i d l in
-                  (b.0, changed_all (λ y h. w.holder y ≡ Some c → h ≡ Some c) w.holder x (Some c) (λ _. refl)
-                    (λ y _ e. e) (get_or m.0.back i d).request.object b.1)) ok (
+                  (λ i d l. let b = ok.back i d l in (
+                    b.0,
+                    changed_all (λ y h. w.holder y ≡ Some c → h ≡ Some c) w.holder x (Some c) (λ _. refl)
+                        (λ y _ e. e) (get_or m.0.back i d).request.object b.1,
+                  )) ok (
                     inside,
                     changed_here w.holder x (Some c),
                     k.sound.empty_hand x none_holds,
                     refl,
                     changed_all (λ y h. h ≡ Some c → y ≡ x) w.holder x (Some c) (λ _. refl)
-                      (λ y _ e. absurd (nothing y e)),
+                        (λ y _ e. absurd (nothing y e)),
                   );
             }),
         λ _. (
@@ -143,7 +155,7 @@ module _ {S O R : Type 0} (content : S → Content) (op_in : O → AnyOp) (reply
             w.log x,
             refl,
             subst (λ (z : List Kind × List TableId). Fits content op_in reply_in (kind_at z.0 x)
-              (get_elem? z.1 x) home.0 (w.log x))
+                (get_elem? z.1 x) home.0 (w.log x))
                 (λ i. (sym ok.kinds_are i, sym ((k.seats id m.0 at).lists_are cl) i)) home.2,
             ok.seen x,
           )),
@@ -155,7 +167,7 @@ module _ {S O R : Type 0} (content : S → Content) (op_in : O → AnyOp) (reply
         keeps,
         tt,
         subst (λ b. K (stepped s x (either b n (get_or s.words x 0)) id m.1 (after_miss x m.0) keeps))
-          (sym (ne_eqb (get_or s.words x 0) 0 miss))
+            (sym (ne_eqb (get_or s.words x 0) 0 miss))
             (misses content op_in reply_in kinds clients quota s k x id m.0 m.1 cl at),
         λ _. ((λ hit. absurd (miss hit)), λ _. refl),
       ))
@@ -172,7 +184,7 @@ module _ {S O R : Type 0} (content : S → Content) (op_in : O → AnyOp) (reply
       let inside : x < length kinds = h.0 in let low : x < 16 = omega arith in
       let fits' : Fits content op_in reply_in (kind_at kinds x) (get_elem? k.lists x) core (w.log x) =
       subst (λ (z : List Kind × List TableId × List AnyEntry). Fits content op_in reply_in (kind_at z.0 x)
-        (get_elem? z.1 x) core z.2)
+      (get_elem? z.1 x) core z.2)
       (λ i. (ok.kinds_are i, (k.seats id m.0 at).lists_are cl i, sym h.3 i)) fits in
       let covers = all_covered kinds quota w c x m.0.done m.0.own ok.done ok.own k.sound in
       let seat = saw kinds w c x m.0 (w.log x) low (starts_same (w.log x)) covers ok in (
@@ -180,28 +192,28 @@ module _ {S O R : Type 0} (content : S → Content) (op_in : O → AnyOp) (reply
         gives,
         tt,
         subst (λ cs. K record { words = set s.words x 0; homes = put_back s.homes cs; views = set s.views id v' })
-          (sym carried)
+            (sym carried)
             (kept_after content op_in reply_in kinds clients quota s k id m.0 v' at cl alike record {
               world = held_by w x None;
               holders = λ y d. changed_all (λ y h. h ≡ Some d → (d < clients) × (w.ended d ≡ false)) w.holder x None
-                (λ e. absurd (cc)) (λ y _. k.holders y d) y;
+                  (λ e. absurd (cc)) (λ y _. k.holders y d) y;
               come = k.come;
               sound = sound_held kinds quota w x None (λ _. h.2) k.sound;
               tied = tied_lock content op_in reply_in kinds k.lists w x 0 None s.words s.homes
-                (some (slot.Core core)) inside refl (λ _. (core, refl, fits')) k.tied;
+                  (some (slot.Core core)) inside refl (λ _. (core, refl, fits')) k.tied;
               leave = λ d e. (e, refl);
               others = λ d other. later_held w x d None (λ e. other (sym (same_Some c d (sym h.1 ∙ e))))
-                (λ e. absurd (cc));
+                  (λ e. absurd (cc));
               own = subst (λ z. SeatOk kinds (held_by w x None) c (after_release x z m.0)) h.3
                   (seat_held kinds w c x None (after_meet x (w.log x) m.0) held.Free [] m.0.won
                   (All-nil (λ (b : PutBack). (w.stage b.row ≡ posted b.request)
-                    × (changed w.holder x None b.request.object ≡ Some c))) seat
+                  × (changed w.holder x None b.request.object ≡ Some c))) seat
                   (changed_all (λ y h'. h' ≢ Some c) w.holder x None (λ e. absurd (cc))
-                    (λ y other e. other (h.4 y e))));
+                  (λ y other e. other (h.4 y e))));
             }),
         λ l' pass'. let same = ap held_log (sym pass ∙ pass') in (
           ap (λ z. (after_release x z m.0, rest m.1)) same,
           subst (IsAccount x m.0) (h.3 ∙ same)
-            (accounts kinds quota w x m.0 (w.log x) calm ok.done ok.own k.sound (starts_same (w.log x)) covers),
+              (accounts kinds quota w x m.0 (w.log x) calm ok.done ok.own k.sound (starts_same (w.log x)) covers),
         ),
       )

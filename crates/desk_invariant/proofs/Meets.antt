@@ -27,15 +27,15 @@ module _ {S O R : Type 0} (content : S → Content) (op_in : O → AnyOp) (reply
 
   pub seen_message_keeps_rule : (id : ℕ) (v : DeskView) → Splits K id v v (seen_message v)
   seen_message_keeps_rule id v =
-    sending_keeps_rule content op_in reply_in kinds clients quota id v (seen_message v) refl
+      sending_keeps_rule content op_in reply_in kinds clients quota id v (seen_message v) refl
       (λ s k at j. message_ok kinds k.lists k.world k.seat_of j (seen_message v) refl (k.seats id v at).seen
-        (λ x. (k.world.log x, refl)) (All-nil (HasLeft k.world)))
+      (λ x. (k.world.log x, refl)) (All-nil (HasLeft k.world)))
 
   pub message_keeps_rule : (id : ℕ) (v : DeskView) (other : ℕ) (t : DeskView)
       → Joins K id v other t (after_message v t) empty_message
   message_keeps_rule id v other t =
       receiving_keeps_rule content op_in reply_in kinds clients quota id v (after_message v t) other t refl refl refl
-        (λ s k at there. let old = k.seats id v at in record {
+      (λ s k at there. let old = k.seats id v at in record {
         seen = old.seen;
         received = (k.seats other t there).seen;
         left = old.left;
@@ -77,7 +77,7 @@ module _ {S O R : Type 0} (content : S → Content) (op_in : O → AnyOp) (reply
       let ok = mine content op_in reply_in kinds clients quota s k id m.0 cl at in
       let l : List AnyEntry = received_of m.0 x in
       let covers = starts_longer (entries_of c l) (entries_of c (seen_of m.0 x)) _
-        (entries_start c l (seen_of m.0 x) later) (ok.covers x) in (
+      (entries_start c l (seen_of m.0 x) later) (ok.covers x) in (
         after_meet x l m.0,
         keeps,
         tt,
@@ -97,7 +97,7 @@ pub told_back : (x : ℕ) (a b a₁ a₂ b₂ : DeskView) (l : List AnyEntry) �
     → length a₁.seen ≡ 16 → b₂ ≡ after_message b (seen_message a₂) → received_of b₂ x ≡ l
 told_back x a b a₁ a₂ b₂ l low e f wide g =
     ap (λ (z : DeskView). received_of z x) g
-      ∙ (ap (λ (z : DeskView). seen_of z x) f ∙ get_or-set_same a₁.seen x l [] (omega arith))
+    ∙ (ap (λ (z : DeskView). seen_of z x) f ∙ get_or-set_same a₁.seen x l [] (omega arith))
 
 pub begins_there : (x : ℕ) (a b a₁ b₂ : DeskView) (l : List AnyEntry) → a₁ ≡ after_message a (seen_message b)
     → b₂.seen ≡ b.seen → StartsWith l (received_of a₁ x) → StartsWith l (seen_of b₂ x)

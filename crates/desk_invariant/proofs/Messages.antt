@@ -27,12 +27,14 @@ makers_with : (clients : ℕ) (vs us : List DeskView) (b : DeskView) → b.role 
     → Makers clients us
 makers_with clients vs us b idle old k = record {
   made = λ j v e is i u f.
-    ⊎_elim (λ (p : get_elem? vs j ≡ some v). ⊎_elim (λ (q : get_elem? vs i ≡ some u). k.made j v p is i u q)
-      (λ (q : b ≡ u). ((λ tc. let h = sym idle ∙ (ap (λ z. z.role) q ∙ tc) in absurd (cc)),
-        λ tm. let h = sym idle ∙ (ap (λ z. z.role) q ∙ tm) in absurd (cc))) (old i u f))
+      ⊎_elim (λ (p : get_elem? vs j ≡ some v). ⊎_elim (λ (q : get_elem? vs i ≡ some u). k.made j v p is i u q)
+      (λ (q : b ≡ u). (
+        (λ tc. let h = sym idle ∙ (ap (λ z. z.role) q ∙ tc) in absurd (cc)),
+        λ tm. let h = sym idle ∙ (ap (λ z. z.role) q ∙ tm) in absurd (cc),
+      )) (old i u f))
       (λ (p : b ≡ v). let h = sym idle ∙ (ap (λ z. z.role) p ∙ is) in absurd (cc)) (old j v e);
   numbers = λ j v e is. ⊎_elim (λ (p : get_elem? vs j ≡ some v). k.numbers j v p is)
-    (λ (p : b ≡ v). let h = sym idle ∙ (ap (λ z. z.role) p ∙ is) in absurd (cc)) (old j v e);
+      (λ (p : b ≡ v). let h = sym idle ∙ (ap (λ z. z.role) p ∙ is) in absurd (cc)) (old j v e);
 }
 
 pub makers_more : (clients : ℕ) (vs : List DeskView) (b : DeskView) → b.role ≡ role.Message → Makers clients vs
@@ -44,7 +46,7 @@ pub makers_drop : (clients : ℕ) (vs : List DeskView) (id : ℕ) (b : DeskView)
     → Makers clients vs → Makers clients (set vs id b)
 makers_drop clients vs id b idle = makers_with clients vs (set vs id b) b idle
     (λ a z q. ⊎_elim (λ (t : (a ≡ id) × (b ≡ z)). inr t.1) (λ (t : (a ≢ id) × (get_elem? vs a ≡ some z)). inl t.1)
-      (at_set vs id a b z q))
+    (at_set vs id a b z q))
 
 -- a view that is no client's and no maker's owes the truth of what it carries, and nothing more
 pub message_ok : (kinds : List Kind) (lists : List TableId) (w : World) (so : ℕ → ℕ) (j : ℕ) (v : DeskView)
@@ -79,24 +81,24 @@ module _ {S O R : Type 0} (content : S → Content) (op_in : O → AnyOp) (reply
   -- a message b more
   pub sending_keeps_rule : (id : ℕ) (v b : DeskView) → b.role ≡ role.Message
       → ((s : State (Slot S O R) DeskView) (k : K s) → get_elem? s.views id ≡ some v → (j : ℕ)
-        → ViewOk kinds k.lists k.world k.seat_of j b) → Splits K id v v b
+      → ViewOk kinds k.lists k.world k.seat_of j b) → Splits K id v v b
   sending_keeps_rule id v b idle ok s k at =
-    subst (λ (z : List DeskView). K record { words = s.words; homes = s.homes; views = z ++ b ∷ [] })
-    (sym (set_again s.views id v at)) record {
-    world = k.world;
-    seat_of = k.seat_of;
-    lists = k.lists;
-    few_calls = k.few_calls;
-    few_clients = k.few_clients;
-    holders = k.holders;
-    come = k.come;
-    sound = k.sound;
-    tied = k.tied;
-    seats = λ j u e. ⊎_elim (k.seats j u)
-      (λ (t : (j ≡ length s.views) × (b ≡ u)). subst (λ z. ViewOk kinds k.lists k.world k.seat_of j z) t.1
-      (ok s k at j)) (at_end s.views b u j e);
-    makers = makers_more clients s.views b idle k.makers;
-  }
+      subst (λ (z : List DeskView). K record { words = s.words; homes = s.homes; views = z ++ b ∷ [] })
+      (sym (set_again s.views id v at)) record {
+        world = k.world;
+        seat_of = k.seat_of;
+        lists = k.lists;
+        few_calls = k.few_calls;
+        few_clients = k.few_clients;
+        holders = k.holders;
+        come = k.come;
+        sound = k.sound;
+        tied = k.tied;
+        seats = λ j u e. ⊎_elim (k.seats j u)
+            (λ (t : (j ≡ length s.views) × (b ≡ u)). subst (λ z. ViewOk kinds k.lists k.world k.seat_of j z) t.1
+            (ok s k at j)) (at_end s.views b u j e);
+        makers = makers_more clients s.views b idle k.makers;
+      }
 
   -- the view v takes in the message t, which is spent, and becomes v'
   pub receiving_keeps_rule : (id : ℕ) (v v' : DeskView) (other : ℕ) (t : DeskView) → v'.role ≡ v.role
@@ -105,25 +107,25 @@ module _ {S O R : Type 0} (content : S → Content) (op_in : O → AnyOp) (reply
       → ViewOk kinds k.lists k.world k.seat_of id v') → Joins K id v other t v' empty_message
   receiving_keeps_rule id v v' other t alike number made ok s k at apart there =
       let mid : List DeskView = set s.views id v' in record {
-    world = k.world;
-    seat_of = k.seat_of;
-    lists = k.lists;
-    few_calls = k.few_calls;
-    few_clients = k.few_clients;
-    holders = k.holders;
-    come = k.come;
-    sound = k.sound;
-    tied = k.tied;
-    seats = λ j u e. ⊎_elim
-        (λ (h : (j ≡ other) × (empty_message ≡ u)). subst (λ z. ViewOk kinds k.lists k.world k.seat_of j z) h.1
-          (empty_message_ok kinds k.lists k.world k.seat_of j))
-        (λ (h : (j ≢ other) × (get_elem? mid j ≡ some u)). ⊎_elim
-        (λ (g : (j ≡ id) × (v' ≡ u)). subst (λ (z : ℕ × DeskView). ViewOk kinds k.lists k.world k.seat_of z.0 z.1)
-          (λ i. (sym g.0 i, g.1 i))
-        (ok s k at (sym (set_else s.views id other v' apart) ∙ there)))
-        (λ (g : (j ≢ id) × (get_elem? s.views j ≡ some u)). k.seats j u g.1)
-        (at_set s.views id j v' u h.1))
-        (at_set mid other j empty_message u e);
-    makers = makers_drop clients mid other empty_message refl
-      (makers_stay clients s.views id v v' at alike number made k.makers);
-  }
+        world = k.world;
+        seat_of = k.seat_of;
+        lists = k.lists;
+        few_calls = k.few_calls;
+        few_clients = k.few_clients;
+        holders = k.holders;
+        come = k.come;
+        sound = k.sound;
+        tied = k.tied;
+        seats = λ j u e. ⊎_elim
+            (λ (h : (j ≡ other) × (empty_message ≡ u)). subst (λ z. ViewOk kinds k.lists k.world k.seat_of j z) h.1
+            (empty_message_ok kinds k.lists k.world k.seat_of j))
+            (λ (h : (j ≢ other) × (get_elem? mid j ≡ some u)). ⊎_elim
+            (λ (g : (j ≡ id) × (v' ≡ u)). subst (λ (z : ℕ × DeskView). ViewOk kinds k.lists k.world k.seat_of z.0 z.1)
+            (λ i. (sym g.0 i, g.1 i))
+            (ok s k at (sym (set_else s.views id other v' apart) ∙ there)))
+            (λ (g : (j ≢ id) × (get_elem? s.views j ≡ some u)). k.seats j u g.1)
+            (at_set s.views id j v' u h.1))
+            (at_set mid other j empty_message u e);
+        makers = makers_drop clients mid other empty_message refl
+            (makers_stay clients s.views id v v' at alike number made k.makers);
+      }

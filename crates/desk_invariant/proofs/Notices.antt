@@ -24,19 +24,19 @@ module _ {S O R : Type 0} (content : S → Content) (op_in : O → AnyOp) (reply
   pub end_message_keeps_rule : (id : ℕ) (v : DeskView) → v.role ≡ role.Client → v.ended ≡ true
       → Splits K id v v (end_message v)
   end_message_keeps_rule id v cl over =
-    sending_keeps_rule content op_in reply_in kinds clients quota id v (end_message v) refl
+      sending_keeps_rule content op_in reply_in kinds clients quota id v (end_message v) refl
       (λ s k at j. let ok = mine content op_in reply_in kinds clients quota s k id v cl at in
       message_ok kinds k.lists k.world k.seat_of j (end_message v) refl (nothing_seen k.world)
-        (λ x. (k.world.log x, refl))
+      (λ x. (k.world.log x, refl))
       (All-cons (HasLeft k.world) (end_notice v) []
-        (ok.ended ∙ over, λ i. journal_of (sym ok.done i) (sym (own_is v.own (k.world.stage v.number) ok.own) i))
-        (All-nil (HasLeft k.world))))
+      (ok.ended ∙ over, λ i. journal_of (sym ok.done i) (sym (own_is v.own (k.world.stage v.number) ok.own) i))
+      (All-nil (HasLeft k.world))))
 
   pub notice_keeps_rule : (id : ℕ) (v : DeskView) (other : ℕ) (t : DeskView)
       → Joins K id v other t (after_notice t.left v) empty_message
   notice_keeps_rule id v other t =
       receiving_keeps_rule content op_in reply_in kinds clients quota id v
-        (after_notice t.left v) other t refl refl refl (λ s k at there. let old = k.seats id v at in record {
+      (after_notice t.left v) other t refl refl refl (λ s k at there. let old = k.seats id v at in record {
         seen = old.seen;
         received = old.received;
         left = All-append (HasLeft k.world) v.left t.left old.left (k.seats other t there).left;

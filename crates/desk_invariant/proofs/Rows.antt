@@ -60,7 +60,7 @@ Waits q t = OwnOk (own.Waiting q) t
 waits_request : (q : AnyRequest) (t : Stage) → Waits q t → request_of t ≡ Some q
 waits_request q t e = ⊎_elim (λ (a : t ≡ posted q). ap request_of a)
     (λ (b : (t ≡ picked q) ⊎ ((a : AnyAnswer) × (t ≡ answered q a))). ⊎_elim (λ (c : t ≡ picked q). ap request_of c)
-      (λ (c : (a : AnyAnswer) × (t ≡ answered q a)). ap request_of c.1) b) e
+    (λ (c : (a : AnyAnswer) × (t ≡ answered q a)). ap request_of c.1) b) e
 
 -- the own call that is posted is the one that waits
 own_posted : (p q : AnyRequest) (o : Own) (t : Stage) → OwnOk o t → o ≡ own.Waiting p → t ≡ posted q → q ≡ p
@@ -72,7 +72,7 @@ not_waiting : (q : AnyRequest) (t u : Stage) → Waits q t → t ≡ u → u ≢
     → ((a : AnyAnswer) → u ≢ answered q a) → ⊥
 not_waiting q t u e is a b c = ⊎_elim (λ (f : t ≡ posted q). a (sym is ∙ f))
     (λ (g : (t ≡ picked q) ⊎ ((a : AnyAnswer) × (t ≡ answered q a))). ⊎_elim (λ (f : t ≡ picked q). b (sym is ∙ f))
-      (λ (f : (a : AnyAnswer) × (t ≡ answered q a)). c f.0 (sym is ∙ f.1)) g) e
+    (λ (f : (a : AnyAnswer) × (t ≡ answered q a)). c f.0 (sym is ∙ f.1)) g) e
 
 -- what a client knows of its own call stays true while the call goes on waiting
 own_waits : (o : Own) (q : AnyRequest) (t u : Stage) → Waits q t → Waits q u → OwnOk o t → OwnOk o u
@@ -113,10 +113,10 @@ later_row w x r c d q t h logs from to never grow keep apart unposted holds othe
   done = refl;
   logs = grow;
   held = λ y g. let away : y ≢ x = λ same. other (sym (same_Some c d (sym holds ∙ (ap w.holder (sym same) ∙ g)))) in
-    (refl, changed_else w.hand x h y away, keep y away);
+      (refl, changed_else w.hand x h y away, keep y away);
   holds = λ y g. g;
   picked = λ y j p g e f.
-    changed_else w.stage r t j (λ same. apart y p g (e ∙ ap Some same) (ap w.stage (sym same) ∙ f)) ∙ f;
+      changed_else w.stage r t j (λ same. apart y p g (e ∙ ap Some same) (ap w.stage (sym same) ∙ f)) ∙ f;
   posted = λ j p g e. changed_else w.stage r t j (λ same. unposted p g (ap w.stage (sym same) ∙ e)) ∙ e;
   ended = refl;
 }
@@ -141,13 +141,13 @@ other_rows w c r t (b ∷ bs) h =
     let first = All-head (InRow w.stage w.holder c) b bs h in
     dite (ℕ_discrete b.row r)
     (λ same. subst (λ z. All (InRow (changed w.stage r t) w.holder c)
-      (cond (not z) (b ∷ filter (λ b. not (eqb b.row r)) bs) (filter (λ b. not (eqb b.row r)) bs)))
-      (sym (eq-eqb b.row r same)) rest)
+    (cond (not z) (b ∷ filter (λ b. not (eqb b.row r)) bs) (filter (λ b. not (eqb b.row r)) bs)))
+    (sym (eq-eqb b.row r same)) rest)
     (λ other. subst (λ z. All (InRow (changed w.stage r t) w.holder c)
-      (cond (not z) (b ∷ filter (λ b. not (eqb b.row r)) bs) (filter (λ b. not (eqb b.row r)) bs)))
-      (sym (ne_eqb b.row r other))
+    (cond (not z) (b ∷ filter (λ b. not (eqb b.row r)) bs) (filter (λ b. not (eqb b.row r)) bs)))
+    (sym (ne_eqb b.row r other))
     (All-cons (InRow (changed w.stage r t) w.holder c) b (filter (λ b. not (eqb b.row r)) bs)
-      (changed_else w.stage r t b.row other ∙ first.0, first.1) rest))
+    (changed_else w.stage r t b.row other ∙ first.0, first.1) rest))
 
 -- the client itself
 seat_row : (kinds : List Kind) (w : World) (c r : ℕ) (q : AnyRequest) (t : Stage) (hands : ℕ → Option ℕ)
@@ -193,7 +193,7 @@ noting_ok kinds quota c x r w v l pass k miss ok =
     let free = (subst (HeldOk (length kinds) w c) pass ok.held).2 in
     let own_row : Bool = eqb (row_place r) (row_place v.number) in let number = ok.number in
     let now : (own_row && waits_on x v.own) ≡ true
-      → (q : AnyRequest) × (a : AnyAnswer) × (w.stage c ≡ answered q a) = λ b.
+    → (q : AnyRequest) × (a : AnyAnswer) × (w.stage c ≡ answered q a) = λ b.
     let both = and_parts own_row (waits_on x v.own) b in
     let eq = eqb-true (row_place r) (row_place v.number) both.0 in let same : r ≡ c = omega arith in
     noted kinds quota c x w v.own k free (subst (λ z. row_word (w.stage z) ≢ 1 + x) same miss) both.1 ok.own in
@@ -214,10 +214,10 @@ module _ {S O R : Type 0} (content : S → Content) (op_in : O → AnyOp) (reply
 
   -- what a miss at the row r tells
   row_missed : (c x x' r r' : ℕ) (w : World) (m : Me (Slot S O R) DeskView) (l l' : List AnyEntry)
-    → m.0.held ≡ held.Pass x l
+      → m.0.held ≡ held.Pass x l
       → m.0.held ≡ held.Pass x' l' → r ≡ r' → row_word (w.stage r) ≢ 1 + x → SeatOk kinds w c m.0
       → (◌≡◌ {A = Me (Slot S O R) DeskView} (after_row_miss (row_place r) x m.0, m.1)
-        (after_row_miss (row_place r) x' m.0, m.1)) × All (λ b. b.row ≢ r') m.0.back
+      (after_row_miss (row_place r) x' m.0, m.1)) × All (λ b. b.row ≢ r') m.0.back
   row_missed c x x' r r' w m l l' pass pass' er miss ok = let h = subst (HeldOk (length kinds) w c) pass ok.held in (
     ap (λ z. (after_row_miss (row_place r) z m.0, m.1)) (ap held_object (sym pass ∙ pass')),
     λ i d l row. let z = ok.back i d l in let p = get_or m.0.back i d in
@@ -228,7 +228,7 @@ module _ {S O R : Type 0} (content : S → Content) (op_in : O → AnyOp) (reply
   pub look_at_row_keeps_rule : (slots id x r : ℕ) (m : Me (Slot S O R) DeskView) (l : List AnyEntry)
       → m.0.role ≡ role.Client → r < 32 → m.0.held ≡ held.Pass x l
       → Allows K slots id m (row_place r) (λ f. f)
-        (play.looks_at_row content op_in reply_in (step slots (row_place r) 0 0 maybe.none) m)
+      (play.looks_at_row content op_in reply_in (step slots (row_place r) 0 0 maybe.none) m)
   look_at_row_keeps_rule slots id x r m l cl inside pass s k deep at small =
       let w : World = k.world in let c : ℕ = m.0.number in
       let ok = mine content op_in reply_in kinds clients quota s k id m.0 cl at in
@@ -240,14 +240,14 @@ module _ {S O R : Type 0} (content : S → Content) (op_in : O → AnyOp) (reply
         tt,
         looks content op_in reply_in kinds clients quota s k (row_place r) id m.0 m.1 cl at,
         λ x' r' l' pass' e. let ex = ap held_object (sym pass ∙ pass') in
-          ((λ _. refl), λ miss. absurd (miss (hit ∙ ap (λ z. 1 + z) ex))),
+            ((λ _. refl), λ miss. absurd (miss (hit ∙ ap (λ z. 1 + z) ex))),
       ))
       (λ miss. (
         after_row_miss (row_place r) x m.0,
         keeps,
         tt,
         unmoved content op_in reply_in kinds clients quota s k (row_place r) id m.0
-          (after_row_miss (row_place r) x m.0) m.1 at cl alike
+            (after_row_miss (row_place r) x m.0) m.1 at cl alike
             (noting_ok kinds quota c x r w m.0 l pass k.sound (λ e. miss (word ∙ e)) ok),
         λ x' r' l' pass' e. let ex = ap held_object (sym pass ∙ pass') in let er : r ≡ r' = omega arith in (
           (λ hit. absurd (miss (hit ∙ ap (λ z. 1 + z) (sym ex)))),
@@ -258,7 +258,7 @@ module _ {S O R : Type 0} (content : S → Content) (op_in : O → AnyOp) (reply
   pub pick_keeps_rule : (slots id x r : ℕ) (m : Me (Slot S O R) DeskView) (l : List AnyEntry) → m.0.role ≡ role.Client
       → r < 32 → m.0.held ≡ held.Pass x l
       → Allows K slots id m (row_place r) (λ f. either (eqb f (1 + x)) (17 + x) f)
-        (play.picks content op_in reply_in (step slots (row_place r) (1 + x) (17 + x) maybe.none) m)
+      (play.picks content op_in reply_in (step slots (row_place r) (1 + x) (17 + x) maybe.none) m)
   pick_keeps_rule slots id x r m l cl inside pass s k deep at small =
       let w : World = k.world in let c : ℕ = m.0.number in
       let ok = mine content op_in reply_in kinds clients quota s k id m.0 cl at in
@@ -278,50 +278,51 @@ module _ {S O R : Type 0} (content : S → Content) (op_in : O → AnyOp) (reply
         takes (16 + r) (slot.Request home.0),
         home.1,
         subst (λ z. K (stepped s (row_place r) (either z (17 + x) (get_or s.words (row_place r) 0)) id m.1 v'
-          (takes (16 + r) (slot.Request home.0))))
+            (takes (16 + r) (slot.Request home.0))))
             (sym (eq-eqb (get_or s.words (row_place r) 0) (1 + x) hit))
-              (kept_after content op_in reply_in kinds clients quota s k id m.0 v' at cl alike record {
+            (kept_after content op_in reply_in kinds clients quota s k id m.0 v' at cl alike record {
               world = handed w x (Some r) r t;
               holders = k.holders;
               come = come_after clients w r t (k.come r (λ e. let f = sym b.1 ∙ e in absurd (cc))) k.come;
               sound = sound_picked kinds quota w x r c q b.1 b.2 h.1 h.2 k.sound;
               tied = tied_row content op_in reply_in kinds k.lists w r (17 + x) t
-                (changed w.hand x (Some r)) w.log s.words s.homes maybe.none inside
+                  (changed w.hand x (Some r)) w.log s.words s.homes maybe.none inside
                   (λ y _. refl) (λ e. absurd (cc)) (ap request_of (sym b.1)) (ap (λ z. 17 + z) (sym b.2)) tt k.tied;
               leave = row_leaves w r t (ap request_of b.1);
               others = λ d other. later_row w x r c d q t (Some r) w.log from to never (λ y. starts_same (w.log y))
-                (λ y _. refl) (λ y p _ _ e. let f = sym b.1 ∙ e in absurd (cc))
+                  (λ y _. refl) (λ y p _ _ e. let f = sym b.1 ∙ e in absurd (cc))
                   (λ p e f. let g : posted q ≡ posted p = sym b.1 ∙ f in let same : q ≡ p = cc in
-                    other (sym (same_Some c d (sym h.1 ∙ (ap w.holder (sym b.2 ∙ ap (λ z. z.object) same) ∙ e)))))
-                    h.1 other;
+                  other (sym (same_Some c d (sym h.1 ∙ (ap w.holder (sym b.2 ∙ ap (λ z. z.object) same) ∙ e)))))
+                  h.1 other;
               own = seat_row kinds w c r q t (changed w.hand x (Some r)) w.log m.0 (held.Hand x l r q) bs
-                (other_rows w c r t m.0.back ok.back) from to never (λ y. starts_same (w.log y)) ok
+                  (other_rows w c r t m.0.back ok.back) from to never (λ y. starts_same (w.log y)) ok
                   (h.0, h.1, changed_here w.hand x (Some r), h.3, h.4, inside, changed_here w.stage r t);
             }),
         λ x' r' l' pass' e. let ex = ap held_object (sym pass ∙ pass') in let el = ap held_log (sym pass ∙ pass') in
             let er : r ≡ r' = omega arith in (
-          (λ _. (
-            home.0,
-            ap (λ z. z.object) home.2 ∙ (b.2 ∙ ex),
-            ap (λ z. kind_of z.op) home.2 ∙ (fits.0 ∙ (λ i. kind_at (sym ok.kinds_are i) ((b.2 ∙ ex) i))),
-            (λ i. (after_pick (ex i) (el i) (er i) (sym home.2 i) m.0, (16 + er i, slot.Request home.0) ∷ m.1)),
-            λ i d l row. let z = ok.back i d l in let p = get_or m.0.back i d in let f : posted p.request ≡ posted q =
-                sym z.0 ∙ (ap w.stage (row ∙ sym er) ∙ b.1) in let same : p.request ≡ q = cc in same ∙ sym home.2,
-            λ p here mine. home.2 ∙ own_posted p q m.0.own (w.stage c) ok.own mine
-              (ap w.stage (sym here ∙ sym er) ∙ b.1),
-          )),
-          λ miss. absurd (miss (hit ∙ ap (λ z. 1 + z) ex)),
-        ),
+              (λ _. (
+                home.0,
+                ap (λ z. z.object) home.2 ∙ (b.2 ∙ ex),
+                ap (λ z. kind_of z.op) home.2 ∙ (fits.0 ∙ (λ i. kind_at (sym ok.kinds_are i) ((b.2 ∙ ex) i))),
+                (λ i. (after_pick (ex i) (el i) (er i) (sym home.2 i) m.0, (16 + er i, slot.Request home.0) ∷ m.1)),
+                λ i d l row. let z = ok.back i d l in let p = get_or m.0.back i d in
+                    let f : posted p.request ≡ posted q =
+                    sym z.0 ∙ (ap w.stage (row ∙ sym er) ∙ b.1) in let same : p.request ≡ q = cc in same ∙ sym home.2,
+                λ p here mine. home.2 ∙ own_posted p q m.0.own (w.stage c) ok.own mine
+                    (ap w.stage (sym here ∙ sym er) ∙ b.1),
+              )),
+              λ miss. absurd (miss (hit ∙ ap (λ z. 1 + z) ex)),
+            ),
       ))
       (λ miss. (
         after_row_miss (row_place r) x m.0,
         keeps,
         tt,
         subst (λ z. K (stepped s (row_place r) (either z (17 + x) (get_or s.words (row_place r) 0)) id m.1
-          (after_row_miss (row_place r) x m.0)
+            (after_row_miss (row_place r) x m.0)
             keeps)) (sym (ne_eqb (get_or s.words (row_place r) 0) (1 + x) miss))
             (unmoved content op_in reply_in kinds clients quota s k (row_place r) id m.0
-              (after_row_miss (row_place r) x m.0) m.1 at cl alike
+            (after_row_miss (row_place r) x m.0) m.1 at cl alike
             (noting_ok kinds quota c x r w m.0 l pass k.sound (λ e. miss (word ∙ e)) ok)),
         λ x' r' l' pass' e. let ex = ap held_object (sym pass ∙ pass') in let er : r ≡ r' = omega arith in (
           (λ hit. absurd (miss (hit ∙ ap (λ z. 1 + z) (sym ex)))),
@@ -331,7 +332,7 @@ module _ {S O R : Type 0} (content : S → Content) (op_in : O → AnyOp) (reply
 
   -- no row that another client d has in hand is r, which c has in hand
   apart : (w : World) (x r c d : ℕ) (q : AnyRequest) → w.stage r ≡ picked q → q.object ≡ x → w.holder x ≡ Some c
-    → d ≢ c → Sound kinds quota w
+      → d ≢ c → Sound kinds quota w
       → (y : ℕ) (p : AnyRequest) → w.holder y ≡ Some d → w.hand y ≡ Some r → w.stage r ≢ picked p
   apart w x r c d q is on holds other k y p g e f =
       let b = k.in_hand y r e in let z : picked q ≡ picked b.0 = sym is ∙ b.1 in let same : q ≡ b.0 = cc in
@@ -343,7 +344,7 @@ module _ {S O R : Type 0} (content : S → Content) (op_in : O → AnyOp) (reply
       (tl : List (ℕ × Slot S O R)) → m.0.role ≡ role.Client → m.0.held ≡ held.Hand x l r q
       → m.1 ≡ (16 + r, slot.Request p) ∷ tl → request_in op_in p ≡ q → q.object ≡ x → n ≡ 1 + x
       → Allows K slots id m (row_place r) (λ _. n)
-        (λ _. play.puts_back content op_in reply_in (step slots (row_place r) n 0 maybe.none) m n)
+      (λ _. play.puts_back content op_in reply_in (step slots (row_place r) n 0 maybe.none) m n)
   put_back_keeps_rule slots id x r n m l q p tl cl hand carried is on word s k deep at small =
       let w : World = k.world in let c : ℕ = m.0.number in
       let ok = mine content op_in reply_in kinds clients quota s k id m.0 cl at in let h =
@@ -356,52 +357,60 @@ module _ {S O R : Type 0} (content : S → Content) (op_in : O → AnyOp) (reply
         v',
         gives,
         tt,
-        subst (λ cs. K record { words = set s.words (row_place r) n; homes = put_back s.homes cs;
-          views = set s.views id v' }) (sym carried)
+        subst (λ cs. K record {
+          words = set s.words (row_place r) n;
+          homes = put_back s.homes cs;
+          views = set s.views id v';
+        }) (sym carried)
             (kept_after content op_in reply_in kinds clients quota s k id m.0 v' at cl alike record {
               world = handed w x None r t;
               holders = k.holders;
               come = come_after clients w r t (k.come r (λ e. let f = sym h.6 ∙ e in absurd (cc))) k.come;
               sound = sound_put_back kinds quota w x r c q h.6 on h.1 h.2 k.sound;
               tied = tied_row content op_in reply_in kinds k.lists w r n t
-                (changed w.hand x None) w.log s.words s.homes (some (slot.Request p)) h.5
+                  (changed w.hand x None) w.log s.words s.homes (some (slot.Request p)) h.5
                   (λ y _. refl) (λ e. absurd (cc)) (ap request_of (sym h.6)) (word ∙ ap (λ z. 1 + z) (sym on))
-                    (p, refl, is) k.tied;
+                  (p, refl, is) k.tied;
               leave = row_leaves w r t (ap request_of h.6);
               others = λ d other. later_row w x r c d q t None w.log from to never (λ y. starts_same (w.log y))
-                (λ y _. refl) (apart w x r c d q h.6 on h.1 other k.sound) (λ p _. unposted p) h.1 other;
+                  (λ y _. refl) (apart w x r c d q h.6 on h.1 other k.sound) (λ p _. unposted p) h.1 other;
               own = seat_row kinds w c r q t (changed w.hand x None) w.log m.0 (held.Pass x l) bs
                   (All-push (InRow (changed w.stage r t) w.holder c) m.0.back (record { row = r; request = q })
                   (rows_stay w c r t m.0.back unposted ok.back) (changed_here w.stage r t, ap w.holder on ∙ h.1)) from
-                    to never
+                  to never
                   (λ y. starts_same (w.log y)) ok (h.0, h.1, changed_here w.hand x None, h.3, h.4);
             }),
         λ x' r' l' q' hand'. let e = sym hand ∙ hand' in
-          λ i. (after_put_back (ap held_object e i) (ap held_log e i) (ap held_row e i) (ap (held_request q) e i) m.0,
-          rest m.1),
+            λ i. (
+              after_put_back (ap held_object e i) (ap held_log e i) (ap held_row e i) (ap (held_request q) e i) m.0,
+              rest m.1,
+            ),
       )
 
   grows : (w : World) (x : ℕ) (more : List AnyEntry) (y : ℕ)
-    → StartsWith (changed w.log x (w.log x ++ more) y) (w.log y)
+      → StartsWith (changed w.log x (w.log x ++ more) y) (w.log y)
   grows w x more = changed_all (λ y l. StartsWith l (w.log y)) w.log x (w.log x ++ more) (more, refl)
-    (λ y _. starts_same (w.log y))
+      (λ y _. starts_same (w.log y))
 
   -- the client that answered, and knows that its own row is answered if it was that one
   seat_answered : (w : World) (c x r : ℕ) (q : AnyRequest) (a : AnyAnswer) (v : DeskView) (o : Held)
-    → w.stage r ≡ picked q → SeatOk kinds w c v → HeldOk (length kinds) (served_by w x r q a) c o
+      → w.stage r ≡ picked q → SeatOk kinds w c v → HeldOk (length kinds) (served_by w x r q a) c o
       → SeatOk kinds (served_by w x r q a) c (record v { held = o; ready = v.ready || eqb r v.number })
   seat_answered w c x r q a v o is ok now =
       let from : Waits q (w.stage r) = inr (inl is) in let to : Waits q (answered q a) = inr (inr (a, refl)) in
       let never : (p : AnyRequest) (b : AnyAnswer) → w.stage r ≢ answered p b = λ p b e. let f = sym is ∙ e in
       absurd (cc) in
       let base = seat_row kinds w c r q (answered q a) (changed w.hand x None)
-        (changed w.log x (w.log x ++ logged r q a)) v o v.back
+      (changed w.log x (w.log x ++ logged r q a)) v o v.back
       (rows_stay w c r (answered q a) v.back (λ p e. let f = sym is ∙ e in absurd (cc)) ok.back) from to never
-        (grows w x (logged r q a)) ok now in
+      (grows w x (logged r q a)) ok now in
       let now : eqb r v.number ≡ true
-        → (p : AnyRequest) × (b : AnyAnswer) × (changed w.stage r (answered q a) c ≡ answered p b) = λ b.
-      (q, a, ap (changed w.stage r (answered q a)) (sym (eqb-true r v.number b ∙ ok.number))
-        ∙ changed_here w.stage r (answered q a)) in
+      → (p : AnyRequest) × (b : AnyAnswer) × (changed w.stage r (answered q a) c ≡ answered p b) = λ b. (
+        q,
+        a,
+        ap (changed w.stage r (answered q a)) (sym (eqb-true r v.number b ∙ ok.number))
+            ∙ changed_here w.stage r (answered q a),
+      ) in
       seat_knowing (λ e. ⊎_elim base.ready now (or_cases v.ready (eqb r v.number) e)) base.retired base
 
   abbrev pub answer_or : Answer R → Slot S O R → Answer R
@@ -418,7 +427,7 @@ module _ {S O R : Type 0} (content : S → Content) (op_in : O → AnyOp) (reply
       → m.1 ≡ (16 + r, slot.Answer b) ∷ tl → q.object ≡ x
       → IsLegal (kind_at m.0.kinds x) (l ++ logged r q (answer_in reply_in b))
       → Allows K slots id m (row_place r) (λ _. 33)
-        (λ _. play.answers content op_in reply_in (step slots (row_place r) 33 0 maybe.none) m 33)
+      (λ _. play.answers content op_in reply_in (step slots (row_place r) 33 0 maybe.none) m 33)
   answer_keeps_rule slots id x r m l q b tl cl hand carried on legal s k deep at small =
       let w : World = k.world in let c : ℕ = m.0.number in
       let ok = mine content op_in reply_in kinds clients quota s k id m.0 cl at in
@@ -429,8 +438,8 @@ module _ {S O R : Type 0} (content : S → Content) (op_in : O → AnyOp) (reply
       let never : (p : AnyRequest) (a : AnyAnswer)
       → w.stage r ≢ answered p a = λ p a e. let f = sym h.6 ∙ e in absurd (cc) in
       let legal' : IsLegal (kind_at kinds x) (w.log x ++ more) =
-        subst (λ (z : List Kind × List AnyEntry). IsLegal (kind_at z.0 x) (z.1 ++ more))
-        (λ i. (ok.kinds_are i, sym h.3 i)) legal in (
+      subst (λ (z : List Kind × List AnyEntry). IsLegal (kind_at z.0 x) (z.1 ++ more))
+      (λ i. (ok.kinds_are i, sym h.3 i)) legal in (
         after_answer r x (l ++ more) m.0,
         gives,
         tt,
@@ -440,29 +449,33 @@ module _ {S O R : Type 0} (content : S → Content) (op_in : O → AnyOp) (reply
           views =
               set s.views id (after_answer r x (l ++ more) m.0);
         }) (sym carried) (kept_after content op_in reply_in kinds clients quota s k id m.0
-          (after_answer r x (l ++ more) m.0) at cl alike record {
-          world = served_by w x r q a;
-          holders = k.holders;
-          come = come_after clients w r t (k.come r (λ e. let f = sym h.6 ∙ e in absurd (cc))) k.come;
-          sound = sound_served kinds quota w x r c q a h.6 on h.1 h.2 legal' k.sound;
-          tied = tied_row content op_in reply_in kinds k.lists w r 33 t (changed w.hand x None)
-            (changed w.log x (w.log x ++ more)) s.words s.homes (some (slot.Answer b)) h.5
-              (λ y e. changed_else w.log x (w.log x ++ more) y
-                (λ same. let f = sym h.1 ∙ (ap w.holder (sym same) ∙ e) in absurd (cc)))
-              (λ e. absurd (cc)) (ap request_of (sym h.6)) refl (b, refl, refl) k.tied;
-          leave = row_leaves w r t (ap request_of h.6);
-          others = λ d other. later_row w x r c d q t None (changed w.log x (w.log x ++ more)) from to never
-            (grows w x more)
-              (λ y away. changed_else w.log x (w.log x ++ more) y away) (apart w x r c d q h.6 on h.1 other k.sound)
-                (λ p _ e. let f = sym h.6 ∙ e in absurd (cc)) h.1 other;
-          own = seat_answered w c x r q a m.0 (held.Pass x (l ++ more)) h.6 ok
-            (h.0, h.1, changed_here w.hand x None,
-            changed_here w.log x (w.log x ++ more) ∙ ap (λ z. z ++ more) h.3, h.4);
-        }),
+            (after_answer r x (l ++ more) m.0) at cl alike record {
+              world = served_by w x r q a;
+              holders = k.holders;
+              come = come_after clients w r t (k.come r (λ e. let f = sym h.6 ∙ e in absurd (cc))) k.come;
+              sound = sound_served kinds quota w x r c q a h.6 on h.1 h.2 legal' k.sound;
+              tied = tied_row content op_in reply_in kinds k.lists w r 33 t (changed w.hand x None)
+                  (changed w.log x (w.log x ++ more)) s.words s.homes (some (slot.Answer b)) h.5
+                  (λ y e. changed_else w.log x (w.log x ++ more) y
+                  (λ same. let f = sym h.1 ∙ (ap w.holder (sym same) ∙ e) in absurd (cc)))
+                  (λ e. absurd (cc)) (ap request_of (sym h.6)) refl (b, refl, refl) k.tied;
+              leave = row_leaves w r t (ap request_of h.6);
+              others = λ d other. later_row w x r c d q t None (changed w.log x (w.log x ++ more)) from to never
+                  (grows w x more)
+                  (λ y away. changed_else w.log x (w.log x ++ more) y away) (apart w x r c d q h.6 on h.1 other k.sound)
+                  (λ p _ e. let f = sym h.6 ∙ e in absurd (cc)) h.1 other;
+              own = seat_answered w c x r q a m.0 (held.Pass x (l ++ more)) h.6 ok (
+                h.0,
+                h.1,
+                changed_here w.hand x None,
+                changed_here w.log x (w.log x ++ more) ∙ ap (λ z. z ++ more) h.3,
+                h.4,
+              );
+            }),
         λ x' r' i l' q' b' tl' hand' carried'. let e = sym hand ∙ hand' in let f = sym carried ∙ carried' in λ j. (
           after_answer (ap held_row e j) (ap held_object e j)
               (ap held_log e j ++ logged (ap held_row e j) (ap (held_request q) e j)
-                (answer_in reply_in (ap (answer_carried b) f j))) m.0,
+              (answer_in reply_in (ap (answer_carried b) f j))) m.0,
           rest (carried' j),
         ),
       )

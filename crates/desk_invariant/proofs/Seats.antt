@@ -54,9 +54,11 @@ left_stays w w' ls leave all i d l = let b = all i d l in let e = leave (get_or 
 pub row_leaves : (w : World) (r : ℕ) (t : Stage) → request_of (w.stage r) ≡ request_of t → (d : ℕ) → w.ended d ≡ true
     → (w.ended d ≡ true)
     × (journal_of (w.done d) (request_of (changed w.stage r t d)) ≡ journal_in w d)
-row_leaves w r t same d e =
-    (e, ap (journal_of (w.done d))
-    (changed_all (λ p s. request_of s ≡ request_of (w.stage p)) w.stage r t (sym same) (λ p _. refl) d))
+row_leaves w r t same d e = (
+  e,
+  ap (journal_of (w.done d))
+      (changed_all (λ p s. request_of s ≡ request_of (w.stage p)) w.stage r t (sym same) (λ p _. refl) d),
+)
 
 same_later : (w : World) (c : ℕ) → Later w w c
 same_later w c = record {
@@ -95,7 +97,7 @@ seat_stays kinds w w' c v leave t k = record {
   ended = t.ended ∙ k.ended;
   retired = λ i d l. (leave (get_or v.retired i d) (k.retired i d l)).0;
   back = λ i d l. let b = k.back i d l in let p = get_or v.back i d in
-    (t.posted p.row p.request b.1 b.0, (t.held p.request.object b.1).0 ∙ b.1);
+      (t.posted p.row p.request b.1 b.0, (t.held p.request.object b.1).0 ∙ b.1);
 }
 
 -- what no step of a client's own changes in its view
@@ -133,11 +135,16 @@ alike = record { role = refl; number = refl; made = refl; received = refl; left 
 pub seat_knowing : {kinds : List Kind} {w : World} {c : ℕ} {v : DeskView} {ready : Bool}
     {received : List (List AnyEntry)} {missed : List ℕ}
     {left : List Leaving} {retired still_there : List ℕ}
-      → (ready ≡ true → (q : AnyRequest) × (a : AnyAnswer) × (w.stage c ≡ answered q a))
+    → (ready ≡ true → (q : AnyRequest) × (a : AnyAnswer) × (w.stage c ≡ answered q a))
     → All (λ d. w.ended d ≡ true) retired → SeatOk kinds w c v
-    → SeatOk kinds w c (record v
-      { ready = ready; received = received; missed = missed; left = left; retired = retired;
-      still_there = still_there })
+    → SeatOk kinds w c (record v {
+      ready = ready;
+      received = received;
+      missed = missed;
+      left = left;
+      retired = retired;
+      still_there = still_there;
+    })
 seat_knowing ready retired ok = record {
   number = ok.number;
   small = ok.small;
@@ -165,18 +172,18 @@ seats_after kinds lists clients w w' so vs id v v' at cl alike makers before lea
     let here = (before id v at).client cl in let next : 1 + v.number ≢ v.number = λ h. omega arith in
     let logs = (others (1 + v.number) next).logs in
     let is_made : (c : ℕ) (z : DeskView) (i : ℕ) → get_elem? vs i ≡ some z → z.role ≡ role.Maker → z.made ≤ c
-      → c ≢ v.number =
+    → c ≢ v.number =
     λ c z i g is l same. let low = (makers.made i z g is id v at).0 cl in omega arith in
     let unmade : (c : ℕ) → c ≢ v.number
-      → (w.stage c ≡ absent) × (w.done c ≡ []) × (w.ended c ≡ false) × ((x : ℕ) → w.holder x ≢ Some c)
+    → (w.stage c ≡ absent) × (w.done c ≡ []) × (w.ended c ≡ false) × ((x : ℕ) → w.holder x ≢ Some c)
     → (w'.stage c ≡ absent) × (w'.done c ≡ []) × (w'.ended c ≡ false) × ((x : ℕ) → w'.holder x ≢ Some c) =
     λ c apart b. let o = others c apart in
-      (o.own own.Absent b.0, o.done ∙ b.1, o.ended ∙ b.2, λ x f. b.3 x (o.holds x f)) in
+    (o.own own.Absent b.0, o.done ∙ b.1, o.ended ∙ b.2, λ x f. b.3 x (o.holds x f)) in
     ⊎_elim (λ (t : (j ≡ id) × (v' ≡ u)). subst (λ (z : ℕ × DeskView). ViewOk kinds lists w' so z.0 z.1)
-      (λ i. (sym t.0 i, t.1 i)) record {
+    (λ i. (sym t.0 i, t.1 i)) record {
       seen = ok.seen;
       received = λ x. subst (λ z. StartsWith (w'.log x) (get_or z x [])) (sym alike.received)
-        (starts_longer (w'.log x) (w.log x) (received_of v x) (logs x) ((before id v at).received x));
+          (starts_longer (w'.log x) (w.log x) (received_of v x) (logs x) ((before id v at).received x));
       left = subst (All (HasLeft w')) (sym alike.left) (left_stays w w' v.left leave (before id v at).left);
       client = λ _. (ap so alike.number ∙ here.0, subst (λ z. SeatOk kinds w' z v') (sym alike.number) ok);
       unmade = λ is c l. let is' : v.role ≡ role.Maker = sym alike.role ∙ is in
@@ -191,7 +198,7 @@ seats_after kinds lists clients w w' so vs id v v' at cl alike makers before lea
       received = λ x. starts_longer (w'.log x) (w.log x) (received_of u x) (logs x) (b.received x);
       left = left_stays w w' u.left leave b.left;
       client = λ is. let c = b.client is in
-        (c.0, seat_stays kinds w w' u.number u leave (others u.number (λ g. t.0 (sym c.0 ∙ (ap so g ∙ here.0)))) c.1);
+          (c.0, seat_stays kinds w w' u.number u leave (others u.number (λ g. t.0 (sym c.0 ∙ (ap so g ∙ here.0)))) c.1);
       unmade = λ is c l. unmade c (is_made c u j t.1 is l) (b.unmade is c l);
       maker_kinds = b.maker_kinds;
       lists_are = b.lists_are;
@@ -203,17 +210,21 @@ pub makers_stay : (clients : ℕ) (vs : List DeskView) (id : ℕ) (v v' : DeskVi
     → v'.made ≡ v.made → Makers clients vs → Makers clients (set vs id v')
 makers_stay clients vs id v v' at role number made before =
     let back : (a : ℕ) (z : DeskView) → get_elem? (set vs id v') a ≡ some z
-      → (y : DeskView) × (get_elem? vs a ≡ some y) × (z.role ≡ y.role) × (z.number ≡ y.number) × (z.made ≡ y.made)
-    = λ a z g. ⊎_elim (λ (h : (a ≡ id) × (v' ≡ z)).
-      (v, ap (get_elem? vs) h.0 ∙ at, ap (λ q. q.role) (sym h.1) ∙ role, ap (λ q. q.number) (sym h.1) ∙ number,
-      ap (λ q. q.made) (sym h.1) ∙ made))
+    → (y : DeskView) × (get_elem? vs a ≡ some y) × (z.role ≡ y.role) × (z.number ≡ y.number) × (z.made ≡ y.made)
+    = λ a z g. ⊎_elim (λ (h : (a ≡ id) × (v' ≡ z)). (
+      v,
+      ap (get_elem? vs) h.0 ∙ at,
+      ap (λ q. q.role) (sym h.1) ∙ role,
+      ap (λ q. q.number) (sym h.1) ∙ number,
+      ap (λ q. q.made) (sym h.1) ∙ made,
+    ))
     (λ (h : (a ≢ id) × (get_elem? vs a ≡ some z)). (z, h.1, refl, refl, refl)) (at_set vs id a v' z g) in
     record {
       made = λ j u e is i t f. let a = back j u e in let b = back i t f in
           let low = before.made j a.0 a.1 (sym a.2 ∙ is) i b.0 b.1 in let n₁ = b.3 in let n₂ = a.4 in
           ((λ tc. let l = low.0 (sym b.2 ∙ tc) in omega arith), λ tm. low.1 (sym b.2 ∙ tm));
       numbers = λ j u e is. let a = back j u e in let low = before.numbers j a.0 a.1 (sym a.2 ∙ is) in let n = a.3 in
-        omega arith;
+          omega arith;
     }
 
 -- who has come is one of the clients still, after one of them goes to another stage
@@ -262,7 +273,7 @@ module _ {S O R : Type 0} (content : S → Content) (op_in : O → AnyOp) (reply
     sound = a.sound;
     tied = a.tied;
     seats = seats_after kinds k.lists clients k.world a.world k.seat_of s.views id v v' at cl alike k.makers k.seats
-      a.leave a.others a.own;
+        a.leave a.others a.own;
     makers = makers_after clients s.views id v v' at alike k.makers;
     holders = a.holders;
     come = a.come;
@@ -273,8 +284,8 @@ module _ {S O R : Type 0} (content : S → Content) (op_in : O → AnyOp) (reply
       → get_elem? s.views id ≡ some v → v.role ≡ role.Client → Alike v v' → SeatOk kinds k.world v.number v'
       → Rule (stepped s i (get_or s.words i 0) id cs v' keeps)
   unmoved s k i id v v' cs at cl alike ok =
-    subst (λ (ws : List ℕ). Rule record { words = ws; homes = s.homes; views = set s.views id v' })
-    (sym (set-get_or s.words i 0))
+      subst (λ (ws : List ℕ). Rule record { words = ws; homes = s.homes; views = set s.views id v' })
+      (sym (set-get_or s.words i 0))
       (kept_after s k id v v' at cl alike record {
         world = k.world;
         holders = k.holders;

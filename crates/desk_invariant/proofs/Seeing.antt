@@ -30,9 +30,11 @@ owed_served x c (own.Taken q a) t e = ([], ap (served_now x c) e ∙ sym (append
 pub all_covered : (kinds : List Kind) (quota : ℕ) (w : World) (c x : ℕ) (ds : List AnyDone) (o : Own) → ds ≡ w.done c
     → OwnOk o (w.stage c)
     → Sound kinds quota w → StartsWith (entries_of c (w.log x)) (served x c ds ++ owed x c o)
-all_covered kinds quota w c x ds o same ok k = let d = owed_served x c o (w.stage c) ok in
-    (d.0, k.counted c x ∙ ((λ i. served x c (sym same i) ++ d.1 i)
-      ∙ sym (append_assoc (served x c ds) (owed x c o) d.0)))
+all_covered kinds quota w c x ds o same ok k = let d = owed_served x c o (w.stage c) ok in (
+  d.0,
+  k.counted c x ∙ ((λ i. served x c (sym same i) ++ d.1 i)
+      ∙ sym (append_assoc (served x c ds) (owed x c o) d.0)),
+)
 
 pub entries_start : (c : ℕ) (xs ys : List AnyEntry) → StartsWith xs ys → StartsWith (entries_of c xs) (entries_of c ys)
 entries_start c xs ys b = (entries_of c b.0, ap (entries_of c) b.1 ∙ entries-append c ys b.0)
@@ -43,7 +45,7 @@ pub seen_all : (P : ℕ → List AnyEntry → Type 0) (seen : List (List AnyEntr
     → ((y : ℕ) → y ≢ x → P y (get_or seen y [])) → (y : ℕ) → P y (get_or (set seen x l) y [])
 seen_all P seen x l low here others y = dite (ℕ_discrete y x)
     (λ same. subst (λ z. P z (get_or (set seen x l) z [])) (sym same)
-      (subst (P x) (sym (get_or-set_same seen x l [] low)) here))
+    (subst (P x) (sym (get_or-set_same seen x l [] low)) here))
     (λ other. subst (P y) (sym (get_or-set_other seen x y l [] other)) (others y other))
 
 -- the client sees the list l of the object x
@@ -60,7 +62,7 @@ saw kinds w c x v l low begins covers ok = let wide = ok.wide_seen in record {
   wide_seen = length-set v.seen x l ∙ wide;
   seen = seen_all (λ y z. StartsWith (w.log y) z) v.seen x l (omega arith) begins (λ y _. ok.seen y);
   covers = seen_all (λ y z. StartsWith (entries_of c z) (served y c v.done ++ owed y c v.own)) v.seen x l
-    (omega arith) covers (λ y _. ok.covers y);
+      (omega arith) covers (λ y _. ok.covers y);
   held = ok.held;
   ended = ok.ended;
   retired = ok.retired;
@@ -95,7 +97,7 @@ held_now x c (own.Waiting q) t now more rest ok e =
     (⊎_elim (λ g. g) (λ g. g) (one_front [] now more (omega arith) (ap (served_now x c) (sym f) ∙ e))))
     (λ (g : (t ≡ picked q) ⊎ ((a : AnyAnswer) × (t ≡ answered q a))). ⊎_elim
     (λ (f : t ≡ picked q). inl
-      (⊎_elim (λ g. g) (λ g. g) (one_front [] now more (omega arith) (ap (served_now x c) (sym f) ∙ e))))
+    (⊎_elim (λ g. g) (λ g. g) (one_front [] now more (omega arith) (ap (served_now x c) (sym f) ∙ e))))
     (λ (f : (a : AnyAnswer) × (t ≡ answered q a)). ⊎_elim (λ h. inl h) (λ h. inr (f.0, h))
     (one_front (logged_on x c q f.0) now more (short_logged x c q f.0) (ap (served_now x c) (sym f.1) ∙ e))) g) ok
 held_now x c (own.Taken q a) t now more rest ok e = absurd rest
@@ -110,8 +112,11 @@ accounts kinds quota w x v l rest done ok k begins covers =
     let now : List AnyEntry = owed x c v.own ++ covers.0 in
     let seen : entries_of c l ≡ d ++ now = covers.1 ∙ append_assoc d (owed x c v.own) covers.0 in
     let whole : d ++ served_now x c (w.stage c) ≡ d ++ (now ++ entries_of c begins.0) =
-      ap (λ z. served x c z ++ served_now x c (w.stage c)) done
+    ap (λ z. served x c z ++ served_now x c (w.stage c)) done
     ∙ (sym (k.counted c x) ∙ (ap (entries_of c) begins.1 ∙ (entries-append c l begins.0
-    ∙ (ap (λ z. z ++ entries_of c begins.0) seen ∙ append_assoc d now (entries_of c begins.0))))) in
-    (now, seen, held_now x c v.own (w.stage c) now (entries_of c begins.0) rest ok
-      (append_cancel_left d (served_now x c (w.stage c)) (now ++ entries_of c begins.0) whole))
+    ∙ (ap (λ z. z ++ entries_of c begins.0) seen ∙ append_assoc d now (entries_of c begins.0))))) in (
+      now,
+      seen,
+      held_now x c v.own (w.stage c) now (entries_of c begins.0) rest ok
+          (append_cancel_left d (served_now x c (w.stage c)) (now ++ entries_of c begins.0) whole),
+    )

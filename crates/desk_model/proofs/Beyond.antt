@@ -23,7 +23,7 @@ nothing_served kinds x c (d ∷ ds) q far all =
     let rest : List AnyEvent = Returned d.returned d.answer ∷ journal_of ds q in
     let on : d.request.object < length kinds = (All-head (IsAmong kinds) (invoked d.request) rest all).0 in
     let later = All-tail (IsAmong kinds) (Returned d.returned d.answer) (journal_of ds q)
-      (All-tail (IsAmong kinds) (invoked d.request) rest all) in
+    (All-tail (IsAmong kinds) (invoked d.request) rest all) in
     (λ i. nothing_logged (length kinds) x c d.request d.answer far on i ++ nothing_served kinds x c ds q far later i)
 
 asked_among : (kinds : List Kind) (ds : List AnyDone) (q : AnyRequest) → All (IsAmong kinds) (journal_of ds (Some q))
@@ -45,7 +45,7 @@ no_entries : (l : List AnyEntry) → ((c : ℕ) → entries_of c l ≡ []) → l
 no_entries [] none = refl
 no_entries (e ∷ es) none = let own : e ∷ entries_of e.client es ≡ [] =
     sym (ap (λ b. cond b (e ∷ entries_of e.client es) (entries_of e.client es)) (eq-eqb e.client e.client refl))
-      ∙ none e.client in absurd (cc)
+    ∙ none e.client in absurd (cc)
 
 is_absent : (t : Stage) → ((t ≢ absent) → ⊥) → t ≡ absent
 is_absent absent h = refl
@@ -60,8 +60,8 @@ module _ (kinds : List Kind) (quota : ℕ) (w : World) (k : Sound kinds quota w)
   pub no_log_beyond : (x : ℕ) → length kinds ≤ x → w.log x ≡ []
   no_log_beyond x far = no_entries (w.log x)
       (λ c. k.counted c x ∙ (λ i.
-        nothing_served kinds x c (w.done c) (request_of (w.stage c)) far (k.journals.on_objects c) i
-        ++ nothing_now kinds x
+      nothing_served kinds x c (w.done c) (request_of (w.stage c)) far (k.journals.on_objects c) i
+      ++ nothing_now kinds x
       c (w.done c) (w.stage c) far (k.journals.on_objects c) i))
 
   -- where all that have come are below n

@@ -81,14 +81,14 @@ pub once_in_order : (es : List AnyEntry) → Pairs (λ e f. e.ticket ≢ f.ticke
     → Pairs (λ (a b : ℤ). a ≢ b) (map (λ (e : AnyEntry). pos e.ticket) es)
 once_in_order es h = pairs_map (λ (a b : ℤ). a ≢ b) (λ (e : AnyEntry). pos e.ticket) es
     (pairs_weaker (λ e f. e.ticket ≢ f.ticket) (λ e f. pos e.ticket ≢ pos f.ticket) es
-      (λ e f i j ne s. ne (same_pos e.ticket f.ticket s)) h)
+    (λ e f i j ne s. ne (same_pos e.ticket f.ticket s)) h)
 
 pub in_own_entries : (e : AnyEntry) (es : List AnyEntry) → In e es → In e (entries_of e.client es)
 in_own_entries e [] i = absurd i
 in_own_entries e (f ∷ es) i = go (f.client == e.client) refl i (in_own_entries e es)
   where
     go : (b : Bool) → (f.client == e.client) ≡ b → In e (f ∷ es) → (In e es → In e (entries_of e.client es))
-      → In e (cond b (f ∷ entries_of e.client es) (entries_of e.client es))
+        → In e (cond b (f ∷ entries_of e.client es) (entries_of e.client es))
     go true s i g = elim i [ inl t ↦ inl t | inr j ↦ inr (g j) ]
     go false s i g = elim i [
       | inl t ↦ absurd (cc (sym s ∙ eq-eqb f.client e.client (ap (λ (d : AnyEntry). d.client) (sym t))))
@@ -109,30 +109,30 @@ tickets_once (e ∷ es) up apart = (head, tickets_once es tail (λ f g i j s. ap
     head f i s =
         let client : e.client ≡ f.client = apart e f (inl refl) (inr i) s in
         let rises : Pairs (λ (e f : AnyEntry). e.ticket < f.ticket) (e ∷ entries_of e.client es) =
-          subst (Pairs (λ (e f : AnyEntry). e.ticket < f.ticket)) own (up e.client) in
+        subst (Pairs (λ (e f : AnyEntry). e.ticket < f.ticket)) own (up e.client) in
         let l : e.ticket < f.ticket =
-          rises.0 f (subst (λ c. In f (entries_of c es)) (sym client) (in_own_entries f es i)) in
+        rises.0 f (subst (λ c. In f (entries_of c es)) (sym client) (in_own_entries f es i)) in
         omega arith
 
     tail : (c : ℕ) → Pairs (λ e f. e.ticket < f.ticket) (entries_of c es)
     tail c = go (e.client == c) (up c)
       where
         go : (b : Bool) → Pairs (λ e f. e.ticket < f.ticket) (cond b (e ∷ entries_of c es) (entries_of c es))
-          → Pairs (λ e f. e.ticket < f.ticket) (entries_of c es)
+            → Pairs (λ e f. e.ticket < f.ticket) (entries_of c es)
         go true h = h.1
         go false h = h
 
 -- where no ticket stands twice, what stands before an entry stands before it however the log is split at it
 pub in_front : (es : List AnyEntry) → Pairs (λ e f. e.ticket ≢ f.ticket) es
     → Pairs (λ e f. (before after : List AnyEntry) (g : AnyEntry) → es ≡ before ++ g ∷ after → g.ticket ≡ f.ticket
-      → In e before) es
+    → In e before) es
 in_front [] h = tt
 in_front (x ∷ xs) h = (
   λ f i before after g s t. first f i before after g s t,
   pairs_weaker (λ e f. (before after : List AnyEntry) (g : AnyEntry) → xs ≡ before ++ g ∷ after → g.ticket ≡ f.ticket
-    → In e before)
+      → In e before)
       (λ e f. (before after : List AnyEntry) (g : AnyEntry) → x ∷ xs ≡ before ++ g ∷ after → g.ticket ≡ f.ticket
-        → In e before) xs
+      → In e before) xs
       (λ e f i j k. further e f j k) (in_front xs h.1),
 )
   where
@@ -140,12 +140,12 @@ in_front (x ∷ xs) h = (
     not_first f g after i s t = let u : x ≡ g = cc (s) in h.0 f i (ap (λ (e : AnyEntry). e.ticket) u ∙ t)
 
     first : (f : AnyEntry) → In f xs → (before after : List AnyEntry) (g : AnyEntry) → x ∷ xs ≡ before ++ g ∷ after
-      → g.ticket ≡ f.ticket → In x before
+        → g.ticket ≡ f.ticket → In x before
     first f i [] after g s t = absurd (not_first f g after i s t)
     first f i (y ∷ ys) after g s t = inl (cc (s))
 
     further : (e f : AnyEntry) → In f xs
-      → ((before after : List AnyEntry) (g : AnyEntry) → xs ≡ before ++ g ∷ after → g.ticket ≡ f.ticket → In e before)
+        → ((before after : List AnyEntry) (g : AnyEntry) → xs ≡ before ++ g ∷ after → g.ticket ≡ f.ticket → In e before)
         → (before after : List AnyEntry) (g : AnyEntry) → x ∷ xs ≡ before ++ g ∷ after → g.ticket ≡ f.ticket
         → In e before
     further e f j k [] after g s t = absurd (not_first f g after j s t)

@@ -30,8 +30,11 @@ ended c q u Refused os = os
 
 abbrev pub made : ℕ → List AnyDone → Option AnyRequest → List ProcessCall
 made c [] None = []
-made c [] (Some q) = record { process = c; object = q.object;
-    call = record { number = q.ticket; op = q.op; returned = None } } ∷ []
+made c [] (Some q) = record {
+  process = c;
+  object = q.object;
+  call = record { number = q.ticket; op = q.op; returned = None };
+} ∷ []
 made c (d ∷ ds) q = ended c d.request d.returned d.answer (made c ds q)
 
 pub denotes : (c : ℕ) (ds : List AnyDone) (q : Option AnyRequest) → Denotes c (journal_of ds q) (denoted c ds q)
@@ -40,8 +43,8 @@ denotes c [] (Some q) = refl
 denotes c (d ∷ ds) q = go d.answer (denotes c ds q)
   where
     go : (a : AnyAnswer) → Denotes c (journal_of ds q) (denoted c ds q)
-      → Denotes c (invoked d.request ∷ Returned d.returned a ∷ journal_of ds q)
-      (turn c d.request d.returned a (denoted c ds q))
+        → Denotes c (invoked d.request ∷ Returned d.returned a ∷ journal_of ds q)
+        (turn c d.request d.returned a (denoted c ds q))
     go (Reply r) h = (denoted c ds q, refl, h)
     go Refused h = h
 
@@ -56,7 +59,7 @@ of_client c [] (Some q) m i = elim i [
 of_client c (d ∷ ds) q m i = go d.answer i (of_client c ds q m)
   where
     go : (a : AnyAnswer) → In m (turn c d.request d.returned a (denoted c ds q))
-      → (In m (denoted c ds q) → (process_of m.event ≡ c) × In m.number (map ticket_of (journal_of ds q)))
+        → (In m (denoted c ds q) → (process_of m.event ≡ c) × In m.number (map ticket_of (journal_of ds q)))
         → (process_of m.event ≡ c) × In m.number (d.request.ticket ∷ d.returned ∷ map ticket_of (journal_of ds q))
     go (Reply r) i f = elim i [
       | inl e ↦ (ap (λ (m : Numbered). process_of m.event) e, inl (ap (λ (m : Numbered). m.number) e))
@@ -78,7 +81,7 @@ denoted_rises c (d ∷ ds) q h = go d.answer (denoted_rises c ds q h.1.1)
     later m i = (of_client c ds q m i).1
 
     go : (a : AnyAnswer) → Pairs (λ a b. a.number < b.number) (denoted c ds q)
-      → Pairs (λ a b. a.number < b.number) (turn c d.request d.returned a (denoted c ds q))
+        → Pairs (λ a b. a.number < b.number) (turn c d.request d.returned a (denoted c ds q))
     go (Reply r) k = (
       λ m i. elim i [
         | inl e ↦ let l = h.0 d.returned (inl refl) in omega (arith, ap (λ (m : Numbered). m.number) e)
@@ -94,9 +97,12 @@ denoted_sequential c [] (Some q) = refl
 denoted_sequential c (d ∷ ds) q = go d.answer (denoted_sequential c ds q)
   where
     go : (a : AnyAnswer) → IsSequential (events (denoted c ds q))
-      → IsSequential (events (turn c d.request d.returned a (denoted c ds q)))
-    go (Reply r) h = (and_from (c == c) (d.request.object == d.request.object) (eq-eqb c c refl)
-      (eq-eqb d.request.object d.request.object refl), h)
+        → IsSequential (events (turn c d.request d.returned a (denoted c ds q)))
+    go (Reply r) h = (
+      and_from (c == c) (d.request.object == d.request.object) (eq-eqb c c refl)
+          (eq-eqb d.request.object d.request.object refl),
+      h,
+    )
     go Refused h = h
 
 -- the operations among the events
@@ -106,7 +112,7 @@ made_in c [] (Some q) = refl
 made_in c (d ∷ ds) q = go d.answer (made_in c ds q)
   where
     go : (a : AnyAnswer) → calls_in (denoted c ds q) ≡ made c ds q
-      → calls_in (turn c d.request d.returned a (denoted c ds q)) ≡ ended c d.request d.returned a (made c ds q)
+        → calls_in (turn c d.request d.returned a (denoted c ds q)) ≡ ended c d.request d.returned a (made c ds q)
     go (Reply r) h = calls_in-call c d.request.ticket d.request.object d.request.op d.returned r (denoted c ds q)
         ∙ ap (λ os. first c d.request.ticket d.request.object d.request.op d.returned r ∷ os) h
     go Refused h = h

@@ -37,7 +37,7 @@ module _ (kinds : List Kind) (quota : ℕ) where
     drawn = k.drawn;
     within = k.within;
     journals = journals_kept kinds w (held_by w x h) refl (λ c. refl) (λ c. refl) (λ c e. e)
-      (λ y. starts_same (w.log y)) k.journals;
+        (λ y. starts_same (w.log y)) k.journals;
   }
 
   pub sound_ended : (w : World) (c : ℕ) → S w → S (ended_by w c)
@@ -52,7 +52,7 @@ module _ (kinds : List Kind) (quota : ℕ) where
     drawn = k.drawn;
     within = k.within;
     journals = journals_kept kinds w (ended_by w c) refl (λ c. refl) (λ c. refl) (λ c e. e)
-      (λ y. starts_same (w.log y)) k.journals;
+        (λ y. starts_same (w.log y)) k.journals;
   }
 
   -- The stage of the row r changes, with the same request: what holds of requests goes on.
@@ -61,22 +61,22 @@ module _ (kinds : List Kind) (quota : ℕ) where
       → (kind_of q.op ≡ kind_at kinds q.object) × (q.ticket < w.clock)
   same_fitting w r t same k d q =
       changed_all (λ d t. request_of t ≡ Some q → (kind_of q.op ≡ kind_at kinds q.object) × (q.ticket < w.clock))
-        w.stage r t (λ e. k.fitting r q (sym same ∙ e)) (λ d _. k.fitting d q) d
+      w.stage r t (λ e. k.fitting r q (sym same ∙ e)) (λ d _. k.fitting d q) d
 
   same_totals : (w : World) (r : ℕ) (t : Stage) → request_of t ≡ request_of (w.stage r) → S w
-    → total (λ d. tickets_drawn (w.done d) (request_of (changed w.stage r t d))) 32 ≡ w.clock
+      → total (λ d. tickets_drawn (w.done d) (request_of (changed w.stage r t d))) 32 ≡ w.clock
   same_totals w r t same k =
-    total_same (λ d. tickets_drawn (w.done d) (request_of (changed w.stage r t d)))
-    (λ d. tickets_drawn (w.done d) (request_of (w.stage d))) 32
+      total_same (λ d. tickets_drawn (w.done d) (request_of (changed w.stage r t d)))
+      (λ d. tickets_drawn (w.done d) (request_of (w.stage d))) 32
       (λ d _. changed_all (λ d t. tickets_drawn (w.done d) (request_of t)
-        ≡ tickets_drawn (w.done d) (request_of (w.stage d))) w.stage r t
+      ≡ tickets_drawn (w.done d) (request_of (w.stage d))) w.stage r t
       (ap (tickets_drawn (w.done r)) same) (λ d _. refl) d) ∙ k.drawn
 
   same_calls : (w : World) (r : ℕ) (t : Stage) → request_of t ≡ request_of (w.stage r) → S w → (d : ℕ)
-    → calls_made (w.done d) (request_of (changed w.stage r t d)) ≤ quota
+      → calls_made (w.done d) (request_of (changed w.stage r t d)) ≤ quota
   same_calls w r t same k =
-    changed_all (λ d t. calls_made (w.done d) (request_of t) ≤ quota) w.stage r t
-    (subst (λ z. calls_made (w.done r) z ≤ quota) (sym same) (k.within r)) (λ d _. k.within d)
+      changed_all (λ d t. calls_made (w.done d) (request_of t) ≤ quota) w.stage r t
+      (subst (λ z. calls_made (w.done r) z ≤ quota) (sym same) (k.within r)) (λ d _. k.within d)
 
   -- the client c goes to a stage with the same request, which is in no hand before or after
   pub sound_staged : (w : World) (c : ℕ) (t : Stage) → ((q : AnyRequest) → w.stage c ≢ picked q)
@@ -87,21 +87,21 @@ module _ (kinds : List Kind) (quota : ℕ) where
     counted = λ d x. changed_all (λ d t. entries_of d (w.log x) ≡ served x d (w.done d) ++ served_now x d t) w.stage c t
         (k.counted c x ∙ ap (λ z. served x c (w.done c) ++ z) (sym (puts x))) (λ d _. k.counted d x) d;
     in_hand = λ x r e. let b = k.in_hand x r e in
-      (b.0, changed_else w.stage c t r (λ g. before b.0 (ap w.stage (sym g) ∙ b.1)) ∙ b.1, b.2);
+        (b.0, changed_else w.stage c t r (λ g. before b.0 (ap w.stage (sym g) ∙ b.1)) ∙ b.1, b.2);
     picked_up = λ r q. changed_all (λ r t. t ≡ picked q → w.hand q.object ≡ Some r) w.stage c t
-      (λ e. absurd (after q e)) (λ r _. k.picked_up r q) r;
+        (λ e. absurd (after q e)) (λ r _. k.picked_up r q) r;
     empty_hand = k.empty_hand;
     fitting = same_fitting w c t same k;
     early = k.early;
     drawn = same_totals w c t same k;
     within = same_calls w c t same k;
     journals = journals_staged kinds w (staged w c t) c t refl (λ d. refl) (λ d. refl) same came
-      (λ y. starts_same (w.log y)) k.journals;
+        (λ y. starts_same (w.log y)) k.journals;
   }
 
   -- the client c draws a ticket, and goes to the stage t with these calls over
   sound_ticked : (w : World) (c : ℕ) (t : Stage) (ds : List AnyDone) → c < 32
-    → ((q : AnyRequest) → w.stage c ≢ picked q) → ((q : AnyRequest) → t ≢ picked q)
+      → ((q : AnyRequest) → w.stage c ≢ picked q) → ((q : AnyRequest) → t ≢ picked q)
       → ((x : ℕ) → served x c ds ++ served_now x c t ≡ served x c (w.done c) ++ served_now x c (w.stage c))
       → ((q : AnyRequest) → request_of t ≡ Some q → (kind_of q.op ≡ kind_at kinds q.object) × (q.ticket ≡ w.clock))
       → tickets_drawn ds (request_of t) ≡ tickets_drawn (w.done c) (request_of (w.stage c)) + 1
@@ -110,29 +110,29 @@ module _ (kinds : List Kind) (quota : ℕ) where
   sound_ticked w c t ds low before after puts fits more few journals k = record {
     legal = k.legal;
     counted = λ d x. changed_all
-      (λ d t. entries_of d (w.log x) ≡ served x d (changed w.done c ds d) ++ served_now x d t) w.stage c t
+        (λ d t. entries_of d (w.log x) ≡ served x d (changed w.done c ds d) ++ served_now x d t) w.stage c t
         (k.counted c x ∙ (sym (puts x) ∙ ap (λ z. served x c z ++ served_now x c t) (sym (changed_here w.done c ds))))
         (λ d other. k.counted d x
-          ∙ ap (λ z. served x d z ++ served_now x d (w.stage d)) (sym (changed_else w.done c ds d other))) d;
+        ∙ ap (λ z. served x d z ++ served_now x d (w.stage d)) (sym (changed_else w.done c ds d other))) d;
     in_hand = λ x r e. let b = k.in_hand x r e in
-      (b.0, changed_else w.stage c t r (λ g. before b.0 (ap w.stage (sym g) ∙ b.1)) ∙ b.1, b.2);
+        (b.0, changed_else w.stage c t r (λ g. before b.0 (ap w.stage (sym g) ∙ b.1)) ∙ b.1, b.2);
     picked_up = λ r q. changed_all (λ r t. t ≡ picked q → w.hand q.object ≡ Some r) w.stage c t
-      (λ e. absurd (after q e)) (λ r _. k.picked_up r q) r;
+        (λ e. absurd (after q e)) (λ r _. k.picked_up r q) r;
     empty_hand = k.empty_hand;
     fitting = λ d q. changed_all
-      (λ d t. request_of t ≡ Some q → (kind_of q.op ≡ kind_at kinds q.object) × (q.ticket < w.clock + 1)) w.stage c t
+        (λ d t. request_of t ≡ Some q → (kind_of q.op ≡ kind_at kinds q.object) × (q.ticket < w.clock + 1)) w.stage c t
         (λ e. let f = fits q e in let g = f.1 in (f.0, omega arith))
-          (λ d _ e. let f = k.fitting d q e in let g = f.1 in (f.0, omega arith)) d;
+        (λ d _ e. let f = k.fitting d q e in let g = f.1 in (f.0, omega arith)) d;
     early = λ x i d l. let a = k.early x i d l in omega arith;
     drawn = total_one (λ d. tickets_drawn (w.done d) (request_of (w.stage d)))
-      (λ d. tickets_drawn (changed w.done c ds d) (request_of (changed w.stage c t d))) 32 c low
+        (λ d. tickets_drawn (changed w.done c ds d) (request_of (changed w.stage c t d))) 32 c low
         ((λ i. tickets_drawn (changed_here w.done c ds i) (request_of (changed_here w.stage c t i))) ∙ more)
         (λ d other i. tickets_drawn (changed_else w.done c ds d other i)
-          (request_of (changed_else w.stage c t d other i))) ∙ ap (λ z. z + 1) k.drawn;
+        (request_of (changed_else w.stage c t d other i))) ∙ ap (λ z. z + 1) k.drawn;
     within = λ d. changed_all (λ d t. calls_made (changed w.done c ds d) (request_of t) ≤ quota) w.stage c t
         (subst (λ z. calls_made z (request_of t) ≤ quota) (sym (changed_here w.done c ds)) few)
         (λ d other. subst (λ z. calls_made z (request_of (w.stage d)) ≤ quota)
-          (sym (changed_else w.done c ds d other)) (k.within d)) d;
+        (sym (changed_else w.done c ds d other)) (k.within d)) d;
     journals = journals;
   }
 
@@ -143,12 +143,12 @@ module _ (kinds : List Kind) (quota : ℕ) where
   sound_called w c q low was few on fits ticket k =
       let tickets : tickets_drawn (w.done c) (Some q) ≡ tickets_drawn (w.done c) (request_of (w.stage c)) + 1 =
       (let e : tickets_drawn (w.done c) (Some q) ≡ tickets_drawn (w.done c) None + 1 = omega arith in
-        e ∙ ap (λ z. tickets_drawn (w.done c) (request_of z) + 1) (sym was)) in
+      e ∙ ap (λ z. tickets_drawn (w.done c) (request_of z) + 1) (sym was)) in
       sound_ticked w c (drawn q) (w.done c) low (λ r e. let g = sym was ∙ e in absurd (cc)) (λ r e. absurd (cc))
-        (λ x. ap (λ z. served x c (w.done c) ++ served_now x c z) (sym was))
+      (λ x. ap (λ z. served x c (w.done c) ++ served_now x c z) (sym was))
       (λ r e. let same = same_Some q r e in
       subst (λ (z : AnyRequest). (kind_of z.op ≡ kind_at kinds z.object) × (z.ticket ≡ w.clock)) same (fits, ticket))
-        tickets (omega arith)
+      tickets (omega arith)
       (journals_called kinds w c q was ticket on fits k.journals) k
 
   -- the client c draws the ticket n of the return of its call
@@ -160,14 +160,14 @@ module _ (kinds : List Kind) (quota : ℕ) where
       let ds : List AnyDone = w.done c ++ d ∷ [] in
       let long : length ds ≡ length (w.done c) + 1 = length-append (w.done c) (d ∷ []) in
       let few : calls_made (w.done c) (Some q) ≤ quota =
-        subst (λ z. calls_made (w.done c) (request_of z) ≤ quota) was (k.within c) in
-            let calls : calls_made ds None ≤ quota = omega arith in
+      subst (λ z. calls_made (w.done c) (request_of z) ≤ quota) was (k.within c) in
+      let calls : calls_made ds None ≤ quota = omega arith in
       let tickets : tickets_drawn ds None ≡ tickets_drawn (w.done c) (request_of (w.stage c)) + 1 =
       (let e : tickets_drawn ds None ≡ tickets_drawn (w.done c) (Some q) + 1 = omega arith in
-        e ∙ ap (λ z. tickets_drawn (w.done c) (request_of z) + 1) (sym was)) in
+      e ∙ ap (λ z. tickets_drawn (w.done c) (request_of z) + 1) (sym was)) in
       sound_ticked w c idle ds low (λ r e. let g = sym was ∙ e in absurd (cc)) (λ r e. absurd (cc))
       (λ x. append-nil (served x c ds)
-        ∙ (served_more x c n (w.done c) q a ∙ ap (λ z. served x c (w.done c) ++ served_now x c z) (sym was)))
+      ∙ (served_more x c n (w.done c) q a ∙ ap (λ z. served x c (w.done c) ++ served_now x c z) (sym was)))
       (λ r e. absurd (cc)) tickets calls (journals_returned kinds quota w c n q a was now k) k
 
   -- the row r, posted for x, comes into the hand of the client that holds x
@@ -176,29 +176,32 @@ module _ (kinds : List Kind) (quota : ℕ) where
   sound_picked w x r c q is on holds free k = record {
     legal = k.legal;
     counted = λ d y. changed_all (λ d t. entries_of d (w.log y) ≡ served y d (w.done d) ++ served_now y d t) w.stage r
-      (picked q)
+        (picked q)
         (k.counted r y ∙ ap (λ z. served y r (w.done r) ++ served_now y r z) is) (λ d _. k.counted d y) d;
     in_hand = λ y j. changed_all
-      (λ y h. h ≡ Some j → (p : AnyRequest) × (changed w.stage r (picked q) j ≡ picked p) × (p.object ≡ y)) w.hand x
-      (Some r)
+        (λ y h. h ≡ Some j → (p : AnyRequest) × (changed w.stage r (picked q) j ≡ picked p) × (p.object ≡ y)) w.hand x
+        (Some r)
         (λ e. (q, ap (changed w.stage r (picked q)) (sym (same_Some r j e)) ∙ changed_here w.stage r (picked q), on))
-        (λ y _ e. let b = k.in_hand y j e in
-          (b.0, changed_else w.stage r (picked q) j (λ g. let f = sym is ∙ (ap w.stage (sym g) ∙ b.1) in absurd (cc))
-          ∙ b.1, b.2)) y;
+        (λ y _ e. let b = k.in_hand y j e in (
+          b.0,
+          changed_else w.stage r (picked q) j (λ g. let f = sym is ∙ (ap w.stage (sym g) ∙ b.1) in absurd (cc))
+              ∙ b.1,
+          b.2,
+        )) y;
     picked_up = λ j p. changed_all (λ j t. t ≡ picked p → changed w.hand x (Some r) p.object ≡ Some j) w.stage r
-      (picked q)
+        (picked q)
         (λ e. let f : q ≡ p = cc in
-          ap (changed w.hand x (Some r)) (ap (λ z. z.object) (sym f) ∙ on) ∙ changed_here w.hand x (Some r))
+        ap (changed w.hand x (Some r)) (ap (λ z. z.object) (sym f) ∙ on) ∙ changed_here w.hand x (Some r))
         (λ j _ e. changed_else w.hand x (Some r) p.object
-          (λ same. let g = sym free ∙ (ap w.hand (sym same) ∙ k.picked_up j p e) in absurd (cc)) ∙ k.picked_up j p e) j;
+        (λ same. let g = sym free ∙ (ap w.hand (sym same) ∙ k.picked_up j p e) in absurd (cc)) ∙ k.picked_up j p e) j;
     empty_hand = λ y e. changed_else w.hand x (Some r) y
-      (λ same. let g = sym holds ∙ (ap w.holder (sym same) ∙ e) in absurd (cc)) ∙ k.empty_hand y e;
+        (λ same. let g = sym holds ∙ (ap w.holder (sym same) ∙ e) in absurd (cc)) ∙ k.empty_hand y e;
     fitting = same_fitting w r (picked q) (ap request_of (sym is)) k;
     early = k.early;
     drawn = same_totals w r (picked q) (ap request_of (sym is)) k;
     within = same_calls w r (picked q) (ap request_of (sym is)) k;
     journals = journals_staged kinds w (handed w x (Some r) r (picked q)) r (picked q) refl (λ d. refl) (λ d. refl)
-      (ap request_of (sym is)) (λ e. absurd (cc)) (λ y. starts_same (w.log y)) k.journals;
+        (ap request_of (sym is)) (λ e. absurd (cc)) (λ y. starts_same (w.log y)) k.journals;
   }
 
   -- After the row r, picked up for x, is put back or answered, no other row is in the hand of the holder of x, and each
@@ -207,32 +210,32 @@ module _ (kinds : List Kind) (quota : ℕ) where
       → (y : ℕ) → changed w.hand x None y ≡ Some j
       → (p : AnyRequest) × (changed w.stage r t j ≡ picked p) × (p.object ≡ y)
   others_in_hand w x r j t q is on k =
-    changed_all (λ y h. h ≡ Some j → (p : AnyRequest) × (changed w.stage r t j ≡ picked p) × (p.object ≡ y))
-    w.hand x None
+      changed_all (λ y h. h ≡ Some j → (p : AnyRequest) × (changed w.stage r t j ≡ picked p) × (p.object ≡ y))
+      w.hand x None
       (λ e. absurd (cc))
       (λ y other e. let b = k.in_hand y j e in (
         b.0,
         changed_else w.stage r t j
-          (λ g. let f : picked q ≡ picked b.0 = sym is ∙ (ap w.stage (sym g) ∙ b.1) in let f' : q ≡ b.0 = cc in
+            (λ g. let f : picked q ≡ picked b.0 = sym is ∙ (ap w.stage (sym g) ∙ b.1) in let f' : q ≡ b.0 = cc in
             other (sym b.2 ∙ (ap (λ z. z.object) (sym f') ∙ on))) ∙ b.1,
         b.2,
       ))
 
   others_picked_up : (w : World) (x r : ℕ) (t : Stage) (q : AnyRequest) → w.stage r ≡ picked q → q.object ≡ x
-    → w.hand x ≡ Some r → ((p : AnyRequest) → t ≢ picked p) → S w
+      → w.hand x ≡ Some r → ((p : AnyRequest) → t ≢ picked p) → S w
       → (j : ℕ) (p : AnyRequest) → changed w.stage r t j ≡ picked p → changed w.hand x None p.object ≡ Some j
   others_picked_up w x r t q is on held never k j p =
-    changed_all (λ j t. t ≡ picked p → changed w.hand x None p.object ≡ Some j) w.stage r t
+      changed_all (λ j t. t ≡ picked p → changed w.hand x None p.object ≡ Some j) w.stage r t
       (λ e. absurd (never p e))
       (λ j other e. changed_else w.hand x None p.object
-        (λ same. other (same_Some j r (sym (k.picked_up j p e) ∙ (ap w.hand same ∙ held)))) ∙ k.picked_up j p e) j
+      (λ same. other (same_Some j r (sym (k.picked_up j p e) ∙ (ap w.hand same ∙ held)))) ∙ k.picked_up j p e) j
 
   pub sound_put_back : (w : World) (x r c : ℕ) (q : AnyRequest) → w.stage r ≡ picked q → q.object ≡ x
       → w.holder x ≡ Some c → w.hand x ≡ Some r → S w → S (handed w x None r (posted q))
   sound_put_back w x r c q is on holds held k = record {
     legal = k.legal;
     counted = λ d y. changed_all (λ d t. entries_of d (w.log y) ≡ served y d (w.done d) ++ served_now y d t) w.stage r
-      (posted q)
+        (posted q)
         (k.counted r y ∙ ap (λ z. served y r (w.done r) ++ served_now y r z) is) (λ d _. k.counted d y) d;
     in_hand = λ y j. others_in_hand w x r j (posted q) q is on k y;
     picked_up = others_picked_up w x r (posted q) q is on held (λ p e. absurd (cc)) k;
@@ -242,44 +245,44 @@ module _ (kinds : List Kind) (quota : ℕ) where
     drawn = same_totals w r (posted q) (ap request_of (sym is)) k;
     within = same_calls w r (posted q) (ap request_of (sym is)) k;
     journals = journals_staged kinds w (handed w x None r (posted q)) r (posted q) refl (λ d. refl) (λ d. refl)
-      (ap request_of (sym is)) (λ e. absurd (cc)) (λ y. starts_same (w.log y)) k.journals;
+        (ap request_of (sym is)) (λ e. absurd (cc)) (λ y. starts_same (w.log y)) k.journals;
   }
 
   -- what an answer puts into the log is early
   early_logged : (clock r : ℕ) (q : AnyRequest) (a : AnyAnswer) → q.ticket < clock
-    → All (λ (e : AnyEntry). e.ticket < clock) (logged r q a)
+      → All (λ (e : AnyEntry). e.ticket < clock) (logged r q a)
   early_logged clock r q (Reply p) l =
       All-cons (λ (e : AnyEntry). e.ticket < clock)
-        (record { client = r; ticket = q.ticket; op = q.op; reply = p }) [] l
-        (All-nil (λ (e : AnyEntry). e.ticket < clock))
+      (record { client = r; ticket = q.ticket; op = q.op; reply = p }) [] l
+      (All-nil (λ (e : AnyEntry). e.ticket < clock))
   early_logged clock r q Refused l = All-nil (λ (e : AnyEntry). e.ticket < clock)
 
   counted_after : (w : World) (x r : ℕ) (q : AnyRequest) (a : AnyAnswer) → w.stage r ≡ picked q → q.object ≡ x → S w
       → (d y : ℕ) → entries_of d (changed w.log x (w.log x ++ logged r q a) y)
-        ≡ served y d (w.done d) ++ served_now y d (changed w.stage r (answered q a) d)
+      ≡ served y d (w.done d) ++ served_now y d (changed w.stage r (answered q a) d)
   counted_after w x r q a is on k d y =
       let l : List AnyEntry = w.log x ++ logged r q a in
       let mine : entries_of r (w.log y) ≡ served y r (w.done r) =
-        k.counted r y ∙ (ap (λ z. served y r (w.done r) ++ served_now y r z) is ∙ append-nil (served y r (w.done r))) in
+      k.counted r y ∙ (ap (λ z. served y r (w.done r) ++ served_now y r z) is ∙ append-nil (served y r (w.done r))) in
       let mine_x : entries_of r (w.log x) ≡ served x r (w.done r) =
-        k.counted r x ∙ (ap (λ z. served x r (w.done r) ++ served_now x r z) is ∙ append-nil (served x r (w.done r))) in
+      k.counted r x ∙ (ap (λ z. served x r (w.done r) ++ served_now x r z) is ∙ append-nil (served x r (w.done r))) in
       changed_all (λ d t. entries_of d (changed w.log x l y) ≡ served y d (w.done d) ++ served_now y d t) w.stage r
-        (answered q a)
+      (answered q a)
       (dite (ℕ_discrete y x)
       (λ same. subst (λ z. entries_of r (changed w.log x l z) ≡ served z r (w.done r) ++ logged_on z r q a) (sym same)
       (ap (entries_of r) (changed_here w.log x l)
-        ∙ (entries-append r (w.log x) (logged r q a)
-          ∙ (λ i. mine_x i ++ (own_entries r q a ∙ sym (logged_here x r q a on)) i))))
+      ∙ (entries-append r (w.log x) (logged r q a)
+      ∙ (λ i. mine_x i ++ (own_entries r q a ∙ sym (logged_here x r q a on)) i))))
       (λ other. ap (entries_of r) (changed_else w.log x l y other)
       ∙ (mine ∙ (sym (append-nil (served y r (w.done r)))
-        ∙ ap (λ z. served y r (w.done r) ++ z) (sym (logged_else y r q a (λ e. other (sym e ∙ on))))))))
+      ∙ ap (λ z. served y r (w.done r) ++ z) (sym (logged_else y r q a (λ e. other (sym e ∙ on))))))))
       (λ d apart. dite (ℕ_discrete y x)
       (λ same. subst (λ z. entries_of d (changed w.log x l z) ≡ served z d (w.done d) ++ served_now z d (w.stage d))
-        (sym same)
+      (sym same)
       (ap (entries_of d) (changed_here w.log x l)
       ∙ (entries-append d (w.log x) (logged r q a)
-        ∙ (ap (λ z. entries_of d (w.log x) ++ z) (others_entries d r q a apart)
-          ∙ (append-nil (entries_of d (w.log x)) ∙ k.counted d x)))))
+      ∙ (ap (λ z. entries_of d (w.log x) ++ z) (others_entries d r q a apart)
+      ∙ (append-nil (entries_of d (w.log x)) ∙ k.counted d x)))))
       (λ other. ap (entries_of d) (changed_else w.log x l y other) ∙ k.counted d y))
       d
 
@@ -295,13 +298,13 @@ module _ (kinds : List Kind) (quota : ℕ) where
     fitting = same_fitting w r (answered q a) (ap request_of (sym is)) k;
     early = changed_all (λ y l. All (λ (e : AnyEntry). e.ticket < w.clock) l) w.log x (w.log x ++ logged r q a)
         (All-append (λ (e : AnyEntry). e.ticket < w.clock) (w.log x) (logged r q a) (k.early x)
-          (early_logged w.clock r q a (k.fitting r q (ap request_of is)).1)) (λ y _. k.early y);
+        (early_logged w.clock r q a (k.fitting r q (ap request_of is)).1)) (λ y _. k.early y);
     drawn = same_totals w r (answered q a) (ap request_of (sym is)) k;
     within = same_calls w r (answered q a) (ap request_of (sym is)) k;
     journals = journals_staged kinds w (served_by w x r q a) r (answered q a) refl (λ d. refl) (λ d. refl)
-      (ap request_of (sym is)) (λ e. absurd (cc))
+        (ap request_of (sym is)) (λ e. absurd (cc))
         (changed_all (λ y l. StartsWith l (w.log y)) w.log x (w.log x ++ logged r q a) (logged r q a, refl)
-          (λ y _. starts_same (w.log y))) k.journals;
+        (λ y _. starts_same (w.log y))) k.journals;
   }
 
   -- the clients have drawn two tickets for each call at most
@@ -309,7 +312,7 @@ module _ (kinds : List Kind) (quota : ℕ) where
   clock_few w k =
       let all : total (λ c. tickets_drawn (w.done c) (request_of (w.stage c))) 32 ≤ 32 * (quota + quota) =
       total_le (λ c. tickets_drawn (w.done c) (request_of (w.stage c))) 32 (quota + quota)
-        (λ c l. let q = k.within c in omega arith) in
+      (λ c l. let q = k.within c in omega arith) in
       let e = k.drawn in omega arith
 
   -- no client's tickets can fill the clock

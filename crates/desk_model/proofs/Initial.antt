@@ -36,4 +36,4 @@ pub sound_coming : (kinds : List Kind) (quota : ℕ) (w : World) (c : ℕ) → w
     → Sound kinds quota (staged w c idle)
 sound_coming kinds quota w c was =
     sound_staged kinds quota w c idle (λ q e. let f = sym was ∙ e in absurd (cc)) (λ q e. absurd (cc))
-      (ap request_of (sym was)) (λ e. absurd (cc)) (λ x. ap (served_now x c) (sym was))
+    (ap request_of (sym was)) (λ e. absurd (cc)) (λ x. ap (served_now x c) (sym was))

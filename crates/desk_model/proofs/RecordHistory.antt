@@ -52,14 +52,14 @@ module _ (w : World) (share : ShareOut w.clock (tickets_in w)) where
   history_denoted = record {
     rising = all_from_pairs (λ a b. a.number < b.number) history history_rises;
     each = λ c. subst (Denotes c (journal_in w c)) (sym (history_part c))
-      (denotes c (w.done c) (request_of (w.stage c)));
+        (denotes c (w.done c) (request_of (w.stage c)));
   }
 
   pub history_well_formed : IsHistory history
   history_well_formed = record {
     rising = all_from_pairs (λ a b. a.number < b.number) history history_rises;
     well_formed = λ p. subst IsSequential (ap events (sym (history_part p)) ∙ events-part p history)
-      (denoted_sequential p (w.done p) (request_of (w.stage p)));
+        (denoted_sequential p (w.done p) (request_of (w.stage p)));
   }
 
   -- its operations, and those of one client among them
@@ -68,4 +68,4 @@ module _ (w : World) (share : ShareOut w.clock (tickets_in w)) where
 
   pub calls_of_client : (c : ℕ) → filter (λ o. o.process == c) (calls_in history) ≡ calls_by w c
   calls_of_client c = sym (calls_in-part c history)
-    ∙ (ap calls_in (history_part c) ∙ made_in c (w.done c) (request_of (w.stage c)))
+      ∙ (ap calls_in (history_part c) ∙ made_in c (w.done c) (request_of (w.stage c)))

@@ -50,39 +50,39 @@ module _ (kinds : List Kind) (quota : ℕ) (w : World) (k : Sound kinds quota w)
 
   sources : (x : ℕ) (e : AnyEntry) → In e (w.log x) → IsOf x e.client e (journal_in w e.client) (calls_by w e.client)
   sources x e i = is_of x e.client (w.done e.client) (w.stage e.client) e
-    (subst (In e) (put_in_log e.client x) (in_own_entries e (w.log x) i))
+      (subst (In e) (put_in_log e.client x) (in_own_entries e (w.log x) i))
 
   has_ticket : (x : ℕ) (e : AnyEntry) → In e (w.log x) → Contains (tickets_in w e.client) e.ticket
   has_ticket x e i = contains_from_in (tickets_in w e.client) e.ticket
-    (in_map_from ticket_of (Invoked e.ticket x e.op) (journal_in w e.client) (sources x e i).invocation)
+      (in_map_from ticket_of (Invoked e.ticket x e.op) (journal_in w e.client) (sources x e i).invocation)
 
   -- no ticket stands twice in a log
   once : (x : ℕ) → Pairs (λ e f. e.ticket ≢ f.ticket) (w.log x)
   once x = tickets_once (w.log x)
       (λ c. subst (Pairs (λ (e f : AnyEntry). e.ticket < f.ticket)) (sym (put_in_log c x))
-        (put_rises x c (w.done c) (w.stage c) (tickets_rise w k.journals.tickets c)))
+      (put_rises x c (w.done c) (w.stage c) (tickets_rise w k.journals.tickets c)))
       (λ e f i j s. k.journals.tickets.apart e.client f.client e.ticket (has_ticket x e i)
-        (subst (Contains (tickets_in w f.client)) (sym s) (has_ticket x f j)))
+      (subst (Contains (tickets_in w f.client)) (sym s) (has_ticket x f j)))
 
   call_among : (c : ℕ) (o : ProcessCall) → In o (calls_by w c) → In o ops
   call_among c o i = in_filter (λ o. o.process == c) o ops
-    (subst (In o) (sym (calls_of_client w k.journals.tickets c)) i)
+      (subst (In o) (sym (calls_of_client w k.journals.tickets c)) i)
 
   -- a call that returned has its entry in the log, in time
   is_logged : (o : ProcessCall) (r : Return) → In o ops → o.call.returned ≡ Some r → IsLogged (w.log o.object) o r
   is_logged o r i e =
       let own : In o (calls_by w o.process) =
-        subst (In o) (calls_of_client w k.journals.tickets o.process)
-        (in_filter_from (λ p. p.process == o.process) o ops i (eq-eqb o.process o.process refl)) in
+      subst (In o) (calls_of_client w k.journals.tickets o.process)
+      (in_filter_from (λ p. p.process == o.process) o ops i (eq-eqb o.process o.process refl)) in
       let d : IsOver o.process o r (w.done o.process) =
-        is_over o.process (w.done o.process) (request_of (w.stage o.process)) o r own e in
+      is_over o.process (w.done o.process) (request_of (w.stage o.process)) o r own e in
       let t : IsInTime w o.process d.over =
-        all_at (IsInTime w o.process) (w.done o.process) (k.journals.in_time o.process) d.over d.among in
+      all_at (IsInTime w o.process) (w.done o.process) (k.journals.in_time o.process) d.over d.among in
       record {
         before = t.0;
         after = t.1;
         whole = one_logged (w.log o.object) t.0 (logged o.process d.over.request d.over.answer) t.1 (entry_for o r)
-          (ap w.log (sym d.object) ∙ t.2) d.logs;
+            (ap w.log (sym d.object) ∙ t.2) d.logs;
         early = λ f j. subst (λ n. f.ticket < n) d.returned (all_at (λ e. e.ticket < d.over.returned) t.0 t.3 f j);
       }
 
@@ -100,9 +100,13 @@ module _ (kinds : List Kind) (quota : ℕ) (w : World) (k : Sound kinds quota w)
 
     beside : (e : AnyEntry) → In e log → (c : Call) × Beside e c
     beside e i =
-        let s = (sources x e i).has_call in
-        (s.call, record { says = record { number = s.number; op = s.op; reply = s.reply };
-          among = call_among e.client (on_object s.call e) s.among })
+        let s = (sources x e i).has_call in (
+          s.call,
+          record {
+            says = record { number = s.number; op = s.op; reply = s.reply };
+            among = call_among e.client (on_object s.call e) s.among;
+          },
+        )
 
     pick : (cs : List Call) × Along Beside log cs
     pick = chosen Beside log beside
@@ -124,21 +128,21 @@ module _ (kinds : List Kind) (quota : ℕ) (w : World) (k : Sound kinds quota w)
         let l : IsLogged (w.log o.object) o r = is_logged o r i back in
         let split : l.before ++ e ∷ l.after ≡ log = sym l.whole ∙ ap w.log on in
         let b = call_beside Beside log entries pick.1 e
-          (subst (In e) split (in_right e l.before (e ∷ l.after) (inl refl))) in
+        (subst (In e) split (in_right e l.before (e ∷ l.after) (inl refl))) in
         let same : on_object b.0 e ≡ o =
-          one_number number_of ops (on_object b.0 e) o (calls_up w k.journals.tickets) b.2.among i b.2.says.number in
+        one_number number_of ops (on_object b.0 e) o (calls_up w k.journals.tickets) b.2.among i b.2.says.number in
         subst (λ (c : Call). In c entries) (ap (λ (o : ProcessCall). o.call) same) b.1
 
     whole : (o : ProcessCall) → In o (filter (λ o. o.object == x) ops) → IsSome o.call.returned → In o.call entries
     whole o i s =
         let back = returned_some o.call.returned s in
         stands o back.0 (in_filter (λ o. o.object == x) o ops i)
-          (eqb-true o.object x (in_filter_passes (λ o. o.object == x) o ops i)) back.1
+        (eqb-true o.object x (in_filter_passes (λ o. o.object == x) o ops i)) back.1
 
     in_order : Pairs (λ a b. ReturnsBefore b a → ⊥) entries
     in_order = pairs_beside Beside (λ a b. ReturnsBefore b a → ⊥) log entries pick.1
         (pairs_weaker (λ e f. (before after : List AnyEntry) (g : AnyEntry) → log ≡ before ++ g ∷ after
-          → g.ticket ≡ f.ticket → In e before)
+        → g.ticket ≡ f.ticket → In e before)
         (λ e f. (a b : Call) → Beside e a → Beside f b → ReturnsBefore b a → ⊥) log
         (λ e f i j front a b p q back.
         let l = is_logged (on_object b f) back.0 q.among back.1 in
@@ -157,7 +161,7 @@ module _ (kinds : List Kind) (quota : ℕ) (w : World) (k : Sound kinds quota w)
       whole = all_from_in (λ c. IsSome c.returned → Contains entries c) (calls_on x past)
           (λ c i. let o = in_map (λ (o : ProcessCall). o.call) c (filter (λ o. o.object == x) ops) i in
           subst (λ (c : Call). IsSome c.returned → Contains entries c) (sym o.2)
-            (λ s. contains_from_in entries o.0.call (whole o.0 o.1 s)));
+          (λ s. contains_from_in entries o.0.call (whole o.0 o.1 s)));
       in_order = all_from_pairs (λ a b. ReturnsBefore b a → ⊥) entries in_order;
       replies =
           let legal = k.legal x in
@@ -177,6 +181,6 @@ sound_record kinds quota w k = record {
   legal = k.legal;
   agree = λ x. all_from_in (λ e. Contains (journal_in w e.client) (Invoked e.ticket x e.op)) (w.log x)
       (λ e i. contains_from_in (journal_in w e.client) (Invoked e.ticket x e.op)
-        (sources kinds quota w k x e i).invocation);
+      (sources kinds quota w k x e i).invocation);
   valid = valid kinds quota w k;
 }

@@ -48,7 +48,7 @@ module _ {X : Type 0} (number process : X → ℕ) (count : ℕ) (owner : ℕ �
     (s : Shares number process count owner lists) where
   pub merged_rises : Pairs (λ a b. number a < number b) (merged number count owner lists)
   merged_rises = pairs_flat_map (λ a b. number a < number b) (λ a b. a < b)
-    (λ t. of_number number t (lists (owner t))) (upto count) (upto_rises count)
+      (λ t. of_number number t (lists (owner t))) (upto count) (upto_rises count)
       (λ t i. pairs_filter (λ a b. number a < number b) (λ m. number m == t) (lists (owner t)) (s.rising (owner t)))
       (λ t u l a b i j.
       let e = eqb-true (number a) t (in_filter_passes (λ m. number m == t) a (lists (owner t)) i) in
@@ -59,20 +59,20 @@ module _ {X : Type 0} (number process : X → ℕ) (count : ℕ) (owner : ℕ �
   cut : (c t : ℕ) → filter (λ m. process m == c) (of_number number t (lists (owner t))) ≡ of_number number t (lists c)
   cut c t = dite (ℕ_discrete (owner t) c)
       (λ same. filter_all (λ m. process m == c) (of_number number t (lists (owner t)))
-        (λ m i. eq-eqb (process m) c (s.own (owner t) m (in_filter (λ m. number m == t) m (lists (owner t)) i) ∙ same))
+      (λ m i. eq-eqb (process m) c (s.own (owner t) m (in_filter (λ m. number m == t) m (lists (owner t)) i) ∙ same))
       ∙ ap (λ k. of_number number t (lists k)) same)
       (λ other. filter_none (λ m. process m == c) (of_number number t (lists (owner t)))
       (λ m i. ne_eqb (process m) c
-        (λ e. other (sym (s.own (owner t) m (in_filter (λ m. number m == t) m (lists (owner t)) i)) ∙ e)))
+      (λ e. other (sym (s.own (owner t) m (in_filter (λ m. number m == t) m (lists (owner t)) i)) ∙ e)))
       ∙ sym (filter_none (λ m. number m == t) (lists c)
-        (λ m i. ne_eqb (number m) t (λ e. other (ap owner (sym e) ∙ s.owned c m i)))))
+      (λ m i. ne_eqb (number m) t (λ e. other (ap owner (sym e) ∙ s.owned c m i)))))
 
   pub merged_part : (c : ℕ) → filter (λ m. process m == c) (merged number count owner lists) ≡ lists c
   merged_part c =
       filter-flat_map (λ m. process m == c) (λ t. of_number number t (lists (owner t))) (upto count)
       ∙ (flat_map_same (λ t. filter (λ m. process m == c) (of_number number t (lists (owner t))))
-        (λ t. of_number number t (lists c)) (upto count) (λ t i. cut c t)
+      (λ t. of_number number t (lists c)) (upto count) (λ t i. cut c t)
       ∙ batches number (upto count) (lists c) (upto_rises count)
       (pairs_weaker (λ a b. number a < number b) (λ a b. number a ≤ number b) (lists c) (λ a b i j l. omega arith)
-        (s.rising c))
+      (s.rising c))
       (λ m i. upto_has count (number m) (s.below c m i)))

@@ -76,8 +76,11 @@ invoked_same x c q a e p =
 
 -- the call that is over, with this reply
 abbrev over_call : AnyDone → AnyReply → Call
-over_call d r = record { number = d.request.ticket; op = d.request.op;
-    returned = Some (record { at = d.returned; reply = r }) }
+over_call d r = record {
+  number = d.request.ticket;
+  op = d.request.op;
+  returned = Some (record { at = d.returned; reply = r });
+}
 
 later_made : (c : ℕ) (d : AnyDone) (ops : List ProcessCall) (o : ProcessCall) → In o ops
     → In o (ended c d.request d.returned d.answer ops)
@@ -98,8 +101,11 @@ is_of x c [] t e i =
       invocation = inl (invoked_same x c q n.1 e p);
       has_call = record {
         call = record { number = q.ticket; op = q.op; returned = None };
-        among = inl (ap (λ y. record { process = c; object = y;
-          call = record { number = q.ticket; op = q.op; returned = None } }) (sym p.object));
+        among = inl (ap (λ y. record {
+          process = c;
+          object = y;
+          call = record { number = q.ticket; op = q.op; returned = None };
+        }) (sym p.object));
         number = sym (ap (λ (f : AnyEntry). f.ticket) p.same);
         op = sym (ap (λ (f : AnyEntry). f.op) p.same);
         reply = tt;
@@ -111,14 +117,14 @@ is_of x c (d ∷ ds) t e i = elim (in_append e (logged_on x c d.request d.answer
 ]
   where
     here : IsPut x c d.request d.answer e
-      → IsOf x c e (journal_of (d ∷ ds) (request_of t)) (made c (d ∷ ds) (request_of t))
+        → IsOf x c e (journal_of (d ∷ ds) (request_of t)) (made c (d ∷ ds) (request_of t))
     here p = record {
       client = ap (λ (f : AnyEntry). f.client) p.same;
       invocation = inl (invoked_same x c d.request d.answer e p);
       has_call = record {
         call = over_call d p.reply;
         among = subst (λ a. In (record { process = c; object = x; call = over_call d p.reply })
-          (ended c d.request d.returned a (made c ds (request_of t)))) (sym p.answer)
+            (ended c d.request d.returned a (made c ds (request_of t)))) (sym p.answer)
             (inl (ap (λ y. record { process = c; object = y; call = over_call d p.reply }) (sym p.object)));
         number = sym (ap (λ (f : AnyEntry). f.ticket) p.same);
         op = sym (ap (λ (f : AnyEntry). f.op) p.same);
@@ -127,14 +133,14 @@ is_of x c (d ∷ ds) t e i = elim (in_append e (logged_on x c d.request d.answer
     }
 
     there : IsOf x c e (journal_of ds (request_of t)) (made c ds (request_of t))
-      → IsOf x c e (journal_of (d ∷ ds) (request_of t)) (made c (d ∷ ds) (request_of t))
+        → IsOf x c e (journal_of (d ∷ ds) (request_of t)) (made c (d ∷ ds) (request_of t))
     there k = record {
       client = k.client;
       invocation = inr (inr k.invocation);
       has_call = record {
         call = k.has_call.call;
         among = later_made c d (made c ds (request_of t))
-          (record { process = c; object = x; call = k.has_call.call }) k.has_call.among;
+            (record { process = c; object = x; call = k.has_call.call }) k.has_call.among;
         number = k.has_call.number;
         op = k.has_call.op;
         reply = k.has_call.reply;
@@ -172,8 +178,8 @@ put_rises x c (d ∷ ds) t h =
     let p = is_put x c d.request d.answer e i in
     let s : e.ticket ≡ d.request.ticket = ap (λ (g : AnyEntry). g.ticket) p.same in
     let l : d.request.ticket < f.ticket =
-      h.0 f.ticket (inr (in_map_from ticket_of (Invoked f.ticket x f.op) (journal_of ds (request_of t))
-      (is_of x c ds t f j).invocation)) in
+    h.0 f.ticket (inr (in_map_from ticket_of (Invoked f.ticket x f.op) (journal_of ds (request_of t))
+    (is_of x c ds t f j).invocation)) in
     omega arith)
 
 -- a call that returned is over, and this is the entry of it
@@ -196,17 +202,23 @@ is_over c [] (Some q) o r i e = elim i [
 is_over c (d ∷ ds) q o r i e = go d.answer refl i (λ j. later (is_over c ds q o r j e))
   where
     later : IsOver c o r ds → IsOver c o r (d ∷ ds)
-    later k = record { over = k.over; among = inr k.among; object = k.object; number = k.number;
-      returned = k.returned; logs = k.logs }
+    later k = record {
+      over = k.over;
+      among = inr k.among;
+      object = k.object;
+      number = k.number;
+      returned = k.returned;
+      logs = k.logs;
+    }
 
     go : (a : AnyAnswer) → d.answer ≡ a → In o (ended c d.request d.returned a (made c ds q))
-      → (In o (made c ds q) → IsOver c o r (d ∷ ds)) → IsOver c o r (d ∷ ds)
+        → (In o (made c ds q) → IsOver c o r (d ∷ ds)) → IsOver c o r (d ∷ ds)
     go (Reply p) s i f = elim i [
       | inl t ↦
           let same : Some (record { at = d.returned; reply = p }) ≡ Some r =
-            sym (ap (λ (o : ProcessCall). o.call.returned) t) ∙ e in
+          sym (ap (λ (o : ProcessCall). o.call.returned) t) ∙ e in
           let one : record { at = d.returned; reply = p } ≡ r =
-            same_Some (record { at = d.returned; reply = p }) r same in
+          same_Some (record { at = d.returned; reply = p }) r same in
           record {
             over = d;
             among = inl refl;
@@ -215,9 +227,9 @@ is_over c (d ∷ ds) q o r i e = go d.answer refl i (λ j. later (is_over c ds q
             returned = ap (λ (r : Return). r.at) one;
             logs = ap (logged c d.request) s
                 ∙ (ap (λ (o : ProcessCall). record { client = c; ticket = o.call.number; op = o.call.op; reply = p }
-                  ∷ []) (sym t)
+                ∷ []) (sym t)
                 ∙ ap (λ (r : Return). record { client = c; ticket = o.call.number; op = o.call.op; reply = r.reply }
-                  ∷ []) one);
+                ∷ []) one);
           }
       | inr j ↦ f j
     ]

@@ -28,7 +28,7 @@ journal_begun (d ∷ ds) q = ap (λ z. invoked d.request ∷ Returned d.returned
 
 pub journal_over : (ds : List AnyDone) (q : AnyRequest) (a : AnyAnswer) (t : ℕ)
     → journal_of (ds ++ record { request = q; answer = a; returned = t } ∷ []) None
-      ≡ journal_of ds (Some q) ++ Returned t a ∷ []
+    ≡ journal_of ds (Some q) ++ Returned t a ∷ []
 journal_over [] q a t = refl
 journal_over (d ∷ ds) q a t = ap (λ z. invoked d.request ∷ Returned d.returned d.answer ∷ z) (journal_over ds q a t)
 
@@ -54,8 +54,7 @@ splits_at : (c : ℕ) (l s : List AnyEntry) (e : AnyEntry) → entries_of c l �
 splits_at c [] [] e is = absurd (cc)
 splits_at c [] (y ∷ s) e is = absurd (cc)
 splits_at c (x ∷ l) s e is =
-    elim (eqb x.client c) as (λ b. cond b (x ∷ entries_of c l) (entries_of c l) ≡ s ++ e ∷ [] → Splits (x ∷ l) e)
-    [
+    elim (eqb x.client c) as (λ b. cond b (x ∷ entries_of c l) (entries_of c l) ≡ s ++ e ∷ [] → Splits (x ∷ l) e) [
       | true ↦ splits_own x e l (entries_of c l) s (λ s' f. splits_at c l s' e f)
       | false ↦ λ f. one_more x e l (splits_at c l s e f)
     ] is
@@ -64,11 +63,15 @@ splits_at c (x ∷ l) s e is =
 pub stands_in : (c n : ℕ) (l s : List AnyEntry) (q : AnyRequest) (a : AnyAnswer) → entries_of c l ≡ s ++ logged c q a
     → All (λ (e : AnyEntry). e.ticket < n) l
     → (before : List AnyEntry) × (after : List AnyEntry) × (l ≡ before ++ logged c q a ++ after)
-      × All (λ (e : AnyEntry). e.ticket < n) before
+    × All (λ (e : AnyEntry). e.ticket < n) before
 stands_in c n l s q (Reply r) is low =
-    let e : AnyEntry = record { client = c; ticket = q.ticket; op = q.op; reply = r } in let b = splits_at c l s e is in
-    (b.0, b.1, b.2 ∙ sym (append_assoc b.0 (e ∷ []) b.1),
-      all_before (λ (e : AnyEntry). e.ticket < n) b.0 (e ∷ b.1) (subst (All (λ (e : AnyEntry). e.ticket < n)) b.2 low))
+    let e : AnyEntry = record { client = c; ticket = q.ticket; op = q.op; reply = r } in
+    let b = splits_at c l s e is in (
+      b.0,
+      b.1,
+      b.2 ∙ sym (append_assoc b.0 (e ∷ []) b.1),
+      all_before (λ (e : AnyEntry). e.ticket < n) b.0 (e ∷ b.1) (subst (All (λ (e : AnyEntry). e.ticket < n)) b.2 low),
+    )
 stands_in c n l s q Refused is low = ([], l, refl, All-nil (λ (e : AnyEntry). e.ticket < n))
 
 -- a log that grows keeps what was in time
@@ -89,10 +92,10 @@ module _ (kinds : List Kind) where
       let same : (c : ℕ) → journal_in w c ≡ journal_in w' c = λ c i. journal_of (sym (done c) i) (sym (asked c) i) in
       record {
         tickets = subst (λ (z : ℕ × (ℕ → List ℕ)). ShareOut z.0 z.1)
-          (λ i. (sym clock i, λ c. map ticket_of (same c i))) k.tickets;
+            (λ i. (sym clock i, λ c. map ticket_of (same c i))) k.tickets;
         on_objects = λ c. subst (All (IsAmong kinds)) (same c) (k.on_objects c);
         in_time = λ c. subst (All (IsInTime w' c)) (sym (done c))
-          (All-weaker (IsInTime w c) (IsInTime w' c) (λ d. still_in_time w w' c d grows) (w.done c) (k.in_time c));
+            (All-weaker (IsInTime w c) (IsInTime w' c) (λ d. still_in_time w w' c d grows) (w.done c) (k.in_time c));
         not_come = λ c e. done c ∙ k.not_come c (came c e);
       }
 
@@ -102,9 +105,9 @@ module _ (kinds : List Kind) where
       → ((x : ℕ) → StartsWith (w'.log x) (w.log x)) → SoundJournals kinds w → SoundJournals kinds w'
   journals_staged w w' c t clock done is same came grows k = journals_kept w w' clock done
       (λ d. ap request_of (is d)
-        ∙ changed_all (λ d t. request_of t ≡ request_of (w.stage d)) w.stage c t same (λ d _. refl) d)
+      ∙ changed_all (λ d t. request_of t ≡ request_of (w.stage d)) w.stage c t same (λ d _. refl) d)
       (λ d e. changed_all (λ d t. t ≡ absent → w.stage d ≡ absent) w.stage c t (λ f. absurd (came f)) (λ d _ f. f) d
-        (sym (is d) ∙ e)) grows k
+      (sym (is d) ∙ e)) grows k
 
 -- ---- one client draws the next ticket
 
@@ -115,7 +118,7 @@ rising_more xs n rising low i j d l within =
     dite (ℕ_discrete j (length xs))
     (λ last. let here = get_or_push xs n d j (sym last) in let below = low i d (omega arith) in omega arith)
     (λ other. let second = get_or_append_left xs (n ∷ []) d j (omega arith) in
-        let pair = rising i j d l (omega arith) in omega arith)
+    let pair = rising i j d l (omega arith) in omega arith)
 
 module _ (n : ℕ) (f g : ℕ → List ℕ) (c : ℕ) (here : g c ≡ f c ++ n ∷ []) (others : (d : ℕ) → d ≢ c → g d ≡ f d)
     (k : ShareOut n f) where
@@ -137,23 +140,28 @@ module _ (n : ℕ) (f g : ℕ → List ℕ) (c : ℕ) (here : g c ≡ f c ++ n �
   pub share_more : ShareOut (n + 1) g
   share_more = record {
     rising = either (λ d l. AllPairs (λ t u. t < u) l) (rising_more (f c) n (k.rising c) (k.below c))
-      (λ d _. k.rising d);
+        (λ d _. k.rising d);
     below = either (λ d l. All (λ t. t < n + 1) l)
         (All-push (λ t. t < n + 1) (f c) n
-          (All-weaker (λ t. t < n) (λ t. t < n + 1) (λ t l. omega arith) (f c) (k.below c)) (omega arith))
+        (All-weaker (λ t. t < n) (λ t. t < n + 1) (λ t l. omega arith) (f c) (k.below c)) (omega arith))
         (λ d _. All-weaker (λ t. t < n) (λ t. t < n + 1) (λ t l. omega arith) (f d) (k.below d));
     apart = λ d e t a b. ⊎_elim
         (λ one. ⊎_elim (λ two. k.apart d e t one two) (λ (two : (e ≡ c) × (n ≡ t)). absurd (not_new d t one two.1))
-          (came_from e t b))
+        (came_from e t b))
         (λ (one : (d ≡ c) × (n ≡ t)). ⊎_elim (λ two. absurd (not_new e t two one.1))
-          (λ (two : (e ≡ c) × (n ≡ t)). one.0 ∙ sym two.0) (came_from e t b))
+        (λ (two : (e ≡ c) × (n ≡ t)). one.0 ∙ sym two.0) (came_from e t b))
         (came_from d t a);
     each = λ t l. dite (ℕ_discrete t n)
-        (λ same. (c, subst (λ z. Contains z t) (sym here)
-          (subst (Contains (f c ++ n ∷ [])) (sym same) (Contains-push (f c) n))))
-        (λ other. let b = k.each t (omega arith) in
-          (b.0, either (λ d l. Contains (f d) t → Contains l t) (Contains-append_left (f c) (n ∷ []) t)
-          (λ d _ h. h) b.0 b.1));
+        (λ same. (
+          c,
+          subst (λ z. Contains z t) (sym here)
+              (subst (Contains (f c ++ n ∷ [])) (sym same) (Contains-push (f c) n)),
+        ))
+        (λ other. let b = k.each t (omega arith) in (
+          b.0,
+          either (λ d l. Contains (f d) t → Contains l t) (Contains-append_left (f c) (n ∷ []) t)
+              (λ d _ h. h) b.0 b.1,
+        ));
   }
 
 map_more : (es : List AnyEvent) (e : AnyEvent) → map ticket_of (es ++ e ∷ []) ≡ map ticket_of es ++ ticket_of e ∷ []
@@ -168,17 +176,17 @@ module _ (kinds : List Kind) where
   journals_ticked w c t ds e ticket on more in_time came k =
       let w' : World = ticked w c t ds in
       let here : journal_in w' c ≡ journal_in w c ++ e ∷ [] =
-        (λ i. journal_of (changed_here w.done c ds i) (request_of (changed_here w.stage c t i))) ∙ more in
+      (λ i. journal_of (changed_here w.done c ds i) (request_of (changed_here w.stage c t i))) ∙ more in
       let others : (d : ℕ) → d ≢ c → journal_in w' d ≡ journal_in w d =
-        λ d other i. journal_of (changed_else w.done c ds d other i)
-        (request_of (changed_else w.stage c t d other i)) in record {
+      λ d other i. journal_of (changed_else w.done c ds d other i)
+      (request_of (changed_else w.stage c t d other i)) in record {
         tickets = share_more w.clock (tickets_in w) (tickets_in w') c
-          (ap (map ticket_of) here ∙ (map_more (journal_in w c) e ∙ ap (λ z. tickets_in w c ++ z ∷ []) ticket))
+            (ap (map ticket_of) here ∙ (map_more (journal_in w c) e ∙ ap (λ z. tickets_in w c ++ z ∷ []) ticket))
             (λ d other. ap (map ticket_of) (others d other)) k.tickets;
         on_objects = λ d. dite (ℕ_discrete d c)
             (λ same. subst (λ z. All (IsAmong kinds) (journal_in w' z)) (sym same)
-              (subst (All (IsAmong kinds)) (sym here)
-              (All-push (IsAmong kinds) (journal_in w c) e (k.on_objects c) on)))
+            (subst (All (IsAmong kinds)) (sym here)
+            (All-push (IsAmong kinds) (journal_in w c) e (k.on_objects c) on)))
             (λ other. subst (All (IsAmong kinds)) (sym (others d other)) (k.on_objects d));
         in_time = changed_all (λ d l. All (IsInTime w' d) l) w.done c ds in_time (λ d _. k.in_time d);
         not_come = λ d. dite (ℕ_discrete d c)
@@ -191,7 +199,7 @@ module _ (kinds : List Kind) where
       → SoundJournals kinds w → SoundJournals kinds (ticked w c (drawn q) (w.done c))
   journals_called w c q was ticket on fits k = journals_ticked w c (drawn q) (w.done c) (invoked q) ticket (on, fits)
       (journal_begun (w.done c) q ∙ ap (λ z. journal_of (w.done c) (request_of z) ++ invoked q ∷ []) (sym was))
-        (k.in_time c) (λ e. absurd (cc)) k
+      (k.in_time c) (λ e. absurd (cc)) k
 
   pub journals_returned : (quota : ℕ) (w : World) (c n : ℕ) (q : AnyRequest) (a : AnyAnswer) → w.stage c ≡ taken q a
       → n ≡ w.clock → Sound kinds quota w
@@ -200,11 +208,11 @@ module _ (kinds : List Kind) where
       let x : ℕ = q.object in let d : AnyDone = record { request = q; answer = a; returned = n } in
       let ds : List AnyDone = w.done c in
       let last : entries_of c (w.log x) ≡ served x c ds ++ logged c q a =
-        k.counted c x ∙ (ap (λ z. served x c ds ++ served_now x c z) was
-        ∙ ap (λ z. served x c ds ++ z) (logged_here x c q a refl)) in
+      k.counted c x ∙ (ap (λ z. served x c ds ++ served_now x c z) was
+      ∙ ap (λ z. served x c ds ++ z) (logged_here x c q a refl)) in
       let in_time : IsInTime w c d =
-        stands_in c n (w.log x) (served x c ds) q a last
-        (subst (λ z. All (λ (e : AnyEntry). e.ticket < z) (w.log x)) (sym now) (k.early x)) in
+      stands_in c n (w.log x) (served x c ds) q a last
+      (subst (λ z. All (λ (e : AnyEntry). e.ticket < z) (w.log x)) (sym now) (k.early x)) in
       journals_ticked w c idle (ds ++ d ∷ []) (Returned n a) now tt
       (journal_over ds q a n ∙ ap (λ z. journal_of ds (request_of z) ++ Returned n a ∷ []) (sym was))
       (All-push (IsInTime w c) ds d (k.journals.in_time c) in_time) (λ e. absurd (cc)) k.journals

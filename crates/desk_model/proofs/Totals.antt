@@ -14,7 +14,7 @@ pub total_one : (f g : ℕ → ℕ) (n c : ℕ) → c < n → g c ≡ f c + 1 �
 total_one f g zero c l e h = absurd (omega arith)
 total_one f g (suc n) c l e h = dite (ℕ_discrete n c)
     (λ same. let rest = total_same g f n (λ d m. h d (λ z. omega arith)) in
-        let here : g n ≡ f n + 1 = ap g same ∙ (e ∙ ap (λ z. f z + 1) (sym same)) in omega arith)
+    let here : g n ≡ f n + 1 = ap g same ∙ (e ∙ ap (λ z. f z + 1) (sym same)) in omega arith)
     (λ other. let before = total_one f g n c (omega arith) e h in let there = h n other in omega arith)
 
 pub total_le : (f : ℕ → ℕ) (n q : ℕ) → ((c : ℕ) → c < n → f c ≤ q) → total f n ≤ n * q

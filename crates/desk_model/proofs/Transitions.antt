@@ -24,16 +24,16 @@ module _ (kinds : List Kind) (quota : ℕ) where
   takes_sound (draw_call x op) w w' c low t k =
       subst S (sym t.after)
       (sound_called kinds quota w c
-        (record { object = x; ticket = w.clock; op = op }) low t.was t.calls_left t.on_object t.of_kind refl k)
+      (record { object = x; ticket = w.clock; op = op }) low t.was t.calls_left t.on_object t.of_kind refl k)
   takes_sound draw_return w w' c low t k =
-    subst S (sym t.after) (sound_returned kinds quota w c w.clock t.request t.given low t.was refl k)
+      subst S (sym t.after) (sound_returned kinds quota w c w.clock t.request t.given low t.was refl k)
   takes_sound post w w' c low t k =
       subst S (sym t.after) (sound_staged kinds quota w c (posted t.request)
-        (λ r e. let g = sym t.was ∙ e in absurd (cc)) (λ r e. absurd (cc))
+      (λ r e. let g = sym t.was ∙ e in absurd (cc)) (λ r e. absurd (cc))
       (ap request_of (sym t.was)) (λ e. absurd (cc)) (λ y. ap (served_now y c) (sym t.was)) k)
   takes_sound (win x) w w' c low t k = subst S (sym t.after) (sound_held kinds quota w x (Some c) (λ e. absurd (cc)) k)
   takes_sound (pick r) w w' c low t k =
-    subst S (sym t.after) (sound_picked kinds quota w t.object r c t.request t.was t.for_object t.held t.free k)
+      subst S (sym t.after) (sound_picked kinds quota w t.object r c t.request t.was t.for_object t.held t.free k)
   takes_sound answer w w' c low t k =
       let x : ℕ = t.object in let r : ℕ = t.row in let q : AnyRequest = t.request in let h = t.in_hand in
       let on = on_object w x r q h.1 h.2 k in
@@ -43,10 +43,10 @@ module _ (kinds : List Kind) (quota : ℕ) where
       let h = t.in_hand in
       subst S (sym t.after)
       (sound_put_back kinds quota w t.object t.row c t.request h.2
-        (on_object w t.object t.row t.request h.1 h.2 k) h.0 h.1 k)
+      (on_object w t.object t.row t.request h.1 h.2 k) h.0 h.1 k)
   takes_sound take w w' c low t k =
       subst S (sym t.after) (sound_staged kinds quota w c (taken t.request t.given)
-        (λ r e. let g = sym t.was ∙ e in absurd (cc)) (λ r e. absurd (cc))
+      (λ r e. let g = sym t.was ∙ e in absurd (cc)) (λ r e. absurd (cc))
       (ap request_of (sym t.was)) (λ e. absurd (cc)) (λ y. ap (served_now y c) (sym t.was)) k)
   takes_sound release w w' c low t k = subst S (sym t.after) (sound_held kinds quota w t.object None (λ _. t.free) k)
   takes_sound end w w' c low t k = subst S (sym t.after) (sound_ended kinds quota w c k)

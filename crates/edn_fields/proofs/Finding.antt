@@ -20,12 +20,12 @@ same_bytes_is (x ∷ xs) (y ∷ ys) = ap (λ b. (x == y) && b) (same_bytes_is xs
 at_place : (key : List ℕ) (es : List (Name × Form)) (i : ℕ) (e : Name × Form) (bytes : List ℕ) → i < length es
     → e ≡ get_or es i e → bytes ≡ name_bytes e.0 → (b : Bool) → b ≡ same_bytes key bytes
     → value_at key (entries_of (pair_views (drop i es)))
-      ≡ cond b (Some (view e.1)) (value_at key (entries_of (pair_views (drop (i + 1) es))))
+    ≡ cond b (Some (view e.1)) (value_at key (entries_of (pair_views (drop (i + 1) es))))
 at_place key es i e bytes l is text b test =
     let whole = drop_more es i e l ∙ ap (λ x. x ∷ drop (i + 1) es) (sym is) in
     let own : same_bytes key (name_bytes e.0) ≡ b = ap (same_bytes key) (sym text) ∙ sym test in
     ap (λ ds. value_at key (entries_of (pair_views ds))) whole
-      ∙ ap (λ t. cond t (Some (view e.1)) (value_at key (entries_of (pair_views (drop (i + 1) es))))) own
+    ∙ ap (λ t. cond t (Some (view e.1)) (value_at key (entries_of (pair_views (drop (i + 1) es))))) own
 
 pub found_here : (key : List ℕ) (es : List (Name × Form)) (i : ℕ) (e : Name × Form) → i < length es → e ≡ get_or es i e
     → value_at key (entries_of (pair_views (drop i es))) ≡ value_at key (entries_of (pair_views es))

@@ -6,7 +6,7 @@ use Rattle.edn_fields.specs.FirstFaults.{IsFirstFaultBy}
 pub first_more : {Kind : Type 0} {IsFault : List Datum → Datum → Kind → Type 0} {number_of : Kind → ℕ}
     (ds : List Datum) (d : Datum) (at : ℕ)
     (kind : Kind) → IsFirstFaultBy IsFault number_of ds at kind
-      → IsFirstFaultBy IsFault number_of (ds ++ d ∷ []) at kind
+    → IsFirstFaultBy IsFault number_of (ds ++ d ∷ []) at kind
 first_more ds d at kind h = record {
   earlier = h.earlier;
   form = h.form;

@@ -59,7 +59,7 @@ pub value_taken : (found value : List Piece) (key l : List ℕ) (d : Datum) (ts 
 value_taken found value key l d ts before z e h q =
     subst (IsValue value) (sym (value_at-more key l d before))
     (taken_by value (value_at key (entries_of before)) (same_bytes key l) d ts e
-      (subst (λ (f : List Piece). IsValue f (value_at key (entries_of before))) z h) q)
+    (subst (λ (f : List Piece). IsValue f (value_at key (entries_of before))) z h) q)
 
 -- ---- the loop over the pairs
 
@@ -98,20 +98,20 @@ walk_goes_on es tokens after v new name value h a put w = by_left w.left refl
     by_left : (left : Entries) → w.left ≡ left → Walk es after new
     by_left no_entries e =
         let z : leaf (atom (keyword name)) ∷ token_buffer_tokens value ≡ close_map ∷ [] =
-          sym h ∙ w.goes_on ∙ ap (λ (x : Entries). entries_tokens x ++ close_map ∷ []) e in absurd cc
+        sym h ∙ w.goes_on ∙ ap (λ (x : Entries). entries_tokens x ++ close_map ∷ []) e in absurd cc
     by_left (entry k d ds) e =
         let z : leaf (atom (keyword name)) ∷ token_buffer_tokens value ≡ leaf (atom (keyword k))
         ∷ ((tokens_of d ++ entries_tokens ds) ++ close_map ∷ []) =
-          sym h ∙ w.goes_on ∙ ap (λ (x : Entries). entries_tokens x ++ close_map ∷ []) e in
+        sym h ∙ w.goes_on ∙ ap (λ (x : Entries). entries_tokens x ++ close_map ∷ []) e in
         let n : name ≡ k = cc in
         let t : token_buffer_tokens value ≡ (tokens_of d ++ entries_tokens ds) ++ close_map ∷ [] = cc in
         let q : token_buffer_tokens value ≡ tokens_of d ++ (entries_tokens ds ++ close_map ∷ []) =
-          t ∙ append_assoc (tokens_of d) (entries_tokens ds) (close_map ∷ []) in
+        t ∙ append_assoc (tokens_of d) (entries_tokens ds) (close_map ∷ []) in
         record {
           before = w.before ++ (name, d) ∷ [];
           left = ds;
           parts = w.parts ∙ ap (onto w.before) (e ∙ ap (λ (x : List ℕ). entry x d ds) (sym n))
-            ∙ onto-one w.before name d ds;
+              ∙ onto-one w.before name d ds;
           goes_on = a ∙ ap after_one q ∙ after_value_is d (entries_tokens ds ++ close_map ∷ []);
           so_far = put w.before d (entries_tokens ds ++ close_map ∷ []) w.so_far q;
         }
@@ -123,8 +123,8 @@ walk_ends es tokens v n w = by_left w.left refl
     by_left : (left : Entries) → w.left ≡ left → HasValues v es
     by_left no_entries e = subst (HasValues v) (sym (w.parts ∙ ap (onto w.before) e ∙ onto-none w.before)) w.so_far
     by_left (entry k d ds) e =
-      absurd (n k ((tokens_of d ++ entries_tokens ds) ++ close_map ∷ [])
-      (w.goes_on ∙ ap (λ (x : Entries). entries_tokens x ++ close_map ∷ []) e))
+        absurd (n k ((tokens_of d ++ entries_tokens ds) ++ close_map ∷ [])
+        (w.goes_on ∙ ap (λ (x : Entries). entries_tokens x ++ close_map ∷ []) e))
 
 -- ---- as the code has them
 

@@ -29,8 +29,12 @@ next_pair no_entries name tokens e = absurd cc
 next_pair (entry k d ds) name tokens e =
     let n : name ≡ k = cc in
     let t : tokens ≡ (tokens_of d ++ entries_tokens ds) ++ close_map ∷ [] = cc in
-    record { value = d; later = ds; is = ap (λ (x : List ℕ). entry x d ds) (sym n);
-        goes_on = t ∙ append_assoc (tokens_of d) (entries_tokens ds) (close_map ∷ []) }
+    record {
+      value = d;
+      later = ds;
+      is = ap (λ (x : List ℕ). entry x d ds) (sym n);
+      goes_on = t ∙ append_assoc (tokens_of d) (entries_tokens ds) (close_map ∷ []);
+    }
 
 pub left_first : (key : List ℕ) (es : Entries) (tokens : List Token) → tokens ≡ entries_tokens es ++ close_map ∷ []
     → Left key es tokens
@@ -47,7 +51,7 @@ left_more key name es tokens after value h a other l =
       left = n.later;
       goes_on = a ∙ ap after_one n.goes_on ∙ after_value_is n.value (entries_tokens n.later ++ close_map ∷ []);
       same = l.same ∙ ap (value_at key) n.is
-        ∙ ap (λ (b : Bool). cond b (Some n.value) (value_at key n.later)) (sym other);
+          ∙ ap (λ (b : Bool). cond b (Some n.value) (value_at key n.later)) (sym other);
     }
 
 -- a pair of the key
@@ -57,7 +61,7 @@ pub left_found : (key name : List ℕ) (es : Entries) (tokens : List Token) (val
 left_found key name es tokens value h own l =
     let n = next_pair l.left name (token_buffer_tokens value) (sym h ∙ l.goes_on) in
     let e : value_at key es ≡ Some n.value =
-      l.same ∙ ap (value_at key) n.is ∙ ap (λ (b : Bool). cond b (Some n.value) (value_at key n.later)) (sym own) in
+    l.same ∙ ap (value_at key) n.is ∙ ap (λ (b : Bool). cond b (Some n.value) (value_at key n.later)) (sym own) in
     subst (IsValue value) (sym e) (entries_tokens n.later ++ close_map ∷ [], n.goes_on)
 
 -- no pair is left
@@ -68,8 +72,8 @@ left_none key es tokens none l = by_left l.left refl
     by_left : (left : Entries) → l.left ≡ left → IsValue [] (value_at key es)
     by_left no_entries e = subst (IsValue []) (sym (l.same ∙ ap (value_at key) e)) refl
     by_left (entry k d ds) e =
-      absurd (none k ((tokens_of d ++ entries_tokens ds) ++ close_map ∷ [])
-      (l.goes_on ∙ ap (λ (x : Entries). entries_tokens x ++ close_map ∷ []) e))
+        absurd (none k ((tokens_of d ++ entries_tokens ds) ++ close_map ∷ [])
+        (l.goes_on ∙ ap (λ (x : Entries). entries_tokens x ++ close_map ∷ []) e))
 
 -- tokens after a map's bracket are those of a map
 pub value_in_map : (tokens : List Token) (key : List ℕ) (value : List Piece)

@@ -35,25 +35,25 @@ mutual
       → after_open (suc n) (tokens_of d ++ ts) ≡ after_open (suc n) ts
   value_skipped (atom a) n ts = refl
   value_skipped (vector ds) n ts =
-    ap (after_open (suc (suc n))) (append_assoc (items_tokens ds) (close_vector ∷ []) ts)
-    ∙ items_skipped ds (suc n) (close_vector ∷ ts)
+      ap (after_open (suc (suc n))) (append_assoc (items_tokens ds) (close_vector ∷ []) ts)
+      ∙ items_skipped ds (suc n) (close_vector ∷ ts)
   value_skipped (dictionary es) n ts =
-    ap (after_open (suc (suc n))) (append_assoc (entries_tokens es) (close_map ∷ []) ts)
-    ∙ entries_skipped es (suc n) (close_map ∷ ts)
+      ap (after_open (suc (suc n))) (append_assoc (entries_tokens es) (close_map ∷ []) ts)
+      ∙ entries_skipped es (suc n) (close_map ∷ ts)
 
   pub items_skipped : (ds : Items) (n : ℕ) (ts : List Token)
       → after_open (suc n) (items_tokens ds ++ ts) ≡ after_open (suc n) ts
   items_skipped no_items n ts = refl
   items_skipped (item d ds) n ts =
-    ap (after_open (suc n)) (append_assoc (tokens_of d) (items_tokens ds) ts)
-    ∙ value_skipped d n (items_tokens ds ++ ts) ∙ items_skipped ds n ts
+      ap (after_open (suc n)) (append_assoc (tokens_of d) (items_tokens ds) ts)
+      ∙ value_skipped d n (items_tokens ds ++ ts) ∙ items_skipped ds n ts
 
   pub entries_skipped : (es : Entries) (n : ℕ) (ts : List Token)
       → after_open (suc n) (entries_tokens es ++ ts) ≡ after_open (suc n) ts
   entries_skipped no_entries n ts = refl
   entries_skipped (entry k d es) n ts =
-    ap (after_open (suc n)) (append_assoc (tokens_of d) (entries_tokens es) ts)
-    ∙ value_skipped d n (entries_tokens es ++ ts) ∙ entries_skipped es n ts
+      ap (after_open (suc n)) (append_assoc (tokens_of d) (entries_tokens es) ts)
+      ∙ value_skipped d n (entries_tokens es ++ ts) ∙ entries_skipped es n ts
 
 -- what follows a value
 pub after_value_is : (d : Datum) (ts : List Token) → after_one (tokens_of d ++ ts) ≡ ts

@@ -13,7 +13,7 @@ value_of_truncated k (entry l d es) = by_key (same_bytes k l) (value_of_truncate
   where
     by_key : (b : Bool) → value_at k (truncated_entries es) ≡ option_map truncated_value (value_at k es)
         → (if b then Some (truncated_value d) else value_at k (truncated_entries es))
-          ≡ option_map truncated_value (if b then Some d else value_at k es)
+        ≡ option_map truncated_value (if b then Some d else value_at k es)
     by_key true e = refl
     by_key false e = e
 
@@ -35,10 +35,10 @@ pub integer_vector_of_value : (k : List ℕ) (es : Entries)
 integer_vector_of_value k no_entries = refl
 integer_vector_of_value k (entry l d es) =
     ap (λ (b : Bool). if b then integer_vector_of d else integer_vector_under k es) (same_bytes_is k l)
-      ∙ by_key (same_bytes k l) (integer_vector_of_value k es)
+    ∙ by_key (same_bytes k l) (integer_vector_of_value k es)
   where
     by_key : (b : Bool) → integer_vector_under k es ≡ option_and_then integer_vector_of (value_at k es)
         → (if b then integer_vector_of d else integer_vector_under k es)
-          ≡ option_and_then integer_vector_of (if b then Some d else value_at k es)
+        ≡ option_and_then integer_vector_of (if b then Some d else value_at k es)
     by_key true e = refl
     by_key false e = e

@@ -67,8 +67,12 @@ decimal_run ds e =
 
 signed_run : (s : ℕ) (own ds : List ℕ) → is_token_byte s ≡ true → own ≡ s ∷ ds → is_decimal ds ≡ true → IsRun own
 signed_run s own ds h q e =
-    record { head = s; tail = ds; parts = q;
-    all = rw q (and_from (is_token_byte s) (list_all is_token_byte ds) h (decimal_run ds e).all) }
+    record {
+      head = s;
+      tail = ds;
+      parts = q;
+      all = rw q (and_from (is_token_byte s) (list_all is_token_byte ds) h (decimal_run ds e).all);
+    }
 
 name_run : (k : List ℕ) → is_name k ≡ true → list_all is_token_byte k ≡ true
 unfolding is_name
@@ -77,7 +81,7 @@ name_run (b ∷ bs) e =
     let p = and_parts (is_letter b && list_all is_name_byte bs) (nat_le (length bs) 63) e in
     let q = and_parts (is_letter b) (list_all is_name_byte bs) p.0 in
     and_from (is_token_byte b) (list_all is_token_byte bs) (letter_token b q.0)
-      (weaker is_name_byte is_token_byte name_token bs q.1)
+    (weaker is_name_byte is_token_byte name_token bs q.1)
 
 literal_run : (own : List ℕ) (b : ℕ) (bs : List ℕ) → own ≡ b ∷ bs → list_all is_token_byte (b ∷ bs) ≡ true → IsRun own
 literal_run own b bs q h = record { head = b; tail = bs; parts = q; all = rw q h }
@@ -184,7 +188,7 @@ atom_from (integer z) own (inl p) =
     let v : positive_of (d.0 ∷ d.1) ≡ Some z = positive_from z (d.0 ∷ d.1) (subst (IsPositive z) d.2 p) in
     let i : integer_of (d.0 ∷ d.1) ≡ Some z = rw (plus, dash, v) refl in
     rw d.2 (atom_int d.0 d.1 z (other 58 (λ e. omega arith)) (other 110 (λ e. omega arith))
-      (other 116 (λ e. omega arith)) (other 102 (λ e. omega arith)) i)
+    (other 116 (λ e. omega arith)) (other 102 (λ e. omega arith)) i)
 atom_from (integer z) own (inr (inl p)) = let v : positive_of p.0 ≡ Some z = positive_from z p.0 p.2 in rw (p.1, v) refl
 atom_from (integer z) own (inr (inr p)) = let v : negative_of p.0 ≡ Some z = negative_from z p.0 p.2 in rw (p.1, v) refl
 atom_from (string s) own w = absurd w
@@ -200,7 +204,7 @@ literal_is a w e =
         | inr q ↦ elim (chosen (bytes_eq w (codes "false")) _ _ _ q.1) [
           | inl r ↦ subst (λ (x : Atom). IsWord x w) (some_is (boolean false) a r.1) (same_is w (codes "false") r.0)
           | inr r ↦ (let m = mapped integer (integer_of w) a r.1 in
-            subst (λ (x : Atom). IsWord x w) m.2 (integer_is m.0 w m.1))
+              subst (λ (x : Atom). IsWord x w) m.2 (integer_is m.0 w m.1))
         ]
       ]
     ]

@@ -60,7 +60,7 @@ keyword_first b t h l e =
     let p : 58 ∷ b ∷ t ≡ (58 ∷ b ∷ names t) ++ after_names t = ap (λ (x : List ℕ). 58 ∷ b ∷ x) (sym (names_parts t)) in
     let k : IsWord (keyword (b ∷ names t)) (58 ∷ b ∷ names t) = (refl, is_name_run b t h l) in
     (begins_reads (58 ∷ b ∷ t) (leaf (atom (keyword (b ∷ names t)))) (after_names t)
-      (inl (keyword (b ∷ names t), 58 ∷ b ∷ names t, refl, k, e, p))).reads
+    (inl (keyword (b ∷ names t), 58 ∷ b ∷ names t, refl, k, e, p))).reads
 
 decimal_run : (b : ℕ) (t : List ℕ) → is_digit b ≡ true → (b ≡ 48 → ⊥) → is_decimal (b ∷ digits t) ≡ true
 decimal_run b t h n = by_tail (digits t) (digits_all t)
@@ -70,7 +70,7 @@ decimal_run b t h n = by_tail (digits t) (digits_all t)
     by_tail (c ∷ cs) k =
         let z : not (b == 48) ≡ true = ap not (ne_eqb b 48 n) in
         and_from (is_digit b && not (b == 48)) (list_all is_digit (c ∷ cs))
-      (and_from (is_digit b) (not (b == 48)) h z) k
+        (and_from (is_digit b) (not (b == 48)) h z) k
 
 -- a number that ends after its digits
 pub integer_first : (b : ℕ) (t : List ℕ) → is_digit b ≡ true → (b ≡ 48 → ⊥) → value_after 0 (b ∷ digits t) < 2 ^ 63
@@ -79,9 +79,9 @@ pub integer_first : (b : ℕ) (t : List ℕ) → is_digit b ≡ true → (b ≡ 
 integer_first b t h n lt e =
     let p : b ∷ t ≡ (b ∷ digits t) ++ after_digits t = ap (λ (x : List ℕ). b ∷ x) (sym (digits_parts t)) in
     let k : IsWord (integer (pos (value_after 0 (b ∷ digits t)))) (b ∷ digits t) =
-      inl (decimal_run b t h n, lt, refl) in
+    inl (decimal_run b t h n, lt, refl) in
     (begins_reads (b ∷ t) (leaf (atom (integer (pos (value_after 0 (b ∷ digits t)))))) (after_digits t)
-      (inl (integer (pos (value_after 0 (b ∷ digits t))), b ∷ digits t, refl, k, e, p))).reads
+    (inl (integer (pos (value_after 0 (b ∷ digits t))), b ∷ digits t, refl, k, e, p))).reads
 
 -- as the code has them
 pub keyword_at : (b : ℕ) (t : List ℕ) → is_letter b ≡ true → length t - length (after_names t) ≤ 63
@@ -108,17 +108,17 @@ usual_keyword (b ∷ bs) u r some q e h l w =
     let i : u ≡ bs = q ∙ all_of bs in
     let e' : r ≡ after_names bs = e ∙ ap after_names i in
     let l' : length bs - length (after_names bs) ≤ 63 =
-      subst (λ (x : List ℕ). length bs - length x ≤ 63) e' (subst (λ (x : List ℕ). length x - length r ≤ 63) i l) in
+    subst (λ (x : List ℕ). length bs - length x ≤ 63) e' (subst (λ (x : List ℕ). length x - length r ≤ 63) i l) in
     let w' : EndsToken (after_names bs) = subst EndsToken e' w in
     let n : length u - length r ≡ length bs - length (after_names bs) =
-      ap (λ (x : List ℕ). length x - length r) i ∙ ap (λ (x : List ℕ). length bs - length x) e' in
+    ap (λ (x : List ℕ). length x - length r) i ∙ ap (λ (x : List ℕ). length bs - length x) e' in
     let k : take (length u - length r + 1) (b ∷ bs) ≡ b ∷ take (length bs - length (after_names bs)) bs =
-      rw (n, add-one) refl in
+    rw (n, add-one) refl in
     let f : take (length bs - length (after_names bs)) bs ≡ names bs = names_front bs in
     let le : nat_le (length (names bs)) 63 ≡ true = le-leb (length (names bs)) 63 (omega (arith, names_length bs)) in
     record {
       utf8 = subst IsUtf8 (ap (λ (x : List ℕ). b ∷ x) (sym f) ∙ sym k)
-        (name_utf8 (b ∷ names bs) (is_name_run b bs h le));
+          (name_utf8 (b ∷ names bs) (is_name_run b bs h le));
       read = keyword_at b bs h l' w' ∙ ap (λ (x : List ℕ). got (leaf (atom (keyword x))) (after_names bs)) (sym k)
           ∙ ap (got (leaf (atom (keyword (take (length u - length r + 1) (b ∷ bs)))))) (sym e');
     }

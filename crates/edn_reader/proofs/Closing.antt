@@ -127,9 +127,13 @@ closing i f fs d left e fit q h k rest =
     let p = put_value f d q in
     let r = rest p.0 (same_place f p.0 d fs p.1 h) (put_fits (16 - length fs) f d p.0 k fit p.1) in
     let t : frame_tokens p.0 ≡ frame_tokens f ++ (frame_tokens i ++ left) =
-      put_tokens f d p.0 p.1 ∙ ap (λ (x : List Token). frame_tokens f ++ x) e in
-    record { forms = r.forms; fit = r.fit; more = left ++ r.more;
-        parts = r.parts ∙ ap (λ (x : List Token). (stack_tokens fs ++ x) ++ r.more) t ∙ simp append_assoc }
+    put_tokens f d p.0 p.1 ∙ ap (λ (x : List Token). frame_tokens f ++ x) e in
+    record {
+      forms = r.forms;
+      fit = r.fit;
+      more = left ++ r.more;
+      parts = r.parts ∙ ap (λ (x : List Token). (stack_tokens fs ++ x) ++ r.more) t ∙ simp append_assoc;
+    }
 
 pair_left : (es : List (List ℕ × Datum)) (k : List ℕ)
     → tokens_of (dictionary (entries_of (es ++ (k, atom nil) ∷ [])))
@@ -139,28 +143,31 @@ pair_left es k = rw (pairs_tokens-append es k (atom nil)) (simp append_assoc)
 pub closable : (i : Frame) (fs : List Frame) → IsGrounded i fs → FrameFits (16 - length fs) i → StackFits fs
     → length fs ≤ 16 → AreFirst (stack_tokens fs ++ frame_tokens i)
 closable (in_text ds) fs h k st room =
-    rw h (record { forms = ds;
-      fit = subst (λ (n : ℕ). ItemsFit n (items_of ds)) (ap (λ (x : List Frame). 16 - length x) h) k; more = [];
-      parts = sym (append-nil (list_tokens ds)) })
+    rw h (record {
+      forms = ds;
+      fit = subst (λ (n : ℕ). ItemsFit n (items_of ds)) (ap (λ (x : List Frame). 16 - length x) h) k;
+      more = [];
+      parts = sym (append-nil (list_tokens ds));
+    })
 closable (in_vector ds) [] h k st room = absurd h
 closable (in_vector ds) (f ∷ fs) h k st room =
     let fit : Fits (16 - length fs) (vector (items_of ds)) =
-      (omega arith, subst (λ (n : ℕ). ItemsFit n (items_of ds)) (omega arith) k) in
+    (omega arith, subst (λ (n : ℕ). ItemsFit n (items_of ds)) (omega arith) k) in
     closing (in_vector ds) f fs (vector (items_of ds)) (close_vector ∷ []) refl fit h.0 h.1 st.0
-      (λ g l m. closable g fs l m st.1 (omega arith))
+    (λ g l m. closable g fs l m st.1 (omega arith))
 closable (in_map es) [] h k st room = absurd h
 closable (in_map es) (f ∷ fs) h k st room =
     let fit : Fits (16 - length fs) (dictionary (entries_of es)) =
-      (omega arith, subst (λ (n : ℕ). EntriesFit n (entries_of es)) (omega arith) k) in
+    (omega arith, subst (λ (n : ℕ). EntriesFit n (entries_of es)) (omega arith) k) in
     closing (in_map es) f fs (dictionary (entries_of es)) (close_map ∷ []) refl fit h.0 h.1 st.0
-      (λ g l m. closable g fs l m st.1 (omega arith))
+    (λ g l m. closable g fs l m st.1 (omega arith))
 closable (in_pair es x) [] h k st room = absurd h
 closable (in_pair es x) (f ∷ fs) h k st room =
     let n = 16 - length (f ∷ fs) in
     let entries : EntriesFit n (entries_of (es ++ (x, atom nil) ∷ [])) =
-      entries_fit-append n es x (atom nil) k.0 k.1 tt in
+    entries_fit-append n es x (atom nil) k.0 k.1 tt in
     let fit : Fits (16 - length fs) (dictionary (entries_of (es ++ (x, atom nil) ∷ []))) =
     (omega arith, subst (λ (m : ℕ). EntriesFit m (entries_of (es ++ (x, atom nil) ∷ []))) (omega arith) entries) in
     closing (in_pair es x) f fs (dictionary (entries_of (es ++ (x, atom nil) ∷ [])))
-      (leaf (atom nil) ∷ close_map ∷ []) (pair_left es x) fit h.0 h.1
+    (leaf (atom nil) ∷ close_map ∷ []) (pair_left es x) fit h.0 h.1
     st.0 (λ g l m. closable g fs l m st.1 (omega arith))

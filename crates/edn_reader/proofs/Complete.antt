@@ -89,7 +89,7 @@ mutual
   steps_datum (vector ds) n i fs g fit len e =
       let lt : length fs < 16 = omega (arith, fit.0) in
       let o : open_at (in_vector []) (at i fs) ≡ Some (at (in_vector []) (i ∷ fs)) =
-        opens (in_vector []) i fs (holds_vector i ds g e) lt in
+      opens (in_vector []) i fs (holds_vector i ds g e) lt in
       let a : steps (items_tokens ds) (at (in_vector []) (i ∷ fs)) ≡ Some (at (in_vector (items_list ds)) (i ∷ fs)) =
       steps_items ds (n - 1) in_vector (λ xs d. refl) [] (i ∷ fs) fit.1 (omega (arith, fit.0)) in
       let b : steps (items_tokens ds ++ close_vector ∷ []) (at (in_vector []) (i ∷ fs)) ≡ steps (close_vector ∷ [])
@@ -100,13 +100,13 @@ mutual
   steps_datum (dictionary ds) n i fs g fit len e =
       let lt : length fs < 16 = omega (arith, fit.0) in
       let o : open_at (in_map []) (at i fs) ≡ Some (at (in_map []) (i ∷ fs)) =
-        opens (in_map []) i fs (holds_map i ds g e) lt in
+      opens (in_map []) i fs (holds_map i ds g e) lt in
       let a : steps (entries_tokens ds) (at (in_map []) (i ∷ fs)) ≡ Some (at (in_map (entries_list ds)) (i ∷ fs)) =
-        steps_entries ds (n - 1) [] (i ∷ fs) fit.1 tt (omega (arith, fit.0)) in
+      steps_entries ds (n - 1) [] (i ∷ fs) fit.1 tt (omega (arith, fit.0)) in
       let b : steps (entries_tokens ds ++ close_map ∷ []) (at (in_map []) (i ∷ fs)) ≡ steps (close_map ∷ [])
       (at (in_map (entries_list ds)) (i ∷ fs)) = steps-append (entries_tokens ds) (close_map ∷ []) _ _ a in
       let c : close_as (dictionary (entries_of (entries_list ds))) (i ∷ fs) ≡ Some (at g fs) =
-        rw (entries_of_list ds, e) refl in
+      rw (entries_of_list ds, e) refl in
       let d : steps (close_map ∷ []) (at (in_map (entries_list ds)) (i ∷ fs)) ≡ Some (at g fs) = rw c refl in
       rw o (b ∙ d)
 
@@ -130,6 +130,6 @@ mutual
       let a = steps_datum d n (in_pair pre k) fs (in_map (pre ++ (k, d) ∷ [])) fit.1 len refl in
       let b = steps_entries es n (pre ++ (k, d) ∷ []) fs fit.2 (Apart-next pre k d es fit.0 apart) len in
       let c : (pre ++ (k, d) ∷ []) ++ entries_list es ≡ pre ++ (k, d) ∷ entries_list es =
-        append_assoc pre ((k, d) ∷ []) (entries_list es) in
+      append_assoc pre ((k, d) ∷ []) (entries_list es) in
       rw s (steps-append (tokens_of d) (entries_tokens es) _ _ a ∙ b
-        ∙ ap (λ (xs : List (List ℕ × Datum)). Some (at (in_map xs) fs)) c)
+      ∙ ap (λ (xs : List (List ℕ × Datum)). Some (at (in_map xs) fs)) c)

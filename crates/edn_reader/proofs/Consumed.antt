@@ -47,7 +47,7 @@ pairs_tokens-append [] k d = ap (λ (t : List Token). leaf (atom (keyword k)) �
 pairs_tokens-append (e ∷ es) k d =
     ap (λ (t : List Token). leaf (atom (keyword e.0)) ∷ (tokens_of e.1 ++ t)) (pairs_tokens-append es k d)
     ∙ ap (λ (t : List Token). leaf (atom (keyword e.0)) ∷ t)
-      (sym (append_assoc (tokens_of e.1) (pairs_tokens es) (leaf (atom (keyword k)) ∷ tokens_of d)))
+    (sym (append_assoc (tokens_of e.1) (pairs_tokens es) (leaf (atom (keyword k)) ∷ tokens_of d)))
 
 abbrev pub frame_tokens : Frame → List Token
 frame_tokens (in_text ds) = list_tokens ds
@@ -80,7 +80,7 @@ put_tokens (in_map es) (dictionary ds) g e = absurd cc
 put_tokens (in_pair es k) d g e =
     rw (← some_is (in_map (es ++ (k, d) ∷ [])) g e)
     (ap (λ (t : List Token). open_map ∷ t)
-      (pairs_tokens-append es k d ∙ sym (append_assoc (pairs_tokens es) (leaf (atom (keyword k)) ∷ []) (tokens_of d))))
+    (pairs_tokens-append es k d ∙ sym (append_assoc (pairs_tokens es) (leaf (atom (keyword k)) ∷ []) (tokens_of d))))
 
 -- a leaf holds a single element
 abbrev pub IsPlain : Token → Type 0
@@ -104,7 +104,7 @@ close_tokens d t i [] z whole e = absurd cc
 close_tokens d t i (f ∷ fs) z whole e =
     let m = mapped (λ (g : Frame). let x : State = record { inner = g; outer = fs } in x) (put f d) z e in
     let p : frame_tokens m.0 ≡ frame_tokens f ++ (frame_tokens i ++ t ∷ []) =
-      put_tokens f d m.0 m.1 ∙ ap (λ (x : List Token). frame_tokens f ++ x) whole in
+    put_tokens f d m.0 m.1 ∙ ap (λ (x : List Token). frame_tokens f ++ x) whole in
     rw (← m.2, p) (simp append_assoc)
 
 pub step_tokens : (t : Token) (s z : State) → IsPlain t → step t s ≡ Some z → consumed z ≡ consumed s ++ t ∷ []
@@ -114,16 +114,16 @@ step_tokens open_map s z h e = open_tokens (in_map []) open_map s z refl e
 step_tokens close_vector s z h e = close_vector_tokens s.inner s.outer z e
   where
     close_vector_tokens : (i : Frame) (fs : List Frame) (z : State) → close_vector_at i fs ≡ Some z
-      → consumed z ≡ (stack_tokens fs ++ frame_tokens i) ++ close_vector ∷ []
+        → consumed z ≡ (stack_tokens fs ++ frame_tokens i) ++ close_vector ∷ []
     close_vector_tokens (in_text ds) fs z e = absurd cc
     close_vector_tokens (in_vector ds) fs z e =
-      close_tokens (vector (items_of ds)) close_vector (in_vector ds) fs z refl e
+        close_tokens (vector (items_of ds)) close_vector (in_vector ds) fs z refl e
     close_vector_tokens (in_map es) fs z e = absurd cc
     close_vector_tokens (in_pair es k) fs z e = absurd cc
 step_tokens close_map s z h e = close_map_tokens s.inner s.outer z e
   where
     close_map_tokens : (i : Frame) (fs : List Frame) (z : State) → close_map_at i fs ≡ Some z
-      → consumed z ≡ (stack_tokens fs ++ frame_tokens i) ++ close_map ∷ []
+        → consumed z ≡ (stack_tokens fs ++ frame_tokens i) ++ close_map ∷ []
     close_map_tokens (in_text ds) fs z e = absurd cc
     close_map_tokens (in_vector ds) fs z e = absurd cc
     close_map_tokens (in_map es) fs z e = close_tokens (dictionary (entries_of es)) close_map (in_map es) fs z refl e
@@ -131,5 +131,5 @@ step_tokens close_map s z h e = close_map_tokens s.inner s.outer z e
 step_tokens (leaf d) s z h e =
     let m = mapped (λ (f : Frame). let x : State = record s { inner = f } in x) (put s.inner d) z e in
     let p : frame_tokens m.0 ≡ frame_tokens s.inner ++ leaf d ∷ [] =
-      put_tokens s.inner d m.0 m.1 ∙ ap (λ (x : List Token). frame_tokens s.inner ++ x) (rw h.1 refl) in
+    put_tokens s.inner d m.0 m.1 ∙ ap (λ (x : List Token). frame_tokens s.inner ++ x) (rw h.1 refl) in
     rw (← m.2, p) (sym (append_assoc (stack_tokens s.outer) (frame_tokens s.inner) (leaf d ∷ [])))

@@ -24,7 +24,7 @@ past t ts m n r =
     let z : (suc (suc n) == 0) ≡ false = ne_eqb (suc (suc n)) 0 (λ e. absurd (omega (arith, e))) in
     let o : (suc (suc n) == 1) ≡ false = ne_eqb (suc (suc n)) 1 (λ e. absurd (omega (arith, e))) in
     ap (λ (b : Bool). if b then keep_outside t k else if suc (suc n) == 1 then keep_inside t k else pass_over t k) z
-      ∙ ap (λ (b : Bool). if b then keep_inside t k else pass_over t k) o
+    ∙ ap (λ (b : Bool). if b then keep_inside t k else pass_over t k) o
 
 deeper : (t : Token) (ts : List Token) (m : Bool) (n r : ℕ)
     → pass_over t (at ts m (suc (suc n)) r) ≡ at ts m (suc (suc n) + 1) r
@@ -43,9 +43,9 @@ between_passed : (inner us ts : List Token) (m : Bool) (n r : ℕ) (before remai
     → keep before (at ts m (suc (suc n)) r) ≡ at ts m (suc (suc (suc n))) r
     → keep remains (at ts m (suc (suc (suc n))) r) ≡ at ts m (suc (suc n)) r
     → keep_all (inner ++ remains ∷ us) (at ts m (suc (suc (suc n))) r)
-      ≡ keep_all (remains ∷ us) (at ts m (suc (suc (suc n))) r)
+    ≡ keep_all (remains ∷ us) (at ts m (suc (suc (suc n))) r)
     → keep_all ((before ∷ (inner ++ remains ∷ [])) ++ us) (at ts m (suc (suc n)) r)
-      ≡ keep_all us (at ts m (suc (suc n)) r)
+    ≡ keep_all us (at ts m (suc (suc n)) r)
 between_passed inner us ts m n r before remains a b h =
     ap (keep_all ((inner ++ remains ∷ []) ++ us)) a
     ∙ ap (λ (vs : List Token). keep_all vs (at ts m (suc (suc (suc n))) r)) (append_assoc inner (remains ∷ []) us)
@@ -54,30 +54,30 @@ between_passed inner us ts m n r before remains a b h =
 
 mutual
   value_passed : (d : Datum) (us ts : List Token) (m : Bool) (n r : ℕ)
-    → keep_all (tokens_of d ++ us) (at ts m (suc (suc n)) r) ≡ keep_all us (at ts m (suc (suc n)) r)
+      → keep_all (tokens_of d ++ us) (at ts m (suc (suc n)) r) ≡ keep_all us (at ts m (suc (suc n)) r)
   value_passed (atom a) us ts m n r = ap (keep_all us) (past (leaf (atom a)) ts m n r)
   value_passed (vector ds) us ts m n r =
       between_passed (items_tokens ds) us ts m n r open_vector close_vector (deeper open_vector ts m n r refl)
-        (higher close_vector ts m n r refl) (items_passed ds (close_vector ∷ us) ts m (suc n) r)
+      (higher close_vector ts m n r refl) (items_passed ds (close_vector ∷ us) ts m (suc n) r)
   value_passed (dictionary es) us ts m n r =
       between_passed (entries_tokens es) us ts m n r open_map close_map (deeper open_map ts m n r refl)
-        (higher close_map ts m n r refl) (entries_passed es (close_map ∷ us) ts m (suc n) r)
+      (higher close_map ts m n r refl) (entries_passed es (close_map ∷ us) ts m (suc n) r)
 
   items_passed : (ds : Items) (us ts : List Token) (m : Bool) (n r : ℕ)
-    → keep_all (items_tokens ds ++ us) (at ts m (suc (suc n)) r) ≡ keep_all us (at ts m (suc (suc n)) r)
+      → keep_all (items_tokens ds ++ us) (at ts m (suc (suc n)) r) ≡ keep_all us (at ts m (suc (suc n)) r)
   items_passed no_items us ts m n r = refl
   items_passed (item d ds) us ts m n r =
       ap (λ (vs : List Token). keep_all vs (at ts m (suc (suc n)) r))
-        (append_assoc (tokens_of d) (items_tokens ds) us) ∙ value_passed d (items_tokens ds ++ us) ts m n r
-        ∙ items_passed ds us ts m n r
+      (append_assoc (tokens_of d) (items_tokens ds) us) ∙ value_passed d (items_tokens ds ++ us) ts m n r
+      ∙ items_passed ds us ts m n r
 
   entries_passed : (es : Entries) (us ts : List Token) (m : Bool) (n r : ℕ)
-    → keep_all (entries_tokens es ++ us) (at ts m (suc (suc n)) r) ≡ keep_all us (at ts m (suc (suc n)) r)
+      → keep_all (entries_tokens es ++ us) (at ts m (suc (suc n)) r) ≡ keep_all us (at ts m (suc (suc n)) r)
   entries_passed no_entries us ts m n r = refl
   entries_passed (entry k d es) us ts m n r =
       ap (keep_all ((tokens_of d ++ entries_tokens es) ++ us)) (past (leaf (atom (keyword k))) ts m n r)
       ∙ ap (λ (vs : List Token). keep_all vs (at ts m (suc (suc n)) r))
-        (append_assoc (tokens_of d) (entries_tokens es) us)
+      (append_assoc (tokens_of d) (entries_tokens es) us)
       ∙ value_passed d (entries_tokens es ++ us) ts m n r ∙ entries_passed es us ts m n r
 
 -- ---- a value that is cut
@@ -109,27 +109,27 @@ item_kept : (d : Datum) (us ts : List Token) (m : Bool) (r : ℕ)
 item_kept (atom a) us ts m r = ap (keep_all us) (took (leaf (atom a)) ts m r)
 item_kept (vector ds) us ts m r =
     ap (λ (k : Keep). keep_all ((items_tokens ds ++ close_vector ∷ []) ++ us) (record k { below = 2 }))
-      (took (leaf (atom nil)) ts m r)
+    (took (leaf (atom nil)) ts m r)
     ∙ ap (λ (vs : List Token). keep_all vs (at (ts ++ leaf (atom nil) ∷ []) m 2 r))
-      (append_assoc (items_tokens ds) (close_vector ∷ []) us)
+    (append_assoc (items_tokens ds) (close_vector ∷ []) us)
     ∙ items_passed ds (close_vector ∷ us) (ts ++ leaf (atom nil) ∷ []) m 0 r
     ∙ ap (keep_all us) (out_of close_vector (ts ++ leaf (atom nil) ∷ []) m r refl)
 item_kept (dictionary es) us ts m r =
     ap (λ (k : Keep). keep_all ((entries_tokens es ++ close_map ∷ []) ++ us) (record k { below = 2 }))
-      (took (leaf (atom nil)) ts m r)
+    (took (leaf (atom nil)) ts m r)
     ∙ ap (λ (vs : List Token). keep_all vs (at (ts ++ leaf (atom nil) ∷ []) m 2 r))
-      (append_assoc (entries_tokens es) (close_map ∷ []) us)
+    (append_assoc (entries_tokens es) (close_map ∷ []) us)
     ∙ entries_passed es (close_map ∷ us) (ts ++ leaf (atom nil) ∷ []) m 0 r
     ∙ ap (keep_all us) (out_of close_map (ts ++ leaf (atom nil) ∷ []) m r refl)
 
 items_kept : (ds : Items) (us ts : List Token) (m : Bool) (r : ℕ)
     → keep_all (items_tokens ds ++ close_vector ∷ us) (at ts m 1 r)
-      ≡ keep_all us (at (ts ++ (items_tokens (truncated_items r ds) ++ close_vector ∷ [])) m 0 0)
+    ≡ keep_all us (at (ts ++ (items_tokens (truncated_items r ds) ++ close_vector ∷ [])) m 0 0)
 items_kept no_items us ts m zero = refl
 items_kept no_items us ts m (suc r) = refl
 items_kept (item d ds) us ts m zero =
     ap (λ (vs : List Token). keep_all vs (at ts m 1 0))
-      (append_assoc (tokens_of d) (items_tokens ds) (close_vector ∷ us))
+    (append_assoc (tokens_of d) (items_tokens ds) (close_vector ∷ us))
     ∙ item_dropped d (items_tokens ds ++ close_vector ∷ us) ts m
     ∙ items_kept ds us ts m zero
     ∙ ap (λ (xs : Items). keep_all us (at (ts ++ (items_tokens xs ++ close_vector ∷ [])) m 0 0)) (none_kept ds)
@@ -138,13 +138,13 @@ items_kept (item d ds) us ts m zero =
     none_kept xs = refl
 items_kept (item d ds) us ts m (suc r) =
     ap (λ (vs : List Token). keep_all vs (at ts m 1 (suc r)))
-      (append_assoc (tokens_of d) (items_tokens ds) (close_vector ∷ us))
+    (append_assoc (tokens_of d) (items_tokens ds) (close_vector ∷ us))
     ∙ item_kept d (items_tokens ds ++ close_vector ∷ us) ts m r
     ∙ items_kept ds us (ts ++ tokens_of (truncated_item d)) m r
     ∙ ap (λ (vs : List Token). keep_all us (at vs m 0 0))
     (append_assoc ts (tokens_of (truncated_item d)) (items_tokens (truncated_items r ds) ++ close_vector ∷ [])
     ∙ ap (λ (vs : List Token). ts ++ vs)
-      (sym (append_assoc (tokens_of (truncated_item d)) (items_tokens (truncated_items r ds)) (close_vector ∷ []))))
+    (sym (append_assoc (tokens_of (truncated_item d)) (items_tokens (truncated_items r ds)) (close_vector ∷ []))))
 
 entries_dropped : (es : Entries) (us ts : List Token) (m : Bool)
     → keep_all (entries_tokens es ++ us) (at ts m 1 0) ≡ keep_all us (at ts m 1 0)
@@ -158,10 +158,10 @@ vector_kept : (ds : Items) (us ts : List Token) (m : Bool)
     ≡ keep_all us (at (ts ++ tokens_of (vector (truncated_items most_items ds))) m 0 0)
 vector_kept ds us ts m =
     ap (λ (vs : List Token). keep_all vs (at (ts ++ open_vector ∷ []) m 1 most_items))
-      (append_assoc (items_tokens ds) (close_vector ∷ []) us)
+    (append_assoc (items_tokens ds) (close_vector ∷ []) us)
     ∙ items_kept ds us (ts ++ open_vector ∷ []) m most_items
     ∙ ap (λ (vs : List Token). keep_all us (at vs m 0 0))
-      (append_assoc ts (open_vector ∷ []) (items_tokens (truncated_items most_items ds) ++ close_vector ∷ []))
+    (append_assoc ts (open_vector ∷ []) (items_tokens (truncated_items most_items ds) ++ close_vector ∷ []))
 
 value_kept : (d : Datum) (us ts : List Token)
     → keep_all (tokens_of d ++ us) (at ts true 0 0) ≡ keep_all us (at (ts ++ tokens_of (truncated_value d)) true 0 0)
@@ -169,7 +169,7 @@ value_kept (atom a) us ts = refl
 value_kept (vector ds) us ts = vector_kept ds us ts true
 value_kept (dictionary es) us ts =
     ap (λ (vs : List Token). keep_all vs (at (ts ++ open_map ∷ []) true 1 0))
-      (append_assoc (entries_tokens es) (close_map ∷ []) us)
+    (append_assoc (entries_tokens es) (close_map ∷ []) us)
     ∙ entries_dropped es (close_map ∷ us) (ts ++ open_map ∷ []) true
     ∙ ap (λ (vs : List Token). keep_all us (at vs true 0 0)) (append_assoc ts (open_map ∷ []) (close_map ∷ []))
 
@@ -180,7 +180,7 @@ entries_kept no_entries us ts = ap (λ (vs : List Token). keep_all us (at vs tru
 entries_kept (entry k d es) us ts =
     let name = leaf (atom (keyword k)) in
     ap (λ (vs : List Token). keep_all vs (at (ts ++ name ∷ []) true 0 0))
-      (append_assoc (tokens_of d) (entries_tokens es) us)
+    (append_assoc (tokens_of d) (entries_tokens es) us)
     ∙ value_kept d (entries_tokens es ++ us) (ts ++ name ∷ [])
     ∙ entries_kept es us ((ts ++ name ∷ []) ++ tokens_of (truncated_value d))
     ∙ ap (λ (vs : List Token). keep_all us (at vs true 0 0))

@@ -35,8 +35,12 @@ pub record IsDecimal (n : ℕ) (ds : List ℕ) : Type 0 where
   pub leads : 0 < n → (get_or ds 0 0 ≡ 48) → ⊥
 
 one_digit : (n : ℕ) → n < 10 → IsDecimal n ((48 + n) ∷ [])
-one_digit n h = record { spelled = digit_of n h; value = omega arith;
-    digits = and_from (is_digit (48 + n)) true (digit_of n h) refl; leads = λ k e. omega arith }
+one_digit n h = record {
+  spelled = digit_of n h;
+  value = omega arith;
+  digits = and_from (is_digit (48 + n)) true (digit_of n h) refl;
+  leads = λ k e. omega arith;
+}
 
 longer : (ds : List ℕ) (d : ℕ) → is_decimal ds ≡ true → list_all is_digit ds ≡ true → (get_or ds 0 0 ≡ 48 → ⊥)
     → is_digit d ≡ true → is_decimal (ds ++ d ∷ []) ≡ true
@@ -44,7 +48,7 @@ longer [] d h a n k = absurd cc
 longer (b ∷ []) d h a n k =
     let z : not (b == 48) ≡ true = ap not (ne_eqb b 48 n) in
     and_from (is_digit b && not (b == 48)) (list_all is_digit (d ∷ [])) (and_from (is_digit b) (not (b == 48)) h z)
-      (and_from (is_digit d) true k refl)
+    (and_from (is_digit d) true k refl)
 longer (b ∷ c ∷ cs) d h a n k =
     let p = and_parts (is_digit b && not (b == 48)) (list_all is_digit (c ∷ cs)) h in
     and_from (is_digit b && not (b == 48)) (list_all is_digit (c ∷ cs ++ d ∷ [])) p.0 (list_all-append (c ∷ cs) d p.1 k)
@@ -59,7 +63,7 @@ one_more n ds h p =
     let more : 0 < n / 10 = omega arith in
     let v : value_after 0 ds ≡ n / 10 = p.value in
     let w : value_after 0 (ds ++ (48 + n % 10) ∷ []) ≡ value_after 0 ds * 10 + (48 + n % 10 - 48) =
-      value_after-append 0 ds (48 + n % 10) in
+    value_after-append 0 ds (48 + n % 10) in
     record {
       spelled = longer ds (48 + n % 10) p.spelled p.digits (p.leads more) k;
       value = omega (arith, v, w);

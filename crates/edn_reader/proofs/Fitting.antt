@@ -25,9 +25,10 @@ not_lacking k (e ∷ es) h l =
 pub lacking : (k : List ℕ) (es : List (List ℕ × Datum)) → has_key k es ≡ false → Lacks k (entries_of es)
 lacking k [] h = tt
 lacking k (e ∷ es) h =
-    let p = or_parts (bytes_eq k e.0) (has_key k es) h in
-    (λ q. both_ways (bytes_eq k e.0) p.0 (subst (λ (x : List ℕ). bytes_eq k x ≡ true) q (same_self k)),
-      lacking k es p.1)
+    let p = or_parts (bytes_eq k e.0) (has_key k es) h in (
+      λ q. both_ways (bytes_eq k e.0) p.0 (subst (λ (x : List ℕ). bytes_eq k x ≡ true) q (same_self k)),
+      lacking k es p.1,
+    )
 
 -- the pairs from i on
 abbrev pub From : ℕ → List (Name × Form) → ℕ → Type 0
@@ -58,7 +59,7 @@ pub key_again : (n : ℕ) (xs later : List (Name × Form)) (i : ℕ) (x : Name �
     → true ≡ has_key (name_bytes x.0) (pair_views later) → From n xs i → ⊥
 key_again n xs later i x lt e q h f =
     let k : has_key (name_bytes x.0) (pair_views (drop (i + 1) xs)) ≡ true =
-      ap (λ (ys : List (Name × Form)). has_key (name_bytes x.0) (pair_views ys)) (sym q) ∙ sym h in
+    ap (λ (ys : List (Name × Form)). has_key (name_bytes x.0) (pair_views ys)) (sym q) ∙ sym h in
     not_lacking (name_bytes x.0) (pair_views (drop (i + 1) xs)) k (from_split n xs i x lt e f).0
 
 -- a pair that fits
@@ -68,6 +69,7 @@ pub fits_on : (n : ℕ) (xs later : List (Name × Form)) (i : ℕ) (x : Name × 
     → From n xs (i + 1) ↔ P
 fits_on n xs later i x lt e q h f P both =
     let k : has_key (name_bytes x.0) (pair_views (drop (i + 1) xs)) ≡ false =
-      ap (λ (ys : List (Name × Form)). has_key (name_bytes x.0) (pair_views ys)) (sym q) ∙ sym h in
-    (λ more. both.0 (from_joined n xs i x lt e (lacking (name_bytes x.0) (pair_views (drop (i + 1) xs)) k, f, more)),
-      λ p. (from_split n xs i x lt e (both.1 p)).2)
+    ap (λ (ys : List (Name × Form)). has_key (name_bytes x.0) (pair_views ys)) (sym q) ∙ sym h in (
+      λ more. both.0 (from_joined n xs i x lt e (lacking (name_bytes x.0) (pair_views (drop (i + 1) xs)) k, f, more)),
+      λ p. (from_split n xs i x lt e (both.1 p)).2,
+    )

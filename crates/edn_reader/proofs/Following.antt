@@ -32,10 +32,10 @@ pub front_more : (text mid rest : List ℕ) (ds more : List Datum) → SpellsFro
 front_more text mid rest ds more f g =
     record {
       begins = subst (λ (ts : List Token). BeginWith ts text rest) (sym (lists_tokens ds more))
-        (begin_both (list_tokens ds) (list_tokens more) text mid rest f.begins g.begins);
+          (begin_both (list_tokens ds) (list_tokens more) text mid rest f.begins g.begins);
       fits = fits-append 16 ds more f.fits g.fits;
       on = λ es k. subst (λ (xs : List Datum). Spells xs text) (sym (append_assoc ds more es))
-        (f.on (more ++ es) (g.on es k));
+          (f.on (more ++ es) (g.on es k));
       only = λ es k. (
           let a = f.only es k in
           let b = g.only a.0 a.2 in
@@ -56,7 +56,7 @@ sound_after text rest ds start place u f l (n, e, s) =
       token = s.token;
       more = s.more;
       are_first = lists_tokens ds s.forms ∙ ap (λ (ts : List Token). list_tokens ds ++ ts) first
-        ∙ sym (append_assoc (list_tokens ds) s.before (s.token ∷ s.more));
+          ∙ sym (append_assoc (list_tokens ds) s.before (s.token ∷ s.more));
       gap = s.gap;
       here = s.here;
       rest = s.rest;
@@ -79,9 +79,9 @@ pub record Along (P : List Datum → Type 0) (text rest : List ℕ) (start : ℕ
 pub along_more : (keeping : Keeping) (P Q : List Datum → Type 0) (text mid rest : List ℕ) (before start : ℕ)
     (tokens : List Token)
     (integer_vector : Option (List ℤ)) → ReadsElement keeping mid tokens integer_vector rest
-      → start + length rest ≡ before + length mid
+    → start + length rest ≡ before + length mid
     → ((ds : List Datum) (d : Datum) → tokens ≡ tokens_of (kept_of keeping.cuts d)
-      → integer_vector ≡ integer_vector_kept keeping d → P ds
+    → integer_vector ≡ integer_vector_kept keeping d → P ds
     → Q (ds ++ d ∷ [])) → Along P text mid before → Along Q text rest start
 along_more keeping P Q text mid rest before start tokens integer_vector e moves put a =
     record {

@@ -92,8 +92,12 @@ vector_begins ts b = by_form b.form b.own b.are
     by_form : (d : Datum) → InProfile d → open_vector ∷ ts ≡ tokens_of d ++ b.remains → BeginsItems ts
     by_form (atom x) p e = absurd cc
     by_form (vector ds) p e =
-      record { items = ds; remains = b.remains; own = p;
-      are = tails open_vector open_vector _ _ e ∙ append_assoc (items_tokens ds) (close_vector ∷ []) b.remains }
+        record {
+          items = ds;
+          remains = b.remains;
+          own = p;
+          are = tails open_vector open_vector _ _ e ∙ append_assoc (items_tokens ds) (close_vector ∷ []) b.remains;
+        }
     by_form (dictionary es) p e = absurd cc
 
 pub map_begins : (ts : List Token) → BeginsForm (open_map ∷ ts) → BeginsPairs ts
@@ -103,8 +107,12 @@ map_begins ts b = by_form b.form b.own b.are
     by_form (atom x) p e = absurd cc
     by_form (vector ds) p e = absurd cc
     by_form (dictionary es) p e =
-      record { pairs = es; remains = b.remains; own = p;
-      are = tails open_map open_map _ _ e ∙ append_assoc (entries_tokens es) (close_map ∷ []) b.remains }
+        record {
+          pairs = es;
+          remains = b.remains;
+          own = p;
+          are = tails open_map open_map _ _ e ∙ append_assoc (entries_tokens es) (close_map ∷ []) b.remains;
+        }
 
 -- a leaf, without what follows it
 pub leaf_alone : (a : Atom) (ts : List Token) → BeginsForm (leaf (atom a) ∷ ts) → BeginsForm (leaf (atom a) ∷ [])
@@ -118,8 +126,12 @@ item_begins ts apart b = by_items b.items b.own b.are
     by_items : (ds : Items) → ItemsInProfile ds → ts ≡ items_tokens ds ++ close_vector ∷ b.remains → BeginsForm ts
     by_items no_items p e = absurd (apart b.remains e)
     by_items (item d ds) p e =
-      record { form = d; remains = items_tokens ds ++ close_vector ∷ b.remains; own = p.0;
-      are = e ∙ append_assoc (tokens_of d) (items_tokens ds) (close_vector ∷ b.remains) }
+        record {
+          form = d;
+          remains = items_tokens ds ++ close_vector ∷ b.remains;
+          own = p.0;
+          are = e ∙ append_assoc (tokens_of d) (items_tokens ds) (close_vector ∷ b.remains);
+        }
 
 pub items_after : (ts us : List Token) (d : Datum) → ((vs : List Token) → ts ≡ close_vector ∷ vs → ⊥)
     → ts ≡ tokens_of d ++ us → BeginsItems ts → BeginsItems us
@@ -129,7 +141,7 @@ items_after ts us d apart is b = by_items b.items b.own b.are
     by_items no_items p e = absurd (apart b.remains e)
     by_items (item x ds) p e =
         let q = same_datum d x us (items_tokens ds ++ close_vector ∷ b.remains)
-          (sym is ∙ e ∙ append_assoc (tokens_of x) (items_tokens ds) (close_vector ∷ b.remains)) in
+        (sym is ∙ e ∙ append_assoc (tokens_of x) (items_tokens ds) (close_vector ∷ b.remains)) in
         record { items = ds; remains = b.remains; own = p.1; are = q.1 }
 
 -- ---- along the pairs of a map
@@ -139,7 +151,7 @@ pub key_own : (ts us : List Token) (k : List ℕ) → ts ≡ leaf (atom (keyword
 key_own ts us k q b = by_pairs b.pairs b.own (sym q ∙ b.are)
   where
     by_pairs : (es : Entries) → EntriesInProfile es
-      → leaf (atom (keyword k)) ∷ us ≡ entries_tokens es ++ close_map ∷ b.remains → is_name k ≡ true
+        → leaf (atom (keyword k)) ∷ us ≡ entries_tokens es ++ close_map ∷ b.remains → is_name k ≡ true
     by_pairs no_entries p e = absurd cc
     by_pairs (entry l d es) p e =
         let h : keyword k ≡ keyword l = (same_leaf (keyword k) (keyword l) us _ e).0 in subst AtomInProfile (sym h) p.0
@@ -149,7 +161,7 @@ pub value_begins : (ts us : List Token) (k : List ℕ) → ts ≡ leaf (atom (ke
 value_begins ts us k q b = by_pairs b.pairs b.own (sym q ∙ b.are)
   where
     by_pairs : (es : Entries) → EntriesInProfile es
-      → leaf (atom (keyword k)) ∷ us ≡ entries_tokens es ++ close_map ∷ b.remains → BeginsForm us
+        → leaf (atom (keyword k)) ∷ us ≡ entries_tokens es ++ close_map ∷ b.remains → BeginsForm us
     by_pairs no_entries p e = absurd cc
     by_pairs (entry l d es) p e =
         record {
@@ -165,12 +177,12 @@ pub pairs_after : (ts us vs : List Token) (k : List ℕ) (d : Datum) → ts ≡ 
 pairs_after ts us vs k d q is b = by_pairs b.pairs b.own (sym q ∙ b.are)
   where
     by_pairs : (es : Entries) → EntriesInProfile es
-      → leaf (atom (keyword k)) ∷ us ≡ entries_tokens es ++ close_map ∷ b.remains → BeginsPairs vs
+        → leaf (atom (keyword k)) ∷ us ≡ entries_tokens es ++ close_map ∷ b.remains → BeginsPairs vs
     by_pairs no_entries p e = absurd cc
     by_pairs (entry l x es) p e =
         let t = (same_leaf (keyword k) (keyword l) us _ e).1 in
         let r = same_datum d x vs (entries_tokens es ++ close_map ∷ b.remains)
-          (sym is ∙ t ∙ append_assoc (tokens_of x) (entries_tokens es) (close_map ∷ b.remains)) in
+        (sym is ∙ t ∙ append_assoc (tokens_of x) (entries_tokens es) (close_map ∷ b.remains)) in
         record { pairs = es; remains = b.remains; own = p.2; are = r.1 }
 
 pub no_pairs : BeginsPairs [] → ⊥
@@ -198,7 +210,7 @@ pub items_more : (all rest remains : List Token) (ds : List Datum) (d : Datum) �
     → rest ≡ tokens_of d ++ remains → all ≡ list_tokens (ds ++ d ∷ []) ++ remains
 items_more all rest remains ds d e f =
     e ∙ ap (λ (t : List Token). list_tokens ds ++ t) f ∙ sym (append_assoc (list_tokens ds) (tokens_of d) remains)
-      ∙ ap (λ (t : List Token). t ++ remains) (sym (list_tokens-append ds d))
+    ∙ ap (λ (t : List Token). t ++ remains) (sym (list_tokens-append ds d))
 
 pub pairs_more : (all rest value remains : List Token) (es : List (List ℕ × Datum)) (k : List ℕ) (d : Datum)
     → all ≡ pairs_tokens es ++ rest
@@ -214,16 +226,16 @@ pub vector_whole : (all rest remains : List Token) (ds : List Datum) → all ≡
     → rest ≡ close_vector ∷ remains → open_vector ∷ all ≡ tokens_of (vector (items_of ds)) ++ remains
 vector_whole all rest remains ds e f =
     ap (λ (t : List Token). open_vector ∷ t)
-      (e ∙ ap (λ (t : List Token). list_tokens ds ++ t) f
-      ∙ sym (append_assoc (list_tokens ds) (close_vector ∷ []) remains))
+    (e ∙ ap (λ (t : List Token). list_tokens ds ++ t) f
+    ∙ sym (append_assoc (list_tokens ds) (close_vector ∷ []) remains))
 
 pub map_whole : (all rest remains : List Token) (es : List (List ℕ × Datum)) → all ≡ pairs_tokens es ++ rest
     → rest ≡ close_map ∷ remains
     → open_map ∷ all ≡ tokens_of (dictionary (entries_of es)) ++ remains
 map_whole all rest remains es e f =
     ap (λ (t : List Token). open_map ∷ t)
-      (e ∙ ap (λ (t : List Token). pairs_tokens es ++ t) f
-      ∙ sym (append_assoc (pairs_tokens es) (close_map ∷ []) remains))
+    (e ∙ ap (λ (t : List Token). pairs_tokens es ++ t) f
+    ∙ sym (append_assoc (pairs_tokens es) (close_map ∷ []) remains))
 
 -- ---- some tokens
 

@@ -51,7 +51,7 @@ progress [] text mid rest s z b e p =
     subst (λ (x : List ℕ). Progress text x z) b (subst (λ (x : State). Progress text mid x) (some_is s z e) p)
 progress (t ∷ ts) text mid rest s z (q, n, b) e p =
     by_step (step t s) refl e
-      (λ x h k. progress ts text q rest x z b k (goes_on text mid t q s x (next_from mid t q n) h p))
+    (λ x h k. progress ts text q rest x z b k (goes_on text mid t q s x (next_from mid t q n) h p))
   where
     by_step : (o : Option State) → step t s ≡ o → option_and_then (λ (x : State). steps ts x) o ≡ Some z
         → ((x : State) → step t s ≡ Some x → steps ts x ≡ Some z → Progress text rest z) → Progress text rest z
@@ -63,8 +63,8 @@ pub front_of : (text rest : List ℕ) (d : Datum) → IsUtf8 text → Fits max_o
     → SpellsFront text (d ∷ []) rest × IsUtf8 rest
 front_of text rest d u f b =
     let e : steps (tokens_of d ++ []) opening ≡ Some (closed (d ∷ [])) =
-      steps_items (items_of (d ∷ [])) 16 in_text (λ xs x. refl) [] [] (f, tt) refl in
+    steps_items (items_of (d ∷ [])) 16 in_text (λ xs x. refl) [] [] (f, tt) refl in
     let p : Progress text rest (closed (d ∷ [])) =
     progress (tokens_of d ++ []) text text rest opening (closed (d ∷ []))
-      (subst (λ (ts : List Token). BeginWith ts text rest) (sym (append-nil (tokens_of d))) b) e (start text u) in
+    (subst (λ (ts : List Token). BeginWith ts text rest) (sym (append-nil (tokens_of d))) b) e (start text u) in
     (element_front text rest d p u, p.utf8)

@@ -15,8 +15,11 @@ use Rattle.edn_reader.proofs.Written.{lexes_datum}
 pub text_spells_it : (d : Datum) → Fits max_open d → InProfile d → Spells (d ∷ []) (text_of d)
 text_spells_it d fits p =
     let l : Lexes (tokens_of d ++ []) (text_of d ++ []) = lexes_datum d [] [] p tt tt in
-    record { utf8 = text_utf8 d p; tokens = subst (Lexes (tokens_of d ++ [])) (append-nil (text_of d)) l;
-        fits = (fits, tt) }
+    record {
+      utf8 = text_utf8 d p;
+      tokens = subst (Lexes (tokens_of d ++ [])) (append-nil (text_of d)) l;
+      fits = (fits, tt);
+    }
 
 -- ---- gaps in front of a text
 
@@ -44,9 +47,17 @@ mutual
 
 gap_first : (gap : List ℕ) (ts : List Token) (bytes : List ℕ) → IsGap gap → Lexes ts bytes → Lexes ts (gap ++ bytes)
 gap_first gap [] bytes g l = gap_ending gap bytes g l
-gap_first gap (t ∷ ts) bytes g (rest, (more, after, h, k, q), l) =
-    (rest, (gap ++ more, after, gap_gap gap more g h, k,
-      ap (λ (x : List ℕ). gap ++ x) q ∙ sym (append_assoc gap more after)), l)
+gap_first gap (t ∷ ts) bytes g (rest, (more, after, h, k, q), l) = (
+  rest,
+  (
+    gap ++ more,
+    after,
+    gap_gap gap more g h,
+    k,
+    ap (λ (x : List ℕ). gap ++ x) q ∙ sym (append_assoc gap more after),
+  ),
+  l,
+)
 
 -- ---- a line feed closes the last comment
 
@@ -78,15 +89,29 @@ begins_more after close_map rest b h = ap (λ (x : List ℕ). x ++ 10 ∷ b) h
 begins_more after (leaf d) rest b (inl (a, own, q, w, e, p)) =
     inl (a, own, q, w, token_ends rest b e, ap (λ (x : List ℕ). x ++ 10 ∷ b) p ∙ append_assoc own rest (10 ∷ b))
 begins_more after (leaf d) rest b (inr (s, own, q, k, p)) =
-    inr (s, own, q, k, ap (λ (x : List ℕ). x ++ 10 ∷ b) p
-      ∙ ap (λ (x : List ℕ). 34 ∷ x) (append_assoc own (34 ∷ rest) (10 ∷ b)))
+    inr (
+      s,
+      own,
+      q,
+      k,
+      ap (λ (x : List ℕ). x ++ 10 ∷ b) p
+          ∙ ap (λ (x : List ℕ). 34 ∷ x) (append_assoc own (34 ∷ rest) (10 ∷ b)),
+    )
 
 lexes_joined : (ts us : List Token) (a b : List ℕ) → Lexes ts a → Lexes us b → Lexes (ts ++ us) (a ++ 10 ∷ b)
 lexes_joined [] us a b h k =
     subst (Lexes us) (append_assoc a (10 ∷ []) b) (gap_first (a ++ 10 ∷ []) us b (ending_closed a h) k)
-lexes_joined (t ∷ ts) us a b (rest, (gap, after, g, n, q), h) k =
-    (rest ++ 10 ∷ b, (gap, after ++ 10 ∷ b, g, begins_more after t rest b n,
-      ap (λ (x : List ℕ). x ++ 10 ∷ b) q ∙ append_assoc gap after (10 ∷ b)), lexes_joined ts us rest b h k)
+lexes_joined (t ∷ ts) us a b (rest, (gap, after, g, n, q), h) k = (
+  rest ++ 10 ∷ b,
+  (
+    gap,
+    after ++ 10 ∷ b,
+    g,
+    begins_more after t rest b n,
+    ap (λ (x : List ℕ). x ++ 10 ∷ b) q ∙ append_assoc gap after (10 ∷ b),
+  ),
+  lexes_joined ts us rest b h k,
+)
 
 tokens-append : (ds es : List Datum)
     → items_tokens (items_of (ds ++ es)) ≡ items_tokens (items_of ds) ++ items_tokens (items_of es)
@@ -105,7 +130,7 @@ joined_spell ds es a b h k =
     record {
       utf8 = IsUtf8-append a (10 ∷ b) h.utf8 (IsUtf8-append (10 ∷ []) b (ascii_utf8 (10 ∷ []) refl) k.utf8);
       tokens = subst (λ (ts : List Token). Lexes ts (a ++ 10 ∷ b)) (sym (tokens-append ds es))
-        (lexes_joined (items_tokens (items_of ds)) (items_tokens (items_of es)) a b h.tokens k.tokens);
+          (lexes_joined (items_tokens (items_of ds)) (items_tokens (items_of es)) a b h.tokens k.tokens);
       fits = fits-append max_open ds es h.fits k.fits;
     }
 

@@ -29,7 +29,7 @@ entries_fit-append n [] k d h new fit = (tt, fit, tt)
 entries_fit-append n (e ∷ es) k d h new fit =
     let p = or_parts (bytes_eq k e.0) (has_key k es) new in
     let apart : e.0 ≡ k → ⊥ =
-      λ q. both_ways (bytes_eq k e.0) p.0 (subst (λ (x : List ℕ). bytes_eq k x ≡ true) (sym q) (same_self k)) in
+    λ q. both_ways (bytes_eq k e.0) p.0 (subst (λ (x : List ℕ). bytes_eq k x ≡ true) (sym q) (same_self k)) in
     (Lacks-append e.0 es k d h.0 apart, h.1, entries_fit-append n es k d h.2 p.1 fit)
 
 abbrev pub FrameFits : ℕ → Frame → Type 0
@@ -72,8 +72,11 @@ open_fits f s z any h e =
     let a = unless_so (takes_key s.inner) _ z e in
     let b = kept_if (nat_lt (length s.outer) max_open) (record { inner = f; outer = s.inner ∷ s.outer }) z a.1 in
     let lt : length s.outer < 16 = ltb-true (length s.outer) 16 b.0 in
-    subst StateFits b.1 (record { room = omega arith; inner = any (16 - suc (length s.outer));
-      outer = (h.inner, h.outer) })
+    subst StateFits b.1 (record {
+      room = omega arith;
+      inner = any (16 - suc (length s.outer));
+      outer = (h.inner, h.outer);
+    })
 
 close_fits : (d : Datum) (fs : List Frame) (z : State) → ((n : ℕ) → 0 < n → n - 1 ≡ 16 - length fs → Fits n d)
     → length fs ≤ 16 → StackFits fs → close_as d fs ≡ Some z → StateFits z
@@ -81,8 +84,11 @@ close_fits d [] z fit room h e = absurd cc
 close_fits d (f ∷ fs) z fit room h e =
     let m = mapped (λ (g : Frame). let x : State = record { inner = g; outer = fs } in x) (put f d) z e in
     let k : Fits (16 - length fs) d = fit (16 - length fs) (omega arith) (omega arith) in
-    subst StateFits m.2 (record { room = omega arith; inner = put_fits (16 - length fs) f d m.0 h.0 k m.1;
-      outer = h.1 })
+    subst StateFits m.2 (record {
+      room = omega arith;
+      inner = put_fits (16 - length fs) f d m.0 h.0 k m.1;
+      outer = h.1;
+    })
 
 close_vector_fits : (i : Frame) (fs : List Frame) (z : State) → FrameFits (16 - length fs) i → length fs ≤ 16
     → StackFits fs → close_vector_at i fs ≡ Some z → StateFits z
@@ -111,5 +117,8 @@ step_fits close_map s z p h e = close_map_fits s.inner s.outer z h.inner h.room 
 step_fits (leaf d) s z p h e =
     let m = mapped (λ (f : Frame). let x : State = record s { inner = f } in x) (put s.inner d) z e in
     let k : Fits (16 - length s.outer) d = rw p.1 tt in
-    subst StateFits m.2 (record { room = h.room; inner = put_fits (16 - length s.outer) s.inner d m.0 h.inner k m.1;
-      outer = h.outer })
+    subst StateFits m.2 (record {
+      room = h.room;
+      inner = put_fits (16 - length s.outer) s.inner d m.0 h.inner k m.1;
+      outer = h.outer;
+    })

@@ -29,8 +29,8 @@ same_comm a b = elim (cases_Bool (bytes_eq a b)) [
   | inl e ↦ e ∙ sym (rw (same_is a b e) (same_self b))
   | inr
       e ↦ (let n : bytes_eq b a ≡ false =
-        same_not b a (λ q. true_not_false (sym (same_self a) ∙ ap (λ (x : List ℕ). bytes_eq a x) (sym q) ∙ e)) in
-        e ∙ sym n)
+      same_not b a (λ q. true_not_false (sym (same_self a) ∙ ap (λ (x : List ℕ). bytes_eq a x) (sym q) ∙ e)) in
+      e ∙ sym n)
 ]
   where
     true_not_false : true ≡ false → ⊥

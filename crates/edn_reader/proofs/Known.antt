@@ -31,7 +31,7 @@ pub names_with : {S : Type 0} (s n : HashSet (Bor (List ℕ)) S) (x : List ℕ) 
     → UpdatesBy same_text (λ l. bytes_eq x l.now) s n true → HasNames s ls → ms ≡ ls ++ x ∷ [] → HasNames n ms
 names_with s n x ls ms u h e k =
     let a : contains_name n k ≡ cond (bytes_eq x k) true (contains_name s k) =
-      u.0 (record { ref_ptr = (0, 0); now = k }) in
+    u.0 (record { ref_ptr = (0, 0); now = k }) in
     a ∙ ap (λ (b : Bool). cond b true (contains_name s k)) (same_comm x k) ∙ if_or (bytes_eq k x) (contains_name s k)
     ∙ ap (λ (b : Bool). b || bytes_eq k x) (h k) ∙ sym (ap (has_name k) e ∙ has_name-append k ls x)
 

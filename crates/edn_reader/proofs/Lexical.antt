@@ -24,7 +24,7 @@ mutual
       let c : length (skip_comment bs) ≤ n = omega (arith, skip_comment_within bs) in
       let h : n ≤ n = omega arith in
       if_within (is_separator b) (skip bs) (cond (b == 59) (skip_comment bs) (b ∷ bs)) n s
-        (if_within (b == 59) (skip_comment bs) (b ∷ bs) n c h)
+      (if_within (b == 59) (skip_comment bs) (b ∷ bs) n c h)
 
   pub skip_comment_within : (t : List ℕ) → length (skip_comment t) ≤ length t
   skip_comment_within [] = omega arith
@@ -68,9 +68,9 @@ first_less (b ∷ bs) =
     let w : Next = got_word (atom_of (word t)) (after_word t) in
     let last : LeavesLess t w = word_less t (word t) (after_word t) (atom_of (word t)) refl (word_parts t) in
     if_less t (b == 91) _ _ h
-      (if_less t (b == 93) _ _ h
-      (if_less t (b == 123) _ _ h
-      (if_less t (b == 125) _ _ h (if_less t (b == 34) _ _ (string_leaves t bs (string_at bs) h refl) last))))
+    (if_less t (b == 93) _ _ h
+    (if_less t (b == 123) _ _ h
+    (if_less t (b == 125) _ _ h (if_less t (b == 34) _ _ (string_leaves t bs (string_at bs) h refl) last))))
 
 pub first_shorter : (t : List ℕ) (k : Token) (r : List ℕ) → first t ≡ got k r → length r < length t
 first_shorter t k r e = subst (LeavesLess t) e (first_less t)

@@ -44,7 +44,7 @@ mutual
   pub gap_of : (t : List ℕ) (b : ℕ) (bs : List ℕ) → skip t ≡ b ∷ bs → GapBefore t (b ∷ bs)
   gap_of [] b bs e = absurd cc
   gap_of (c ∷ cs) b bs e =
-    gap_by c cs (b ∷ bs) (is_separator c) (c == 59) refl refl (gap_of cs b bs) (comment_of cs b bs) e
+      gap_by c cs (b ∷ bs) (is_separator c) (c == 59) refl refl (gap_of cs b bs) (comment_of cs b bs) e
 
   pub comment_of : (t : List ℕ) (b : ℕ) (bs : List ℕ) → skip_comment t ≡ b ∷ bs → CommentBefore t (b ∷ bs)
   comment_of [] b bs e = absurd cc
@@ -145,9 +145,9 @@ leaf_reads a own rest b bs w e q h all =
     let p = word_of own rest all e in
     let stays : skip (own ++ rest) ≡ own ++ rest = rw q (skip_token b (bs ++ rest) h) in
     let f : first (own ++ rest) ≡ got_word (atom_of (word (own ++ rest))) (after_word (own ++ rest)) =
-      rw q (first_is_word b (bs ++ rest) h) in
+    rw q (first_is_word b (bs ++ rest) h) in
     let g : got_word (atom_of (word (own ++ rest))) (after_word (own ++ rest)) ≡ got (leaf (atom a)) rest =
-      rw (p.0, p.1, atom_from a own w) refl in
+    rw (p.0, p.1, atom_from a own w) refl in
     record { stays = stays; reads = f ∙ g }
 
 run_head : (own : List ℕ) (b : ℕ) (bs : List ℕ) → own ≡ b ∷ bs → list_all is_token_byte own ≡ true
@@ -211,10 +211,10 @@ first_is (b ∷ bs) =
     let m : (n : ℕ) → (b == n) ≡ true → t ≡ n ∷ bs = λ n e. ap (λ (x : ℕ). x ∷ bs) (eqb-true b n e) in
     let w : FirstIs t (got_word (atom_of (word t)) (after_word t)) = word_begins t (atom_of (word t)) refl in
     let x : (b == 34) ≡ true → FirstIs t (got_string (string_at bs)) =
-      λ e. rw (eqb-true b 34 e) (string_begins bs (string_at bs) refl) in
+    λ e. rw (eqb-true b 34 e) (string_begins bs (string_at bs) refl) in
     if_first t (b == 91) _ _ (m 91)
-      (if_first t (b == 93) _ _ (m 93)
-      (if_first t (b == 123) _ _ (m 123) (if_first t (b == 125) _ _ (m 125) (if_first t (b == 34) _ _ x w))))
+    (if_first t (b == 93) _ _ (m 93)
+    (if_first t (b == 123) _ _ (m 123) (if_first t (b == 125) _ _ (m 125) (if_first t (b == 34) _ _ x w))))
 
 -- a skipped text, and what comes first in the rest
 next_by : (bytes after : List ℕ) (n : Next) → skip bytes ≡ after → FirstIs after n → IsNextOf bytes n

@@ -61,24 +61,24 @@ between_passed inner us key n before remains a b h =
 
 mutual
   value_passed : (d : Datum) (us : List Token) (key : List ℕ) (n : ℕ)
-    → noted_from (tokens_of d ++ us) key (Other (suc n)) ≡ noted_from us key (Other (suc n))
+      → noted_from (tokens_of d ++ us) key (Other (suc n)) ≡ noted_from us key (Other (suc n))
   value_passed (atom a) us key n = ap (noted_from us key) (within n)
   value_passed (vector ds) us key n =
-    between_passed (items_tokens ds) us key n open_vector close_vector refl (closed n)
-    (items_passed ds (close_vector ∷ us) key (suc n))
+      between_passed (items_tokens ds) us key n open_vector close_vector refl (closed n)
+      (items_passed ds (close_vector ∷ us) key (suc n))
   value_passed (dictionary es) us key n =
-    between_passed (entries_tokens es) us key n open_map close_map refl (closed n)
-    (entries_passed es (close_map ∷ us) key (suc n))
+      between_passed (entries_tokens es) us key n open_map close_map refl (closed n)
+      (entries_passed es (close_map ∷ us) key (suc n))
 
   items_passed : (ds : Items) (us : List Token) (key : List ℕ) (n : ℕ)
-    → noted_from (items_tokens ds ++ us) key (Other (suc n)) ≡ noted_from us key (Other (suc n))
+      → noted_from (items_tokens ds ++ us) key (Other (suc n)) ≡ noted_from us key (Other (suc n))
   items_passed no_items us key n = refl
   items_passed (item d ds) us key n =
       ap (λ (vs : List Token). noted_from vs key (Other (suc n))) (append_assoc (tokens_of d) (items_tokens ds) us)
-        ∙ value_passed d (items_tokens ds ++ us) key n ∙ items_passed ds us key n
+      ∙ value_passed d (items_tokens ds ++ us) key n ∙ items_passed ds us key n
 
   entries_passed : (es : Entries) (us : List Token) (key : List ℕ) (n : ℕ)
-    → noted_from (entries_tokens es ++ us) key (Other (suc n)) ≡ noted_from us key (Other (suc n))
+      → noted_from (entries_tokens es ++ us) key (Other (suc n)) ≡ noted_from us key (Other (suc n))
   entries_passed no_entries us key n = refl
   entries_passed (entry k d es) us key n =
       ap (noted_from ((tokens_of d ++ entries_tokens es) ++ us) key) (within n)
@@ -144,11 +144,11 @@ entries_noted no_entries us key = over_stays us key []
 entries_noted (entry k d es) us key =
     ap (λ (vs : List Token). noted (noted_from vs key (if bytes_eq key k then Value else Other 0)))
     (append_assoc (tokens_of d) (entries_tokens es) (close_map ∷ us))
-      ∙ by_key (bytes_eq key k) (entries_noted es us key)
+    ∙ by_key (bytes_eq key k) (entries_noted es us key)
   where
     by_key : (b : Bool) → noted (noted_from (entries_tokens es ++ close_map ∷ us) key Key) ≡ integer_vector_under key es
         → noted (noted_from (tokens_of d ++ (entries_tokens es ++ close_map ∷ us)) key (if b then Value else Other 0))
-          ≡ (if b then integer_vector_of d else integer_vector_under key es)
+        ≡ (if b then integer_vector_of d else integer_vector_under key es)
     by_key true h = value_noted d (entries_tokens es ++ close_map ∷ us) key
     by_key false h = ap noted (other_passed d (entries_tokens es ++ close_map ∷ us) key) ∙ h
 

@@ -42,13 +42,13 @@ mutual
       let t = tails open_vector open_vector _ _ h in
       let k : items_tokens ds ++ close_vector ∷ us ≡ items_tokens es ++ close_vector ∷ vs =
       sym (append_assoc (items_tokens ds) (close_vector ∷ []) us) ∙ t
-        ∙ append_assoc (items_tokens es) (close_vector ∷ []) vs in
+      ∙ append_assoc (items_tokens es) (close_vector ∷ []) vs in
       let p = same_items ds es us vs k in
       (ap vector p.0, p.1)
   same_datum (dictionary ds) (dictionary es) us vs h =
       let t = tails open_map open_map _ _ h in
       let k : entries_tokens ds ++ close_map ∷ us ≡ entries_tokens es ++ close_map ∷ vs =
-        sym (append_assoc (entries_tokens ds) (close_map ∷ []) us)
+      sym (append_assoc (entries_tokens ds) (close_map ∷ []) us)
       ∙ t ∙ append_assoc (entries_tokens es) (close_map ∷ []) vs in
       let p = same_entries ds es us vs k in
       (ap dictionary p.0, p.1)
@@ -57,15 +57,15 @@ mutual
       → items_tokens ds ++ close_vector ∷ us ≡ items_tokens es ++ close_vector ∷ vs → (ds ≡ es) × (us ≡ vs)
   same_items no_items no_items us vs h = (refl, tails close_vector close_vector us vs h)
   same_items no_items (item e es) us vs h =
-    absurd (not_close_vector e us (items_tokens es ++ close_vector ∷ vs)
-    (h ∙ append_assoc (tokens_of e) (items_tokens es) (close_vector ∷ vs)))
+      absurd (not_close_vector e us (items_tokens es ++ close_vector ∷ vs)
+      (h ∙ append_assoc (tokens_of e) (items_tokens es) (close_vector ∷ vs)))
   same_items (item d ds) no_items us vs h =
-    absurd (not_close_vector d vs (items_tokens ds ++ close_vector ∷ us)
-    (sym h ∙ append_assoc (tokens_of d) (items_tokens ds) (close_vector ∷ us)))
+      absurd (not_close_vector d vs (items_tokens ds ++ close_vector ∷ us)
+      (sym h ∙ append_assoc (tokens_of d) (items_tokens ds) (close_vector ∷ us)))
   same_items (item d ds) (item e es) us vs h =
       let p = same_datum d e (items_tokens ds ++ close_vector ∷ us) (items_tokens es ++ close_vector ∷ vs)
       (sym (append_assoc (tokens_of d) (items_tokens ds) (close_vector ∷ us)) ∙ h
-        ∙ append_assoc (tokens_of e) (items_tokens es) (close_vector ∷ vs)) in
+      ∙ append_assoc (tokens_of e) (items_tokens es) (close_vector ∷ vs)) in
       let q = same_items ds es us vs p.1 in
       (ap (λ (x : Datum). item x ds) p.0 ∙ ap (item e) q.0, q.1)
 
@@ -78,7 +78,7 @@ mutual
       let a = same_key j k _ _ h in
       let p = same_datum d e (entries_tokens ds ++ close_map ∷ us) (entries_tokens es ++ close_map ∷ vs)
       (sym (append_assoc (tokens_of d) (entries_tokens ds) (close_map ∷ us)) ∙ a.1
-        ∙ append_assoc (tokens_of e) (entries_tokens es) (close_map ∷ vs)) in
+      ∙ append_assoc (tokens_of e) (entries_tokens es) (close_map ∷ vs)) in
       let q = same_entries ds es us vs p.1 in
       (ap (λ (x : List _). entry x d ds) a.0 ∙ ap (λ (x : Datum). entry k x ds) p.0 ∙ ap (entry k e) q.0, q.1)
 

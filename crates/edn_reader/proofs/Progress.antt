@@ -71,13 +71,13 @@ goes_on text rest t r s z e f p =
     let c : consumed z ≡ consumed s ++ t ∷ [] = step_tokens t s z l f in
     record {
       spelled = λ ts h. (let a : Lexes (consumed s ++ t ∷ ts) text = p.spelled (t ∷ ts) (r, n, h) in
-        rw (c, append_assoc) a);
+          rw (c, append_assoc) a);
       only = λ ts h. (let a = p.only ts h in let b = goes_after rest t r s z a.0 e f a.1 in (b.0, b.1, a.2 ∙ b.2));
       fits = step_fits t s z l p.fits f;
       utf8 = after_begins n.1 t r n.3 (after_gap rest n.0 n.1 n.2 n.4 p.utf8);
       grounded = step_grounded t s z p.grounded f;
       begins = subst (λ (ts : List Token). BeginWith ts text r) (sym c)
-        (begin_more (consumed s) text rest t r p.begins n);
+          (begin_more (consumed s) text rest t r p.begins n);
       within = omega (arith, p.within, next_shorter rest t r e);
     }
 
@@ -127,8 +127,12 @@ pub spells_there : (text rest : List ℕ) (ds : List Datum) → next rest ≡ en
     → IsUtf8 text → Spells ds text
 spells_there text rest ds e p utf8 =
     let z : IsEnding rest = subst (IsNextOf rest) e (next_is rest) in
-    record { utf8 = utf8; tokens =
-        subst (λ (ts : List Token). Lexes ts text) (append-nil (list_tokens ds)) (p.spelled [] z); fits = p.fits.inner }
+    record {
+      utf8 = utf8;
+      tokens =
+          subst (λ (ts : List Token). Lexes ts text) (append-nil (list_tokens ds)) (p.spelled [] z);
+      fits = p.fits.inner;
+    }
 
 pub next_at : (rest here : List ℕ) → here ≡ skip rest → next rest ≡ first here
 unfolding next
@@ -196,14 +200,14 @@ pub sound : (text rest here : List ℕ) (s : State) → here ≡ skip rest → I
 sound text rest here s h u p k = by_first here (first here) h refl k
   where
     by_step : (here : List ℕ) (t : Token) (r : List ℕ) (o : Option State) → here ≡ skip rest → first here ≡ got t r
-      → step t s ≡ o
+        → step t s ≡ o
         → IsSome (option_map (with_rest r) o) → IsSoundAt (length text - length here) text
     by_step here t r None h f e k = absurd cc
     by_step [] t r (Some z) h f e k = absurd (none_first t r f)
     by_step (b ∷ bs) t r (Some z) h f e k = sound_at text rest b bs t r s z (sym h) u p f e
 
     by_first : (here : List ℕ) (n : Next) → here ≡ skip rest → first here ≡ n → IsSome (after_token s n)
-      → IsSoundAt (length text - length here) text
+        → IsSoundAt (length text - length here) text
     by_first here end h f k = absurd cc
     by_first here bad h f k = absurd cc
     by_first here (got t r) h f k = by_step here t r (step t s) h f refl k
@@ -228,4 +232,4 @@ pub one_reading_of : (ds es : List Datum) (text : List ℕ) → Spells ds text �
 one_reading_of ds es text h k =
     let ts : list_tokens ds ≡ list_tokens es = same_tokens (list_tokens ds) (list_tokens es) text h.tokens k.tokens in
     closed_are ds es (some_is (closed ds) (closed es)
-      (sym (leads ds text h) ∙ ap (λ (x : List Token). steps x opening) ts ∙ leads es text k))
+    (sym (leads ds text h) ∙ ap (λ (x : List Token). steps x opening) ts ∙ leads es text k))

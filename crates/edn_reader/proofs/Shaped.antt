@@ -37,7 +37,7 @@ put_shape (in_map es) (atom (integer z)) = refl
 put_shape (in_map es) (atom (string s)) = refl
 put_shape (in_map es) (atom (keyword k)) =
     ap (λ (b : Bool). option_map shape_of (cond b None (Some (in_pair es k)))) (has_key_keys k es)
-      ∙ put_key_shape (has_name k (keys_of es)) es k
+    ∙ put_key_shape (has_name k (keys_of es)) es k
 put_shape (in_map es) (vector ds) = refl
 put_shape (in_map es) (dictionary ds) = refl
 
@@ -55,7 +55,7 @@ length_shapes (f ∷ fs) = ap suc (length_shapes fs)
 with_outer : (fs : List Frame) (o : Option Frame)
     → option_map shapes_of (option_map (λ (g : Frame). let x : State = record { inner = g; outer = fs } in x) o)
     ≡ option_map (λ (g : Shape). let x : Shapes = record { inner = g; outer = shape_list fs } in x)
-      (option_map shape_of o)
+    (option_map shape_of o)
 with_outer fs None = refl
 with_outer fs (Some g) = refl
 
@@ -64,9 +64,9 @@ closed_shape : (d : Datum) (fs : List Frame) → key_in d ≡ None
 closed_shape d [] h = refl
 closed_shape d (f ∷ fs) h =
     with_outer fs (put f d)
-      ∙ ap (λ (o : Option Shape). option_map
-        (λ (g : Shape). let x : Shapes = record { inner = g; outer = shape_list fs } in x) o)
-      (put_shape f d ∙ ap (put_in (shape_of f)) h)
+    ∙ ap (λ (o : Option Shape). option_map
+    (λ (g : Shape). let x : Shapes = record { inner = g; outer = shape_list fs } in x) o)
+    (put_shape f d ∙ ap (put_in (shape_of f)) h)
 
 vector_closed_shape : (i : Frame) (fs : List Frame)
     → option_map shapes_of (close_vector_at i fs) ≡ vector_closed (shape_of i) (shape_list fs)
@@ -93,9 +93,9 @@ open_shape f s =
     let x : State = record { inner = f; outer = s.inner ∷ s.outer } in
     open_cases (takes_key s.inner) (nat_lt (length s.outer) max_open) x
     ∙ ap (λ (b : Bool). cond b None (cond (nat_lt (length s.outer) max_open) (Some (shapes_of x)) None))
-      (takes_key_shape s.inner)
+    (takes_key_shape s.inner)
     ∙ ap (λ (n : ℕ). cond (waits_for_key (shape_of s.inner)) None
-      (cond (nat_lt n max_open) (Some (shapes_of x)) None)) (sym (length_shapes s.outer))
+    (cond (nat_lt n max_open) (Some (shapes_of x)) None)) (sym (length_shapes s.outer))
 
 -- a step of the shapes is the shape of a step
 pub step_shape : (t : Token) (s : State) → option_map shapes_of (step t s) ≡ shape_step t (shapes_of s)
@@ -106,5 +106,5 @@ step_shape open_map s = open_shape (in_map []) s
 step_shape close_map s = map_closed_shape s.inner s.outer
 step_shape (leaf d) s =
     with_outer s.outer (put s.inner d)
-      ∙ ap (λ (o : Option Shape). option_map
-        (λ (g : Shape). let x : Shapes = record { inner = g; outer = shape_list s.outer } in x) o) (put_shape s.inner d)
+    ∙ ap (λ (o : Option Shape). option_map
+    (λ (g : Shape). let x : Shapes = record { inner = g; outer = shape_list s.outer } in x) o) (put_shape s.inner d)

@@ -24,11 +24,12 @@ cut xs ys c h u =
     let all : List ℕ = xs ++ c ∷ ys in
     let within : length xs ≤ length all = omega (arith, length-append xs (c ∷ ys)) in
     let at : get_or all (length xs) 0 ≡ c =
-      get_or-append_right xs (c ∷ ys) (length xs) (length xs) 0 refl (omega arith)
-      ∙ ap (λ (i : ℕ). get_or (c ∷ ys) i 0) (sub_self (length xs)) in
-    let starts : IsCharBoundary all (length xs) = (within, λ _ k. absurd (omega arith)) in
-    (subst IsUtf8 (take_at xs (c ∷ ys) (length xs) refl) (IsUtf8-take all (length xs) u starts),
-      subst IsUtf8 (drop_at xs (c ∷ ys) (length xs) refl) (IsUtf8-drop all (length xs) u starts))
+    get_or-append_right xs (c ∷ ys) (length xs) (length xs) 0 refl (omega arith)
+    ∙ ap (λ (i : ℕ). get_or (c ∷ ys) i 0) (sub_self (length xs)) in
+    let starts : IsCharBoundary all (length xs) = (within, λ _ k. absurd (omega arith)) in (
+      subst IsUtf8 (take_at xs (c ∷ ys) (length xs) refl) (IsUtf8-take all (length xs) u starts),
+      subst IsUtf8 (drop_at xs (c ∷ ys) (length xs) refl) (IsUtf8-drop all (length xs) u starts),
+    )
   where
     sub_self : (n : ℕ) → n - n ≡ 0
     sub_self n = omega arith
@@ -105,8 +106,8 @@ escape_low : (c e : ℕ) → escape_of c ≡ Some e → e < 128
 escape_low c e h = by_tests (c == 116) (c == 114) (c == 110) (c == 92) (c == 34) h
   where
     by_tests : (t r n k q : Bool)
-      → cond t (Some 9) (cond r (Some 13) (cond n (Some 10) (cond k (Some 92) (cond q (Some 34) None)))) ≡ Some e
-      → e < 128
+        → cond t (Some 9) (cond r (Some 13) (cond n (Some 10) (cond k (Some 92) (cond q (Some 34) None)))) ≡ Some e
+        → e < 128
     by_tests true r n k q h = let x : 9 ≡ e = cc in omega arith
     by_tests false true n k q h = let x : 13 ≡ e = cc in omega arith
     by_tests false false true k q h = let x : 10 ≡ e = cc in omega arith
@@ -178,12 +179,12 @@ mutual
   quoted_chars [] s h q = subst IsUtf8 (sym q) IsUtf8-nil
   quoted_chars (c ∷ cs) s h q = quoted_char c cs s (low_or_above c) (and_parts (scalar c) (scalars cs) h).0
       (λ t k. quoted_chars cs t (and_parts (scalar c) (scalars cs) h).1 k)
-        (λ t k. escaped_chars cs t (and_parts (scalar c) (scalars cs) h).1 k) q
+      (λ t k. escaped_chars cs t (and_parts (scalar c) (scalars cs) h).1 k) q
 
   escaped_chars : (cs s : List ℕ) → scalars cs ≡ true → IsEscaped (encodes cs) s → IsUtf8 s
   escaped_chars [] s h q = absurd q
   escaped_chars (c ∷ cs) s h q =
-    escaped_char c cs s (low_or_above c) (λ t k. quoted_chars cs t (and_parts (scalar c) (scalars cs) h).1 k) q
+      escaped_char c cs s (low_or_above c) (λ t k. quoted_chars cs t (and_parts (scalar c) (scalars cs) h).1 k) q
 
 string_utf8 : (own s : List ℕ) → IsQuoted own s → IsUtf8 own → IsUtf8 s
 string_utf8 own s q u = quoted_chars u.0 s u.1.0 (subst (λ (x : List ℕ). IsQuoted x s) (sym u.1.1) q)

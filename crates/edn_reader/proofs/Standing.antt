@@ -57,8 +57,8 @@ token_in close_map bytes rest u b = tt
 token_in (leaf d) bytes rest u (inl (a, own, e, w, k, p)) = subst InProfile (sym e) (word_in a own w)
 token_in (leaf d) bytes rest u (inr (s, own, e, q, p)) =
     subst InProfile (sym e)
-      (string_at_utf8 (own ++ 34 ∷ rest) s rest (string_from own s rest q)
-      (remains 34 (own ++ 34 ∷ rest) (lit< tt) (subst IsUtf8 p u)))
+    (string_at_utf8 (own ++ 34 ∷ rest) s rest (string_from own s rest q)
+    (remains 34 (own ++ 34 ∷ rest) (lit< tt) (subst IsUtf8 p u)))
 
 -- ---- all tokens of a form
 
@@ -77,11 +77,11 @@ mutual
   datum_in (atom a) ts h = (h.0, h.1)
   datum_in (vector ds) ts h =
       let p = items_in ds (close_vector ∷ ts)
-        (subst TokensIn (append_assoc (items_tokens ds) (close_vector ∷ []) ts) h.1) in
+      (subst TokensIn (append_assoc (items_tokens ds) (close_vector ∷ []) ts) h.1) in
       (p.0, p.1.1)
   datum_in (dictionary es) ts h =
       let p = entries_in es (close_map ∷ ts)
-        (subst TokensIn (append_assoc (entries_tokens es) (close_map ∷ []) ts) h.1) in
+      (subst TokensIn (append_assoc (entries_tokens es) (close_map ∷ []) ts) h.1) in
       (p.0, p.1.1)
 
   items_in : (ds : Items) (ts : List Token) → TokensIn (items_tokens ds ++ ts) → ItemsInProfile ds × TokensIn ts
@@ -95,7 +95,7 @@ mutual
   entries_in no_entries ts h = (tt, h)
   entries_in (entry k d es) ts h =
       let p = datum_in d (entries_tokens es ++ ts)
-        (subst TokensIn (append_assoc (tokens_of d) (entries_tokens es) ts) h.1) in
+      (subst TokensIn (append_assoc (tokens_of d) (entries_tokens es) ts) h.1) in
       let q = entries_in es ts p.1 in
       ((h.0, p.0, q.0), q.1)
 
@@ -117,7 +117,7 @@ element_sound text rest d start place u f e =
     by_first t.0 t.1 t.2 (subst (λ (ts : List Token). BeginWith ts text rest) t.2 f.begins)
   where
     by_first : (t : Token) (ts : List Token) → tokens_of d ++ [] ≡ t ∷ ts → BeginWith (t ∷ ts) text rest
-      → IsSoundFrom start place text
+        → IsSoundFrom start place text
     by_first t ts q (r, n, b) =
         let h : skip text ≡ n.1 = ap skip n.4 ∙ skip_gap n.0 n.1 n.2 (begins_reads n.1 t r n.3).stays in
         let l : length (skip text) ≡ length n.1 = ap length h in

@@ -84,7 +84,7 @@ mutual
   pub string_is : (t s rest : List ℕ) → string_at t ≡ Some (s, rest) → Quoted t s rest
   string_is [] s rest e = absurd cc
   string_is (b ∷ bs) s rest e =
-    quoted_by b bs s rest (b == 34) (b == 92) refl refl (λ t h. string_is bs t rest h) (λ h. escaped_is bs s rest h) e
+      quoted_by b bs s rest (b == 34) (b == 92) refl refl (λ t h. string_is bs t rest h) (λ h. escaped_is bs s rest h) e
 
   pub escaped_is : (t s rest : List ℕ) → escaped_at t ≡ Some (s, rest) → Escaped t s rest
   escaped_is [] s rest e = absurd cc

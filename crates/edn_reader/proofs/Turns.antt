@@ -51,13 +51,13 @@ element_front text rest d p u =
       on = λ es h. record {
         utf8 = u;
         tokens = subst (λ (ts : List Token). Lexes (ts ++ list_tokens es) text) (append-nil (tokens_of d))
-          (p.spelled (list_tokens es) h.tokens);
+            (p.spelled (list_tokens es) h.tokens);
         fits = (p.fits.inner.0, h.fits);
       };
       only = λ es h. (
           let a = left text rest (closed (d ∷ [])) es p h in
           let c : list_tokens es ≡ (tokens_of d ++ []) ++ a.0 =
-            lexed_consumed a.0 rest (closed (d ∷ [])) (closed es) a.1 a.2 in
+          lexed_consumed a.0 rest (closed (d ∷ [])) (closed es) a.1 a.2 in
           let b = same_front es d a.0 (c ∙ ap (λ (ts : List Token). ts ++ a.0) (append-nil (tokens_of d))) in (
             b.0,
             b.1,
@@ -97,8 +97,11 @@ close_going : (d : Datum) (fs : List Frame) (z : State) → close_as d fs ≡ So
 close_going d [] z e h = absurd h
 close_going d (f ∷ []) z e h =
     let m = mapped (λ (g : Frame). let x : State = record { inner = g; outer = [] } in x) (put f d) z e in
-    inr (d, sym m.2 ∙ ap (λ (g : Frame). let x : State = record { inner = g; outer = [] } in x)
-      (put_last f d m.0 h m.1))
+    inr (
+      d,
+      sym m.2 ∙ ap (λ (g : Frame). let x : State = record { inner = g; outer = [] } in x)
+          (put_last f d m.0 h m.1),
+    )
 close_going d (f ∷ g ∷ fs) z e h =
     let m = mapped (λ (x : Frame). let y : State = record { inner = x; outer = g ∷ fs } in y) (put f d) z e in
     inl (subst (λ (x : State). IsInside x.outer) m.2 h)
@@ -158,8 +161,8 @@ taken s bad now_open r e = absurd cc
 taken s (got t q) now_open r e = by_shape (shape_step t (shapes_of s)) (step_shape t s) e
   where
     by_shape : (o : Option Shapes) → option_map shapes_of (step t s) ≡ o
-      → option_map (λ (z : Shapes). let x : Shapes × List ℕ = (z, q) in x) o ≡ Some (now_open, r)
-      → Taken s (got t q) now_open r
+        → option_map (λ (z : Shapes). let x : Shapes × List ℕ = (z, q) in x) o ≡ Some (now_open, r)
+        → Taken s (got t q) now_open r
     by_shape None h k = absurd cc
     by_shape (Some z) h k =
         let p = some_is {A = Shapes × List ℕ} (z, q) (now_open, r) k in
@@ -174,7 +177,7 @@ not_taken s bad e = refl
 not_taken s (got t q) e = by_step (step t s) (step_shape t s)
   where
     by_step : (o : Option State) → option_map shapes_of o ≡ shape_step t (shapes_of s)
-      → option_map (λ (z : State). let x : State × List ℕ = (z, q) in x) o ≡ None
+        → option_map (λ (z : State). let x : State × List ℕ = (z, q) in x) o ≡ None
     by_step None h = refl
     by_step (Some z) h =
         let none : option_map (λ (y : Shapes). let x : Shapes × List ℕ = (y, q) in x) (Some (shapes_of z)) ≡ None =
@@ -187,10 +190,10 @@ taken_too s bad e = absurd cc
 taken_too s (got t q) e = by_step (step t s) (step_shape t s)
   where
     by_step : (o : Option State) → option_map shapes_of o ≡ shape_step t (shapes_of s)
-      → IsSome (option_map (λ (z : State). let x : State × List ℕ = (z, q) in x) o)
+        → IsSome (option_map (λ (z : State). let x : State × List ℕ = (z, q) in x) o)
     by_step None h = let none : IsSome (option_map (λ (y : Shapes). let x : Shapes × List ℕ = (y, q) in x) None) =
         subst (λ (o : Option Shapes). IsSome (option_map (λ (y : Shapes). let x : Shapes × List ℕ = (y, q) in x) o))
-          (sym h) e in absurd cc
+        (sym h) e in absurd cc
     by_step (Some z) h = refl
 
 step_consumed : (rest : List ℕ) (t : Token) (r : List ℕ) (s z : State) → next rest ≡ got t r → step t s ≡ Some z
@@ -229,7 +232,7 @@ first_turn keeping text here r now_open kept u h e k =
       progress = p;
       shaped = t.shaped;
       kept = ap (λ (ts : List Token). hold_all ts (nothing_held keeping))
-        (step_consumed text t.token r opening t.after n t.steps_to) ∙ sym (k t.token r t.is);
+          (step_consumed text t.token r opening t.after n t.steps_to) ∙ sym (k t.token r t.is);
       going = step_first t.token t.after t.steps_to;
     }
 
@@ -240,7 +243,7 @@ pub next_turn : (keeping : Keeping) (text rest here r : List ℕ) (old new : Sha
     → Midway keeping text rest old kept → Midway keeping text r new more
 next_turn keeping text rest here r old new kept more h inside e k m =
     let e' : after_piece (shapes_of m.state) (first here) ≡ Some (new, r) =
-      ap (λ (s : Shapes). after_piece s (first here)) m.shaped ∙ e in
+    ap (λ (s : Shapes). after_piece s (first here)) m.shaped ∙ e in
     let t = taken m.state (first here) new r e' in
     let n : next rest ≡ got t.token r = next_at rest here h ∙ t.is in
     record {
@@ -249,7 +252,7 @@ next_turn keeping text rest here r old new kept more h inside e k m =
       shaped = t.shaped;
       kept =
           ap (λ (ts : List Token). hold_all ts (nothing_held keeping))
-            (step_consumed rest t.token r m.state t.after n t.steps_to)
+          (step_consumed rest t.token r m.state t.after n t.steps_to)
           ∙ hold_append (consumed m.state) (t.token ∷ []) (nothing_held keeping)
           ∙ ap (hold t.token) m.kept
           ∙ sym (k t.token r t.is);
@@ -272,12 +275,13 @@ whole keeping text rest now_open kept u e m = by_going m.going
     by_going (inr (d, q)) =
         let p : Progress text rest (closed (d ∷ [])) = subst (λ (s : State). Progress text rest s) q m.progress in
         let held : kept ≡ hold_all (tokens_of d) (nothing_held keeping) =
-          sym m.kept ∙ ap (λ (ts : List Token). hold_all ts (nothing_held keeping))
-          (ap consumed q ∙ append-nil (tokens_of d)) in
+        sym m.kept ∙ ap (λ (ts : List Token). hold_all ts (nothing_held keeping))
+        (ap consumed q ∙ append-nil (tokens_of d)) in
         record {
           element = d;
           own = ap (λ (k : Held). k.kept.tokens) held
-            ∙ ap (λ (k : Keep). k.tokens) (held_kept (tokens_of d) (nothing_held keeping)) ∙ kept_tokens keeping.cuts d;
+              ∙ ap (λ (k : Keep). k.tokens) (held_kept (tokens_of d) (nothing_held keeping))
+              ∙ kept_tokens keeping.cuts d;
           own_integer_vector = ap (λ (k : Held). noted k.integer_vector) held ∙ integer_vector_held keeping d;
           front = element_front text rest d p u;
           utf8 = p.utf8;
@@ -308,7 +312,7 @@ pub none_next : (keeping : Keeping) (text rest here : List ℕ) (now_open : Shap
     → Spells ds text → ⊥
 none_next keeping text rest here now_open kept h some e m =
     stops text rest here m.state h some
-      (not_taken m.state (first here) (ap (λ (s : Shapes). after_piece s (first here)) m.shaped ∙ e)) m.progress
+    (not_taken m.state (first here) (ap (λ (s : Shapes). after_piece s (first here)) m.shaped ∙ e)) m.progress
 
 -- nothing is wrong up to a token that would be taken
 pub sound_next : (keeping : Keeping) (text rest here : List ℕ) (now_open : Shapes) (kept : Held) → IsUtf8 text
@@ -316,16 +320,21 @@ pub sound_next : (keeping : Keeping) (text rest here : List ℕ) (now_open : Sha
     → IsSome (after_piece now_open (first here)) → Midway keeping text rest now_open kept
     → IsSoundAfter (length here) text
 sound_next keeping text rest here now_open kept u h e m =
-    let within : length here ≤ length text = omega (arith, ap length h, skip_within rest, m.progress.within) in
-    (within, sound text rest here m.state h u m.progress
-      (taken_too m.state (first here) (subst (λ (s : Shapes). IsSome (after_piece s (first here))) (sym m.shaped) e)))
+    let within : length here ≤ length text = omega (arith, ap length h, skip_within rest, m.progress.within) in (
+      within,
+      sound text rest here m.state h u m.progress
+          (taken_too m.state (first here)
+            (subst (λ (s : Shapes). IsSome (after_piece s (first here))) (sym m.shaped) e)),
+    )
 
 pub sound_first : (text here : List ℕ) (old : Shapes) → IsUtf8 text → here ≡ skip text → old ≡ nothing_open
     → IsSome (after_piece old (first here)) → IsSoundAfter (length here) text
 sound_first text here old u h o e =
-    let within : length here ≤ length text = omega (arith, ap length h, skip_within text) in
-    (within, sound text text here opening h u (start text u)
-      (taken_too opening (first here) (subst (λ (s : Shapes). IsSome (after_piece s (first here))) o e)))
+    let within : length here ≤ length text = omega (arith, ap length h, skip_within text) in (
+      within,
+      sound text text here opening h u (start text u)
+          (taken_too opening (first here) (subst (λ (s : Shapes). IsSome (after_piece s (first here))) o e)),
+    )
 
 -- the text ends inside an element
 pub none_at_end : (keeping : Keeping) (text rest here : List ℕ) (now_open : Shapes) (kept : Held) → here ≡ skip rest
@@ -340,8 +349,10 @@ pub nothing_more : (text here : List ℕ) → IsUtf8 text → here ≡ skip text
     → SpellsNothing text
 nothing_more text here u h e =
     let n = at_end text here h e in
-    record { spelled = spells_there text text [] n (start text u) u;
-        only = λ es k. sym (closed_are [] es (ends_there text text opening n (start text u) es k)) }
+    record {
+      spelled = spells_there text text [] n (start text u) u;
+      only = λ es k. sym (closed_are [] es (ends_there text text opening n (start text u) es k));
+    }
 
 -- ---- as the loop has them
 
@@ -358,7 +369,7 @@ pub loop_init : (keeping : Keeping) (text here r : List ℕ) (old new : Shapes) 
     → Midway keeping text r new more
 loop_init keeping text here r old new kept more u h o z e k =
     first_turn keeping text here r new more u h (ap (λ (s : Shapes). after_piece s (first here)) (sym o) ∙ e)
-      (λ t q n. k t q n ∙ ap (hold t) z)
+    (λ t q n. k t q n ∙ ap (hold t) z)
 
 pub loop_turn : (keeping : Keeping) (text rest here r : List ℕ) (old new : Shapes) (kept more : Held) → here ≡ skip rest
     → false ≡ (length old.outer == 0) → after_piece old (first here) ≡ Some (new, r) → HoldsToken kept (first here) more
@@ -401,7 +412,7 @@ after_piece_shorter t s z r e = by_next (first t) refl e
     by_next (got u q) f k = let p = first_shorter t u q f in by_step (shape_step u s) k
       where
         by_step : (o : Option Shapes)
-          → option_map (λ (y : Shapes). let x : Shapes × List ℕ = (y, q) in x) o ≡ Some (z, r) → length r < length t
+            → option_map (λ (y : Shapes). let x : Shapes × List ℕ = (y, q) in x) o ≡ Some (z, r) → length r < length t
         by_step None h = absurd cc
         by_step (Some y) h =
             let a = some_is {A = Shapes × List ℕ} (y, q) (z, r) h in

@@ -31,7 +31,7 @@ heads_are (x ∷ y ∷ xs) a b l h k =
     let q : x ≡ a = h in
     let r : y ≡ b = k in
     ap (λ (z : ℕ). z ∷ y ∷ xs) q ∙ ap (λ (z : ℕ). a ∷ z ∷ xs) r
-      ∙ ap (λ (z : List ℕ). a ∷ b ∷ z) (sym (all_of (length (x ∷ y ∷ xs) - 2) xs (omega arith)))
+    ∙ ap (λ (z : List ℕ). a ∷ b ∷ z) (sym (all_of (length (x ∷ y ∷ xs) - 2) xs (omega arith)))
 
 -- ---- a token at the front
 
@@ -69,9 +69,17 @@ pub field : (k : List ℕ) (t : Token) (ts : List Token) (text mid rest : List �
     → text ≡ 44 ∷ 32 ∷ 58 ∷ (k ++ 32 ∷ mid) → BeginWith (t ∷ ts) mid rest
     → BeginWith (leaf (atom (keyword k)) ∷ t ∷ ts) text rest
 unfolding is_token_byte
-field k t ts text mid rest n q b =
-    (32 ∷ mid, (44 ∷ 32 ∷ [], 58 ∷ (k ++ 32 ∷ mid), inl (refl, inl (refl, tt)),
-      inl (keyword k, 58 ∷ k, refl, (refl, n), refl, refl), q), spaced 32 t ts mid rest refl b)
+field k t ts text mid rest n q b = (
+  32 ∷ mid,
+  (
+    44 ∷ 32 ∷ [],
+    58 ∷ (k ++ 32 ∷ mid),
+    inl (refl, inl (refl, tt)),
+    inl (keyword k, 58 ∷ k, refl, (refl, n), refl, refl),
+    q,
+  ),
+  spaced 32 t ts mid rest refl b,
+)
 
 pub form_field : (d : Datum) (k : List ℕ) (ts : List Token) (text mid rest : List ℕ) → is_name k ≡ true
     → text ≡ 44 ∷ 32 ∷ 58 ∷ (k ++ 32 ∷ mid) → BeginWith (tokens_of d ++ ts) mid rest
@@ -90,6 +98,9 @@ unfolding is_token_byte
 first_field k t ts text mid rest n q b = (
   58 ∷ (k ++ 32 ∷ mid),
   ([], text, tt, q, refl),
-  (32 ∷ mid, ([], 58 ∷ (k ++ 32 ∷ mid), tt, inl (keyword k, 58 ∷ k, refl, (refl, n), refl, refl), refl),
-    spaced 32 t ts mid rest refl b),
+  (
+    32 ∷ mid,
+    ([], 58 ∷ (k ++ 32 ∷ mid), tt, inl (keyword k, 58 ∷ k, refl, (refl, n), refl, refl), refl),
+    spaced 32 t ts mid rest refl b,
+  ),
 )

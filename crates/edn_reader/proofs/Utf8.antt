@@ -52,7 +52,7 @@ integer_utf8 (negsuc n) h =
 
 escape_by : (b : ℕ) (t r n k q : Bool) → list_all below (b ∷ []) ≡ true
     → list_all below (cond t (codes "\\t")
-      (cond r (codes "\\r") (cond n (codes "\\n") (cond k (codes "\\\\") (cond q (codes "\\\"") (b ∷ [])))))) ≡ true
+    (cond r (codes "\\r") (cond n (codes "\\n") (cond k (codes "\\\\") (cond q (codes "\\\"") (b ∷ [])))))) ≡ true
 escape_by b true r n k q h = refl
 escape_by b false true n k q h = refl
 escape_by b false false true k q h = refl
@@ -88,7 +88,7 @@ escaped_above (x ∷ xs) h =
 pub bytes_above : (c : ℕ) → 128 ≤ c → (k : ℕ) → k < length (encode c) → 128 ≤ get_or (encode c) k 0
 bytes_above c h k lt = elim (cases_Bool (nat_lt (get_or (encode c) k 0) 128)) [
   | inl e ↦ (let b : get_or (encode c) k 0 < 128 = ltb-true (get_or (encode c) k 0) 128 e in
-    let s : c ≡ get_or (encode c) k 0 =
+      let s : c ≡ get_or (encode c) k 0 =
       inside_one c [] (encode c) k (sym (append-nil (encode c))) lt b in absurd (omega arith))
   | inr e ↦ grind (arith, nat_tests)
 ]
@@ -96,10 +96,10 @@ bytes_above c h k lt = elim (cases_Bool (nat_lt (get_or (encode c) k 0) 128)) [
 character_utf8 : (c : ℕ) → scalar c ≡ true → IsUtf8 (escaped (encode c))
 character_utf8 c h = elim (cases_Bool (nat_lt c 128)) [
   | inl e ↦ (let b : c < 128 = ltb-true c 128 e in
-    let q : escaped (encode c) ≡ escape_text c = ap escaped (encode_ascii c b) ∙ append-nil (escape_text c) in
-    subst IsUtf8 (sym q) (escape_utf8 c b))
+      let q : escaped (encode c) ≡ escape_text c = ap escaped (encode_ascii c b) ∙ append-nil (escape_text c) in
+      subst IsUtf8 (sym q) (escape_utf8 c b))
   | inr e ↦ (let b : 128 ≤ c = grind (arith, nat_tests) in
-    subst IsUtf8 (sym (escaped_above (encode c) (bytes_above c b))) (IsUtf8-encode c h))
+      subst IsUtf8 (sym (escaped_above (encode c) (bytes_above c b))) (IsUtf8-encode c h))
 ]
 
 characters_utf8 : (cs : List ℕ) → scalars cs ≡ true → IsUtf8 (escaped (encodes cs))
@@ -107,7 +107,7 @@ characters_utf8 [] h = IsUtf8-nil
 characters_utf8 (c ∷ cs) h =
     let p = and_parts (scalar c) (scalars cs) h in
     subst IsUtf8 (sym (escaped-append (encode c) (encodes cs)))
-      (IsUtf8-append (escaped (encode c)) (escaped (encodes cs)) (character_utf8 c p.0) (characters_utf8 cs p.1))
+    (IsUtf8-append (escaped (encode c)) (escaped (encodes cs)) (character_utf8 c p.0) (characters_utf8 cs p.1))
 
 escaped_utf8 : (s : List ℕ) → IsUtf8 s → IsUtf8 (escaped s)
 escaped_utf8 s u = subst (λ (x : List ℕ). IsUtf8 (escaped x)) u.1.1 (characters_utf8 u.0 u.1.0)
@@ -134,7 +134,7 @@ mutual
   text_utf8 (vector ds) p = IsUtf8-append (codes "[") (items_text true ds ++ codes "]") (ascii_utf8 (codes "[") refl)
       (IsUtf8-append (items_text true ds) (codes "]") (items_utf8 true ds p) (ascii_utf8 (codes "]") refl))
   text_utf8 (dictionary es) p =
-    IsUtf8-append (codes "{") (entries_text true es ++ codes "}") (ascii_utf8 (codes "{") refl)
+      IsUtf8-append (codes "{") (entries_text true es ++ codes "}") (ascii_utf8 (codes "{") refl)
       (IsUtf8-append (entries_text true es) (codes "}") (entries_utf8 true es p) (ascii_utf8 (codes "}") refl))
 
   items_utf8 : (first : Bool) (ds : Items) → ItemsInProfile ds → IsUtf8 (items_text first ds)
@@ -142,16 +142,16 @@ mutual
   items_utf8 first (item d ds) p =
       IsUtf8-append (between first (codes " ") ++ text_of d) (items_text false ds)
       (IsUtf8-append (between first (codes " ")) (text_of d)
-        (between_utf8 first (codes " ") (ascii_utf8 (codes " ") refl)) (text_utf8 d p.0)) (items_utf8 false ds p.1)
+      (between_utf8 first (codes " ") (ascii_utf8 (codes " ") refl)) (text_utf8 d p.0)) (items_utf8 false ds p.1)
 
   entries_utf8 : (first : Bool) (es : Entries) → EntriesInProfile es → IsUtf8 (entries_text first es)
   entries_utf8 first no_entries p = IsUtf8-nil
   entries_utf8 first (entry k d es) p =
       let key : IsUtf8 (58 ∷ k) = IsUtf8-append (58 ∷ []) k (ascii_utf8 (58 ∷ []) refl) (name_utf8 k p.0) in
       let value : IsUtf8 (32 ∷ text_of d) =
-        IsUtf8-append (32 ∷ []) (text_of d) (ascii_utf8 (32 ∷ []) refl) (text_utf8 d p.1) in
+      IsUtf8-append (32 ∷ []) (text_of d) (ascii_utf8 (32 ∷ []) refl) (text_utf8 d p.1) in
       IsUtf8-append (between first (codes ", ") ++ ((58 ∷ k) ++ (32 ∷ text_of d))) (entries_text false es)
       (IsUtf8-append (between first (codes ", ")) ((58 ∷ k) ++ (32 ∷ text_of d))
-        (between_utf8 first (codes ", ") (ascii_utf8 (codes ", ") refl))
-        (IsUtf8-append (58 ∷ k) (32 ∷ text_of d) key value))
+      (between_utf8 first (codes ", ") (ascii_utf8 (codes ", ") refl))
+      (IsUtf8-append (58 ∷ k) (32 ∷ text_of d) key value))
       (entries_utf8 false es p.2)

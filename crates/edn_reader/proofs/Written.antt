@@ -19,8 +19,8 @@ use Rattle.edn_reader.proofs.Decimals.{integer_text}
 quoted_by : (b : ℕ) (bs : List ℕ) (t r n k q : Bool) → (b == 9) ≡ t → (b == 13) ≡ r → (b == 10) ≡ n → (b == 92) ≡ k
     → (b == 34) ≡ q → IsQuoted (escaped bs) bs
     → IsQuoted (cond t (codes "\\t")
-      (cond r (codes "\\r") (cond n (codes "\\n") (cond k (codes "\\\\") (cond q (codes "\\\"") (b ∷ [])))))
-      ++ escaped bs) (b ∷ bs)
+    (cond r (codes "\\r") (cond n (codes "\\n") (cond k (codes "\\\\") (cond q (codes "\\\"") (b ∷ [])))))
+    ++ escaped bs) (b ∷ bs)
 quoted_by b bs true r n k q ht hr hn hk hq ih = inr (refl, (9, bs, refl, ap (λ (x : ℕ). x ∷ bs) (eqb-true b 9 ht), ih))
 quoted_by b bs false true n k q ht hr hn hk hq ih =
     inr (refl, (13, bs, refl, ap (λ (x : ℕ). x ∷ bs) (eqb-true b 13 hr), ih))
@@ -61,7 +61,7 @@ lexes_atom (boolean false) ts rest p e l = word_first (boolean false) (codes "fa
 lexes_atom (integer z) ts rest p e l = word_first (integer z) (signed_decimal z) rest ts (integer_text z p) e l
 lexes_atom (string s) ts rest p e l =
     token_first _ (leaf (atom (string s))) rest ts
-      (inr (s, escaped s, refl, quoted s, ap (λ (x : List ℕ). 34 ∷ x) (append_assoc (escaped s) (34 ∷ []) rest))) l
+    (inr (s, escaped s, refl, quoted s, ap (λ (x : List ℕ). 34 ∷ x) (append_assoc (escaped s) (34 ∷ []) rest))) l
 lexes_atom (keyword k) ts rest p e l = word_first (keyword k) (58 ∷ k) rest ts (refl, p) e l
 
 ends32 : is_token_byte 32 ≡ false
@@ -108,8 +108,8 @@ enclosed : (o z : Token) (b c : ℕ) (inner ts : List Token) (text rest : List �
     → Lexes ((o ∷ (inner ++ z ∷ [])) ++ ts) ((b ∷ (text ++ c ∷ [])) ++ rest)
 enclosed o z b c inner ts text rest k l =
     regrouped _ (o ∷ (inner ++ z ∷ ts)) _ (b ∷ (text ++ c ∷ rest))
-      (ap (λ (x : List Token). o ∷ x) (append_assoc inner (z ∷ []) ts))
-      (ap (λ (x : List ℕ). b ∷ x) (append_assoc text (c ∷ []) rest))
+    (ap (λ (x : List Token). o ∷ x) (append_assoc inner (z ∷ []) ts))
+    (ap (λ (x : List ℕ). b ∷ x) (append_assoc text (c ∷ []) rest))
     (token_first _ o (text ++ c ∷ rest) (inner ++ z ∷ ts) k l)
 
 text_grouped : (s t u v : List ℕ) → ((s ++ t) ++ u) ++ v ≡ s ++ (t ++ (u ++ v))
@@ -127,38 +127,38 @@ mutual
       (lexes_entries true es (close_map ∷ ts) (125 ∷ rest) p ends125 (token_first _ close_map rest ts refl l))
 
   lexes_items : (first : Bool) (ds : Items) (ts : List Token) (rest : List ℕ) → ItemsInProfile ds → EndsToken rest
-    → Lexes ts rest → Lexes (items_tokens ds ++ ts) (items_text first ds ++ rest)
+      → Lexes ts rest → Lexes (items_tokens ds ++ ts) (items_text first ds ++ rest)
   lexes_items first no_items ts rest p e l = l
   lexes_items first (item d ds) ts rest p e l =
       let more : Lexes (items_tokens ds ++ ts) (items_text false ds ++ rest) = lexes_items false ds ts rest p.1 e l in
       let here : Lexes (tokens_of d ++ (items_tokens ds ++ ts)) (text_of d ++ (items_text false ds ++ rest)) =
       lexes_datum d (items_tokens ds ++ ts) (items_text false ds ++ rest) p.0 (items_end ds rest e) more in
       regrouped _ (tokens_of d ++ (items_tokens ds ++ ts)) _
-        (between first (codes " ") ++ (text_of d ++ (items_text false ds ++ rest)))
+      (between first (codes " ") ++ (text_of d ++ (items_text false ds ++ rest)))
       (append_assoc (tokens_of d) (items_tokens ds) ts)
-        (text_grouped (between first (codes " ")) (text_of d) (items_text false ds) rest) (between_items first _ _ here)
+      (text_grouped (between first (codes " ")) (text_of d) (items_text false ds) rest) (between_items first _ _ here)
 
   lexes_entries : (first : Bool) (es : Entries) (ts : List Token) (rest : List ℕ) → EntriesInProfile es
-    → EndsToken rest → Lexes ts rest
+      → EndsToken rest → Lexes ts rest
       → Lexes (entries_tokens es ++ ts) (entries_text first es ++ rest)
   lexes_entries first no_entries ts rest p e l = l
   lexes_entries first (entry k d es) ts rest p e l =
       let more : Lexes (entries_tokens es ++ ts) (entries_text false es ++ rest) =
-        lexes_entries false es ts rest p.2 e l in
+      lexes_entries false es ts rest p.2 e l in
       let us : List Token = tokens_of d ++ (entries_tokens es ++ ts) in
       let value : Lexes us (text_of d ++ (entries_text false es ++ rest)) =
-        lexes_datum d (entries_tokens es ++ ts) (entries_text false es ++ rest) p.1 (entries_end es rest e) more in
+      lexes_datum d (entries_tokens es ++ ts) (entries_text false es ++ rest) p.1 (entries_end es rest e) more in
       let here : Lexes (leaf (atom (keyword k)) ∷ us)
-        ((58 ∷ k) ++ (32 ∷ (text_of d ++ (entries_text false es ++ rest)))) =
+      ((58 ∷ k) ++ (32 ∷ (text_of d ++ (entries_text false es ++ rest)))) =
       word_first (keyword k) (58 ∷ k) (32 ∷ (text_of d ++ (entries_text false es ++ rest))) us (refl, p.0) ends32
-        (sep_first 32 us _ refl value) in
+      (sep_first 32 us _ refl value) in
       let pair : ((58 ∷ k) ++ (32 ∷ text_of d)) ++ (entries_text false es ++ rest) ≡ (58 ∷ k)
       ++ (32 ∷ (text_of d ++ (entries_text false es ++ rest))) =
-        append_assoc (58 ∷ k) (32 ∷ text_of d) (entries_text false es ++ rest) in
+      append_assoc (58 ∷ k) (32 ∷ text_of d) (entries_text false es ++ rest) in
       regrouped _ (leaf (atom (keyword k)) ∷ us) _
-        (between first (codes ", ") ++ ((58 ∷ k) ++ (32 ∷ (text_of d ++ (entries_text false es ++ rest)))))
+      (between first (codes ", ") ++ ((58 ∷ k) ++ (32 ∷ (text_of d ++ (entries_text false es ++ rest)))))
       (ap (λ (x : List Token). leaf (atom (keyword k)) ∷ x) (append_assoc (tokens_of d) (entries_tokens es) ts))
       (text_grouped (between first (codes ", ")) ((58 ∷ k) ++ (32 ∷ text_of d)) (entries_text false es) rest
-        ∙ ap (λ (x : List ℕ). between first (codes ", ") ++ x) pair)
+      ∙ ap (λ (x : List ℕ). between first (codes ", ") ++ x) pair)
       (between_entries first (leaf (atom (keyword k)) ∷ us)
-        ((58 ∷ k) ++ (32 ∷ (text_of d ++ (entries_text false es ++ rest)))) here)
+      ((58 ∷ k) ++ (32 ∷ (text_of d ++ (entries_text false es ++ rest)))) here)

@@ -10,7 +10,8 @@ use Rattle.edn_reader.specs.declared.fault.FaultKind.TheVariants.{TooLong, NoMem
 -- The bytes begin with these tokens, and this rest follows them.
 abbrev pub BeginWith : List Token → List ℕ → List ℕ → Type 0
 BeginWith [] bytes rest = bytes ≡ rest
-BeginWith (t ∷ ts) bytes rest = (remains : List ℕ) × IsNext bytes t remains × BeginWith ts remains rest
+BeginWith (t ∷ ts) bytes rest =
+    (remains : List ℕ) × IsNext bytes t remains × BeginWith ts remains rest
 
 -- The text is UTF-8, and begins with the first tokens of some forms, in which keys are distinct and
 -- no bracket is too deep. The last of these tokens is at this place, after separators and

@@ -50,7 +50,7 @@ pub accepted : (h c : List ℕ) (result : ℕ) (before after : List ℕ) (told :
     → (result ≡ number_of Yes) ⊎ (result ≡ number_of OutOfMemory)
 accepted h c result before after told (inl a) valid =
     let k = a.2.output in elim (yes_or_memory k.0 (k.1.accepts valid)) [
-  | inl e ↦ inl (a.3 ∙ ap number_of (k.2 ∙ e))
-  | inr e ↦ inr (a.3 ∙ ap number_of (k.2 ∙ e))
-]
+      | inl e ↦ inl (a.3 ∙ ap number_of (k.2 ∙ e))
+      | inr e ↦ inr (a.3 ∙ ap number_of (k.2 ∙ e))
+    ]
 accepted h c result before after told (inr m) valid = inr m.0

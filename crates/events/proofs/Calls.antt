@@ -24,11 +24,11 @@ skips p x e failed rest q = go e.action failed
     other = ne_eqb p e.process (λ s. eqb-false e.process p q (sym s))
 
     go : (a : Action) (b : Bool)
-      → response_of p x (denoted_by e.number e.process e.object a b ++ rest) ≡ response_of p x rest
+        → response_of p x (denoted_by e.number e.process e.object a b ++ rest) ≡ response_of p x rest
     go (Invoke op) true = refl
     go (Invoke op) false = refl
     go (Ok r) b = ap (λ t. option_or (cond (t && (x == e.object)) (Some (record { at = e.number; reply = r })) None)
-      (response_of p x rest)) other
+        (response_of p x rest)) other
     go Fail b = refl
     go Info b = refl
 
@@ -37,7 +37,7 @@ closed_silent p x [] h = refl
 closed_silent p x (e ∷ es) h = go (e.process == p) refl (closed_silent p x es)
   where
     go : (b : Bool) → (e.process == p) ≡ b → (Runs p closed es → response_of p x (denoted es) ≡ None)
-      → response_of p x (denoted (e ∷ es)) ≡ None
+        → response_of p x (denoted (e ∷ es)) ≡ None
     go true q f = absurd (h.0 q).0
     go false q f = skips p x e (fails (next_event e.process es)) (denoted es) q ∙ f (h.1 q)
 
@@ -54,7 +54,7 @@ answered_own n p y (Invoke o) es x op may rest = absurd may
 answered_own n p y (Ok r) es x op may rest = λ h.
     let is : ((p == p) && (x == y)) ≡ true = both (p == p) (x == y) (eq-eqb p p refl) (eq-eqb x y (sym may.0)) in
     ap (λ t. option_or (cond t (Some (record { at = n; reply = r })) None) (response_of p x (denoted es))) is
-      ∙ sym (ap (λ (o : Option Event). return_of (end_at o)) (next_own n p y (Ok r) es))
+    ∙ sym (ap (λ (o : Option Event). return_of (end_at o)) (next_own n p y (Ok r) es))
   where
     both : (b c : Bool) → b ≡ true → c ≡ true → (b && c) ≡ true
     both b c q r = cc
@@ -72,11 +72,11 @@ answered p x op (e ∷ es) h = go (e.process == p) refl (answered p x op es)
     go true q f =
         let own : e.process ≡ p = eqb-true e.process p q in
         subst (λ n. Runs n (state_by e.object e.action) es → Answered n x (e ∷ es)) own
-          (answered_own e.number e.process e.object e.action es x op (h.0 q).0) (h.0 q).1
+        (answered_own e.number e.process e.object e.action es x op (h.0 q).0) (h.0 q).1
     go false q f = λ not.
         let same : next_event p (e ∷ es) ≡ next_event p es = ap (λ b. cond b (Some e) (next_event p es)) q in
         skips p x e (fails (next_event e.process es)) (denoted es) q
-          ∙ (f (h.1 q) (sym (ap fails same) ∙ not) ∙ sym (ap (λ (o : Option Event). return_of (end_at o)) same))
+        ∙ (f (h.1 q) (sym (ap fails same) ∙ not) ∙ sym (ap (λ (o : Option Event). return_of (end_at o)) same))
 
 -- ---- the calls
 
@@ -108,8 +108,8 @@ call_kept n op None q = refl
 call_kept n op (Some e) q = go e.action q
   where
     go : (a : Action) → is_fail a ≡ false
-      → call_with n op (end_by e.number a)
-      ≡ Some (record { number = n; op = op; returned = return_of (end_by e.number a) })
+        → call_with n op (end_by e.number a)
+        ≡ Some (record { number = n; op = op; returned = return_of (end_by e.number a) })
     go (Invoke o) q = refl
     go (Ok r) q = refl
     go Fail q = absurd (cc q)
@@ -121,37 +121,40 @@ calls_first x e next = calls_of (cond (e.object == x) (begun e.number e.action (
 
 invocation_calls : (n p y : ℕ) (op : AnyOp) (x : ℕ) (es : List Event) → Runs p (busy y op) es
     → calls_first x (event_at n p y (Invoke op)) (next_event p es) ++ calls_on x (denoted es)
-      ≡ calls_on x (denoted (event_at n p y (Invoke op) ∷ es))
+    ≡ calls_on x (denoted (event_at n p y (Invoke op) ∷ es))
 invocation_calls n p y op x es runs = go (fails (next_event p es)) refl
   where
     failed_here : fails (next_event p es) ≡ true → (here : Bool)
         → calls_of (cond here (record { number = n; op = op; «end» = end_at (next_event p es) } ∷ []) [])
-          ++ calls_on x (denoted es) ≡ calls_on x (denoted es)
+        ++ calls_on x (denoted es) ≡ calls_on x (denoted es)
     failed_here q true = ap (λ (c : Option Call). cons_option c [] ++ calls_on x (denoted es))
-      (call_failed n op (next_event p es) q)
+        (call_failed n op (next_event p es) q)
     failed_here q false = refl
 
     own_call : fails (next_event p es) ≡ false
-      → call_with n op (end_at (next_event p es))
-      ≡ Some (record { number = n; op = op; returned = response_of p y (denoted es) })
+        → call_with n op (end_at (next_event p es))
+        ≡ Some (record { number = n; op = op; returned = response_of p y (denoted es) })
     own_call q = call_kept n op (next_event p es) q
-      ∙ ap (λ (r : Option Return). Some (record { number = n; op = op; returned = r }))
-      (sym (answered p y op es runs q))
+        ∙ ap (λ (r : Option Return). Some (record { number = n; op = op; returned = r }))
+        (sym (answered p y op es runs q))
 
     kept_here : fails (next_event p es) ≡ false → (here : Bool)
-      → calls_of (cond here (record { number = n; op = op; «end» = end_at (next_event p es) } ∷ []) [])
-      ++ calls_on x (denoted es)
+        → calls_of (cond here (record { number = n; op = op; «end» = end_at (next_event p es) } ∷ []) [])
+        ++ calls_on x (denoted es)
         ≡ map (λ (c : ProcessCall). c.call)
-        (cond here (record { process = p; object = y;
-          call = record { number = n; op = op; returned = response_of p y (denoted es) } }
+        (cond here (record {
+          process = p;
+          object = y;
+          call = record { number = n; op = op; returned = response_of p y (denoted es) };
+        }
         ∷ filter (λ c. c.object == x) (calls_in (denoted es))) (filter (λ c. c.object == x) (calls_in (denoted es))))
     kept_here q true = ap (λ (c : Option Call). cons_option c [] ++ calls_on x (denoted es)) (own_call q)
     kept_here q false = refl
 
     go : (failed : Bool) → fails (next_event p es) ≡ failed
-      → calls_first x (event_at n p y (Invoke op)) (next_event p es) ++ calls_on x (denoted es)
+        → calls_first x (event_at n p y (Invoke op)) (next_event p es) ++ calls_on x (denoted es)
         ≡ map (λ (c : ProcessCall). c.call)
-          (filter (λ c. c.object == x) (calls_in (denoted_by n p y (Invoke op) failed ++ denoted es)))
+        (filter (λ c. c.object == x) (calls_in (denoted_by n p y (Invoke op) failed ++ denoted es)))
     go true q = failed_here q (y == x)
     go false q = kept_here q (y == x)
 
@@ -166,12 +169,12 @@ no_calls x e next none = go (e.object == x)
 
 first_calls : (n p y : ℕ) (a : Action) (x : ℕ) (es : List Event) → AllRun (event_at n p y a ∷ es)
     → calls_first x (event_at n p y a) (next_event p es) ++ calls_on x (denoted es)
-      ≡ calls_on x (denoted (event_at n p y a ∷ es))
+    ≡ calls_on x (denoted (event_at n p y a ∷ es))
 first_calls n p y (Invoke op) x es h = let r = h p in go r.0 r.1
   where
     go : (s : State) → Runs p s (event_at n p y (Invoke op) ∷ es)
         → calls_first x (event_at n p y (Invoke op)) (next_event p es) ++ calls_on x (denoted es)
-          ≡ calls_on x (denoted (event_at n p y (Invoke op) ∷ es))
+        ≡ calls_on x (denoted (event_at n p y (Invoke op) ∷ es))
     go s r = invocation_calls n p y op x es (r.0 (eq-eqb p p refl)).1
 first_calls n p y (Ok r) x es h =
     ap (λ t. t ++ calls_on x (denoted es)) (no_calls x (event_at n p y (Ok r)) (next_event p es) refl)
@@ -184,7 +187,7 @@ pub calls_are : (x : ℕ) (es : List Event) → AllRun es → calls_of (operatio
 calls_are x [] h = refl
 calls_are x (e ∷ es) h =
     filter_map-append call_of (cond (e.object == x) (begun e.number e.action (end_at (next_event e.process es))) [])
-      (operations_on x es)
+    (operations_on x es)
     ∙ (ap (λ t. calls_first x e (next_event e.process es) ++ t) (calls_are x es (all_run_later e es h))
     ∙ first_calls e.number e.process e.object e.action x es h)
 

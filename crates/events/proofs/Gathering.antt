@@ -44,7 +44,7 @@ pub ahead_other : (ends ends' : ℕ → End) (kept : ℕ → Option (List Invoca
 ahead_other ends ends' kept e later h none step = record {
   ahead = ends_more ends ends' e later h.ahead step;
   gathered = λ x. subst (λ t. IsGathered (kept x) (t ++ operations_on x later)) (sym (nothing (e.object == x)))
-    (h.gathered x);
+      (h.gathered x);
 }
   where
     nothing : (b : Bool) → cond b (begun e.number e.action (end_at (next_event e.process later))) [] ≡ []
@@ -65,22 +65,22 @@ ahead_begun ends ends' kept kept' e op o later h invokes is own_kept others_kept
     begins : begun e.number e.action (end_at (next_event e.process later)) ≡ o ∷ []
     begins = ap (λ a. begun e.number a (end_at (next_event e.process later))) invokes
         ∙ ap (λ (x : Invocation). x ∷ [])
-          (ap (λ (n : End). record { number = e.number; op = op; «end» = n }) (sym (h.ahead e.process)) ∙ sym is)
+        (ap (λ (n : End). record { number = e.number; op = op; «end» = n }) (sym (h.ahead e.process)) ∙ sym is)
 
     one_more : (k : Option (List Invocation)) (ops : List Invocation) → IsGathered k ops
-      → IsGathered (Some (unwrap_or k [] ++ o ∷ [])) (o ∷ ops)
+        → IsGathered (Some (unwrap_or k [] ++ o ∷ [])) (o ∷ ops)
     one_more None ops g = (ap (λ xs. reverse (o ∷ xs)) (sym g), λ q. cc q)
     one_more (Some xs) ops g = (ap (λ ys. ys ++ o ∷ []) g.0 ∙ sym (reverse-append (o ∷ []) ops), λ q. cc q)
 
     go : (x : ℕ) (b : Bool) → (e.object == x) ≡ b
-      → IsGathered (kept' x) (cond b (begun e.number e.action (end_at (next_event e.process later))) []
+        → IsGathered (kept' x) (cond b (begun e.number e.action (end_at (next_event e.process later))) []
         ++ operations_on x later)
     go x true q = subst (λ t. IsGathered (kept' x) (t ++ operations_on x later)) (sym begins)
         (subst (λ n. IsGathered (kept' n) (o ∷ operations_on n later)) (eqb-true e.object x q)
         (subst (λ k. IsGathered k (o ∷ operations_on e.object later)) (sym own_kept)
-          (one_more (kept e.object) (operations_on e.object later) (h.gathered e.object))))
+        (one_more (kept e.object) (operations_on e.object later) (h.gathered e.object))))
     go x false q = subst (λ k. IsGathered k (operations_on x later))
-      (sym (others_kept x (λ s. eqb-false e.object x q (sym s)))) (h.gathered x)
+        (sym (others_kept x (λ s. eqb-false e.object x q (sym s)))) (h.gathered x)
 
 -- an event, for a default that nothing reads
 abbrev pub placeholder_event : Event

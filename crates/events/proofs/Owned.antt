@@ -38,12 +38,12 @@ next_owned own p x op [] is h = refl
 next_owned own p x op (e ∷ es) is h = go (e.process == p) refl (next_owned own p x op es is)
   where
     go : (b : Bool) → (e.process == p) ≡ b → (Runs p (busy x op) es → next_event p (owned own es) ≡ next_event p es)
-      → next_event p (owned own (e ∷ es)) ≡ next_event p (e ∷ es)
+        → next_event p (owned own (e ∷ es)) ≡ next_event p (e ∷ es)
     go true q f =
         let here : own e.object ≡ true = ap own (same_object x e.object op e.action (h.0 q).0) ∙ is in
         ap (next_event p) (owned_here own e es here)
-          ∙ (ap (λ (t : Bool). cond t (Some e) (next_event p (owned own es))) q
-            ∙ sym (ap (λ (t : Bool). cond t (Some e) (next_event p es)) q))
+        ∙ (ap (λ (t : Bool). cond t (Some e) (next_event p (owned own es))) q
+        ∙ sym (ap (λ (t : Bool). cond t (Some e) (next_event p es)) q))
     go false q f = last (own e.object) ∙ sym (ap (λ (t : Bool). cond t (Some e) (next_event p es)) q)
       where
         last : (c : Bool) → next_event p (cond c (e ∷ owned own es) (owned own es)) ≡ next_event p es
@@ -64,7 +64,7 @@ runs_next : (e : Event) (es : List Event) → AllRun (e ∷ es) → (op : AnyOp)
     → Runs e.process (busy e.object op) es
 runs_next e es h op q =
     let r = h e.process in subst (λ a. Runs e.process (state_by e.object a) es) q
-      (r.1.0 (eq-eqb e.process e.process refl)).1
+    (r.1.0 (eq-eqb e.process e.process refl)).1
 
 pub operations_owned : (own : ℕ → Bool) (x : ℕ) (es : List Event) → own x ≡ true → AllRun es
     → operations_on x (owned own es) ≡ operations_on x es
@@ -72,29 +72,29 @@ operations_owned own x [] is h = refl
 operations_owned own x (e ∷ es) is h = go (own e.object) refl (operations_owned own x es is (all_run_later e es h))
   where
     go : (b : Bool) → own e.object ≡ b → operations_on x (owned own es) ≡ operations_on x es
-      → operations_on x (cond b (e ∷ owned own es) (owned own es)) ≡ operations_on x (e ∷ es)
+        → operations_on x (cond b (e ∷ owned own es) (owned own es)) ≡ operations_on x (e ∷ es)
     go true q s =
         ap (λ ops. cond (e.object == x) (begun e.number e.action (end_at (next_event e.process (owned own es)))) []
-          ++ ops) s
+        ++ ops) s
         ∙ ap (λ (o : List Invocation). cond (e.object == x) o [] ++ operations_on x es)
-          (begun_same own e.number e.process e.object e.action es q (runs_next e es h))
+        (begun_same own e.number e.process e.object e.action es q (runs_next e es h))
     go false q s =
         let ne : (e.object == x) ≡ false =
-          ne_eqb e.object x (λ i. let t : own e.object ≡ true = ap own i ∙ is in absurd (cc (q, t))) in
+        ne_eqb e.object x (λ i. let t : own e.object ≡ true = ap own i ∙ is in absurd (cc (q, t))) in
         s ∙ sym (ap (λ b. cond b (begun e.number e.action (end_at (next_event e.process es))) []
-          ++ operations_on x es) ne)
+        ++ operations_on x es) ne)
 
 pub no_operations : (own : ℕ → Bool) (x : ℕ) (es : List Event) → own x ≡ false → operations_on x (owned own es) ≡ []
 no_operations own x [] is = refl
 no_operations own x (e ∷ es) is = go (own e.object) refl (no_operations own x es is)
   where
     go : (b : Bool) → own e.object ≡ b → operations_on x (owned own es) ≡ []
-      → operations_on x (cond b (e ∷ owned own es) (owned own es)) ≡ []
+        → operations_on x (cond b (e ∷ owned own es) (owned own es)) ≡ []
     go true q s =
         let ne : (e.object == x) ≡ false =
-          ne_eqb e.object x (λ i. let t : own x ≡ true = ap own (sym i) ∙ q in absurd (cc (is, t))) in
+        ne_eqb e.object x (λ i. let t : own x ≡ true = ap own (sym i) ∙ q in absurd (cc (is, t))) in
         ap (λ b. cond b (begun e.number e.action (end_at (next_event e.process (owned own es)))) []
-          ++ operations_on x (owned own es)) ne ∙ s
+        ++ operations_on x (owned own es)) ne ∙ s
     go false q s = s
 
 -- the objects of a part
@@ -109,5 +109,5 @@ gathered_in part parts x es kept proper h = go (in_part part parts x) refl
   where
     go : (b : Bool) → in_part part parts x ≡ b → IsGathered kept (cond b (operations_on x es) [])
     go true q = subst (IsGathered kept)
-      (operations_owned (in_part part parts) x es q (λ p. (idle, runs_from_start es p proper))) h
+        (operations_owned (in_part part parts) x es q (λ p. (idle, runs_from_start es p proper))) h
     go false q = subst (IsGathered kept) (no_operations (in_part part parts) x es q) h

@@ -36,8 +36,11 @@ begun_here x e how o i = go (e.object == x) refl i
   where
     named : (a : Action) → In o (begun e.number a how) → (e.number ≡ o.number) × (a ≡ Invoke o.op) × (o.«end» ≡ how)
     named (Invoke op) j = elim j [
-      | inl q ↦ (ap (λ (x : Invocation). x.number) (sym q), ap (λ (x : Invocation). Invoke x.op) (sym q),
-        ap (λ (x : Invocation). x.«end») q)
+      | inl q ↦ (
+        ap (λ (x : Invocation). x.number) (sym q),
+        ap (λ (x : Invocation). Invoke x.op) (sym q),
+        ap (λ (x : Invocation). x.«end») q,
+      )
       | inr k ↦ absurd k
     ]
     named (Ok r) j = absurd j
@@ -45,7 +48,7 @@ begun_here x e how o i = go (e.object == x) refl i
     named Info j = absurd j
 
     go : (b : Bool) → (e.object == x) ≡ b → In o (cond b (begun e.number e.action how) [])
-      → (e.object ≡ x) × (e.number ≡ o.number) × (e.action ≡ Invoke o.op) × (o.«end» ≡ how)
+        → (e.object ≡ x) × (e.number ≡ o.number) × (e.action ≡ Invoke o.op) × (o.«end» ≡ how)
     go true q j = let n = named e.action j in (eqb-true e.object x q, n.0, n.1, n.2)
     go false q j = absurd j
 
@@ -54,11 +57,11 @@ operation_begins x [] o i = absurd i
 operation_begins x (e ∷ es) o i =
     elim (in_append o (cond (e.object == x) (begun e.number e.action (end_at (next_event e.process es))) [])
     (operations_on x es) i) [
-  | inl j ↦
-      let b = begun_here x e (end_at (next_event e.process es)) o j in
-      record { event = e; stands = inl refl; on_object = b.0; number = b.1; invokes = b.2 }
-  | inr j ↦ begins_later x e es o (operation_begins x es o j)
-]
+      | inl j ↦
+          let b = begun_here x e (end_at (next_event e.process es)) o j in
+          record { event = e; stands = inl refl; on_object = b.0; number = b.1; invokes = b.2 }
+      | inr j ↦ begins_later x e es o (operation_begins x es o j)
+    ]
 
 -- ---- numbers rise
 
@@ -82,7 +85,7 @@ operations_rising x (e ∷ es) h = go (e.object == x) (operations_rising x es h.
 
     go : (b : Bool) → Pairs (λ a b. a.number < b.number) (operations_on x es)
         → Pairs (λ a b. a.number < b.number)
-          (cond b (begun e.number e.action (end_at (next_event e.process es))) [] ++ operations_on x es)
+        (cond b (begun e.number e.action (end_at (next_event e.process es))) [] ++ operations_on x es)
     go true rest = begun_rising e.action rest
     go false rest = rest
 
@@ -137,18 +140,18 @@ operation_returns x [] o at r h i q = absurd i
 operation_returns x (e ∷ es) o at r h i q =
     elim (in_append o (cond (e.object == x) (begun e.number e.action (end_at (next_event e.process es))) [])
     (operations_on x es) i) [
-  | inl j ↦
-      let b = begun_here x e (end_at (next_event e.process es)) o j in
-      let f = end_returns (next_event e.process es) at r (sym b.3 ∙ q) in
-      let stands = next_stands e.process es f.0 f.1 in
-      let l = h.0 f.0 stands in
-      let m = b.1 in
-      let n = f.2 in
-      record { event = f.0; stands = inr stands; number = f.2; returns = f.3; behind = omega arith }
-  | inr j ↦
-      let g = operation_returns x es o at r h.1 j q in
-      record { event = g.event; stands = inr g.stands; number = g.number; returns = g.returns; behind = g.behind }
-]
+      | inl j ↦
+          let b = begun_here x e (end_at (next_event e.process es)) o j in
+          let f = end_returns (next_event e.process es) at r (sym b.3 ∙ q) in
+          let stands = next_stands e.process es f.0 f.1 in
+          let l = h.0 f.0 stands in
+          let m = b.1 in
+          let n = f.2 in
+          record { event = f.0; stands = inr stands; number = f.2; returns = f.3; behind = omega arith }
+      | inr j ↦
+          let g = operation_returns x es o at r h.1 j q in
+          record { event = g.event; stands = inr g.stands; number = g.number; returns = g.returns; behind = g.behind }
+    ]
 
 -- and no operation has the number of a return
 apart : (x : ℕ) (es : List Event) (o p : Invocation) (at : ℕ) (r : AnyReply) → RisingEvents es → Returns es o at r
@@ -191,9 +194,9 @@ kinds_after earlier (e ∷ es) all is h = (
   λ f i a b same q r.
       let s = in_split f es i in
       let whole : all ≡ (earlier ++ e ∷ s.0) ++ f ∷ s.1 =
-        is ∙ (ap (λ t. earlier ++ e ∷ t) s.2 ∙ sym (append_assoc earlier (e ∷ s.0) (f ∷ s.1))) in
+      is ∙ (ap (λ t. earlier ++ e ∷ t) s.2 ∙ sym (append_assoc earlier (e ∷ s.0) (f ∷ s.1))) in
       kind_follows (earlier ++ e ∷ s.0) f.process f.object f.action b (h.each (earlier ++ e ∷ s.0) s.1 f whole) r e a
-        (in_middle e earlier s.0) same q,
+      (in_middle e earlier s.0) same q,
   kinds_after (earlier ++ e ∷ []) es all (is ∙ sym (append_assoc earlier (e ∷ []) es)) h,
 )
 
@@ -208,7 +211,7 @@ kind_here x (e ∷ es) o h i =
     own : (a : Action) → (e.object ≡ x) → e.action ≡ a → ((e.action ≡ Invoke o.op) ⊎ In o (operations_on x es))
         → (In o (operations_on x es) → kind_of o.op ≡ kind_at es x) → kind_of o.op ≡ kind_in a (kind_at es x)
     own (Invoke op) s q (inl t) f =
-      ap kind_of (let r : Invoke op ≡ Invoke o.op = sym q ∙ t in let u : o.op ≡ op = cc in u)
+        ap kind_of (let r : Invoke op ≡ Invoke o.op = sym q ∙ t in let u : o.op ≡ op = cc in u)
     own (Invoke op) s q (inr j) f =
         let b = operation_begins x es o j in sym (h.0 b.event b.stands op o.op (s ∙ sym b.on_object) q b.invokes)
     own (Ok r) s q (inl t) f = let u : Ok r ≡ Invoke o.op = sym q ∙ t in absurd (cc u)
@@ -219,15 +222,15 @@ kind_here x (e ∷ es) o h i =
     own Info s q (inr j) f = f j
 
     go : (b : Bool) → (e.object == x) ≡ b
-      → In o (cond (e.object == x) (begun e.number e.action (end_at (next_event e.process es))) [])
+        → In o (cond (e.object == x) (begun e.number e.action (end_at (next_event e.process es))) [])
         ⊎ In o (operations_on x es) → (In o (operations_on x es) → kind_of o.op ≡ kind_at es x)
-          → kind_of o.op ≡ cond b (kind_in e.action (kind_at es x)) (kind_at es x)
+        → kind_of o.op ≡ cond b (kind_in e.action (kind_at es x)) (kind_at es x)
     go true q (inl j) f = own e.action (eqb-true e.object x q) refl
-      (inl (begun_here x e (end_at (next_event e.process es)) o j).2) f
+        (inl (begun_here x e (end_at (next_event e.process es)) o j).2) f
     go true q (inr j) f = own e.action (eqb-true e.object x q) refl (inr j) f
     go false q (inl j) f =
         let s : (e.object == x) ≡ true =
-          eq-eqb e.object x (begun_here x e (end_at (next_event e.process es)) o j).0 in absurd (cc (q, s))
+        eq-eqb e.object x (begun_here x e (end_at (next_event e.process es)) o j).0 in absurd (cc (q, s))
     go false q (inr j) f = f j
 
 -- ---- joined
@@ -243,7 +246,7 @@ is_object_history es h x =
       rising = all_from_pairs (λ a b. a.number < b.number) (operations_on x es) (operations_rising x es up);
       of_kind = all_from_in (λ o. kind_of o.op ≡ kind_at es x) (operations_on x es) (λ o i. kind_here x es o kinds i);
       ends = all_from_in (λ o. EndsAfter o.number (operations_on x es) o.«end») (operations_on x es)
-        (λ o i. ends_after x es o up i);
+          (λ o i. ends_after x es o up i);
     }
 
 -- ---- named objects
@@ -252,8 +255,13 @@ is_object_history es h x =
 pub named_by : (x : ℕ) (es : List Event) (o : Invocation) → In o (operations_on x es) → IsNamed es x
 named_by x es o i =
     let b = operation_begins x es o i in
-    record { event = b.event; op = o.op; stands = contains_from_in es b.event b.stands; on_object = b.on_object;
-        invokes = b.invokes }
+    record {
+      event = b.event;
+      op = o.op;
+      stands = contains_from_in es b.event b.stands;
+      on_object = b.on_object;
+      invokes = b.invokes;
+    }
 
 pub operation_of : (x : ℕ) (es : List Event) (e : Event) (op : AnyOp) → In e es → e.object ≡ x → e.action ≡ Invoke op
     → (o : Invocation) × In o (operations_on x es)
@@ -261,9 +269,11 @@ operation_of x [] e op i s t = absurd i
 operation_of x (d ∷ es) e op i s t = elim i [
   | inl q ↦ own (ap (λ (y : Event). y.object) (sym q) ∙ s) (ap (λ (y : Event). y.action) (sym q) ∙ t)
   | inr j ↦
-      let o = operation_of x es e op j s t in
-      (o.0, in_right o.0 (cond (d.object == x) (begun d.number d.action (end_at (next_event d.process es))) [])
-      (operations_on x es) o.1)
+      let o = operation_of x es e op j s t in (
+        o.0,
+        in_right o.0 (cond (d.object == x) (begun d.number d.action (end_at (next_event d.process es))) [])
+            (operations_on x es) o.1,
+      )
 ]
   where
     own : d.object ≡ x → d.action ≡ Invoke op → (o : Invocation) × In o (operations_on x (d ∷ es))
@@ -271,6 +281,8 @@ operation_of x (d ∷ es) e op i s t = elim i [
         let how = end_at (next_event d.process es) in
         let o : Invocation = record { number = d.number; op = op; «end» = how } in
         let is : cond (d.object == x) (begun d.number d.action how) [] ≡ o ∷ [] =
-          ap (λ b. cond b (begun d.number d.action how) []) (eq-eqb d.object x s) ∙ ap (λ a. begun d.number a how) t in
-        (o, in_left o (cond (d.object == x) (begun d.number d.action how) []) (operations_on x es)
-          (subst (In o) (sym is) (inl refl)))
+        ap (λ b. cond b (begun d.number d.action how) []) (eq-eqb d.object x s) ∙ ap (λ a. begun d.number a how) t in (
+          o,
+          in_left o (cond (d.object == x) (begun d.number d.action how) []) (operations_on x es)
+              (subst (In o) (sym is) (inl refl)),
+        )

@@ -78,14 +78,14 @@ runs_after p earlier (e ∷ es) all is proper =
       λ q.
           let own : e.process ≡ p = eqb-true e.process p q in
           let after : last_event p (earlier ++ e ∷ []) ≡ Some e =
-            last_push p earlier e ∙ ap (λ b. cond b (Some e) (last_event p earlier)) q in (
+          last_push p earlier e ∙ ap (λ b. cond b (Some e) (last_event p earlier)) q in (
             subst (λ n. MayDo (state_after (last_event n earlier)) e.object e.action) own
-              (may_do earlier e.process e.object e.action (proper.each earlier es e is)),
+                (may_do earlier e.process e.object e.action (proper.each earlier es e is)),
             subst (λ l. Runs p (state_after l) es) after rest,
           ),
       λ q.
           let after : last_event p (earlier ++ e ∷ []) ≡ last_event p earlier =
-            last_push p earlier e ∙ ap (λ b. cond b (Some e) (last_event p earlier)) q in
+          last_push p earlier e ∙ ap (λ b. cond b (Some e) (last_event p earlier)) q in
           subst (λ l. Runs p (state_after l) es) after rest,
     )
 

@@ -88,7 +88,7 @@ leaves_invoked n p x op es rest =
     subst IsSequential (sym (own_cons p (event_at n p x (Invoke op)) es)) (go (fails (next_event p es)) rest)
   where
     go : (b : Bool) → LeavesBusy p x b (own p es)
-      → IsSequential (own_first p (event_at n p x (Invoke op)) b ++ own p es)
+        → IsSequential (own_first p (event_at n p x (Invoke op)) b ++ own p es)
     go true h = h
     go false h = subst (λ t. IsSequential (t ++ own p es)) (sym (own_invocation n p x op)) (invoked p x op (own p es) h)
 
@@ -104,13 +104,13 @@ leaves_own n p x (Ok r) es (busy y op) may rest =
     let e = event_at n p x (Ok r) in
     let failed = fails (next_event p es) in
     let is : own p (e ∷ es) ≡ Res p x r ∷ own p es =
-      own_cons p e es ∙ ap (λ t. t ++ own p es) (own_response n p x r failed) in
+    own_cons p e es ∙ ap (λ t. t ++ own p es) (own_response n p x r failed) in
     subst (λ b. LeavesBusy p y b (own p (e ∷ es))) (sym (next_is_own n p x (Ok r) es))
-      (inr (r, own p es, subst (λ z. own p (e ∷ es) ≡ Res p z r ∷ own p es) may.0 is, rest))
+    (inr (r, own p es, subst (λ z. own p (e ∷ es) ≡ Res p z r ∷ own p es) may.0 is, rest))
 leaves_own n p x Fail es (busy y op) may rest =
     let e = event_at n p x Fail in
     subst (λ b. LeavesBusy p y b (own p (e ∷ es))) (sym (next_is_own n p x Fail es))
-      (subst IsSequential (sym (own_cons p e es)) rest)
+    (subst IsSequential (sym (own_cons p e es)) rest)
 leaves_own n p x Info es (busy y op) may rest =
     let e = event_at n p x Info in
     subst (λ b. LeavesBusy p y b (own p (e ∷ es))) (sym (next_is_own n p x Info es)) (inl (own_cons p e es ∙ rest))
@@ -130,7 +130,7 @@ leaves_other p e es s q rest = go s rest
     go : (s : State) → Leaves p s es → Leaves p s (e ∷ es)
     go idle h = subst IsSequential (sym same) h
     go (busy x op) h = subst (λ t. LeavesBusy p x (fails (next_event p (e ∷ es))) t) (sym same)
-      (subst (λ b. LeavesBusy p x b (own p es)) (sym next_same) h)
+        (subst (λ b. LeavesBusy p x b (own p es)) (sym next_same) h)
     go closed h = same ∙ h
 
 leaves : (p : ℕ) (es : List Event) (s : State) → Runs p s es → Leaves p s es
@@ -154,9 +154,9 @@ denoted_number [] m i = absurd i
 denoted_number (e ∷ es) m i =
     elim (in_append m (denoted_by e.number e.process e.object e.action (fails (next_event e.process es)))
     (denoted es) i) [
-  | inl j ↦ (e, inl refl, here e.action (fails (next_event e.process es)) j)
-  | inr j ↦ let d = denoted_number es m j in (d.0, inr d.1, d.2)
-]
+      | inl j ↦ (e, inl refl, here e.action (fails (next_event e.process es)) j)
+      | inr j ↦ let d = denoted_number es m j in (d.0, inr d.1, d.2)
+    ]
   where
     here : (a : Action) (b : Bool) → In m (denoted_by e.number e.process e.object a b) → e.number ≡ m.number
     here (Invoke op) true j = absurd j
@@ -174,7 +174,7 @@ denoted_rising (e ∷ es) h = go e.action (fails (next_event e.process es)) (den
     above m i = let d = denoted_number es m i in let l = h.0 d.0 d.1 in let q = d.2 in omega arith
 
     go : (a : Action) (b : Bool) → Pairs (λ a b. a.number < b.number) (denoted es)
-      → Pairs (λ a b. a.number < b.number) (denoted_by e.number e.process e.object a b ++ denoted es)
+        → Pairs (λ a b. a.number < b.number) (denoted_by e.number e.process e.object a b ++ denoted es)
     go (Invoke op) true rest = rest
     go (Invoke op) false rest = (above, rest)
     go (Ok r) b rest = (above, rest)
@@ -184,6 +184,6 @@ denoted_rising (e ∷ es) h = go e.action (fails (next_event e.process es)) (den
 pub denoted_is_history : (es : List Event) → IsProper es → IsHistory (denoted es)
 denoted_is_history es h = record {
   rising = all_from_pairs (λ a b. a.number < b.number) (denoted es)
-    (denoted_rising es (pairs_from_all (λ a b. a.number < b.number) es h.rising));
+      (denoted_rising es (pairs_from_all (λ a b. a.number < b.number) es h.rising));
   well_formed = λ p. leaves p es idle (runs_from_start es p h);
 }

@@ -34,19 +34,32 @@ trait Host: Files<File = File> + AllocGlobal + Print + Eprint + Clock + Threads 
 impl<R: Files<File = File> + AllocGlobal + Print + Eprint + Clock + Threads + Wait + Sync> Host
     for R {}
 
-/// Says that an allocation failed before the command began.
+/// Says that an allocation failed.
 fn no_memory<R: Print>(rt: &R) -> io::Result<u8> {
     rt.println("out of memory")?;
     Ok(Status::OutOfMemory.number())
 }
 
-/// Says why a file could not be read: an allocation failed, or another reason.
-fn report_unreadable<R: Print + Eprint>(rt: &R, name: &str, lacks_memory: bool) -> io::Result<u8> {
+/// Says that a file could not be read or written, by this verb, or that an allocation failed.
+fn report_failed<R: Print + Eprint>(
+    rt: &R,
+    verb: &str,
+    name: &str,
+    lacks_memory: bool,
+) -> io::Result<u8> {
     if lacks_memory {
         return no_memory(rt);
     }
-    rt.eprintln(format_args!("fcbench: cannot read {name}"))?;
+    rt.eprintln(format_args!("fcbench: cannot {verb} {name}"))?;
     Ok(Status::Failed.number())
+}
+
+fn report_unreadable<R: Print + Eprint>(rt: &R, name: &str, lacks_memory: bool) -> io::Result<u8> {
+    report_failed(rt, "read", name, lacks_memory)
+}
+
+fn report_unwritten<R: Print + Eprint>(rt: &R, name: &str, lacks_memory: bool) -> io::Result<u8> {
+    report_failed(rt, "write", name, lacks_memory)
 }
 
 /// The names of the files of a command. Where it has none, the name is empty.
@@ -82,15 +95,6 @@ fn run_line<R: Host>(rt: &R, line: &Line) -> io::Result<u8> {
     }
 }
 
-/// Says why a folder could not be written: an allocation failed, or another reason.
-fn report_unwritten<R: Print + Eprint>(rt: &R, name: &str, lacks_memory: bool) -> io::Result<u8> {
-    if lacks_memory {
-        return no_memory(rt);
-    }
-    rt.eprintln(format_args!("fcbench: cannot write {name}"))?;
-    Ok(Status::Failed.number())
-}
-
 /// Says how many shards an object needs.
 fn report_few_shards<R: Print>(rt: &R, object: u32) -> io::Result<u8> {
     let shards = shards_needed(object);
@@ -98,7 +102,8 @@ fn report_few_shards<R: Print>(rt: &R, object: u32) -> io::Result<u8> {
     Ok(Status::Undecided.number())
 }
 
-/// Whether a split with this status has divided the whole.
+/// Whether a split with this status has divided the whole. After 3 it has, and a shard is too large
+/// for one text: an allocation failure is `FolderFault::NoMemory`.
 fn is_divided(status: u8) -> bool {
     status == Status::Yes.number() || status == Status::Undecided.number()
 }
@@ -126,12 +131,15 @@ fn run_split<R: Host>(rt: &R, history: &str, name: &str, shards: u32) -> io::Res
         folder.remove(shards);
     }
     match split {
+        // Its lines are printed already, so nothing is said of memory.
         Ok(status) if is_divided(status) && !is_whole => report_unwritten(rt, name, false),
         Ok(status) => Ok(status),
-        Err(FolderFault::History) => report_unreadable(rt, history, source.lacks_memory()),
+        Err(FolderFault::UnreadHistory) => report_unreadable(rt, history, source.lacks_memory()),
         Err(FolderFault::NoMemory) => no_memory(rt),
         Err(FolderFault::FewShards(object)) => report_few_shards(rt, object),
-        Err(_) => report_unwritten(rt, name, folder.lacks_memory()),
+        Err(FolderFault::Unwritten | FolderFault::UnreadShard(..)) => {
+            report_unwritten(rt, name, folder.lacks_memory())
+        }
     }
 }
 
@@ -154,11 +162,12 @@ fn run_merge<R: Host>(rt: &R, name: &str, steps: u32, trust_statuses: bool) -> i
     };
     match merged {
         Ok(status) => Ok(status),
-        Err(FolderFault::Shard(shard, file)) => {
+        Err(FolderFault::UnreadShard(shard, file)) => {
             let ending = ending_of(file);
             rt.eprintln(format_args!("fcbench: cannot read {name}/{shard}.{ending}"))?;
             Ok(Status::Failed.number())
         }
+        // A merge fails in no other way.
         Err(_) => no_memory(rt),
     }
 }

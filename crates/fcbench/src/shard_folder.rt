@@ -65,13 +65,33 @@ impl<'a, R: Files> ShardFolder<'a, R> {
         format!(in self.alloc; "{}/{shard}.{ending}", self.name)
     }
 
-    /// Makes the files of this many shards, which are empty. None of them may be there, so that of
-    /// two that make them at once one fails.
+    /// Makes the files of this shard, which are empty. Neither may be there, so that of two that
+    /// make them at once one fails.
+    fn make_shard(&self, shard: u16) -> io::Result<()> {
+        let text = self.path(shard, ShardFile::Text)?;
+        let table = self.path(shard, ShardFile::Table)?;
+        File::create_new(self.files, &text)?;
+        match File::create_new(self.files, &table) {
+            Ok(_) => Ok(()),
+            Err(error) => {
+                let _ = fs::remove_file(self.files, &text);
+                Err(error)
+            }
+        }
+    }
+
+    /// Makes the files of this many shards, in a folder that has no whole history. If some file
+    /// cannot be made, those that were are removed.
     pub fn make(&self, shards: u16) -> io::Result<()> {
         make_folder(self.files, self.name)?;
+        if fs::exists(self.files, self.count_path()?)? {
+            return Err(io::Error::from(ErrorKind::AlreadyExists));
+        }
         for shard in 0..shards {
-            File::create_new(self.files, self.path(shard, ShardFile::Text)?)?;
-            File::create_new(self.files, self.path(shard, ShardFile::Table)?)?;
+            if let Err(error) = self.make_shard(shard) {
+                self.remove(shard);
+                return Err(error);
+            }
         }
         Ok(())
     }
@@ -79,8 +99,15 @@ impl<'a, R: Files> ShardFolder<'a, R> {
     /// Says that the files that were made have a whole history.
     pub fn complete(&self, shards: u16) -> io::Result<()> {
         let text = format!(in self.alloc; "{shards}\n")?;
-        let mut file = File::create_new(self.files, self.count_path()?)?;
-        file.write_all(text.as_bytes())
+        let path = self.count_path()?;
+        let mut file = File::create_new(self.files, &path)?;
+        match file.write_all(text.as_bytes()) {
+            Ok(()) => Ok(()),
+            Err(error) => {
+                let _ = fs::remove_file(self.files, &path);
+                Err(error)
+            }
+        }
     }
 
     /// Whether it failed by an allocation failure.
@@ -88,7 +115,7 @@ impl<'a, R: Files> ShardFolder<'a, R> {
         matches!(self.failure, Some(ErrorKind::OutOfMemory))
     }
 
-    /// Removes the files that were made, as far as that is possible.
+    /// Removes the files of this many shards, as far as that is possible.
     pub fn remove(&self, shards: u16) {
         for shard in 0..shards {
             for file in [ShardFile::Text, ShardFile::Table] {

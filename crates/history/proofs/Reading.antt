@@ -24,9 +24,9 @@ events_push n [] d = append-nil (event_of n (client_of d))
 events_push n (x ∷ ds) d =
     ap (λ es. event_of n (client_of x) ++ es) (events_push (n + 1) ds d)
     ∙ (sym (append_assoc (event_of n (client_of x)) (events_from (n + 1) ds)
-      (event_of (n + 1 + length ds) (client_of d)))
+    (event_of (n + 1 + length ds) (client_of d)))
     ∙ ap (λ k. (event_of n (client_of x) ++ events_from (n + 1) ds) ++ event_of k (client_of d))
-      (let e : n + 1 + length ds ≡ n + length (x ∷ ds) = omega arith in e))
+    (let e : n + 1 + length ds ≡ n + length (x ∷ ds) = omega arith in e))
 
 -- a split of a longer list
 split_push : (ds : List Datum) (d : Datum) (earlier later : List Datum) (e : Datum)
@@ -124,7 +124,7 @@ first_fault seen fs i f es k l is h first = record {
 }
   where
     reads : (gs : List Form) (j : ℕ) → j < length gs
-      → views gs ≡ views (take j gs) ++ view (get_or gs j f) ∷ views (drop (suc j) gs)
+        → views gs ≡ views (take j gs) ++ view (get_or gs j f) ∷ views (drop (suc j) gs)
     reads [] j m = absurd (omega arith)
     reads (g ∷ gs) zero m = refl
     reads (g ∷ gs) (suc j) m = ap (λ t. view g ∷ t) (reads gs j (omega arith))

@@ -114,15 +114,15 @@ client_is r p t f x v es map value ep et ef ex ev =
     map w
     ∙ ap (λ (y : Option ℕ). client_with y (option_and_then type_named t) f x w) ep
     ∙ ap (λ (y : Option (List ℕ)). client_with (natural_in (value_at (codes "process") es))
-      (option_and_then type_named y) f x w) et
+    (option_and_then type_named y) f x w) et
     ∙ ap (λ (y : Option (List ℕ)). client_with (natural_in (value_at (codes "process") es))
-      (spec.type_in (value_at (codes "type") es)) y x w) ef
+    (spec.type_in (value_at (codes "type") es)) y x w) ef
     ∙ ap (λ (y : Option ℕ). client_with (natural_in (value_at (codes "process") es))
-      (spec.type_in (value_at (codes "type") es)) (keyword_in (value_at (codes "f") es)) y w) ex in
+    (spec.type_in (value_at (codes "type") es)) (keyword_in (value_at (codes "f") es)) y w) ex in
     by_result r e value
   where
     by_result : (o : Option ClientMap)
-      → option_map (λ (c : ClientMap). client_map c (value_in (value_at (codes "value") es))) o ≡ client_in es
+        → option_map (λ (c : ClientMap). client_map c (value_in (value_at (codes "value") es))) o ≡ client_in es
         → IfSome o (λ c. c.value ≡ v) → IsClient o (client_in es)
     by_result None e h = sym e
     by_result (Some c) e h = (value_in (value_at (codes "value") es), sym e, sym (h ∙ ev))

@@ -27,9 +27,10 @@ found_more ds d f h = (
   λ n. first_more ds d f.map f.kind (h.0 n),
   λ m. (
       let a = h.1 m in
-      let lt : f.map < length ds = a.0 in
-      (omega (arith, lt, length-append ds (d ∷ [])),
-        subst IsFaultless (sym (take_front (f.map + 1) ds d (omega (arith, lt)))) a.1)
+      let lt : f.map < length ds = a.0 in (
+        omega (arith, lt, length-append ds (d ∷ [])),
+        subst IsFaultless (sym (take_front (f.map + 1) ds d (omega (arith, lt)))) a.1,
+      )
       ),
 )
   where
@@ -41,7 +42,7 @@ faulty_more : (r : Reading) (f : HistoryFault) (ds : List Datum) (d : Datum) →
 faulty_more r f ds d e h =
     let a : IsFoundIn ds f = subst (λ (o : Option HistoryFault). IsReadOrFaulty o r.seen r.map ds r.events.items) e h in
     subst (λ (o : Option HistoryFault). IsReadOrFaulty o r.seen r.map (ds ++ d ∷ []) r.events.items) (sym e)
-      (found_more ds d f a)
+    (found_more ds d f a)
 
 pub faulty_stays : (r : Reading) (ds : List Datum) (d : Datum) → is_some r.fault ≡ true → IsReading r ds
     → IsReading r (ds ++ d ∷ [])
@@ -62,8 +63,16 @@ pub found : (seen : Seen) (number : ℕ) (ds : List Datum) (d : Datum) (es : Lis
     (record { kind = k; map = number })
 found seen number ds d es k h first none = (
   λ n. (let f = first n in
-    record { earlier = ds; form = d; later = []; split = refl; place = h.count; stands = f.stands;
-    least = h.faultless; first = f.first }),
+      record {
+        earlier = ds;
+        form = d;
+        later = [];
+        split = refl;
+        place = h.count;
+        stands = f.stands;
+        least = h.faultless;
+        first = f.first;
+      }),
   λ m. (
       let long = length-append ds (d ∷ []) in
       let count : length ds ≡ number = h.count in (

@@ -53,9 +53,11 @@ another (Some p) (Some t) None x v w c e (u, q, k) = absurd cc
 another (Some p) (Some t) (Some f) None v w c e (u, q, k) = absurd cc
 another (Some p) (Some t) (Some f) (Some x) v w c e (u, q, k) =
     let m : ClientMap = record { process = p; type = t; function = function_named f; object = x; value = v } in
-    let s : m ≡ client_map c u = some_is m (client_map c u) q in
-    (w, ap (λ (n : ClientMap). Some (record n { value = w })) s,
-      sym e ∙ ap (λ (n : ClientMap). plain_value n.value) s ∙ k)
+    let s : m ≡ client_map c u = some_is m (client_map c u) q in (
+      w,
+      ap (λ (n : ClientMap). Some (record n { value = w })) s,
+      sym e ∙ ap (λ (n : ClientMap). plain_value n.value) s ∙ k,
+    )
 
 no_other : (p : Option ℕ) (t : Option MapType) (f : Option (List ℕ)) (x : Option ℕ) (v w : Datum)
     → client_with p t f x v ≡ None → client_with p t f x w ≡ None
@@ -68,9 +70,9 @@ no_other (Some p) (Some t) (Some f) (Some x) v w e = absurd cc
 -- the values that are looked at, and the one that is cut
 client_of_truncated : (es : Entries)
     → client_in (truncated_entries es)
-      ≡ client_with (natural_in (value_at (codes "process") es)) (type_in (value_at (codes "type") es))
+    ≡ client_with (natural_in (value_at (codes "process") es)) (type_in (value_at (codes "type") es))
     (keyword_in (value_at (codes "f") es)) (object_at (value_at (codes "object") es))
-      (value_in (option_map truncated_value (value_at (codes "value") es)))
+    (value_in (option_map truncated_value (value_at (codes "value") es)))
 client_of_truncated es =
     let v = value_in (value_at (codes "value") (truncated_entries es)) in
     let p = value_of_truncated (codes "process") es in
@@ -79,24 +81,24 @@ client_of_truncated es =
     let x = value_of_truncated (codes "object") es in
     ap (λ (y : Option ℕ). client_with y (type_in (value_at (codes "type") (truncated_entries es)))
     (keyword_in (value_at (codes "f") (truncated_entries es)))
-      (object_at (value_at (codes "object") (truncated_entries es))) v)
+    (object_at (value_at (codes "object") (truncated_entries es))) v)
     (ap natural_in p ∙ natural_of_truncated (value_at (codes "process") es))
     ∙ ap (λ (y : Option (List ℕ)). client_with (natural_in (value_at (codes "process") es))
-      (option_and_then type_named y)
+    (option_and_then type_named y)
     (keyword_in (value_at (codes "f") (truncated_entries es)))
-      (object_at (value_at (codes "object") (truncated_entries es))) v)
-      (ap keyword_in t ∙ keyword_of_truncated (value_at (codes "type") es))
-    ∙ ap (λ (y : Option (List ℕ)). client_with (natural_in (value_at (codes "process") es))
-      (type_in (value_at (codes "type") es)) y
     (object_at (value_at (codes "object") (truncated_entries es))) v)
-      (ap keyword_in f ∙ keyword_of_truncated (value_at (codes "f") es))
+    (ap keyword_in t ∙ keyword_of_truncated (value_at (codes "type") es))
+    ∙ ap (λ (y : Option (List ℕ)). client_with (natural_in (value_at (codes "process") es))
+    (type_in (value_at (codes "type") es)) y
+    (object_at (value_at (codes "object") (truncated_entries es))) v)
+    (ap keyword_in f ∙ keyword_of_truncated (value_at (codes "f") es))
     ∙ ap (λ (y : Option ℕ). client_with (natural_in (value_at (codes "process") es))
-      (type_in (value_at (codes "type") es))
+    (type_in (value_at (codes "type") es))
     (keyword_in (value_at (codes "f") es)) y v) (ap object_at x ∙ object_of_truncated (value_at (codes "object") es))
     ∙ ap (λ (o : Option Datum). client_with (natural_in (value_at (codes "process") es))
-      (type_in (value_at (codes "type") es))
+    (type_in (value_at (codes "type") es))
     (keyword_in (value_at (codes "f") es)) (object_at (value_at (codes "object") es)) (value_in o))
-      (value_of_truncated (codes "value") es)
+    (value_of_truncated (codes "value") es)
 
 process_of_truncated : (es : Entries)
     → is_some (keyword_in (value_at (codes "process") (truncated_entries es)))
@@ -109,16 +111,16 @@ none_in : (es : Entries) → client_in (truncated_entries es) ≡ None → clien
 none_in es e = no_other (natural_in (value_at (codes "process") es)) (type_in (value_at (codes "type") es))
     (keyword_in (value_at (codes "f") es))
     (object_at (value_at (codes "object") es)) (value_in (option_map truncated_value (value_at (codes "value") es)))
-      (value_in (value_at (codes "value") es)) (sym (client_of_truncated es) ∙ e)
+    (value_in (value_at (codes "value") es)) (sym (client_of_truncated es) ∙ e)
 
 pub says_as_much : (o : OperationMap) (d : Datum) → Says o (truncated d) → Says o d
 says_as_much (OfClient c) (atom a) h = h
 says_as_much (OfClient c) (vector ds) h = h
 says_as_much (OfClient c) (dictionary es) h =
     another (natural_in (value_at (codes "process") es)) (type_in (value_at (codes "type") es))
-      (keyword_in (value_at (codes "f") es))
+    (keyword_in (value_at (codes "f") es))
     (object_at (value_at (codes "object") es)) (value_in (option_map truncated_value (value_at (codes "value") es)))
-      (value_in (value_at (codes "value") es)) c
+    (value_in (value_at (codes "value") es)) c
     (plain_of_truncated (value_at (codes "value") es)) (subst (IsClient (Some c)) (client_of_truncated es) h)
 says_as_much Ignored (atom a) h = h
 says_as_much Ignored (vector ds) h = h

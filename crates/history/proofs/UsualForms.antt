@@ -92,8 +92,12 @@ nil_here text rest e q =
 
 pub false_here : (text rest : List ℕ) → EndsToken rest → text ≡ codes "false" ++ rest → ReadsValue text False rest
 false_here text rest e q =
-    record { form = atom (boolean false); plain = refl; fits = tt;
-    begins = word_here (boolean false) (codes "false") text rest refl e q }
+    record {
+      form = atom (boolean false);
+      plain = refl;
+      fits = tt;
+      begins = word_here (boolean false) (codes "false") text rest refl e q;
+    }
 
 pub true_here : (text rest : List ℕ) → EndsToken rest → text ≡ codes "true" ++ rest → ReadsValue text True rest
 true_here text rest e q = record {
@@ -115,13 +119,13 @@ pub pair_here : (y z : ℤ) (inside after_y from_z after_z rest : List ℕ)
 pair_here y z inside after_y from_z after_z rest b q c r =
     let close : BeginWith (close_vector ∷ []) after_z rest = here after_z rest close_vector r in
     let second : BeginWith (leaf (atom (integer z)) ∷ close_vector ∷ []) from_z rest =
-      both_begin (leaf (atom (integer z)) ∷ []) (close_vector ∷ []) from_z after_z rest c close in
+    both_begin (leaf (atom (integer z)) ∷ []) (close_vector ∷ []) from_z after_z rest c close in
     let behind : BeginWith (leaf (atom (integer z)) ∷ close_vector ∷ []) after_y rest =
     subst (λ (x : List ℕ). BeginWith (leaf (atom (integer z)) ∷ close_vector ∷ []) x rest) (sym q)
-      (spaced 32 (leaf (atom (integer z))) (close_vector ∷ []) from_z rest refl second) in
+    (spaced 32 (leaf (atom (integer z))) (close_vector ∷ []) from_z rest refl second) in
     let all : BeginWith (leaf (atom (integer y)) ∷ leaf (atom (integer z)) ∷ close_vector ∷ []) inside rest =
     both_begin (leaf (atom (integer y)) ∷ [])
-      (leaf (atom (integer z)) ∷ close_vector ∷ []) inside after_y rest b behind in
+    (leaf (atom (integer z)) ∷ close_vector ∷ []) inside after_y rest b behind in
     record {
       form = vector (item (atom (integer y)) (item (atom (integer z)) no_items));
       plain = refl;
@@ -170,7 +174,7 @@ other_pair k ks z text mid after rest n s o q b r =
       pairs = entry k (atom (integer z)) r.pairs;
       lack = lack_more k (atom (integer z)) ks r.pairs o r.lack.1;
       object_is = ap (λ (c : Bool). object_at (cond c (Some (atom (integer z))) (value_at (codes "object") r.pairs)))
-        s ∙ r.object_is;
+          s ∙ r.object_is;
       fits = (r.lack.0, tt, r.fits);
       begins = integer_pair k z (entries_tokens r.pairs ++ close_map ∷ []) text mid after rest n q b r.begins;
     }
@@ -184,11 +188,11 @@ object_pair n x text mid after rest e q b r =
     record {
       pairs = entry (codes "object") (atom (integer (pos n))) r.pairs;
       lack = lack_more (codes "object") (atom (integer (pos n))) operation_keys r.pairs
-        (refl, (refl, (refl, (refl, tt)))) r.lack.1;
+          (refl, (refl, (refl, (refl, tt)))) r.lack.1;
       object_is = sym e;
       fits = (r.lack.0, tt, r.fits);
       begins = integer_pair (codes "object") (pos n)
-        (entries_tokens r.pairs ++ close_map ∷ []) text mid after rest refl q b r.begins;
+          (entries_tokens r.pairs ++ close_map ∷ []) text mid after rest refl q b r.begins;
     }
 
 differs : (k : List ℕ) → (codes "object" ≡ k → ⊥) → same_bytes (codes "object") k ≡ false
@@ -208,14 +212,14 @@ pub note_pair : (k : List ℕ) (a : Atom) (text at_key after_key at_value after_
 note_pair k a text at_key after_key at_value after_value rest o q e s b z =
     let key : Token = leaf (atom (keyword k)) in
     let value : BeginWith (leaf (atom a) ∷ close_map ∷ []) at_value rest =
-      both_begin (leaf (atom a) ∷ []) (close_map ∷ []) at_value after_value rest b
-      (here after_value rest close_map z) in
+    both_begin (leaf (atom a) ∷ []) (close_map ∷ []) at_value after_value rest b
+    (here after_value rest close_map z) in
     let behind : BeginWith (leaf (atom a) ∷ close_map ∷ []) after_key rest =
     subst (λ (x : List ℕ). BeginWith (leaf (atom a) ∷ close_map ∷ []) x rest) (sym s)
-      (spaced 32 (leaf (atom a)) (close_map ∷ []) at_value rest refl value) in
+    (spaced 32 (leaf (atom a)) (close_map ∷ []) at_value rest refl value) in
     let own : BeginWith (key ∷ leaf (atom a) ∷ close_map ∷ []) (58 ∷ at_key) rest =
     both_begin (key ∷ []) (leaf (atom a) ∷ close_map ∷ []) (58 ∷ at_key) after_key rest
-      (first_here (58 ∷ at_key) after_key key e) behind in
+    (first_here (58 ∷ at_key) after_key key e) behind in
     let more : List Token = leaf (atom a) ∷ close_map ∷ [] in
     let all : BeginWith (key ∷ more) (44 ∷ 32 ∷ 58 ∷ at_key) rest =
     spaced 44 key more (32 ∷ 58 ∷ at_key) rest refl (spaced 32 key more (58 ∷ at_key) rest refl own) in
@@ -223,7 +227,7 @@ note_pair k a text at_key after_key at_value after_value rest o q e s b z =
       pairs = entry k (atom a) no_entries;
       lack = note_lacks keys_to_index o;
       object_is = ap (λ (c : Bool). object_at (cond c (Some (atom a)) (value_at (codes "object") no_entries)))
-        (differs k o.1.1.0);
+          (differs k o.1.1.0);
       fits = (tt, tt, tt);
       begins = subst (λ (x : List ℕ). BeginWith (key ∷ more) x rest) (sym q) all;
     }
@@ -258,8 +262,10 @@ fits_with : (n : ℕ) (t : MapType) (f : Function) (d : Datum) (es : Entries) �
 fits_with n t f d es h l e = (
   omega arith,
   (
-    (apart (codes "process") (codes "type") refl,
-      (apart (codes "process") (codes "f") refl, (apart (codes "process") (codes "value") refl, l.0))),
+    (
+      apart (codes "process") (codes "type") refl,
+      (apart (codes "process") (codes "f") refl, (apart (codes "process") (codes "value") refl, l.0)),
+    ),
     tt,
     (
       (apart (codes "type") (codes "f") refl, (apart (codes "type") (codes "value") refl, l.1.0)),
@@ -294,32 +300,32 @@ usual_is n t f x v text own from_n after_n from_t after_t from_f after_f from_v 
     let last_tokens : List Token = entries_tokens last.pairs ++ close_map ∷ [] in
     let ts_v : List Token = tokens_of value.form ++ last_tokens in
     let v1 : BeginWith ts_v from_v rest =
-      both_begin (tokens_of value.form) last_tokens from_v after_v rest value.begins last.begins in
+    both_begin (tokens_of value.form) last_tokens from_v after_v rest value.begins last.begins in
     let v2 : BeginWith (leaf (atom (keyword (codes "value"))) ∷ ts_v) after_f rest =
-      form_field value.form (codes "value") last_tokens after_f from_v rest refl qv v1 in
+    form_field value.form (codes "value") last_tokens after_f from_v rest refl qv v1 in
     let ts_f : List Token = leaf (atom (keyword (codes "value"))) ∷ ts_v in
     let f1 : BeginWith (leaf (atom (keyword (name_of f))) ∷ ts_f) from_f rest =
-      both_begin (leaf (atom (keyword (name_of f))) ∷ []) ts_f from_f after_f rest bf v2 in
+    both_begin (leaf (atom (keyword (name_of f))) ∷ []) ts_f from_f after_f rest bf v2 in
     let f2 = field (codes "f") (leaf (atom (keyword (name_of f)))) ts_f after_t from_f rest refl qf f1 in
     let ts_t : List Token = leaf (atom (keyword (codes "f"))) ∷ leaf (atom (keyword (name_of f))) ∷ ts_f in
     let t1 : BeginWith (leaf (atom (keyword (type_name t))) ∷ ts_t) from_t rest =
-      both_begin (leaf (atom (keyword (type_name t))) ∷ []) ts_t from_t after_t rest bt f2 in
+    both_begin (leaf (atom (keyword (type_name t))) ∷ []) ts_t from_t after_t rest bt f2 in
     let t2 = field (codes "type") (leaf (atom (keyword (type_name t)))) ts_t after_n from_t rest refl qt t1 in
     let ts_n : List Token = leaf (atom (keyword (codes "type"))) ∷ leaf (atom (keyword (type_name t))) ∷ ts_t in
     let n1 : BeginWith (leaf (atom (integer (pos n))) ∷ ts_n) from_n rest =
-      both_begin (leaf (atom (integer (pos n))) ∷ []) ts_n from_n after_n rest bn t2 in
+    both_begin (leaf (atom (integer (pos n))) ∷ []) ts_n from_n after_n rest bn t2 in
     let n2 = first_field (codes "process") (leaf (atom (integer (pos n)))) ts_n own from_n rest refl qn n1 in
     let all = after_one 10 open_map
-      (leaf (atom (keyword (codes "process"))) ∷ leaf (atom (integer (pos n))) ∷ ts_n) text own rest refl feed n2 in
+    (leaf (atom (keyword (codes "process"))) ∷ leaf (atom (integer (pos n))) ∷ ts_n) text own rest refl feed n2 in
     let begins : BeginWith (tokens_of (form_with n t f value.form last.pairs)) text rest =
     subst (λ (ts : List Token). BeginWith
-      (open_map ∷ leaf (atom (keyword (codes "process"))) ∷ leaf (atom (integer (pos n)))
-      ∷ leaf (atom (keyword (codes "type")))
+    (open_map ∷ leaf (atom (keyword (codes "process"))) ∷ leaf (atom (integer (pos n)))
+    ∷ leaf (atom (keyword (codes "type")))
     ∷ leaf (atom (keyword (type_name t))) ∷ leaf (atom (keyword (codes "f"))) ∷ leaf (atom (keyword (name_of f)))
-      ∷ leaf (atom (keyword (codes "value"))) ∷ ts) text rest)
+    ∷ leaf (atom (keyword (codes "value"))) ∷ ts) text rest)
     (sym (append_assoc (tokens_of value.form) (entries_tokens last.pairs) (close_map ∷ []))) all in
     let front = front_of text rest (form_with n t f value.form last.pairs) u
-      (fits_with n t f value.form last.pairs value.fits last.lack last.fits) begins in
+    (fits_with n t f value.form last.pairs value.fits last.lack last.fits) begins in
     record {
       form = form_with n t f value.form last.pairs;
       front = front.0;
@@ -337,15 +343,15 @@ form_pair : (k : List ℕ) (d : Datum) (es : Entries) (text mid after rest : Lis
 form_pair k d es text mid after rest n q b c =
     let ts : List Token = entries_tokens es ++ close_map ∷ [] in
     subst (λ (us : List Token). BeginWith (leaf (atom (keyword k)) ∷ us) text rest)
-      (sym (append_assoc (tokens_of d) (entries_tokens es) (close_map ∷ [])))
+    (sym (append_assoc (tokens_of d) (entries_tokens es) (close_map ∷ [])))
     (form_field d k ts text mid rest n q (both_begin (tokens_of d) ts mid after rest b c))
 
 abbrev indexed_with : ℤ → ℤ → ℕ → MapType → Function → Datum → Entries
 indexed_with i j n t f d =
     entry (codes "index") (atom (integer i))
-      (entry (codes "time") (atom (integer j)) (entry (codes "type") (atom (keyword (type_name t)))
+    (entry (codes "time") (atom (integer j)) (entry (codes "type") (atom (keyword (type_name t)))
     (entry (codes "process") (atom (integer (pos n)))
-      (entry (codes "f") (atom (keyword (name_of f))) (entry (codes "value") d no_entries)))))
+    (entry (codes "f") (atom (keyword (name_of f))) (entry (codes "value") d no_entries)))))
 
 indexed_fits : (i j : ℤ) (n : ℕ) (t : MapType) (f : Function) (d : Datum) → Fits 15 d
     → Fits 16 (dictionary (indexed_with i j n t f d))
@@ -364,13 +370,19 @@ indexed_fits i j n t f d h = (
     ),
     tt,
     (
-      (apart (codes "time") (codes "type") refl,
-        (apart (codes "time") (codes "process") refl,
-        (apart (codes "time") (codes "f") refl, (apart (codes "time") (codes "value") refl, tt)))),
+      (
+        apart (codes "time") (codes "type") refl,
+        (
+          apart (codes "time") (codes "process") refl,
+          (apart (codes "time") (codes "f") refl, (apart (codes "time") (codes "value") refl, tt)),
+        ),
+      ),
       tt,
       (
-        (apart (codes "type") (codes "process") refl,
-          (apart (codes "type") (codes "f") refl, (apart (codes "type") (codes "value") refl, tt))),
+        (
+          apart (codes "type") (codes "process") refl,
+          (apart (codes "type") (codes "f") refl, (apart (codes "type") (codes "value") refl, tt)),
+        ),
         tt,
         (
           (apart (codes "process") (codes "f") refl, (apart (codes "process") (codes "value") refl, tt)),
@@ -393,7 +405,7 @@ indexed_client i j n t f v d =
 
 pub index_first_is : (i j : ℤ) (n : ℕ) (t : MapType) (f : Function) (v : Value)
     (text own from_i after_i from_j after_j from_t after_t from_n after_n from_f after_f from_v after_v rest : List ℕ)
-      → IsUtf8 text
+    → IsUtf8 text
     → (text ≡ own) ⊎ (text ≡ 10 ∷ own) → own ≡ codes "{:index " ++ from_i
     → BeginWith (leaf (atom (integer i)) ∷ []) from_i after_i
     → after_i ≡ codes ", :time " ++ from_j → BeginWith (leaf (atom (integer j)) ∷ []) from_j after_j
@@ -419,11 +431,11 @@ index_first_is i j n t f v text own from_i after_i from_j after_j from_t after_t
     let j1 = form_pair (codes "time") (atom (integer j)) es_t after_i from_j after_j rest refl qj bj t1 in
     let ts : List Token = entries_tokens es_j ++ close_map ∷ [] in
     let i1 = first_field (codes "index") (leaf (atom (integer i))) ts own from_i rest refl qi
-      (both_begin (leaf (atom (integer i)) ∷ []) ts from_i after_i rest bi j1) in
+    (both_begin (leaf (atom (integer i)) ∷ []) ts from_i after_i rest bi j1) in
     let all = after_one 10 open_map
-      (leaf (atom (keyword (codes "index"))) ∷ leaf (atom (integer i)) ∷ ts) text own rest refl feed i1 in
+    (leaf (atom (keyword (codes "index"))) ∷ leaf (atom (integer i)) ∷ ts) text own rest refl feed i1 in
     let front = front_of text rest (dictionary (indexed_with i j n t f d)) u
-      (indexed_fits i j n t f d value.fits) all in
+    (indexed_fits i j n t f d value.fits) all in
     record {
       form = dictionary (indexed_with i j n t f d);
       front = front.0;

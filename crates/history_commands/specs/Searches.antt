@@ -57,7 +57,8 @@ search_status answers =
     status_on (λ s. is_impossible s.found) (λ s. is_found s.found) answers
 
 -- The answers on the objects of a history, in rising number, and what they show.
-pub record AreSearched (es : List Event) (limit : ℕ) (status : Status) (text : List ℕ) : Type 0 where
+pub record AreSearched (es : List Event) (limit : ℕ) (status : Status) (text : List ℕ)
+    : Type 0 where
   pub answers : List (ℕ × Search)
   pub rising : AllPairs (λ a b. a.0 < b.0) answers
   pub named : (x : ℕ) → Contains (map (λ a. a.0) answers) x ↔ IsNamed es x

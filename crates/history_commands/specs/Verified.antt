@@ -114,7 +114,8 @@ pub record IsExplained (es : List Event) (text : List ℕ) : Type 0 where
 
 -- Some object of the history has no order: the decisions on all objects by these claims, and what
 -- they show.
-pub record AreOpen (es : List Event) (claims : List Claim) (limit : ℕ) (status : Status) (text : List ℕ)
+pub record AreOpen (es : List Event) (claims : List Claim) (limit : ℕ) (status : Status)
+    (text : List ℕ)
     : Type 0 where
   pub answers : List (ℕ × Decision)
   pub decided : AreDecisionsOn es claims limit answers

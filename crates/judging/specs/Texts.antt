@@ -144,7 +144,8 @@ pub record IsLinearizableText (h : List ℕ) : Type 0 where
   pub history_text : DenotesHistory h client_events
   pub linearizable : IsLinearizable (kind_at client_events) (events (denoted client_events))
 
--- The history that the text denotes is not linearizable.
+-- The history that the text denotes is not linearizable. A text denotes one history at most
+-- (`one_history`), so this and `IsLinearizableText` exclude each other.
 pub record IsNotLinearizableText (h : List ℕ) : Type 0 where
   pub client_events : List Event
   pub history_text : DenotesHistory h client_events

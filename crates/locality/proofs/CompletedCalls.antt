@@ -77,7 +77,7 @@ last_ended p n x op (Res q y v ∷ es) r s =
     subst (λ k. Completed (at n (Inv p x op) ∷ []) (complete (Inv p x op ∷ Res k y v ∷ es))) (sym a)
     (subst (λ k. Completed (at n (Inv p x op) ∷ []) (complete (Inv p x op ∷ Res p k v ∷ es))) (sym b)
     (subst (λ (k : List Event). Completed (at n (Inv p x op) ∷ []) (complete (Inv p x op ∷ Res p x v ∷ k)))
-      (sym none_left)
+    (sym none_left)
     (record {
       list = record { made = o; reply = v } ∷ [];
       events_are = complete-call p x op v [];
@@ -97,14 +97,20 @@ pub completed_any : (p : ℕ) (h : List Numbered) (es : List Event) → Turns p 
     → IsSequential (events h ++ es) → Completed h (complete (events h ++ es))
 completed_any p h es none r s =
     subst (λ (k : List Event). Completed [] (complete k)) (sym (no_more es r s))
-    (record { list = []; events_are = refl; rest = []; front = refl; recorded = λ e r i q. absurd i;
-      whole = λ o r i q. absurd i })
+    (record {
+      list = [];
+      events_are = refl;
+      rest = [];
+      front = refl;
+      recorded = λ e r i q. absurd i;
+      whole = λ o r i q. absurd i;
+    })
 completed_any p h es (last n x op) r s = last_ended p n x op es r s
 completed_any p h es (call n x op m v rest t) r s =
     let below = completed_any p rest es t r s.1 in
     let o : ProcessCall = first p n x op m v in
     let os : calls_in (at n (Inv p x op) ∷ at m (Res p x v) ∷ rest) ≡ o ∷ calls_in rest =
-      calls_in-call p n x op m v rest in
+    calls_in-call p n x op m v rest in
     record {
       list = record { made = o; reply = v } ∷ below.list;
       events_are = complete-call p x op v (events rest ++ es) ∙ ap (λ es. Inv p x op ∷ Res p x v ∷ es) below.events_are;
@@ -113,9 +119,9 @@ completed_any p h es (call n x op m v rest t) r s =
       recorded = λ e r i q. elim i [
         | inl t ↦
             let same : Some (record { at = m; reply = v }) ≡ Some r =
-              sym (ap (λ (y : Ended). y.made.call.returned) t) ∙ q in
+            sym (ap (λ (y : Ended). y.made.call.returned) t) ∙ q in
             ap (λ (y : Ended). y.reply) t
-              ∙ ap (λ (y : Return). y.reply) (same_Some (record { at = m; reply = v }) r same)
+            ∙ ap (λ (y : Return). y.reply) (same_Some (record { at = m; reply = v }) r same)
         | inr j ↦ below.recorded e r j q
       ];
       whole = λ w r i q. found o w r (subst (In w) os i) q below;
@@ -148,7 +154,7 @@ lined_step : (e f : Event) (s : List Event) (q : ℕ → List Ended) (o : Ended)
     → e ∷ f ∷ by_process (process_of e) s ≡ ended_events (o ∷ os) → o.made.process ≡ process_of e
     → process_of f ≡ process_of e
     → ((q : ℕ → List Ended) → ((p : ℕ) → by_process p s ≡ ended_events (q p))
-      → ((p : ℕ) (o : Ended) → In o (q p) → o.made.process ≡ p) → Lined s q)
+    → ((p : ℕ) (o : Ended) → In o (q p) → o.made.process ≡ p) → Lined s q)
     → ((p : ℕ) → by_process p (e ∷ f ∷ s) ≡ ended_events (q p))
     → ((p : ℕ) (o : Ended) → In o (q p) → o.made.process ≡ p) → Lined (e ∷ f ∷ s) q
 lined_step e f s q o os head same mine pair below all owned =
@@ -164,7 +170,7 @@ lined_step e f s q o os head same mine pair below all owned =
           let ne : (p == k) ≡ false = ne_eqb p k (λ u. eqb-false k p t (sym u)) in
           let nf : (process_of f == k) ≡ false = ap (λ j. j == k) pair ∙ ne in
           sym (ap (λ b. cond b (f ∷ by_process k s) (by_process k s)) nf)
-            ∙ (sym (ap (λ b. cond b (e ∷ by_process k (f ∷ s)) (by_process k (f ∷ s))) ne) ∙ all k)
+          ∙ (sym (ap (λ b. cond b (e ∷ by_process k (f ∷ s)) (by_process k (f ∷ s))) ne) ∙ all k)
     ] in
     let owns : (k : ℕ) (b : Bool) → (k == p) ≡ b → (x : Ended) → In x (cond b os (q k)) → x.made.process ≡ k =
     λ k. elim [
@@ -174,17 +180,17 @@ lined_step e f s q o os head same mine pair below all owned =
     let rest = below q' (λ k. here k (k == p) refl) (λ k x i. owns k (k == p) refl x i) in
     let whole : (k : ℕ) (b : Bool) → (k == p) ≡ b → filter (λ e. e.made.process == k) rest.line ≡ cond b os (q k)
     → cond (o.made.process == k) (o ∷ filter (λ e. e.made.process == k) rest.line)
-      (filter (λ e. e.made.process == k) rest.line) ≡ q k =
+    (filter (λ e. e.made.process == k) rest.line) ≡ q k =
     λ k. elim [
       | true ↦ λ t r.
           let at_k : (o.made.process == k) ≡ true = eq-eqb o.made.process k (mine ∙ sym (eqb-true k p t)) in
           ap (λ b. cond b (o ∷ filter (λ e. e.made.process == k) rest.line)
-            (filter (λ e. e.made.process == k) rest.line)) at_k
-            ∙ (ap (λ ys. o ∷ ys) r ∙ (sym head ∙ ap q (sym (eqb-true k p t))))
+          (filter (λ e. e.made.process == k) rest.line)) at_k
+          ∙ (ap (λ ys. o ∷ ys) r ∙ (sym head ∙ ap q (sym (eqb-true k p t))))
       | false ↦ λ t r.
           let off_k : (o.made.process == k) ≡ false = ne_eqb o.made.process k (λ u. eqb-false k p t (sym u ∙ mine)) in
           ap (λ b. cond b (o ∷ filter (λ e. e.made.process == k) rest.line)
-            (filter (λ e. e.made.process == k) rest.line)) off_k ∙ r
+          (filter (λ e. e.made.process == k) rest.line)) off_k ∙ r
     ] in
     record {
       line = o ∷ rest.line;
@@ -203,7 +209,7 @@ own_events e f s q =
     let a : (process_of e == process_of e) ≡ true = eq-eqb (process_of e) (process_of e) refl in
     let b : (process_of f == process_of e) ≡ true = eq-eqb (process_of f) (process_of e) q in
     ap (λ t. cond t (e ∷ by_process (process_of e) (f ∷ s)) (by_process (process_of e) (f ∷ s))) a
-      ∙ ap (λ t. e ∷ cond t (f ∷ by_process (process_of e) s) (by_process (process_of e) s)) b
+    ∙ ap (λ t. e ∷ cond t (f ∷ by_process (process_of e) s) (by_process (process_of e) s)) b
 
 pub lined : (s : List Event) → IsSequential s → (q : ℕ → List Ended) → ((p : ℕ) → by_process p s ≡ ended_events (q p))
     → ((p : ℕ) (o : Ended) → In o (q p) → o.made.process ≡ p) → Lined s q
@@ -219,10 +225,10 @@ lined (e ∷ f ∷ s) sq q all owned = go (q (process_of e)) refl (λ q. lined s
   where
     go : (os : List Ended) → q (process_of e) ≡ os
         → ((q : ℕ → List Ended) → ((p : ℕ) → by_process p s ≡ ended_events (q p))
-          → ((p : ℕ) (o : Ended) → In o (q p) → o.made.process ≡ p) → Lined s q) → Lined (e ∷ f ∷ s) q
+        → ((p : ℕ) (o : Ended) → In o (q p) → o.made.process ≡ p) → Lined s q) → Lined (e ∷ f ∷ s) q
     go [] h below =
         let bad : e ∷ f ∷ by_process (process_of e) s ≡ [] =
-          sym (own_events e f s (same_process e f sq.0)) ∙ (all (process_of e) ∙ ap ended_events h) in absurd (cc bad)
+        sym (own_events e f s (same_process e f sq.0)) ∙ (all (process_of e) ∙ ap ended_events h) in absurd (cc bad)
     go (o ∷ os) h below = lined_step e f s q o os h
-      (sym (own_events e f s (same_process e f sq.0)) ∙ (all (process_of e) ∙ ap ended_events h))
+        (sym (own_events e f s (same_process e f sq.0)) ∙ (all (process_of e) ∙ ap ended_events h))
         (owned (process_of e) o (subst (In o) (sym h) (inl refl))) (same_process e f sq.0) below all owned

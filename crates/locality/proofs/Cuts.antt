@@ -116,7 +116,7 @@ any_of_process p e [] t = refl
 any_of_process p e (f ∷ h) t =
     let rest = any_of_process p e h t in
     let here : (b : Bool) → (process_of f == p) ≡ b
-      → list_any (matches e) (cond b (f ∷ by_process p h) (by_process p h)) ≡ matches e f || list_any (matches e) h =
+    → list_any (matches e) (cond b (f ∷ by_process p h) (by_process p h)) ≡ matches e f || list_any (matches e) h =
     elim [
       | true ↦ λ s. ap (λ b. matches e f || b) rest
       | false ↦ λ s. rest ∙ sym (ap (λ b. b || list_any (matches e) h) (other_matches p e f t s))
@@ -129,19 +129,19 @@ complete_of_process p [] = refl
 complete_of_process p (e ∷ h) =
     let rest = complete_of_process p h in
     let here : (b : Bool) → (process_of e == p) ≡ b → (c : Bool) → is_pending e h ≡ c
-      → by_process p (cond c (complete h) (e ∷ complete h)) ≡ complete (cond b (e ∷ by_process p h) (by_process p h)) =
+    → by_process p (cond c (complete h) (e ∷ complete h)) ≡ complete (cond b (e ∷ by_process p h) (by_process p h)) =
     elim [
       | true ↦ λ s. elim [
         | true ↦ λ d.
             let d' : is_pending e (by_process p h) ≡ true =
-              ap (λ b. is_invocation e && not b) (any_of_process p e h s) ∙ d in
+            ap (λ b. is_invocation e && not b) (any_of_process p e h s) ∙ d in
             rest ∙ sym (ap (λ b. cond b (complete (by_process p h)) (e ∷ complete (by_process p h))) d')
         | false ↦ λ d.
             let d' : is_pending e (by_process p h) ≡ false =
-              ap (λ b. is_invocation e && not b) (any_of_process p e h s) ∙ d in
+            ap (λ b. is_invocation e && not b) (any_of_process p e h s) ∙ d in
             ap (λ b. cond b (e ∷ by_process p (complete h)) (by_process p (complete h))) s
             ∙ (ap (λ es. e ∷ es) rest
-              ∙ sym (ap (λ b. cond b (complete (by_process p h)) (e ∷ complete (by_process p h))) d'))
+            ∙ sym (ap (λ b. cond b (complete (by_process p h)) (e ∷ complete (by_process p h))) d'))
       ]
       | false ↦ λ s. elim [
         | true ↦ λ d. rest
@@ -183,25 +183,25 @@ filter_before q a m b u =
     let r : Numbered → Bool = λ k. q k && nat_lt k.number m.number in
     let low : filter q a ≡ filter r a =
     filter_same q r a (λ x i.
-      sym (and_true (q x) (nat_lt x.number m.number)
-      (lt-ltb x.number m.number (pairs_across (λ x y. x.number < y.number) a (m ∷ b) x m u i (inl refl))))) in
+    sym (and_true (q x) (nat_lt x.number m.number)
+    (lt-ltb x.number m.number (pairs_across (λ x y. x.number < y.number) a (m ∷ b) x m u i (inl refl))))) in
     let high : filter r (m ∷ b) ≡ [] =
-      filter_none r (m ∷ b) (λ x i.
-      and_right (q x) (nat_lt x.number m.number) (le-ltb x.number m.number (not_less a b m x u i))) in
+    filter_none r (m ∷ b) (λ x i.
+    and_right (q x) (nat_lt x.number m.number) (le-ltb x.number m.number (not_less a b m x u i))) in
     low ∙ (sym (append-nil (filter r a)) ∙ (ap (λ ks. filter r a ++ ks) (sym high) ∙ sym (filter-append r a (m ∷ b))))
 
 -- the invocations of a process, and its responses, are in its part
 pub invokes_of_process : (p : ℕ) (h : List Event) → filter (invokes p) (by_process p h) ≡ filter (invokes p) h
 invokes_of_process p h = filter-filter (invokes p) (λ e. process_of e == p) h
     ∙ filter_same (λ e. (process_of e == p) && invokes p e) (invokes p) h
-      (λ e i. absorbs (process_of e == p) (is_invocation e))
+    (λ e i. absorbs (process_of e == p) (is_invocation e))
 
 pub responds_in_part : (p t : ℕ) (h : List Numbered)
     → filter (λ m. responds p m.event && nat_lt m.number t) (part p h)
     ≡ filter (λ m. responds p m.event && nat_lt m.number t) h
 responds_in_part p t h = filter-filter (λ m. responds p m.event && nat_lt m.number t) (λ m. process_of m.event == p) h
     ∙ filter_same (λ m. (process_of m.event == p) && (responds p m.event && nat_lt m.number t))
-      (λ m. responds p m.event && nat_lt m.number t) h
+    (λ m. responds p m.event && nat_lt m.number t) h
     (λ m i. absorbs_more (process_of m.event == p) (not (is_invocation m.event)) (nat_lt m.number t))
 
 -- each operation that is given a reply invokes once and responds once
@@ -213,12 +213,12 @@ invokes_dones p give (e ∷ os) f =
     let rest = invokes_dones p give os (λ y i. f y (inr i)) in
     let here : (g : Option AnyReply) → is_some g ≡ true
     → length (filter (invokes p) (done e g ++ dones give os))
-      ≡ length (cond (e.process == p) (e ∷ filter (λ e. e.process == p) os) (filter (λ e. e.process == p) os)) =
+    ≡ length (cond (e.process == p) (e ∷ filter (λ e. e.process == p) os) (filter (λ e. e.process == p) os)) =
     elim [
       | None ↦ λ s. absurd (cc s)
       | Some r ↦ λ s. elim (e.process == p) as
           (λ b. length (cond b (Inv e.process e.object e.call.op ∷ filter (invokes p) (dones give os))
-            (filter (invokes p) (dones give os)))
+          (filter (invokes p) (dones give os)))
           ≡ length (cond b (e ∷ filter (λ e. e.process == p) os) (filter (λ e. e.process == p) os))) [
             | true ↦ ap suc rest
             | false ↦ rest
@@ -234,12 +234,12 @@ responds_dones p give (e ∷ os) f =
     let rest = responds_dones p give os (λ y i. f y (inr i)) in
     let here : (g : Option AnyReply) → is_some g ≡ true
     → length (filter (responds p) (done e g ++ dones give os))
-      ≡ length (cond (e.process == p) (e ∷ filter (λ e. e.process == p) os) (filter (λ e. e.process == p) os)) =
+    ≡ length (cond (e.process == p) (e ∷ filter (λ e. e.process == p) os) (filter (λ e. e.process == p) os)) =
     elim [
       | None ↦ λ s. absurd (cc s)
       | Some r ↦ λ s. elim (e.process == p) as
           (λ b. length (cond b (Res e.process e.object r ∷ filter (responds p) (dones give os))
-            (filter (responds p) (dones give os)))
+          (filter (responds p) (dones give os)))
           ≡ length (cond b (e ∷ filter (λ e. e.process == p) os) (filter (λ e. e.process == p) os))) [
             | true ↦ ap suc rest
             | false ↦ rest

@@ -86,9 +86,9 @@ points_rise m (e ∷ es) o =
       λ y i. let h = point_here m e es in let t = point_there m e es (number_of y) (o.0 y i) in
           let a = point_above k es (number_of y) in omega arith,
       pairs_weaker (λ a b. point_in k es (number_of a) ≤ point_in k es (number_of b))
-        (λ a b. point_in m (e ∷ es) (number_of a) ≤ point_in m (e ∷ es) (number_of b)) es
+          (λ a b. point_in m (e ∷ es) (number_of a) ≤ point_in m (e ∷ es) (number_of b)) es
           (λ a b i j l. let s = point_there m e es (number_of a) (o.0 a i) in
-              let t = point_there m e es (number_of b) (o.0 b j) in omega arith) rest,
+          let t = point_there m e es (number_of b) (o.0 b j) in omega arith) rest,
     )
 
 -- the point is the greatest before, or the number of an entry
@@ -100,7 +100,7 @@ point_from m (f ∷ es) e o i =
     elim i [
       | inl q ↦
           let h : point_in m (f ∷ es) (number_of e) ≡ max m (number_of f) =
-            ap (λ (g : ProcessCall). point_in m (f ∷ es) (number_of g)) q ∙ point_here m f es in
+          ap (λ (g : ProcessCall). point_in m (f ∷ es) (number_of g)) q ∙ point_here m f es in
           elim top [ inl t ↦ inl (h ∙ t) | inr t ↦ inr (f, inl refl, h ∙ t) ]
       | inr j ↦
           let h = point_there m f es (number_of e) (o.0 e j) in
@@ -145,7 +145,7 @@ given_entry object c [] h n r g = absurd cc
 given_entry object c (e ∷ es) h n r g =
     let rest = given_entry object h.0 es h.4 n r in
     let here : (b : Bool) → (number_of e == n) ≡ b → cond b (Some h.1) (give_in object h.0 es h.4 n) ≡ Some r
-      → (f : ProcessCall) × In f (e ∷ es) × (number_of f ≡ n) =
+    → (f : ProcessCall) × In f (e ∷ es) × (number_of f ≡ n) =
     elim [
       | true ↦ λ q k. (e, inl refl, eqb-true (number_of e) n q)
       | false ↦ λ q k. let f = rest k in (f.0, inr f.1, f.2)
@@ -162,7 +162,7 @@ give_recorded object c (f ∷ es) h e r o i q = elim i [
       let same : f.call.returned ≡ Some r = ap (λ (g : ProcessCall). g.call.returned) (sym s) ∙ q in
       let said : r.reply ≡ h.1 = subst (λ (x : Option Return). IfSome x (λ r. r.reply ≡ h.1)) same h.3 in
       ap (λ (g : ProcessCall). give_in object c (f ∷ es) h (number_of g)) s
-        ∙ (give_here object c f es h ∙ ap Some (sym said))
+      ∙ (give_here object c f es h ∙ ap Some (sym said))
   | inr j ↦ give_there object c f es h (number_of e) (o.0 e j) ∙ give_recorded object h.0 es h.4 e r o.1 j q
 ]
 
@@ -180,9 +180,9 @@ replies_from object c [] h give o g = tt
 replies_from object c (e ∷ es) h give o g =
     let same : give e ≡ Some h.1 = g e (inl refl) ∙ give_here object c e es h in
     let rest = replies_from object h.0 es h.4 give o.1
-      (λ y i. g y (inr i) ∙ give_there object c e es h (number_of y) (o.0 y i)) in
+    (λ y i. g y (inr i) ∙ give_there object c e es h (number_of y) (o.0 y i)) in
     subst (λ (x : Option AnyReply). RepliesFrom object c (done e x ++ flat_map (λ y. done y (give y)) es)) (sym same)
-      (h.0, h.2, rest)
+    (h.0, h.2, rest)
 
 -- any such list is sequential
 pub done_sequential : (es : List ProcessCall) (give : ProcessCall → Option AnyReply)
@@ -193,8 +193,11 @@ done_sequential (e ∷ es) give =
     let here : (r : Option AnyReply) → IsSequential (done e r ++ flat_map (λ y. done y (give y)) es) =
     elim [
       | None ↦ rest
-      | Some r ↦ (and_from (e.process == e.process) (e.object == e.object) (eq-eqb e.process e.process refl)
-        (eq-eqb e.object e.object refl), rest)
+      | Some r ↦ (
+        and_from (e.process == e.process) (e.object == e.object) (eq-eqb e.process e.process refl)
+            (eq-eqb e.object e.object refl),
+        rest,
+      )
     ] in
     here (give e)
 
@@ -212,11 +215,14 @@ lifted : (ops : List ProcessCall) (cs : List Call) → ((c : Call) → In c cs �
 lifted ops [] h = ([], refl, λ e i. absurd i)
 lifted ops (c ∷ cs) h =
     let e = in_map (λ (e : ProcessCall). e.call) c ops (in_from_contains (calls ops) c (h c (inl refl))) in
-    let rest = lifted ops cs (λ d i. h d (inr i)) in
-    (e.0 ∷ rest.0, cc (rest.1, e.2), λ f i. elim i [
-      | inl q ↦ subst (λ (g : ProcessCall). In g ops) (sym q) e.1
-      | inr j ↦ rest.2 f j
-    ])
+    let rest = lifted ops cs (λ d i. h d (inr i)) in (
+      e.0 ∷ rest.0,
+      cc (rest.1, e.2),
+      λ f i. elim i [
+        | inl q ↦ subst (λ (g : ProcessCall). In g ops) (sym q) e.1
+        | inr j ↦ rest.2 f j
+      ],
+    )
 
 pub valid_entries : (object : Specification) (ops : List ProcessCall) (order : List ℤ)
     → Pairs (λ a b. number_of a < number_of b) ops
@@ -226,29 +232,29 @@ valid_entries object ops order up v =
     let es : List ProcessCall = l.0 in
     let same : calls es ≡ v.entries = l.1 in
     let numbers : order ≡ map (λ (c : Call). pos c.number) (calls es) =
-      v.numbers ∙ ap (map (λ (c : Call). pos c.number)) (sym same) in
+    v.numbers ∙ ap (map (λ (c : Call). pos c.number)) (sym same) in
     let once_order : Pairs (λ (a b : ℤ). a ≢ b) (map (λ (c : Call). pos c.number) (calls es)) =
-      subst (Pairs (λ (a b : ℤ). a ≢ b)) numbers (pairs_from_all (λ (a b : ℤ). a ≢ b) order v.once) in
+    subst (Pairs (λ (a b : ℤ). a ≢ b)) numbers (pairs_from_all (λ (a b : ℤ). a ≢ b) order v.once) in
     let in_order_calls : Pairs (λ (a b : Call). ReturnsBefore b a → ⊥) (calls es) =
     subst (Pairs (λ (a b : Call). ReturnsBefore b a → ⊥)) (sym same)
-      (pairs_from_all (λ (a b : Call). ReturnsBefore b a → ⊥) v.entries v.in_order) in (
+    (pairs_from_all (λ (a b : Call). ReturnsBefore b a → ⊥) v.entries v.in_order) in (
       es,
       record {
         among = l.2;
         once = pairs_weaker (λ (a b : ProcessCall). pos (number_of a) ≢ pos (number_of b))
-          (λ a b. number_of a ≢ number_of b) es (λ a b i j ne q. ne (ap pos q))
+            (λ a b. number_of a ≢ number_of b) es (λ a b i j ne q. ne (ap pos q))
             (pairs_from_map (λ (a b : Call). pos a.number ≢ pos b.number) (λ (e : ProcessCall). e.call) es
-              (pairs_from_map (λ (a b : ℤ). a ≢ b) (λ (c : Call). pos c.number) (calls es) once_order));
+            (pairs_from_map (λ (a b : ℤ). a ≢ b) (λ (c : Call). pos c.number) (calls es) once_order));
         in_order = pairs_from_map (λ (a b : Call). ReturnsBefore b a → ⊥)
-          (λ (e : ProcessCall). e.call) es in_order_calls;
+            (λ (e : ProcessCall). e.call) es in_order_calls;
         replies = subst (RepliesBy object.next object.empty) (sym same) v.replies;
         whole = λ e r i q.
             let stands : Contains v.entries e.call =
             all_at (λ (c : Call). IsSome c.returned → Contains v.entries c) (calls ops) v.whole e.call
             (in_map_from (λ (e : ProcessCall). e.call) e ops i)
-              (subst (λ (x : Option Return). IsSome x) (sym q) refl) in
+            (subst (λ (x : Option Return). IsSome x) (sym q) refl) in
             let f = in_map (λ (e : ProcessCall). e.call) e.call es
-              (subst (In e.call) (sym same) (in_from_contains v.entries e.call stands)) in
+            (subst (In e.call) (sym same) (in_from_contains v.entries e.call stands)) in
             let one : e ≡ f.0 = one_number number_of ops e f.0 up i (l.2 f.0 f.1) (ap (λ (c : Call). c.number) f.2) in
             subst (λ (g : ProcessCall). In g es) (sym one) f.1;
       },

@@ -106,14 +106,14 @@ module _ (objects : ℕ → Specification) (h : List Numbered) (hist : IsHistory
 
   stands_from : (e : ProcessCall) → In e (entries e.object) → stands e ≡ true
   stands_from e i = ap is_some
-    (give_some (objects e.object) (objects e.object).empty (entries e.object) (good e.object).replies e
-    (good e.object).once i).1
+      (give_some (objects e.object) (objects e.object).empty (entries e.object) (good e.object).replies e
+      (good e.object).once i).1
 
   entry_from : (e : ProcessCall) → In e (calls_in h) → stands e ≡ true → In e (entries e.object)
   entry_from e i s =
       let r = some_from (give e) s in
       let f = given_entry (objects e.object) (objects e.object).empty (entries e.object) (good e.object).replies
-        (number_of e) r.0 r.1 in
+      (number_of e) r.0 r.1 in
       let same : f.0 ≡ e = one_number number_of (calls_in h) f.0 e (rise h hist) (in_ops e.object f.0 f.1) i f.2 in
       subst (λ (g : ProcessCall). In g (entries e.object)) same f.1
 
@@ -121,28 +121,28 @@ module _ (objects : ℕ → Specification) (h : List Numbered) (hist : IsHistory
   after_call : (e : ProcessCall) (r : Return) → In e (calls_in h) → e.call.returned ≡ Some r → number_of e ≤ r.at
   after_call e r i q =
       let j : In e (calls_in (part e.process h)) =
-        subst (In e) (sym (calls_in-part e.process h))
-        (in_filter_from (λ o. o.process == e.process) e (calls_in h) i (eq-eqb e.process e.process refl)) in
+      subst (In e) (sym (calls_in-part e.process h))
+      (in_filter_from (λ o. o.process == e.process) e (calls_in h) i (eq-eqb e.process e.process refl)) in
       returns_after e.process (part e.process h) e r (turn_view h hist e.process) (part_up h hist e.process) j q
 
   -- and after its point
   point_returns : (e : ProcessCall) (r : Return) → In e (entries e.object) → e.call.returned ≡ Some r → point e ≤ r.at
   point_returns e r i q =
-    point_before 0 (entries e.object) e r (good e.object).once (good e.object).in_order i q
-    (after_call e r (in_ops e.object e i) q) (omega arith)
+      point_before 0 (entries e.object) e r (good e.object).once (good e.object).in_order i q
+      (after_call e r (in_ops e.object e i) q) (omega arith)
 
   turns_rise : (a b : ProcessCall) → In a (calls_in h) → In b (calls_in h) → stands a ≡ true → stands b ≡ true
-    → a.process ≡ b.process → number_of a < number_of b → point a < point b
+      → a.process ≡ b.process → number_of a < number_of b → point a < point b
   turns_rise a b i j s t p l =
       let ops : List ProcessCall = calls_in (part b.process h) in
       let all = calls_in-part b.process h in
       let i' : In a ops = subst (In a) (sym all)
-        (in_filter_from (λ o. o.process == b.process) a (calls_in h) i (eq-eqb a.process b.process p)) in
+      (in_filter_from (λ o. o.process == b.process) a (calls_in h) i (eq-eqb a.process b.process p)) in
       let j' : In b ops = subst (In b) (sym all)
-        (in_filter_from (λ o. o.process == b.process) b (calls_in h) j (eq-eqb b.process b.process refl)) in
+      (in_filter_from (λ o. o.process == b.process) b (calls_in h) j (eq-eqb b.process b.process refl)) in
       let before = pairs_ordered Before ops a b (calls_rise (part b.process h) (part_up h hist b.process))
       (one_after_another b.process (part b.process h) (turn_view h hist b.process) (part_up h hist b.process))
-        i' j' l in
+      i' j' l in
       let x = point_returns a before.0 (entry_from a i s) before.1 in
       let y = before.2 in
       let z = point_own 0 (entries b.object) b (good b.object).once (entry_from b j t) in
@@ -156,9 +156,9 @@ module _ (objects : ℕ → Specification) (h : List Numbered) (hist : IsHistory
     stand = λ x e i. stands_from e (own_entry x e i);
     included = entry_from;
     once = λ x. pairs_weaker (λ a b. number_of a ≢ number_of b) (λ a b. a ≢ b) (entries x)
-      (λ a b i j ne q. ne (ap number_of q)) (good x).once;
+        (λ a b i j ne q. ne (ap number_of q)) (good x).once;
     points = λ x. pairs_weaker (λ a b. point_in 0 (entries x) (number_of a) ≤ point_in 0 (entries x) (number_of b))
-      (λ a b. point a ≤ point b) (entries x)
+        (λ a b. point a ≤ point b) (entries x)
         (λ a b i j l.
         let s = ap (λ k. point_in 0 (entries k) (number_of a)) (at_object x a i) in
         let t = ap (λ k. point_in 0 (entries k) (number_of b)) (at_object x b j) in
@@ -168,8 +168,12 @@ module _ (objects : ℕ → Specification) (h : List Numbered) (hist : IsHistory
         let own = own_entry x e i in
         let at = at_object x e i in
         elim (point_from 0 (entries e.object) e (good e.object).once own) [
-          | inl z ↦ (e, in_ops x e i,
-            (let g = point_own 0 (entries e.object) e (good e.object).once own in omega arith), at)
+          | inl z ↦ (
+            e,
+            in_ops x e i,
+            (let g = point_own 0 (entries e.object) e (good e.object).once own in omega arith),
+            at,
+          )
           | inr f ↦ (f.0, in_ops e.object f.0 f.1, f.2, at_object e.object f.0 f.1 ∙ at)
         ];
     turns = turns_rise;
@@ -180,21 +184,21 @@ module _ (objects : ℕ → Specification) (h : List Numbered) (hist : IsHistory
 
   merged_of_object : (x : ℕ) → filter (λ e. e.object == x) merged ≡ entries x
   merged_of_object x = line_of_object number_of (λ e. e.process) (λ e. e.object) point stands
-    (calls_in h) entries orders x
+      (calls_in h) entries orders x
 
   merged_of_process : (p : ℕ)
-    → filter (λ e. e.process == p) merged ≡ filter (λ e. (e.process == p) && stands e) (calls_in h)
+      → filter (λ e. e.process == p) merged ≡ filter (λ e. (e.process == p) && stands e) (calls_in h)
   merged_of_process p = line_of_process number_of (λ e. e.process) (λ e. e.object) point stands
-    (calls_in h) entries orders p
+      (calls_in h) entries orders p
 
   merged_stands : (e : ProcessCall) → In e merged → stands e ≡ true
   merged_stands e i = stands_from e
-    (line_in number_of (λ e. e.process) (λ e. e.object) point stands (calls_in h) entries orders e i)
+      (line_in number_of (λ e. e.process) (λ e. e.object) point stands (calls_in h) entries orders e i)
 
   -- what is recorded is given
   agrees : Agrees give (calls_in h)
   agrees e r i q = give_recorded (objects e.object) (objects e.object).empty (entries e.object)
-    (good e.object).replies e r (good e.object).once ((good e.object).whole e r (in_on e i) q) q
+      (good e.object).replies e r (good e.object).once ((good e.object).whole e r (in_on e i) q) q
 
   abbrev extra : List Event
   extra = added give (calls_in h)
@@ -211,7 +215,7 @@ module _ (objects : ℕ → Specification) (h : List Numbered) (hist : IsHistory
       filter-append (λ v. process_of v == p) (events h) extra
       ∙ (ap (λ es. es ++ by_process p extra) (sym (events-part p h))
       ∙ ap (λ es. events (part p h) ++ es)
-        (added_of_process p give (calls_in h) ∙ ap (added give) (sym (calls_in-part p h))))
+      (added_of_process p give (calls_in h) ∙ ap (added give) (sym (calls_in-part p h))))
 
   pub well_formed : IsWellFormed (events h ++ extra)
   well_formed p = subst IsSequential (sym (part_extended p)) (extended p (part p h) give (turn_view h hist p))
@@ -221,13 +225,13 @@ module _ (objects : ℕ → Specification) (h : List Numbered) (hist : IsHistory
   equivalent p =
       let mine : ProcessCall → Bool = λ e. e.process == p in
       let part_agrees : Agrees give (calls_in (part p h)) =
-        λ e r i q. agrees e r (in_filter mine e (calls_in h) (subst (In e) (calls_in-part p h) i)) q in
+      λ e r i q. agrees e r (in_filter mine e (calls_in h) (subst (In e) (calls_in-part p h) i)) q in
       complete_of_process p (events h ++ extra)
       ∙ (ap complete (part_extended p)
       ∙ (completed p (part p h) give (turn_view h hist p) part_agrees
       ∙ (ap (dones give) (calls_in-part p h)
       ∙ sym (dones_of_process p give merged
-        ∙ (ap (dones give) (merged_of_process p ∙ sym (filter-filter stands mine (calls_in h)))
+      ∙ (ap (dones give) (merged_of_process p ∙ sym (filter-filter stands mine (calls_in h)))
       ∙ flat_map_filter (λ e. done e (give e)) stands (filter mine (calls_in h)) (λ e i s. nothing e (give e) s))))))
     where
       nothing : (e : ProcessCall) (g : Option AnyReply) → is_some g ≡ false → done e g ≡ []
@@ -237,12 +241,12 @@ module _ (objects : ℕ → Specification) (h : List Numbered) (hist : IsHistory
   pub legal : IsLegal objects sequence
   legal x =
       let cut : by_object x sequence ≡ dones give (entries x) =
-        dones_of_object x give merged ∙ ap (dones give) (merged_of_object x) in
+      dones_of_object x give merged ∙ ap (dones give) (merged_of_object x) in
       subst (λ es. IsSequential es × RepliesFrom (objects x) (objects x).empty es) (sym cut) (
         done_sequential (entries x) give,
         replies_from (objects x) (objects x).empty (entries x) (good x).replies give (good x).once
             (λ e i. ap (λ k. give_in (objects k) (objects k).empty (entries k) (good k).replies (number_of e))
-              (at_object x e i)),
+            (at_object x e i)),
       )
 
   -- before a point t, the line has what is below t
@@ -250,8 +254,8 @@ module _ (objects : ℕ → Specification) (h : List Numbered) (hist : IsHistory
   below t = filter (λ e. nat_lt (point e) t) merged
 
   below_of_process : (p t : ℕ)
-    → filter (λ e. e.process == p) (below t)
-    ≡ filter (λ e. ((e.process == p) && stands e) && nat_lt (point e) t) (calls_in h)
+      → filter (λ e. e.process == p) (below t)
+      ≡ filter (λ e. ((e.process == p) && stands e) && nat_lt (point e) t) (calls_in h)
   below_of_process p t =
       swap_filters (λ e. e.process == p) (λ e. nat_lt (point e) t) merged
       ∙ (ap (filter (λ e. nat_lt (point e) t)) (merged_of_process p)
@@ -266,24 +270,24 @@ module _ (objects : ℕ → Specification) (h : List Numbered) (hist : IsHistory
   returned_below p a m b cut =
       let t : ℕ = m.number in
       let u : Pairs (λ (x y : Numbered). x.number < y.number) (a ++ m ∷ b) =
-        subst (Pairs (λ (x y : Numbered). x.number < y.number)) cut (up h hist) in
+      subst (Pairs (λ (x y : Numbered). x.number < y.number)) cut (up h hist) in
       let e1 : length (filter (responds p) (events a)) ≡ length (filter (λ k. responds p k.event) a) =
-        length_filter_events (responds p) a in
+      length_filter_events (responds p) a in
       let e2 : length (filter (λ k. responds p k.event) a)
-        ≡ length (filter (λ k. responds p k.event && nat_lt k.number t) h) =
+      ≡ length (filter (λ k. responds p k.event && nat_lt k.number t) h) =
       ap length (filter_before (λ k. responds p k.event) a m b u)
-        ∙ ap (λ hs. length (filter (λ k. responds p k.event && nat_lt k.number t) hs)) (sym cut) in
+      ∙ ap (λ hs. length (filter (λ k. responds p k.event && nat_lt k.number t) hs)) (sym cut) in
       let e3 : length (filter (λ k. responds p k.event && nat_lt k.number t) (part p h))
-        ≡ length (filter (λ k. responds p k.event && nat_lt k.number t) h) = ap length (responds_in_part p t h) in
+      ≡ length (filter (λ k. responds p k.event && nat_lt k.number t) h) = ap length (responds_in_part p t h) in
       let e4 = responses_before p t (part p h) (turn_view h hist p) in
       let e5 : length (filter (λ e. is_back t e.call.returned) (calls_in (part p h)))
-        ≡ length (filter (λ e. (e.process == p) && is_back t e.call.returned) (calls_in h)) =
+      ≡ length (filter (λ e. (e.process == p) && is_back t e.call.returned) (calls_in h)) =
       ap (λ os. length (filter (λ e. is_back t e.call.returned) os)) (calls_in-part p h)
-        ∙ ap length (filter-filter (λ e. is_back t e.call.returned) (λ e. e.process == p) (calls_in h)) in
+      ∙ ap length (filter-filter (λ e. is_back t e.call.returned) (λ e. e.process == p) (calls_in h)) in
       let e6 : length (filter (λ e. (e.process == p) && is_back t e.call.returned) (calls_in h))
-        ≤ length (filter (λ e. ((e.process == p) && stands e) && nat_lt (point e) t) (calls_in h)) =
+      ≤ length (filter (λ e. ((e.process == p) && stands e) && nat_lt (point e) t) (calls_in h)) =
       length_filter_le (λ e. (e.process == p) && is_back t e.call.returned)
-        (λ e. ((e.process == p) && stands e) && nat_lt (point e) t) (calls_in h)
+      (λ e. ((e.process == p) && stands e) && nat_lt (point e) t) (calls_in h)
       (λ e i q.
       let both = and_parts (e.process == p) (is_back t e.call.returned) q in
       let r = back_from t e.call.returned both.1 in
@@ -291,31 +295,31 @@ module _ (objects : ℕ → Specification) (h : List Numbered) (hist : IsHistory
       let l = point_returns e r.0 entry r.1 in
       let k = r.2 in
       and_from ((e.process == p) && stands e) (nat_lt (point e) t)
-        (and_from (e.process == p) (stands e) both.0 (stands_from e entry)) (lt-ltb (point e) t (omega arith))) in
+      (and_from (e.process == p) (stands e) both.0 (stands_from e entry)) (lt-ltb (point e) t (omega arith))) in
       let e7 : length (filter (λ e. e.process == p) (below t))
-        ≡ length (filter (λ e. ((e.process == p) && stands e) && nat_lt (point e) t) (calls_in h)) =
-        ap length (below_of_process p t) in
+      ≡ length (filter (λ e. ((e.process == p) && stands e) && nat_lt (point e) t) (calls_in h)) =
+      ap length (below_of_process p t) in
       let e8 = responds_dones p give (below t) (below_stands t) in
       omega arith
 
   -- and what stands below it was invoked before
   invoked_below : (p : ℕ) (a : List Numbered) (m : Numbered) (b : List Numbered) → h ≡ a ++ m ∷ b
-    → length (filter (invokes p) (dones give (below m.number))) ≤ length (filter (invokes p) (events a))
+      → length (filter (invokes p) (dones give (below m.number))) ≤ length (filter (invokes p) (events a))
   invoked_below p a m b cut =
       let t : ℕ = m.number in
       let u : Pairs (λ (x y : Numbered). x.number < y.number) (a ++ m ∷ b) =
-        subst (Pairs (λ (x y : Numbered). x.number < y.number)) cut (up h hist) in
+      subst (Pairs (λ (x y : Numbered). x.number < y.number)) cut (up h hist) in
       let e1 : length (filter (invokes p) (events a)) ≡ length (filter (λ k. invokes p k.event) a) =
-        length_filter_events (invokes p) a in
+      length_filter_events (invokes p) a in
       let e2 : length (filter (λ k. invokes p k.event) a)
-        ≡ length (filter (λ k. invokes p k.event && nat_lt k.number t) h) =
+      ≡ length (filter (λ k. invokes p k.event && nat_lt k.number t) h) =
       ap length (filter_before (λ k. invokes p k.event) a m b u)
-        ∙ ap (λ hs. length (filter (λ k. invokes p k.event && nat_lt k.number t) hs)) (sym cut) in
+      ∙ ap (λ hs. length (filter (λ k. invokes p k.event && nat_lt k.number t) hs)) (sym cut) in
       let e3 = invocations_before p t h in
       let e4 : length (filter (λ e. ((e.process == p) && stands e) && nat_lt (point e) t) (calls_in h))
-        ≤ length (filter (λ e. (e.process == p) && nat_lt (number_of e) t) (calls_in h)) =
+      ≤ length (filter (λ e. (e.process == p) && nat_lt (number_of e) t) (calls_in h)) =
       length_filter_le (λ e. ((e.process == p) && stands e) && nat_lt (point e) t)
-        (λ e. (e.process == p) && nat_lt (number_of e) t) (calls_in h)
+      (λ e. (e.process == p) && nat_lt (number_of e) t) (calls_in h)
       (λ e i q.
       let both = and_parts ((e.process == p) && stands e) (nat_lt (point e) t) q in
       let mine = and_parts (e.process == p) (stands e) both.0 in
@@ -323,8 +327,8 @@ module _ (objects : ℕ → Specification) (h : List Numbered) (hist : IsHistory
       let k = ltb-true (point e) t both.1 in
       and_from (e.process == p) (nat_lt (number_of e) t) mine.0 (lt-ltb (number_of e) t (omega arith))) in
       let e5 : length (filter (λ e. e.process == p) (below t))
-        ≡ length (filter (λ e. ((e.process == p) && stands e) && nat_lt (point e) t) (calls_in h)) =
-        ap length (below_of_process p t) in
+      ≡ length (filter (λ e. ((e.process == p) && stands e) && nat_lt (point e) t) (calls_in h)) =
+      ap length (below_of_process p t) in
       let e6 = invokes_dones p give (below t) (below_stands t) in
       omega arith
 
@@ -333,34 +337,34 @@ module _ (objects : ℕ → Specification) (h : List Numbered) (hist : IsHistory
   begun_in_both f l =
       let e1 : length (filter (invokes f.process) completion_made) ≡ length (filter (invokes f.process) sequence) =
       ap length (sym (invokes_of_process f.process completion_made)
-        ∙ (ap (filter (invokes f.process)) (equivalent f.process) ∙ invokes_of_process f.process sequence)) in
+      ∙ (ap (filter (invokes f.process)) (equivalent f.process) ∙ invokes_of_process f.process sequence)) in
       omega arith
 
   order_kept : (e f : Operation) → IsOperation completion_made e → IsOperation completion_made f
-    → Precedes (events h) e f → Precedes sequence e f
+      → Precedes (events h) e f → Precedes sequence e f
   order_kept e f i j p =
       let m = moment_from (events h) e f p in
       let cut = cut_numbered h m.front m.rest m.whole in
       at_event m cut.0 cut.1 cut.2 cut.3
     where
       at_event : (m : Moment (events h) e f) → (a d : List Numbered) → h ≡ a ++ d → events a ≡ m.front
-        → Precedes sequence e f
+          → Precedes sequence e f
       at_event m a [] q s =
           let all : events h ≡ m.front = ap events (q ∙ append-nil a) ∙ s in
           let n : length (filter (invokes f.process) (events h)) ≡ length (filter (invokes f.process) m.front) =
-            ap (λ es. length (filter (invokes f.process) es)) all in
+          ap (λ es. length (filter (invokes f.process) es)) all in
           let x = m.waiting in
           let y = m.begun in
           absurd (omega arith)
       at_event m a (k ∷ b) q s =
           let x : length (filter (responds e.process) (events a))
-            ≤ length (filter (responds e.process) (dones give (below k.number))) = returned_below e.process a k b q in
+          ≤ length (filter (responds e.process) (dones give (below k.number))) = returned_below e.process a k b q in
           let y : length (filter (invokes f.process) (dones give (below k.number)))
-            ≤ length (filter (invokes f.process) (events a)) = invoked_below f.process a k b q in
+          ≤ length (filter (invokes f.process) (events a)) = invoked_below f.process a k b q in
           let s1 : length (filter (responds e.process) (events a)) ≡ length (filter (responds e.process) m.front) =
-            ap (λ es. length (filter (responds e.process) es)) s in
+          ap (λ es. length (filter (responds e.process) es)) s in
           let s2 : length (filter (invokes f.process) (events a)) ≡ length (filter (invokes f.process) m.front) =
-            ap (λ es. length (filter (invokes f.process) es)) s in
+          ap (λ es. length (filter (invokes f.process) es)) s in
           let z = m.returned in
           let w = m.waiting in
           precedes_from sequence e f (record {
@@ -369,7 +373,7 @@ module _ (objects : ℕ → Specification) (h : List Numbered) (hist : IsHistory
             whole = ap (dones give) (below_split point k.number merged
                 (line_points number_of (λ e. e.process) (λ e. e.object) point stands (calls_in h) entries orders))
                 ∙ flat_map-append (λ e. done e (give e)) (below k.number)
-                  (filter (λ e. not (nat_lt (point e) k.number)) merged);
+                (filter (λ e. not (nat_lt (point e) k.number)) merged);
             returned = omega arith;
             waiting = omega arith;
             begun = begun_in_both f j;
@@ -378,9 +382,12 @@ module _ (objects : ℕ → Specification) (h : List Numbered) (hist : IsHistory
   pub linearizable : IsLinearizableFor objects (events h)
   linearizable = record {
     completion = completion_made;
-    completes = record { added = extra;
+    completes = record {
+      added = extra;
       responses = all_from_in (λ e. is_invocation e ≡ false) extra (added_responds give (calls_in h));
-      well_formed = well_formed; completed = refl };
+      well_formed = well_formed;
+      completed = refl;
+    };
     sequence = sequence;
     sequential = done_sequential merged give;
     legal = legal;
@@ -393,5 +400,5 @@ pub locality_lem : (objects : ℕ → Specification) (h : List Numbered) → IsH
 locality_lem objects h hist valid =
     let each : (x : ℕ) → (es : List ProcessCall) × ValidEntries (objects x) (on x h) es =
     λ x. valid_entries (objects x) (on x h) (valid x).0
-      (pairs_filter (λ a b. number_of a < number_of b) (λ e. e.object == x) (calls_in h) (rise h hist)) (valid x).1 in
+    (pairs_filter (λ a b. number_of a < number_of b) (λ e. e.object == x) (calls_in h) (rise h hist)) (valid x).1 in
     linearizable objects h hist (λ x. (each x).0) (λ x. (each x).1)

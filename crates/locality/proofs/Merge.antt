@@ -63,16 +63,16 @@ module _ {X : Type 0} (num proc obj point : X → ℕ) (stands : X → Bool) (op
       let at : obj n ≡ x = eqb-true (obj n) x (in_filter_passes here n ops i) in
       let all : cut n ≡ batch num proc obj point stands ops entries n =
       filter_all here (batch num proc obj point stands ops entries n)
-        (λ y j. eq-eqb (obj y) x
-        (o.on_object (obj n) y (in_filter (λ e. point e == num n) y (entries (obj n)) j) ∙ at)) in
+      (λ y j. eq-eqb (obj y) x
+      (o.on_object (obj n) y (in_filter (λ e. point e == num n) y (entries (obj n)) j) ∙ at)) in
       all ∙ ap (λ k. filter (λ e. point e == num n) (entries k)) at in
       let numbers : List ℕ = map num (filter here ops) in
       let up : Pairs (λ (a b : ℕ). a < b) numbers =
-        pairs_map (λ (a b : ℕ). a < b) num (filter here ops) (pairs_filter (λ a b. num a < num b) here ops o.rising) in
+      pairs_map (λ (a b : ℕ). a < b) num (filter here ops) (pairs_filter (λ a b. num a < num b) here ops o.rising) in
       let all : (e : X) → In e (entries x) → In (point e) numbers = λ e i.
       let n = o.point_at x e i in
       subst (λ k. In k numbers) (sym n.2)
-        (in_map_from num n.0 (filter here ops) (in_filter_from here n.0 ops n.1 (eq-eqb (obj n.0) x n.3))) in
+      (in_map_from num n.0 (filter here ops) (in_filter_from here n.0 ops n.1 (eq-eqb (obj n.0) x n.3))) in
       filter-flat_map here (batch num proc obj point stands ops entries) ops
       ∙ (sym (flat_map_filter cut here ops other)
       ∙ (flat_map_same cut (λ n. of_number (num n)) (filter here ops) own
@@ -99,8 +99,8 @@ module _ {X : Type 0} (num proc obj point : X → ℕ) (stands : X → Bool) (op
 
   -- at one point a process has one at most, the same in the order and as it was made
   same_at : (p : ℕ) (n : X) → In n ops
-    → filter (λ e. proc e == p) (batch num proc obj point stands ops entries n)
-    ≡ filter (λ e. point e == num n) (made_by p)
+      → filter (λ e. proc e == p) (batch num proc obj point stands ops entries n)
+      ≡ filter (λ e. point e == num n) (made_by p)
   same_at p n i =
       let mine : X → Bool = λ e. proc e == p in
       let both : X → Bool = λ e. (proc e == p) && stands e in
@@ -110,24 +110,24 @@ module _ {X : Type 0} (num proc obj point : X → ℕ) (stands : X → Bool) (op
       let ys : List X = filter here (made_by p) in
       let x_in : (e : X) → In e xs → In e es = λ e j. in_filter here e es (in_filter mine e (filter here es) j) in
       let x_at : (e : X) → In e xs → point e ≡ num n =
-        λ e j. eqb-true (point e) (num n) (in_filter_passes here e es (in_filter mine e (filter here es) j)) in
+      λ e j. eqb-true (point e) (num n) (in_filter_passes here e es (in_filter mine e (filter here es) j)) in
       let x_of : (e : X) → In e xs → proc e ≡ p =
-        λ e j. eqb-true (proc e) p (in_filter_passes mine e (filter here es) j) in
+      λ e j. eqb-true (proc e) p (in_filter_passes mine e (filter here es) j) in
       let y_in : (e : X) → In e ys → In e ops = λ e j. in_filter both e ops (in_filter here e (made_by p) j) in
       let y_at : (e : X) → In e ys → point e ≡ num n =
-        λ e j. eqb-true (point e) (num n) (in_filter_passes here e (made_by p) j) in
+      λ e j. eqb-true (point e) (num n) (in_filter_passes here e (made_by p) j) in
       let y_both : (e : X) → In e ys → (proc e == p ≡ true) × (stands e ≡ true) =
-        λ e j. and_parts (proc e == p) (stands e) (in_filter_passes both e ops (in_filter here e (made_by p) j)) in
+      λ e j. and_parts (proc e == p) (stands e) (in_filter_passes both e ops (in_filter here e (made_by p) j)) in
       same_single xs ys
       (pairs_weaker (λ a b. a ≢ b) (λ a b. ⊥) xs
       (λ a b i j ne. apart a b (o.among (obj n) a (x_in a i)) (o.among (obj n) b (x_in b j))
-        (o.stand (obj n) a (x_in a i))
+      (o.stand (obj n) a (x_in a i))
       (o.stand (obj n) b (x_in b j)) (x_of a i ∙ sym (x_of b j)) (x_at a i ∙ sym (x_at b j)) ne)
       (pairs_filter (λ a b. a ≢ b) mine (filter here es) (pairs_filter (λ a b. a ≢ b) here es (o.once (obj n)))))
       (pairs_weaker (λ a b. num a < num b) (λ a b. ⊥) ys
       (λ a b i j l.
       let g = o.turns a b (y_in a i) (y_in b j) (y_both a i).1 (y_both b j).1
-        (eqb-true (proc a) p (y_both a i).0 ∙ sym (eqb-true (proc b) p (y_both b j).0)) l in
+      (eqb-true (proc a) p (y_both a i).0 ∙ sym (eqb-true (proc b) p (y_both b j).0)) l in
       let e = y_at a i in
       let e' = y_at b j in
       omega arith)
@@ -135,15 +135,15 @@ module _ {X : Type 0} (num proc obj point : X → ℕ) (stands : X → Bool) (op
       (λ e j. in_filter_from here e (made_by p)
       (in_filter_from both e ops (o.among (obj n) e (x_in e j))
       (and_from (proc e == p) (stands e) (eq-eqb (proc e) p (x_of e j)) (o.stand (obj n) e (x_in e j))))
-        (eq-eqb (point e) (num n) (x_at e j)))
+      (eq-eqb (point e) (num n) (x_at e j)))
       (λ e j.
       let own = o.included e (y_in e j) (y_both e j).1 in
       let m = o.point_at (obj e) e own in
       let same : m.0 ≡ n = same_number m.0 n m.1 i (sym m.2 ∙ y_at e j) in
       let at : obj e ≡ obj n = sym m.3 ∙ ap obj same in
       in_filter_from mine e (filter here es)
-        (in_filter_from here e es (subst (λ k. In e (entries k)) at own) (eq-eqb (point e) (num n) (y_at e j)))
-        (y_both e j).0)
+      (in_filter_from here e es (subst (λ k. In e (entries k)) at own) (eq-eqb (point e) (num n) (y_at e j)))
+      (y_both e j).0)
 
   -- the points of what a process made rise
   points_of_process : (p : ℕ) → Pairs (λ a b. point a ≤ point b) (made_by p)
@@ -154,7 +154,7 @@ module _ {X : Type 0} (num proc obj point : X → ℕ) (stands : X → Bool) (op
       let f = and_parts (proc a == p) (stands a) (in_filter_passes both a ops i) in
       let h = and_parts (proc b == p) (stands b) (in_filter_passes both b ops j) in
       let g = o.turns a b (in_filter both a ops i) (in_filter both b ops j) f.1 h.1
-        (eqb-true (proc a) p f.0 ∙ sym (eqb-true (proc b) p h.0)) l in
+      (eqb-true (proc a) p f.0 ∙ sym (eqb-true (proc b) p h.0)) l in
       omega arith)
       (pairs_filter (λ a b. num a < num b) both ops o.rising)
 
@@ -171,14 +171,14 @@ module _ {X : Type 0} (num proc obj point : X → ℕ) (stands : X → Bool) (op
       subst (λ k. In k (map num ops)) (sym n.2) (in_map_from num n.0 ops n.1) in
       filter-flat_map mine (batch num proc obj point stands ops entries) ops
       ∙ (flat_map_same (λ n. filter mine (batch num proc obj point stands ops entries n)) (λ n. of_number (num n)) ops
-        (same_at p)
+      (same_at p)
       ∙ (sym (flat_map-map of_number num ops)
       ∙ batches point (map num ops) (made_by p) up (points_of_process p) all))
 
   -- the line is in the order of the points
   pub line_points : Pairs (λ a b. point a ≤ point b) (line num proc obj point stands ops entries)
   line_points = pairs_flat_map (λ a b. point a ≤ point b) (λ a b. num a < num b)
-    (batch num proc obj point stands ops entries) ops o.rising
+      (batch num proc obj point stands ops entries) ops o.rising
       (λ n i. pairs_filter (λ a b. point a ≤ point b) (λ e. point e == num n) (entries (obj n)) (o.points (obj n)))
       (λ m n l a b i j.
       let e = eqb-true (point a) (num m) (in_filter_passes (λ e. point e == num m) a (entries (obj m)) i) in

@@ -24,15 +24,17 @@ valid_nothing object = record {
 order_of : (objects : ℕ → Specification) (h : List Numbered) (x : ℕ) (on_x : List ProcessCall)
     → filter (λ e. e.object == x) (calls_in h) ≡ on_x
     → All (λ e. HasValidOrderOf objects h e.object) (calls_in h) → HasValidOrderOf objects h x
-order_of objects h x [] e valid =
-    ([], subst (λ (on_x : List ProcessCall). IsValidOrderOf (objects x) (map (λ e. e.call) on_x) []) (sym e)
-    (valid_nothing (objects x)))
+order_of objects h x [] e valid = (
+  [],
+  subst (λ (on_x : List ProcessCall). IsValidOrderOf (objects x) (map (λ e. e.call) on_x) []) (sym e)
+      (valid_nothing (objects x)),
+)
 order_of objects h x (call ∷ others) e valid =
     let among : In call (filter (λ e. e.object == x) (calls_in h)) = subst (In call) (sym e) (inl refl) in
     subst (HasValidOrderOf objects h)
-      (eqb-true call.object x (in_filter_passes (λ e. e.object == x) call (calls_in h) among))
+    (eqb-true call.object x (in_filter_passes (λ e. e.object == x) call (calls_in h) among))
     (all_at (λ e. HasValidOrderOf objects h e.object) (calls_in h) valid call
-      (in_filter (λ e. e.object == x) call (calls_in h) among))
+    (in_filter (λ e. e.object == x) call (calls_in h) among))
 
 pub named_objects_lem : (objects : ℕ → Specification) (h : List Numbered) → IsHistory h
     → All (λ e. HasValidOrderOf objects h e.object) (calls_in h) → IsLinearizableFor objects (events h)

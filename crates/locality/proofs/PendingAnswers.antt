@@ -36,9 +36,15 @@ answered : (s : List Event) (r : Event) (rs : List Event) → IsSequential s →
 answered [] r rs q a b = let none : r ∷ rs ≡ [] = no_more (r ∷ rs) a b in absurd (cc none)
 answered (e ∷ []) r rs q a b = (record { front = []; invocation = e; last = refl; matching = b.0 }, no_more rs a.1 b.1)
 answered (e ∷ f ∷ s) r rs q a b =
-    let rest = answered s r rs q.1 a b.1 in
-    (record { front = e ∷ f ∷ rest.0.front; invocation = rest.0.invocation; last = ap (λ es. e ∷ f ∷ es) rest.0.last;
-      matching = rest.0.matching }, rest.1)
+    let rest = answered s r rs q.1 a b.1 in (
+      record {
+        front = e ∷ f ∷ rest.0.front;
+        invocation = rest.0.invocation;
+        last = ap (λ es. e ∷ f ∷ es) rest.0.last;
+        matching = rest.0.matching;
+      },
+      rest.1,
+    )
 
 -- and with a response to an invocation that nothing matches yet
 goes_on : (a b : List Event) (i r : Event) → IsSequential (a ++ i ∷ b) → list_any (matches i) b ≡ false
@@ -58,7 +64,7 @@ filter_cut {X} q (x ∷ xs) a b y e = here (q x) a e (λ a. filter_cut q xs a b 
   where
     here : (t : Bool) (a : List X) → cond t (x ∷ filter q xs) (filter q xs) ≡ a ++ y ∷ b
         → ((a : List X) → filter q xs ≡ a ++ y ∷ b
-          → (before after : List X) × (xs ≡ before ++ y ∷ after) × (filter q after ≡ b))
+        → (before after : List X) × (xs ≡ before ++ y ∷ after) × (filter q after ≡ b))
         → (before after : List X) × (x ∷ xs ≡ before ++ y ∷ after) × (filter q after ≡ b)
     here true [] e f = ([], xs, cc e, cc e)
     here true (z ∷ a) e f = let r = f a (cc e) in (x ∷ r.0, r.1, ap (λ ys. x ∷ ys) r.2, r.3)
@@ -73,13 +79,13 @@ apart_from [] f = tt
 apart_from (e ∷ es) f =
     let p : ℕ = process_of e in
     let own : Pairs (λ r s. ⊥) (e ∷ by_process p es) =
-      subst (λ b. Pairs (λ r s. ⊥) (cond b (e ∷ by_process p es) (by_process p es))) (eq-eqb p p refl) (f p) in (
+    subst (λ b. Pairs (λ r s. ⊥) (cond b (e ∷ by_process p es) (by_process p es))) (eq-eqb p p refl) (f p) in (
       λ y i same. own.0 y (in_filter_from (λ v. process_of v == p) y es i (eq-eqb (process_of y) p (sym same))),
       apart_from es (λ p. tail p (process_of e == p) (f p)),
     )
   where
     tail : (p : ℕ) (b : Bool) → Pairs (λ r s. ⊥) (cond b (e ∷ by_process p es) (by_process p es))
-      → Pairs (λ r s. ⊥) (by_process p es)
+        → Pairs (λ r s. ⊥) (by_process p es)
     tail p true h = h.1
     tail p false h = h
 
@@ -90,7 +96,7 @@ module _ (h added : List Event) (sequential : IsWellFormed h) where
   module _ (responses : Responses added) (whole : IsWellFormed (h ++ added)) where
     goes : (p : ℕ) (rs : List Event) → by_process p added ≡ rs → IsSequential (by_process p h ++ rs)
     goes p rs e = subst (λ (es : List Event). IsSequential (by_process p h ++ es)) e
-      (subst IsSequential (split p) (whole p))
+        (subst IsSequential (split p) (whole p))
 
     own_responses : (p : ℕ) (rs : List Event) → by_process p added ≡ rs → Responses rs
     own_responses p rs e = subst Responses e (filter_responses (λ v. process_of v == p) added responses)
@@ -102,18 +108,18 @@ module _ (h added : List Event) (sequential : IsWellFormed h) where
         subst (λ (es : List Event). Pairs (λ r s. ⊥) (r ∷ es)) (sym none) (λ y i. absurd i, tt)
 
     answers : (r : Event) (p : ℕ) (rs : List Event) → process_of r ≡ p → by_process p added ≡ rs → In r rs
-      → (i : Event) × IsPendingIn h i × (matches i r ≡ true)
+        → (i : Event) × IsPendingIn h i × (matches i r ≡ true)
     answers r p [] own e i = absurd i
     answers r p (s ∷ rs) own e i =
         let a = answered (by_process p h) s rs (sequential p) (own_responses p (s ∷ rs) e) (goes p (s ∷ rs) e) in
         let only : r ≡ s = elim (subst (λ (es : List Event). In r (s ∷ es)) a.1 i) [ inl q ↦ q | inr n ↦ absurd n ] in
         let m : matches a.0.invocation r ≡ true =
-          subst (λ v. matches a.0.invocation v ≡ true) (sym only) a.0.matching in
+        subst (λ v. matches a.0.invocation v ≡ true) (sym only) a.0.matching in
         let cut = filter_cut (λ v. process_of v == p) h a.0.front [] a.0.invocation a.0.last in
         let mine : (process_of a.0.invocation == p) ≡ true =
-          eq-eqb (process_of a.0.invocation) p (sym (same_process a.0.invocation r m) ∙ own) in
+        eq-eqb (process_of a.0.invocation) p (sym (same_process a.0.invocation r m) ∙ own) in
         let none : list_any (matches a.0.invocation) cut.1 ≡ false =
-          sym (any_of_process p a.0.invocation cut.1 mine) ∙ ap (list_any (matches a.0.invocation)) cut.3 in (
+        sym (any_of_process p a.0.invocation cut.1 mine) ∙ ap (list_any (matches a.0.invocation)) cut.3 in (
           a.0.invocation,
           record {
             before = cut.0;
@@ -121,7 +127,7 @@ module _ (h added : List Event) (sequential : IsWellFormed h) where
             whole = cut.2;
             pending =
                 and_from (is_invocation a.0.invocation) (not (list_any (matches a.0.invocation) cut.1))
-                  (matched_invocation a.0.invocation r m)
+                (matched_invocation a.0.invocation r m)
                 (not_from_false (list_any (matches a.0.invocation) cut.1) none);
           },
           m,
@@ -131,9 +137,9 @@ module _ (h added : List Event) (sequential : IsWellFormed h) where
     to_answers = record {
       each = all_from_in (λ r. (i : Event) × IsPendingIn h i × (matches i r ≡ true)) added
           (λ r i. answers r (process_of r) (by_process (process_of r) added) refl refl
-            (in_filter_from (λ v. process_of v == process_of r) r added i (eq-eqb (process_of r) (process_of r) refl)));
+          (in_filter_from (λ v. process_of v == process_of r) r added i (eq-eqb (process_of r) (process_of r) refl)));
       apart = all_from_pairs (λ r s. process_of r ≢ process_of s) added
-        (apart_from added (λ p. single p (by_process p added) refl));
+          (apart_from added (λ p. single p (by_process p added) refl));
     }
 
   module _ (a : AnswersPending h added) where
@@ -145,29 +151,29 @@ module _ (h added : List Event) (sequential : IsWellFormed h) where
     extended p (r ∷ s ∷ rs) e =
         let apart : Apart (r ∷ s ∷ rs) =
         subst Apart e (pairs_filter (λ r s. process_of r ≢ process_of s) (λ v. process_of v == p) added
-          (pairs_from_all (λ r s. process_of r ≢ process_of s) added a.apart)) in
+        (pairs_from_all (λ r s. process_of r ≢ process_of s) added a.apart)) in
         absurd (apart.0 s (inl refl)
-          (own_process p r (subst (In r) (sym e) (inl refl))
-          ∙ sym (own_process p s (subst (In s) (sym e) (inr (inl refl))))))
+        (own_process p r (subst (In r) (sym e) (inl refl))
+        ∙ sym (own_process p s (subst (In s) (sym e) (inr (inl refl))))))
     extended p (r ∷ []) e =
         let i : In r (by_process p added) = subst (In r) (sym e) (inl refl) in
         let answer = all_at (λ r. (i : Event) × IsPendingIn h i × (matches i r ≡ true)) added a.each r
-          (in_filter (λ v. process_of v == p) r added i) in
+        (in_filter (λ v. process_of v == p) r added i) in
         let mine : (process_of answer.0 == p) ≡ true =
-          eq-eqb (process_of answer.0) p (sym (same_process answer.0 r answer.2) ∙ own_process p r i) in
+        eq-eqb (process_of answer.0) p (sym (same_process answer.0 r answer.2) ∙ own_process p r i) in
         let pend = answer.1 in
         let parts : by_process p h ≡ by_process p pend.before ++ answer.0 ∷ by_process p pend.after =
         ap (by_process p) pend.whole ∙ (filter-append (λ v. process_of v == p) pend.before (answer.0 ∷ pend.after)
         ∙ ap (λ b. by_process p pend.before ++ cond b (answer.0 ∷ by_process p pend.after) (by_process p pend.after))
-          mine) in
+        mine) in
         let none : list_any (matches answer.0) pend.after ≡ false = unmatched answer.0 pend.after pend.pending in
         subst (λ (es : List Event). IsSequential (es ++ r ∷ [])) (sym parts)
         (goes_on (by_process p pend.before) (by_process p pend.after) answer.0 r
-          (subst IsSequential parts (sequential p)) (any_of_process p answer.0 pend.after mine ∙ none) answer.2)
+        (subst IsSequential parts (sequential p)) (any_of_process p answer.0 pend.after mine ∙ none) answer.2)
       where
         unmatched : (i : Event) (later : List Event) → is_pending i later ≡ true → list_any (matches i) later ≡ false
         unmatched i later e = off (list_any (matches i) later)
-          (and_parts (is_invocation i) (not (list_any (matches i) later)) e).1
+            (and_parts (is_invocation i) (not (list_any (matches i) later)) e).1
           where
             off : (b : Bool) → not b ≡ true → b ≡ false
             off true e = sym e

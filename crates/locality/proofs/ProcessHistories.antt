@@ -22,7 +22,7 @@ pub data Turns (p : ℕ) : List Numbered → Type 0 where
   none : Turns p []
   last : (n x : ℕ) (op : AnyOp) → Turns p (at n (Inv p x op) ∷ [])
   call : (n x : ℕ) (op : AnyOp) (m : ℕ) (r : AnyReply) (rest : List Numbered) → Turns p rest
-    → Turns p (at n (Inv p x op) ∷ at m (Res p x r) ∷ rest)
+      → Turns p (at n (Inv p x op) ∷ at m (Res p x r) ∷ rest)
 
 turns_last : (p n : ℕ) (e : Event) → is_invocation e ≡ true → process_of e ≡ p → Turns p (at n e ∷ [])
 turns_last p n (Inv q x op) i e = subst (λ q. Turns p (at n (Inv q x op) ∷ [])) (sym e) (last n x op)
@@ -57,7 +57,7 @@ events-part p [] = refl
 events-part p (m ∷ h) =
     let rest = events-part p h in
     let here : (b : Bool) → events (cond b (m ∷ part p h) (part p h))
-      ≡ cond b (m.event ∷ by_process p (events h)) (by_process p (events h)) =
+    ≡ cond b (m.event ∷ by_process p (events h)) (by_process p (events h)) =
     elim [ true ↦ ap (λ es. m.event ∷ es) rest | false ↦ rest ] in
     here (process_of m.event == p)
 
@@ -73,8 +73,8 @@ response_of-part p x [] = refl
 response_of-part p x (m ∷ h) =
     let rest = response_of-part p x h in
     let here : (b : Bool) → (process_of m.event == p) ≡ b
-      → response_of p x (cond b (m ∷ part p h) (part p h))
-      ≡ option_or (response_in p x m.number m.event) (response_of p x h) =
+    → response_of p x (cond b (m ∷ part p h) (part p h))
+    ≡ option_or (response_in p x m.number m.event) (response_of p x h) =
     elim [
       | true ↦ λ e. ap (option_or (response_in p x m.number m.event)) rest
       | false ↦ λ e. rest ∙ sym (ap (λ r. option_or r (response_of p x h)) (response_in_other p x m.number m.event e))
@@ -84,28 +84,34 @@ response_of-part p x (m ∷ h) =
 begins-part : (p n : ℕ) (e : Event) (later : List Numbered)
     → calls_in (part p later) ≡ filter (λ o. o.process == p) (calls_in later)
     → calls_in (cond (process_of e == p) (at n e ∷ part p later) (part p later))
-      ≡ filter (λ o. o.process == p) (begins n e later (calls_in later))
+    ≡ filter (λ o. o.process == p) (begins n e later (calls_in later))
 begins-part p n (Inv q x op) later h =
     let here : (b : Bool) → (q == p) ≡ b
     → calls_in (cond b (at n (Inv q x op) ∷ part p later) (part p later))
-    ≡ cond b (record { process = q; object = x;
-      call = record { number = n; op = op; returned = response_of q x later } }
+    ≡ cond b (record {
+      process = q;
+      object = x;
+      call = record { number = n; op = op; returned = response_of q x later };
+    }
     ∷ filter (λ o. o.process == p) (calls_in later)) (filter (λ o. o.process == p) (calls_in later)) =
     elim [
       | true ↦ λ e.
           let same : response_of q x (part p later) ≡ response_of q x later =
-            subst (λ k. response_of q x (part k later) ≡ response_of q x later) (eqb-true q p e)
-            (response_of-part q x later) in
+          subst (λ k. response_of q x (part k later) ≡ response_of q x later) (eqb-true q p e)
+          (response_of-part q x later) in
           ap (λ r. record { process = q; object = x; call = record { number = n; op = op; returned = r } }
-            ∷ calls_in (part p later)) same
-          ∙ ap (λ os. record { process = q; object = x;
-            call = record { number = n; op = op; returned = response_of q x later } } ∷ os) h
+          ∷ calls_in (part p later)) same
+          ∙ ap (λ os. record {
+            process = q;
+            object = x;
+            call = record { number = n; op = op; returned = response_of q x later };
+          } ∷ os) h
       | false ↦ λ e. h
     ] in
     here (q == p) refl
 begins-part p n (Res q x r) later h =
     let here : (b : Bool) → calls_in (cond b (at n (Res q x r) ∷ part p later) (part p later))
-      ≡ filter (λ o. o.process == p) (calls_in later) =
+    ≡ filter (λ o. o.process == p) (calls_in later) =
     elim [ true ↦ h | false ↦ h ] in
     here (q == p)
 
@@ -128,8 +134,11 @@ dones give os = flat_map (λ e. done e (give e)) os
 
 -- the first operation, returned
 abbrev pub first : ℕ → ℕ → ℕ → AnyOp → ℕ → AnyReply → ProcessCall
-first p n x op m r = record { process = p; object = x;
-    call = record { number = n; op = op; returned = Some (record { at = m; reply = r }) } }
+first p n x op m r = record {
+  process = p;
+  object = x;
+  call = record { number = n; op = op; returned = Some (record { at = m; reply = r }) };
+}
 
 pub calls_in-call : (p n x : ℕ) (op : AnyOp) (m : ℕ) (r : AnyReply) (rest : List Numbered)
     → calls_in (at n (Inv p x op) ∷ at m (Res p x r) ∷ rest) ≡ first p n x op m r ∷ calls_in rest
@@ -139,8 +148,11 @@ calls_in-call p n x op m r rest =
       process = p;
       object = x;
       call =
-          record { number = n; op = op;
-              returned = option_or (cond b (Some (record { at = m; reply = r })) None) (response_of p x rest) };
+          record {
+            number = n;
+            op = op;
+            returned = option_or (cond b (Some (record { at = m; reply = r })) None) (response_of p x rest);
+          };
     } ∷ calls_in rest) e
 
 pub complete-call : (p x : ℕ) (op : AnyOp) (r : AnyReply) (es : List Event)
@@ -148,7 +160,7 @@ pub complete-call : (p x : ℕ) (op : AnyOp) (r : AnyReply) (es : List Event)
 complete-call p x op r es =
     let e : ((p == p) && (x == x)) ≡ true = and_from (p == p) (x == x) (eq-eqb p p refl) (eq-eqb x x refl) in
     ap (λ (b : Bool). cond (not (b || list_any (matches (Inv p x op)) es)) (Res p x r ∷ complete es)
-      (Inv p x op ∷ Res p x r ∷ complete es)) e
+    (Inv p x op ∷ Res p x r ∷ complete es)) e
 
 -- the recorded replies are given
 abbrev pub Agrees : (ProcessCall → Option AnyReply) → List ProcessCall → Type 0
@@ -169,7 +181,7 @@ completed p h give (call n x op m r rest t) a =
     let given : give e ≡ Some r = a e (record { at = m; reply = r }) (subst (In e) (sym os) (inl refl)) refl in
     let below = completed p rest give t (λ f q i. a f q (subst (In f) (sym os) (inr i))) in
     subst (λ (os : List ProcessCall). complete (Inv p x op ∷ Res p x r ∷ (events rest ++ added give os))
-      ≡ dones give os) (sym os)
+    ≡ dones give os) (sym os)
     (complete-call p x op r (events rest ++ added give (calls_in rest))
     ∙ (ap (λ es. Inv p x op ∷ Res p x r ∷ es) below
     ∙ ap (λ g. done e g ++ dones give (calls_in rest)) (sym given)))
@@ -196,11 +208,15 @@ call_event (m ∷ h) e i = here m.event refl i (call_event h e)
   where
     here : (v : Event) → m.event ≡ v → In e (begins m.number v h (calls_in h))
         → (In e (calls_in h) → (k : Numbered) × In k h × (k.number ≡ number_of e)
-          × (k.event ≡ Inv e.process e.object e.call.op)) → (k : Numbered)
+        × (k.event ≡ Inv e.process e.object e.call.op)) → (k : Numbered)
         × In k (m ∷ h) × (k.number ≡ number_of e) × (k.event ≡ Inv e.process e.object e.call.op)
     here (Inv p x op) q i f = elim i [
-      | inl s ↦ (m, inl refl, sym (ap number_of s),
-        q ∙ sym (ap (λ (o : ProcessCall). Inv o.process o.object o.call.op) s))
+      | inl s ↦ (
+        m,
+        inl refl,
+        sym (ap number_of s),
+        q ∙ sym (ap (λ (o : ProcessCall). Inv o.process o.object o.call.op) s),
+      )
       | inr j ↦ let k = f j in (k.0, inr k.1, k.2, k.3)
     ]
     here (Res p x r) q i f = let k = f i in (k.0, inr k.1, k.2, k.3)
@@ -212,7 +228,7 @@ calls_rise [] u = tt
 calls_rise (m ∷ h) u = here m.event (calls_rise h u.1)
   where
     here : (v : Event) → Pairs (λ a b. number_of a < number_of b) (calls_in h)
-      → Pairs (λ a b. number_of a < number_of b) (begins m.number v h (calls_in h))
+        → Pairs (λ a b. number_of a < number_of b) (begins m.number v h (calls_in h))
     here (Inv p x op) r = (λ y i. let k = call_event h y i in let g = u.0 k.0 k.1 in let e = k.2 in omega arith, r)
     here (Res p x r') r = r
 
@@ -235,7 +251,7 @@ returns_after p h e r (call n x op m r' rest t) u i q =
       | inl s ↦
           let g : n < m = u.0 (at m (Res p x r')) (inl refl) in
           let is : Some (record { at = m; reply = r' }) ≡ Some r =
-            sym (ap (λ (o : ProcessCall). o.call.returned) s) ∙ q in
+          sym (ap (λ (o : ProcessCall). o.call.returned) s) ∙ q in
           let a : m ≡ r.at = ap (λ (o : Option Return). at_of o) is in
           let b : number_of e ≡ n = ap number_of s in
           omega arith
@@ -277,11 +293,11 @@ responses_before p t h (call n x op m r rest s) =
     let rs : List Numbered = filter (λ m. responds p m.event && nat_lt m.number t) rest in
     let bs : List ProcessCall = filter (λ e. is_back t e.call.returned) (calls_in rest) in
     subst (λ (os : List ProcessCall). length (filter (λ e. is_back t e.call.returned) os)
-      ≡ length (cond ((p == p) && nat_lt m t) (at m (Res p x r) ∷ rs) rs)) (sym os)
+    ≡ length (cond ((p == p) && nat_lt m t) (at m (Res p x r) ∷ rs) rs)) (sym os)
     (subst (λ (b : Bool). length (cond (nat_lt m t) (first p n x op m r ∷ bs) bs)
-      ≡ length (cond (b && nat_lt m t) (at m (Res p x r) ∷ rs) rs)) (sym e)
+    ≡ length (cond (b && nat_lt m t) (at m (Res p x r) ∷ rs) rs)) (sym e)
     (elim (nat_lt m t) as (λ b. length (cond b (first p n x op m r ∷ bs) bs)
-      ≡ length (cond b (at m (Res p x r) ∷ rs) rs)) [
+    ≡ length (cond b (at m (Res p x r) ∷ rs) rs)) [
       | true ↦ ap suc below
       | false ↦ below
     ]))
@@ -289,23 +305,26 @@ responses_before p t h (call n x op m r rest s) =
 -- the invocations before t are those of the operations below t
 pub invocations_before : (p t : ℕ) (h : List Numbered)
     → length (filter (λ m. invokes p m.event && nat_lt m.number t) h)
-      ≡ length (filter (λ e. (e.process == p) && nat_lt (number_of e) t) (calls_in h))
+    ≡ length (filter (λ e. (e.process == p) && nat_lt (number_of e) t) (calls_in h))
 invocations_before p t [] = refl
 invocations_before p t (m ∷ h) = here m.event refl (invocations_before p t h)
   where
     here : (v : Event) → m.event ≡ v
-      → length (filter (λ m. invokes p m.event && nat_lt m.number t) h)
-      ≡ length (filter (λ e. (e.process == p) && nat_lt (number_of e) t) (calls_in h)) →
+        → length (filter (λ m. invokes p m.event && nat_lt m.number t) h)
+        ≡ length (filter (λ e. (e.process == p) && nat_lt (number_of e) t) (calls_in h)) →
         length (cond (invokes p v && nat_lt m.number t) (m ∷ filter (λ m. invokes p m.event && nat_lt m.number t) h)
         (filter (λ m. invokes p m.event && nat_lt m.number t) h))
-          ≡ length (filter (λ e. (e.process == p) && nat_lt (number_of e) t) (begins m.number v h (calls_in h)))
+        ≡ length (filter (λ e. (e.process == p) && nat_lt (number_of e) t) (begins m.number v h (calls_in h)))
     here (Inv q x op) s f = elim ((q == p) && nat_lt m.number t) as
         (λ b. length (cond b (m ∷ filter (λ m. invokes p m.event && nat_lt m.number t) h)
-          (filter (λ m. invokes p m.event && nat_lt m.number t) h))
-        ≡ length (cond b (record { process = q; object = x;
-          call = record { number = m.number; op = op; returned = response_of q x h } }
+        (filter (λ m. invokes p m.event && nat_lt m.number t) h))
+        ≡ length (cond b (record {
+          process = q;
+          object = x;
+          call = record { number = m.number; op = op; returned = response_of q x h };
+        }
         ∷ filter (λ e. (e.process == p) && nat_lt (number_of e) t) (calls_in h))
-          (filter (λ e. (e.process == p) && nat_lt (number_of e) t) (calls_in h)))) [
+        (filter (λ e. (e.process == p) && nat_lt (number_of e) t) (calls_in h)))) [
           | true ↦ ap suc f
           | false ↦ f
         ]
@@ -321,7 +340,7 @@ module _ (h : List Numbered) (hist : IsHistory h) where
 
   pub turn_view : (p : ℕ) → Turns p (part p h)
   turn_view p = turns p (part p h) (subst IsSequential (sym (events-part p h)) (hist.well_formed p))
-    (λ m i. eqb-true (process_of m.event) p (in_filter_passes (λ m. process_of m.event == p) m h i))
+      (λ m i. eqb-true (process_of m.event) p (in_filter_passes (λ m. process_of m.event == p) m h i))
 
   pub rise : Pairs (λ a b. number_of a < number_of b) (calls_in h)
   rise = calls_rise h up

@@ -55,13 +55,13 @@ first_out v vs [] d r op back f i h = absurd i
 first_out v vs (e ∷ es) d r op back f i h = elim (f e (inl refl)) [
   | inl q ↦
       let s = step (queue (v ∷ vs)) e.op Dequeue (queue vs, Value (Some v))
-        (ap (λ (c : Call). c.op) q ∙ op) h.0 h.1 h.2 refl in
+      (ap (λ (c : Call). c.op) q ∙ op) h.0 h.1 h.2 refl in
       let said : r.reply ≡ h.1 =
-        subst (λ (o : Option Return). IfSome o (λ r. r.reply ≡ h.1)) (ap (λ (c : Call). c.returned) q ∙ back) h.3 in
+      subst (λ (o : Option Return). IfSome o (λ r. r.reply ≡ h.1)) (ap (λ (c : Call). c.returned) q ∙ back) h.3 in
       said ∙ s.1
   | inr w ↦
       let s = step (queue (v ∷ vs)) e.op (Enqueue w.0)
-        (queue (v ∷ (vs ++ w.0 ∷ [])), Value (Some w.0)) w.1 h.0 h.1 h.2 refl in
+      (queue (v ∷ (vs ++ w.0 ∷ [])), Value (Some w.0)) w.1 h.0 h.1 h.2 refl in
       elim i [
         | inl q ↦ let clash : Dequeue ≡ Enqueue w.0 = sym op ∙ (ap (λ (c : Call). c.op) q ∙ w.1) in absurd (cc clash)
         | inr j ↦ first_out v (vs ++ w.0 ∷ []) es d r op back (λ e i. f e (inr i)) j
@@ -77,13 +77,13 @@ first_in_first_out : (calls : List Call) (a d : Call) (v : ℤ) (r s : Return) (
     → ((e : Call) → In e calls → (e ≡ d) ⊎ IsEnqueue e.op) → IsValidOrder Queue calls order → r.reply ≡ Value (Some v)
 first_in_first_out calls a d v r s order a_op a_back d_op d_back a_in d_in first other valid =
     let known : (e : Call) → In e valid.entries → In e calls =
-      λ e i. in_from_contains calls e (all_at (Contains calls) valid.entries valid.known e i) in
+    λ e i. in_from_contains calls e (all_at (Contains calls) valid.entries valid.known e i) in
     let stands : (e : Call) (r : Return) → In e calls → e.returned ≡ Some r → In e valid.entries =
     λ e r i q. in_from_contains valid.entries e
-      (all_at (λ (e : Call). IsSome e.returned → Contains valid.entries e) calls valid.whole e i
-      (subst (λ (o : Option Return). IsSome o) (sym q) refl)) in
+    (all_at (λ (e : Call). IsSome e.returned → Contains valid.entries e) calls valid.whole e i
+    (subst (λ (o : Option Return). IsSome o) (sym q) refl)) in
     let front = first_is a valid.entries (stands a s a_in a_back) (λ e i. first e (known e i))
-      (pairs_from_all (λ (a b : Call). ReturnsBefore b a → ⊥) valid.entries valid.in_order) in
+    (pairs_from_all (λ (a b : Call). ReturnsBefore b a → ⊥) valid.entries valid.in_order) in
     let along : RepliesAlong (queue []) (a ∷ front.0) = subst (RepliesAlong (queue [])) front.1 valid.replies in
     let s0 = step (queue []) a.op (Enqueue v) (queue (v ∷ []), Value (Some v)) a_op along.0 along.1 along.2 refl in
     let d_later : In d (a ∷ front.0) = subst (In d) front.1 (stands d r d_in d_back) in
@@ -114,7 +114,7 @@ overtaken h b d v r hist is b_op b_later d_op d_later d_back two lin =
     let order = orders_of_kinds (λ x. Queue) h hist lin 0 in
     let returns : Return = record { at = 1; reply = Value (Some (pos 1)) } in
     let one = first_in_first_out (first ∷ b ∷ d ∷ []) first d (pos 1) r returns order.0 refl refl d_op d_back
-      (inl refl) (inr (inr (inl refl)))
+    (inl refl) (inr (inr (inl refl)))
     (λ e i. elim i [
       | inl q ↦ inl q
       | inr j ↦ elim j [
@@ -125,11 +125,10 @@ overtaken h b d v r hist is b_op b_later d_op d_later d_back two lin =
     ])
     (λ e i. elim i [
       | inl q ↦ inr (pos 1, ap (λ (c : Call). c.op) q)
-      | inr j ↦ elim j
-          [
-            | inl q ↦ inr (v, ap (λ (c : Call). c.op) q ∙ b_op)
-            | inr k ↦ elim k [ inl q ↦ inl q | inr none ↦ absurd none ]
-          ]
+      | inr j ↦ elim j [
+        | inl q ↦ inr (v, ap (λ (c : Call). c.op) q ∙ b_op)
+        | inr k ↦ elim k [ inl q ↦ inl q | inr none ↦ absurd none ]
+      ]
     ])
     (subst (λ cs. IsValidOrder Queue cs order.0) is order.1) in
     two_not_one (sym two ∙ one)
@@ -141,7 +140,7 @@ pub dequeued_out_of_turn-refuted : ¬ IsLinearizable (λ x. Queue) (events deque
 dequeued_out_of_turn-refuted =
     overtaken dequeued_out_of_turn (returned 2 (Enqueue (pos 2)) 3 (Some (pos 2))) (returned 4 Dequeue 5 (Some (pos 2)))
     (pos 2) (record { at = 5; reply = Value (Some (pos 2)) }) dequeued_out_of_turn-history refl refl (lit< tt) refl
-      (lit< tt) refl refl
+    (lit< tt) refl refl
 
 pub pending_overtakes_returned-history : IsHistory pending_overtakes_returned
 pending_overtakes_returned-history = history 3 pending_overtakes_returned refl
@@ -150,7 +149,7 @@ pub pending_overtakes_returned-refuted : ¬ IsLinearizable (λ x. Queue) (events
 pending_overtakes_returned-refuted =
     overtaken pending_overtakes_returned (pending 2 (Enqueue (pos 2))) (returned 3 Dequeue 4 (Some (pos 2))) (pos 2)
     (record { at = 4; reply = Value (Some (pos 2)) }) pending_overtakes_returned-history refl refl (lit< tt) refl
-      (lit< tt) refl refl
+    (lit< tt) refl refl
 
 pub dequeued_out_of_turn-no_order : (order : List ℤ) → ¬ IsValidOrder Queue (calls_on 0 dequeued_out_of_turn) order
 dequeued_out_of_turn-no_order order v =
@@ -166,16 +165,16 @@ enqueued_then_dequeued-omitted v =
     let omitted : Call = returned 2 Dequeue 3 (Some (pos 1)) in
     let stands : In omitted v.entries = in_from_contains v.entries omitted (v.whole 1 omitted (lit< tt) refl) in
     let listed : In (pos 2) (pos 0 ∷ []) =
-      subst (In (pos 2)) (sym v.numbers) (in_map_from (λ (e : Call). pos e.number) omitted v.entries stands) in
+    subst (In (pos 2)) (sym v.numbers) (in_map_from (λ (e : Call). pos e.number) omitted v.entries stands) in
     elim listed [ inl q ↦ omega (arith, ints, q) | inr none ↦ absurd none ]
 
 pub enqueued_then_dequeued-unknown : ¬ IsValidOrder Queue (calls_on 0 enqueued_then_dequeued)
     (pos 0 ∷ pos 2 ∷ pos 3 ∷ [])
 enqueued_then_dequeued-unknown v =
     let e = in_map (λ (e : Call). pos e.number) (pos 3) v.entries
-      (subst (In (pos 3)) v.numbers (inr (inr (inl refl)))) in
+    (subst (In (pos 3)) v.numbers (inr (inr (inl refl)))) in
     unknown e.0 (in_from_contains (calls_on 0 enqueued_then_dequeued) e.0
-      (all_at (Contains (calls_on 0 enqueued_then_dequeued)) v.entries v.known e.0 e.1)) e.2
+    (all_at (Contains (calls_on 0 enqueued_then_dequeued)) v.entries v.known e.0 e.1)) e.2
   where
     unknown : (c : Call) → In c (calls_on 0 enqueued_then_dequeued) → pos 3 ≡ pos c.number → ⊥
     unknown c i n = elim i [
@@ -252,10 +251,10 @@ not_replied : (kind : Kind) (calls cs : List Call) → in_order calls ≡ true �
     → ¬ IsValidOrder kind calls (map (λ (e : Call). pos e.number) cs)
 not_replied kind calls cs apart these fails v =
     let known : (e : Call) → In e v.entries → In e calls =
-      λ e i. in_from_contains calls e (all_at (Contains calls) v.entries v.known e i) in
+    λ e i. in_from_contains calls e (all_at (Contains calls) v.entries v.known e i) in
     let along : RepliesAlong (empty kind) cs =
-      subst (RepliesAlong (empty kind))
-      (entries_are calls cs v.entries (ordered calls apart) known these v.numbers) v.replies in
+    subst (RepliesAlong (empty kind))
+    (entries_are calls cs v.entries (ordered calls apart) known these v.numbers) v.replies in
     let holds = along_may_reply cs (empty kind) along in
     cc (fails, holds)
 

@@ -59,7 +59,7 @@ ended_invokes p (e ∷ es) =
     let rest = ended_invokes p es in
     elim (e.made.process == p) as (λ b. length
     (cond b (Inv e.made.process e.made.object e.made.call.op ∷ filter (invokes p) (ended_events es))
-      (filter (invokes p) (ended_events es)))
+    (filter (invokes p) (ended_events es)))
     ≡ length (cond b (e ∷ filter (λ e. e.made.process == p) es) (filter (λ e. e.made.process == p) es))) [
       | true ↦ ap suc rest
       | false ↦ rest
@@ -72,7 +72,7 @@ ended_responds p (e ∷ es) =
     let rest = ended_responds p es in
     elim (e.made.process == p) as (λ b. length
     (cond b (Res e.made.process e.made.object e.reply ∷ filter (responds p) (ended_events es))
-      (filter (responds p) (ended_events es)))
+    (filter (responds p) (ended_events es)))
     ≡ length (cond b (e ∷ filter (λ e. e.made.process == p) es) (filter (λ e. e.made.process == p) es))) [
       | true ↦ ap suc rest
       | false ↦ rest
@@ -101,9 +101,9 @@ filter_short : (q : ProcessCall → Bool) (u : List ProcessCall) → length (fil
 filter_short q [] = omega arith
 filter_short q (x ∷ u) =
     let rest = filter_short q u in elim (q x) as (λ b. length (cond b (x ∷ filter q u) (filter q u)) ≤ suc (length u)) [
-  | true ↦ omega arith
-  | false ↦ omega arith
-]
+      | true ↦ omega arith
+      | false ↦ omega arith
+    ]
 
 -- in rising order, those below the number of one are those before it
 below_one : (u v : List ProcessCall) (o : ProcessCall) → Pairs (λ a b. number_of a < number_of b) (u ++ o ∷ v)
@@ -111,9 +111,9 @@ below_one : (u v : List ProcessCall) (o : ProcessCall) → Pairs (λ a b. number
 below_one u v o h =
     let q : ProcessCall → Bool = λ e. nat_lt (number_of e) (number_of o) in
     let none_later : filter q (o ∷ v) ≡ [] =
-      filter_none q (o ∷ v) (λ e i. le-ltb (number_of e) (number_of o) (not_less u v o e h i)) in
+    filter_none q (o ∷ v) (λ e i. le-ltb (number_of e) (number_of o) (not_less u v o e h i)) in
     let all : length (filter q (u ++ o ∷ v)) ≡ length (filter q u) =
-      ap length (filter-append q u (o ∷ v) ∙ (ap (λ es. filter q u ++ es) none_later ∙ append-nil (filter q u))) in
+    ap length (filter-append q u (o ∷ v) ∙ (ap (λ es. filter q u ++ es) none_later ∙ append-nil (filter q u))) in
     let few = filter_short q u in
     omega arith
 
@@ -121,9 +121,9 @@ pub filter_responses : (q : Event → Bool) (es : List Event) → Responses es �
 filter_responses q [] r = tt
 filter_responses q (e ∷ es) r =
     let rest = filter_responses q es r.1 in elim (q e) as (λ b. Responses (cond b (e ∷ filter q es) (filter q es))) [
-  | true ↦ (r.0, rest)
-  | false ↦ rest
-]
+      | true ↦ (r.0, rest)
+      | false ↦ rest
+    ]
 
 -- where each returns before the next begins and this one is back before t, so are those before it
 back_upto : (t : ℕ) (u v : List ProcessCall) (o : ProcessCall) (r : Return) → Pairs Before (u ++ o ∷ v)
@@ -132,15 +132,15 @@ back_upto : (t : ℕ) (u v : List ProcessCall) (o : ProcessCall) (r : Return) �
 back_upto t [] v o r h q l k =
     let e : is_back t o.call.returned ≡ true = ap (is_back t) q ∙ lt-ltb r.at t k in
     subst (λ b. 1 ≤ length (cond b (o ∷ filter (λ e. is_back t e.call.returned) v)
-      (filter (λ e. is_back t e.call.returned) v))) (sym e) (omega arith)
+    (filter (λ e. is_back t e.call.returned) v))) (sym e) (omega arith)
 back_upto t (x ∷ u) v o r h q l k =
     let rest = back_upto t u v o r h.1 q l k in
     let b = h.0 o (in_middle o u v) in
     let c = b.2 in
     let e : is_back t x.call.returned ≡ true = ap (is_back t) b.1 ∙ lt-ltb b.0.at t (omega arith) in
     subst (λ d. suc (suc (length u))
-      ≤ length (cond d (x ∷ filter (λ e. is_back t e.call.returned) (u ++ o ∷ v))
-      (filter (λ e. is_back t e.call.returned) (u ++ o ∷ v)))) (sym e) (omega arith)
+    ≤ length (cond d (x ∷ filter (λ e. is_back t e.call.returned) (u ++ o ∷ v))
+    (filter (λ e. is_back t e.call.returned) (u ++ o ∷ v)))) (sym e) (omega arith)
 
 -- the replies of a legal history are those that are recorded
 replies_back : (object : Specification) (c : object.Content) (es : List Ended) → RepliesFrom object c (ended_events es)
@@ -156,9 +156,11 @@ replies_back object c (e ∷ es) h rec =
 
 longer : (q : Ended → Bool) (l n : List Ended) (a : Ended) → q a ≡ true
     → suc (length (filter q l)) ≤ length (filter q (l ++ a ∷ n))
-longer q l n a e = omega
-    (arith, ap length (filter-append q l (a ∷ n) ∙ ap (λ b. filter q l ++ cond b (a ∷ filter q n) (filter q n)) e),
-    length-append (filter q l) (a ∷ filter q n))
+longer q l n a e = omega (
+  arith,
+  ap length (filter-append q l (a ∷ n) ∙ ap (λ b. filter q l ++ cond b (a ∷ filter q n) (filter q n)) e),
+  length-append (filter q l) (a ∷ filter q n),
+)
 
 across : (u v : List ProcessCall) (a o : ProcessCall) → Pairs (λ a b. number_of a < number_of b) (u ++ o ∷ v) → In a u
     → number_of a < number_of o
@@ -175,11 +177,14 @@ invocations_all p (m ∷ h) = here m.event (invocations_all p h)
   where
     here : (v : Event) → count (invokes p) (events h) ≡ length (filter (λ e. e.process == p) (calls_in h))
         → length (cond (invokes p v) (v ∷ filter (invokes p) (events h)) (filter (invokes p) (events h)))
-          ≡ length (filter (λ e. e.process == p) (begins m.number v h (calls_in h)))
+        ≡ length (filter (λ e. e.process == p) (begins m.number v h (calls_in h)))
     here (Inv q x op) f = elim (q == p) as
         (λ b. length (cond b (Inv q x op ∷ filter (invokes p) (events h)) (filter (invokes p) (events h)))
-        ≡ length (cond b (record { process = q; object = x;
-          call = record { number = m.number; op = op; returned = response_of q x h } }
+        ≡ length (cond b (record {
+          process = q;
+          object = x;
+          call = record { number = m.number; op = op; returned = response_of q x h };
+        }
         ∷ filter (λ e. e.process == p) (calls_in h)) (filter (λ e. e.process == p) (calls_in h)))) [
           | true ↦ ap suc f
           | false ↦ f
@@ -193,17 +198,17 @@ refuted : (l m n : List Ended) (a b : Ended) (front rest : List Event)
     → count (invokes a.made.process) front ≤ length (filter (λ e. e.made.process == a.made.process) l) → ⊥
 refuted l m n a b front rest e ret wait =
     elim (prefix_either front rest (ended_events (l ++ a ∷ m)) (ended_events (b ∷ n)) e) [
-  | inl w ↦
-      let c = ap (count (responds b.made.process)) w.1 ∙ count-append (responds b.made.process) front w.0 in
-      let d = ended_responds b.made.process (l ++ a ∷ m) in
-      omega arith
-  | inr w ↦
-      let c = ap (count (invokes a.made.process)) w.1
-        ∙ count-append (invokes a.made.process) (ended_events (l ++ a ∷ m)) w.0 in
-      let d = ended_invokes a.made.process (l ++ a ∷ m) in
-      let g = longer (λ e. e.made.process == a.made.process) l m a (eq-eqb a.made.process a.made.process refl) in
-      omega arith
-]
+      | inl w ↦
+          let c = ap (count (responds b.made.process)) w.1 ∙ count-append (responds b.made.process) front w.0 in
+          let d = ended_responds b.made.process (l ++ a ∷ m) in
+          omega arith
+      | inr w ↦
+          let c = ap (count (invokes a.made.process)) w.1
+          ∙ count-append (invokes a.made.process) (ended_events (l ++ a ∷ m)) w.0 in
+          let d = ended_invokes a.made.process (l ++ a ∷ m) in
+          let g = longer (λ e. e.made.process == a.made.process) l m a (eq-eqb a.made.process a.made.process refl) in
+          omega arith
+    ]
 
 module _ (objects : ℕ → Specification) (h : List Numbered) (hist : IsHistory h)
     (lin : IsLinearizableFor objects (events h)) where
@@ -212,12 +217,12 @@ module _ (objects : ℕ → Specification) (h : List Numbered) (hist : IsHistory
 
   pub part_extended : (p : ℕ) → by_process p (events h ++ lin.completes.added) ≡ events (part p h) ++ late_events p
   part_extended p = filter-append (λ v. process_of v == p) (events h) lin.completes.added
-    ∙ ap (λ es. es ++ late_events p) (sym (events-part p h))
+      ∙ ap (λ es. es ++ late_events p) (sym (events-part p h))
 
   pub completed : (p : ℕ) → Completed (part p h) (complete (events (part p h) ++ late_events p))
   completed p = completed_any p (part p h) (late_events p) (turn_view h hist p)
       (filter_responses (λ v. process_of v == p) lin.completes.added
-        (recursion_from_All (λ e. is_invocation e ≡ false) lin.completes.added lin.completes.responses))
+      (recursion_from_All (λ e. is_invocation e ≡ false) lin.completes.added lin.completes.responses))
       (subst IsSequential (part_extended p) (lin.completes.well_formed p))
 
   abbrev pub queue : ℕ → List Ended
@@ -226,29 +231,29 @@ module _ (objects : ℕ → Specification) (h : List Numbered) (hist : IsHistory
   seen_by : (p : ℕ) → by_process p lin.sequence ≡ ended_events (queue p)
   seen_by p = sym (lin.equivalent p)
       ∙ (ap (by_process p) lin.completes.completed
-        ∙ (complete_of_process p (events h ++ lin.completes.added)
-          ∙ (ap complete (part_extended p) ∙ (completed p).events_are)))
+      ∙ (complete_of_process p (events h ++ lin.completes.added)
+      ∙ (ap complete (part_extended p) ∙ (completed p).events_are)))
 
   -- what a process completed are its operations
   queue_op : (p : ℕ) (e : Ended) → In e (queue p) → In e.made (calls_in (part p h))
   queue_op p e i = subst (In e.made) (sym (completed p).front)
-    (in_left e.made (ops_of (queue p)) (completed p).rest (in_map_from (λ (e : Ended). e.made) e (queue p) i))
+      (in_left e.made (ops_of (queue p)) (completed p).rest (in_map_from (λ (e : Ended). e.made) e (queue p) i))
 
   queue_owned : (p : ℕ) (e : Ended) → In e (queue p) → e.made.process ≡ p
   queue_owned p e i = eqb-true e.made.process p
-    (in_filter_passes (λ o. o.process == p) e.made (calls_in h)
-    (subst (In e.made) (calls_in-part p h) (queue_op p e i)))
+      (in_filter_passes (λ o. o.process == p) e.made (calls_in h)
+      (subst (In e.made) (calls_in-part p h) (queue_op p e i)))
 
   pub all : Lined lin.sequence queue
   all = lined lin.sequence lin.sequential queue seen_by queue_owned
 
   line_queue : (e : Ended) → In e all.line → In e (queue e.made.process)
   line_queue e i = subst (In e) (all.parts e.made.process)
-    (in_filter_from (λ d. d.made.process == e.made.process) e all.line i (eq-eqb e.made.process e.made.process refl))
+      (in_filter_from (λ d. d.made.process == e.made.process) e all.line i (eq-eqb e.made.process e.made.process refl))
 
   line_op : (e : Ended) → In e all.line → In e.made (calls_in h)
   line_op e i = in_filter (λ o. o.process == e.made.process) e.made (calls_in h)
-    (subst (In e.made) (calls_in-part e.made.process h) (queue_op e.made.process e (line_queue e i)))
+      (subst (In e.made) (calls_in-part e.made.process h) (queue_op e.made.process e (line_queue e i)))
 
   -- where the line falls into parts at an operation, so do the operations of its process
   turn_of : (l n : List Ended) (a : Ended) → all.line ≡ l ++ a ∷ n → (rest : List ProcessCall)
@@ -258,34 +263,34 @@ module _ (objects : ℕ → Specification) (h : List Numbered) (hist : IsHistory
       let self : mine a ≡ true = eq-eqb a.made.process a.made.process refl in
       let q : queue a.made.process ≡ filter mine l ++ a ∷ filter mine n = sym (all.parts a.made.process)
       ∙ (ap (filter mine) e ∙ (filter-append mine l (a ∷ n)
-        ∙ ap (λ b. filter mine l ++ cond b (a ∷ filter mine n) (filter mine n)) self)) in
+      ∙ ap (λ b. filter mine l ++ cond b (a ∷ filter mine n) (filter mine n)) self)) in
       let c = completed a.made.process in (
         ops_of (filter mine n) ++ c.rest,
         c.front ∙ (ap (λ es. ops_of es ++ c.rest) q
             ∙ (ap (λ os. os ++ c.rest) (map-append (λ (e : Ended). e.made) (filter mine l) (a ∷ filter mine n))
-              ∙ append_assoc (ops_of (filter mine l)) (a.made ∷ ops_of (filter mine n)) c.rest)),
+            ∙ append_assoc (ops_of (filter mine l)) (a.made ∷ ops_of (filter mine n)) c.rest)),
       )
 
   -- the operations of a process in the sequence are those in the completion
   in_completion : (l n : List Ended) (a : Ended) → all.line ≡ l ++ a ∷ n
       → IsOperation lin.completion
-        (record { process = a.made.process; turn = length (filter (λ e. e.made.process == a.made.process) l) })
+      (record { process = a.made.process; turn = length (filter (λ e. e.made.process == a.made.process) l) })
   in_completion l n a e =
       let p : ℕ = a.made.process in
       let mine : Ended → Bool = λ d. d.made.process == p in
       let c1 : count (invokes p) lin.completion ≡ count (invokes p) lin.sequence =
       ap length (sym (invokes_of_process p lin.completion)
-        ∙ (ap (filter (invokes p)) (lin.equivalent p) ∙ invokes_of_process p lin.sequence)) in
+      ∙ (ap (filter (invokes p)) (lin.equivalent p) ∙ invokes_of_process p lin.sequence)) in
       let c2 : count (invokes p) lin.sequence ≡ length (filter mine all.line) =
-        ap (count (invokes p)) all.events_are ∙ ended_invokes p all.line in
+      ap (count (invokes p)) all.events_are ∙ ended_invokes p all.line in
       let c3 : length (filter mine all.line) ≡ length (filter mine (l ++ a ∷ n)) =
-        ap (λ es. length (filter mine es)) e in
+      ap (λ es. length (filter mine es)) e in
       let c4 = longer mine l n a (eq-eqb p p refl) in
       omega arith
 
   -- of two in the line the later has not returned before the earlier was invoked
   not_before : (l m n : List Ended) (a b : Ended) → all.line ≡ l ++ a ∷ (m ++ b ∷ n)
-    → ReturnsBefore b.made.call a.made.call → ⊥
+      → ReturnsBefore b.made.call a.made.call → ⊥
   not_before l m n a b e back =
       let pa : ℕ = a.made.process in
       let pb : ℕ = b.made.process in
@@ -300,57 +305,57 @@ module _ (objects : ℕ → Specification) (h : List Numbered) (hist : IsHistory
       let u : List Numbered = cut.0 in
       let t : ℕ = k.0.number in
       let rising : Pairs (λ (x y : Numbered). x.number < y.number) (u ++ k.0 ∷ cut.1) =
-        subst (Pairs (λ (x y : Numbered). x.number < y.number)) cut.2 (up h hist) in
+      subst (Pairs (λ (x y : Numbered). x.number < y.number)) cut.2 (up h hist) in
       let ka : ℕ = length (filter (λ e. e.made.process == pa) l) in
       let kb : ℕ = length (filter (λ e. e.made.process == pb) l') in
       let ka_is : length (ops_of (filter (λ e. e.made.process == pa) l)) ≡ ka =
-        length-map (filter (λ e. e.made.process == pa) l) (λ (e : Ended). e.made) in
+      length-map (filter (λ e. e.made.process == pa) l) (λ (e : Ended). e.made) in
       let kb_is : length (ops_of (filter (λ e. e.made.process == pb) l')) ≡ kb =
-        length-map (filter (λ e. e.made.process == pb) l') (λ (e : Ended). e.made) in
+      length-map (filter (λ e. e.made.process == pb) l') (λ (e : Ended). e.made) in
       -- the invocations of a's process before a's
       let i1 : count (invokes pa) (events u) ≡ length (filter (λ m. invokes pa m.event) u) =
-        length_filter_events (invokes pa) u in
+      length_filter_events (invokes pa) u in
       let i2 : length (filter (λ m. invokes pa m.event) u)
-        ≡ length (filter (λ m. invokes pa m.event && nat_lt m.number t) h) =
+      ≡ length (filter (λ m. invokes pa m.event && nat_lt m.number t) h) =
       ap length (filter_before (λ m. invokes pa m.event) u k.0 cut.1 rising)
-        ∙ ap (λ hs. length (filter (λ m. invokes pa m.event && nat_lt m.number t) hs)) (sym cut.2) in
+      ∙ ap (λ hs. length (filter (λ m. invokes pa m.event && nat_lt m.number t) hs)) (sym cut.2) in
       let i3 = invocations_before pa t h in
       let i4 : length (filter (λ e. (e.process == pa) && nat_lt (number_of e) t) (calls_in h))
       ≡ length (filter (λ e. nat_lt (number_of e) (number_of a.made))
-        (ops_of (filter (λ e. e.made.process == pa) l) ++ a.made ∷ ta.0)) =
+      (ops_of (filter (λ e. e.made.process == pa) l) ++ a.made ∷ ta.0)) =
       ap length (sym (filter-filter (λ e. nat_lt (number_of e) t) (λ e. e.process == pa) (calls_in h)))
       ∙ (ap (λ os. length (filter (λ e. nat_lt (number_of e) t) os)) (sym (calls_in-part pa h) ∙ ta.1)
       ∙ ap (λ s. length (filter (λ e. nat_lt (number_of e) s)
-        (ops_of (filter (λ e. e.made.process == pa) l) ++ a.made ∷ ta.0))) k.2) in
+      (ops_of (filter (λ e. e.made.process == pa) l) ++ a.made ∷ ta.0))) k.2) in
       let i5 = below_one (ops_of (filter (λ e. e.made.process == pa) l)) ta.0 a.made
-        (subst (Pairs (λ a b. number_of a < number_of b)) ta.1 (part_rise h hist pa)) in
+      (subst (Pairs (λ a b. number_of a < number_of b)) ta.1 (part_rise h hist pa)) in
       -- the responses of b's process before that
       let r1 : count (responds pb) (events u) ≡ length (filter (λ m. responds pb m.event) u) =
-        length_filter_events (responds pb) u in
+      length_filter_events (responds pb) u in
       let r2 : length (filter (λ m. responds pb m.event) u)
-        ≡ length (filter (λ m. responds pb m.event && nat_lt m.number t) h) =
+      ≡ length (filter (λ m. responds pb m.event && nat_lt m.number t) h) =
       ap length (filter_before (λ m. responds pb m.event) u k.0 cut.1 rising)
-        ∙ ap (λ hs. length (filter (λ m. responds pb m.event && nat_lt m.number t) hs)) (sym cut.2) in
+      ∙ ap (λ hs. length (filter (λ m. responds pb m.event && nat_lt m.number t) hs)) (sym cut.2) in
       let r3 : length (filter (λ m. responds pb m.event && nat_lt m.number t) (part pb h))
-        ≡ length (filter (λ m. responds pb m.event && nat_lt m.number t) h) = ap length (responds_in_part pb t h) in
+      ≡ length (filter (λ m. responds pb m.event && nat_lt m.number t) h) = ap length (responds_in_part pb t h) in
       let r4 = responses_before pb t (part pb h) (turn_view h hist pb) in
       let r5 : length (filter (λ e. is_back t e.call.returned) (calls_in (part pb h)))
       ≡ length (filter (λ e. is_back t e.call.returned)
-        (ops_of (filter (λ e. e.made.process == pb) l') ++ b.made ∷ tb.0)) =
-        ap (λ os. length (filter (λ e. is_back t e.call.returned) os)) tb.1 in
+      (ops_of (filter (λ e. e.made.process == pb) l') ++ b.made ∷ tb.0)) =
+      ap (λ os. length (filter (λ e. is_back t e.call.returned) os)) tb.1 in
       let late : number_of b.made ≤ back.0.at =
-        returns_after pb (part pb h) b.made back.0 (turn_view h hist pb) (part_up h hist pb)
-        (queue_op pb b (line_queue b in_b)) back.1 in
+      returns_after pb (part pb h) b.made back.0 (turn_view h hist pb) (part_up h hist pb)
+      (queue_op pb b (line_queue b in_b)) back.1 in
       let k2 = k.2 in
       let b2 = back.2 in
       let r6 = back_upto t (ops_of (filter (λ e. e.made.process == pb) l')) tb.0 b.made back.0
       (subst (Pairs Before) tb.1 (one_after_another pb (part pb h) (turn_view h hist pb) (part_up h hist pb))) back.1
-        late (omega arith) in
+      late (omega arith) in
       -- so b precedes a in the history, and then in the sequence
       let g1 = invocations_all pa h in
       let g2 : length (filter (λ o. o.process == pa) (calls_in h))
-        ≡ length (ops_of (filter (λ e. e.made.process == pa) l) ++ a.made ∷ ta.0) =
-        ap length (sym (calls_in-part pa h) ∙ ta.1) in
+      ≡ length (ops_of (filter (λ e. e.made.process == pa) l) ++ a.made ∷ ta.0) =
+      ap length (sym (calls_in-part pa h) ∙ ta.1) in
       let g3 = length-append (ops_of (filter (λ e. e.made.process == pa) l)) (a.made ∷ ta.0) in
       let na : Operation = record { process = pa; turn = ka } in
       let nb : Operation = record { process = pb; turn = kb } in
@@ -364,11 +369,11 @@ module _ (objects : ℕ → Specification) (h : List Numbered) (hist : IsHistory
         begun = omega arith;
       } in
       let then = moment_from lin.sequence nb na
-        (lin.order nb na (in_completion l' n b e') (in_completion l (m ++ b ∷ n) a e)
-        (precedes_from (events h) nb na moment)) in
+      (lin.order nb na (in_completion l' n b e') (in_completion l (m ++ b ∷ n) a e)
+      (precedes_from (events h) nb na moment)) in
       refuted l m n a b then.front then.rest
-        (sym then.whole ∙ (all.events_are ∙ (ap ended_events e' ∙ flat_map-append two_events l' (b ∷ n))))
-        then.returned then.waiting
+      (sym then.whole ∙ (all.events_are ∙ (ap ended_events e' ∙ flat_map-append two_events l' (b ∷ n))))
+      then.returned then.waiting
 
   pub apart : (l m n : List Ended) (a b : Ended) → all.line ≡ l ++ a ∷ (m ++ b ∷ n)
       → number_of a.made ≢ number_of b.made
@@ -378,15 +383,15 @@ module _ (objects : ℕ → Specification) (h : List Numbered) (hist : IsHistory
       let in_a : In a all.line = subst (In a) (sym e) (in_middle a l (m ++ b ∷ n)) in
       let in_b : In b all.line = subst (In b) (sym e') (in_middle b l' n) in
       let same : a.made ≡ b.made =
-        one_number number_of (calls_in h) a.made b.made (rise h hist) (line_op a in_a) (line_op b in_b) q in
+      one_number number_of (calls_in h) a.made b.made (rise h hist) (line_op a in_a) (line_op b in_b) q in
       let tb = turn_of l' n b e' in
       let i : In a (filter (λ e. e.made.process == b.made.process) l') =
       in_filter_from (λ e. e.made.process == b.made.process) a l' (in_middle a l m)
-        (eq-eqb a.made.process b.made.process (ap (λ (o : ProcessCall). o.process) same)) in
+      (eq-eqb a.made.process b.made.process (ap (λ (o : ProcessCall). o.process) same)) in
       let less : number_of a.made < number_of b.made =
       across (ops_of (filter (λ e. e.made.process == b.made.process) l')) tb.0 a.made b.made
       (subst (Pairs (λ a b. number_of a < number_of b)) tb.1 (part_rise h hist b.made.process))
-        (in_map_from (λ (e : Ended). e.made) a (filter (λ e. e.made.process == b.made.process) l') i) in
+      (in_map_from (λ (e : Ended). e.made) a (filter (λ e. e.made.process == b.made.process) l') i) in
       omega arith
 
   pub linearizable_has_orders_lem : (x : ℕ) → HasValidOrderOf objects h x
@@ -402,40 +407,40 @@ module _ (objects : ℕ → Specification) (h : List Numbered) (hist : IsHistory
               let e = in_map (λ (e : Ended). e.made.call) c es i in
               let o : In e.0.made (filter (λ o. o.object == x) (calls_in h)) =
               in_filter_from (λ o. o.object == x) e.0.made (calls_in h) (line_op e.0 (in_filter own e.0 all.line e.1))
-                (in_filter_passes own e.0 all.line e.1) in
+              (in_filter_passes own e.0 all.line e.1) in
               contains_from_in (calls_on x h) c
-                (subst (λ d. In d (calls_on x h)) (sym e.2)
-                (in_map_from (λ (o : ProcessCall). o.call) e.0.made (filter (λ o. o.object == x) (calls_in h)) o)));
+              (subst (λ d. In d (calls_on x h)) (sym e.2)
+              (in_map_from (λ (o : ProcessCall). o.call) e.0.made (filter (λ o. o.object == x) (calls_in h)) o)));
           once = all_from_pairs (λ (a b : ℤ). a ≢ b) (map (λ (c : Call). pos c.number) cs)
               (pairs_map (λ (a b : ℤ). a ≢ b) (λ (c : Call). pos c.number) cs
-                (pairs_map (λ (a b : Call). pos a.number ≢ pos b.number) (λ (e : Ended). e.made.call) es
+              (pairs_map (λ (a b : Call). pos a.number ≢ pos b.number) (λ (e : Ended). e.made.call) es
               (pairs_filter (λ a b. pos (number_of a.made) ≢ pos (number_of b.made)) own all.line
               (pairs_by_parts (λ a b. pos (number_of a.made) ≢ pos (number_of b.made)) [] all.line
-                (λ l m n a b e q. apart l m n a b e (same_pos (number_of a.made) (number_of b.made) q))))));
+              (λ l m n a b e q. apart l m n a b e (same_pos (number_of a.made) (number_of b.made) q))))));
           whole = all_from_in (λ c. IsSome c.returned → Contains cs c) (calls_on x h) (λ c i s.
               let o = in_map (λ (o : ProcessCall). o.call) c (filter (λ o. o.object == x) (calls_in h)) i in
               let r = returned_some c.returned s in
               let p : ℕ = o.0.process in
               let io : In o.0 (calls_in (part p h)) =
               subst (In o.0) (sym (calls_in-part p h))
-                (in_filter_from (λ o. o.process == p) o.0 (calls_in h)
-                (in_filter (λ o. o.object == x) o.0 (calls_in h) o.1) (eq-eqb p p refl)) in
+              (in_filter_from (λ o. o.process == p) o.0 (calls_in h)
+              (in_filter (λ o. o.object == x) o.0 (calls_in h) o.1) (eq-eqb p p refl)) in
               let e = (completed p).whole o.0 r.0 io (ap (λ (c : Call). c.returned) (sym o.2) ∙ r.1) in
               let on_line : In e.0 all.line =
-                in_filter (λ e. e.made.process == p) e.0 all.line (subst (In e.0) (sym (all.parts p)) e.1) in
+              in_filter (λ e. e.made.process == p) e.0 all.line (subst (In e.0) (sym (all.parts p)) e.1) in
               let at_x : (e.0.made.object == x) ≡ true =
-                ap (λ (o : ProcessCall). o.object == x) e.2
-                ∙ in_filter_passes (λ o. o.object == x) o.0 (calls_in h) o.1 in
+              ap (λ (o : ProcessCall). o.object == x) e.2
+              ∙ in_filter_passes (λ o. o.object == x) o.0 (calls_in h) o.1 in
               contains_from_in cs c (subst (λ d. In d cs) (ap (λ (o : ProcessCall). o.call) e.2 ∙ sym o.2)
               (in_map_from (λ (e : Ended). e.made.call) e.0 es (in_filter_from own e.0 all.line on_line at_x))));
           in_order = all_from_pairs (λ (a b : Call). ReturnsBefore b a → ⊥) cs
-            (pairs_map (λ (a b : Call). ReturnsBefore b a → ⊥) (λ (e : Ended). e.made.call) es
+              (pairs_map (λ (a b : Call). ReturnsBefore b a → ⊥) (λ (e : Ended). e.made.call) es
               (pairs_filter (λ a b. ReturnsBefore b.made.call a.made.call → ⊥) own all.line
-                (pairs_by_parts (λ a b. ReturnsBefore b.made.call a.made.call → ⊥) [] all.line not_before)));
+              (pairs_by_parts (λ a b. ReturnsBefore b.made.call a.made.call → ⊥) [] all.line not_before)));
           replies = replies_back (objects x) (objects x).empty es
-            (subst (RepliesFrom (objects x) (objects x).empty)
-            (ap (by_object x) all.events_are ∙ ended_of_object x all.line) (lin.legal x).1)
+              (subst (RepliesFrom (objects x) (objects x).empty)
+              (ap (by_object x) all.events_are ∙ ended_of_object x all.line) (lin.legal x).1)
               (λ e r i q. let j = line_queue e (in_filter own e all.line i) in
-                (completed e.made.process).recorded e r j q);
+              (completed e.made.process).recorded e r j q);
         },
       )

@@ -42,12 +42,21 @@ overlapping_enqueues-history = history 2 overlapping_enqueues refl
 pub overlapping_enqueues-valid : IsValidOrder Queue (calls_on 0 overlapping_enqueues) (pos 1 ∷ pos 0 ∷ pos 4 ∷ [])
 overlapping_enqueues-valid = valid_order Queue (calls_on 0 overlapping_enqueues)
     (returned 1 (Enqueue (pos 2)) 3 (Some (pos 2)) ∷ returned 0 (Enqueue (pos 1)) 2 (Some (pos 1))
-      ∷ returned 4 Dequeue 5 (Some (pos 2)) ∷ []) refl
+    ∷ returned 4 Dequeue 5 (Some (pos 2)) ∷ []) refl
     ((1, lit< tt, refl), ((0, lit< tt, refl), ((2, lit< tt, refl), tt)))
-    (λ s. (1, lit< tt, refl), (λ s. (0, lit< tt, refl), (λ s. (2, lit< tt, refl), tt)))
-    (queue (pos 2 ∷ []), Value (Some (pos 2)), refl, refl,
-      (queue (pos 2 ∷ pos 1 ∷ []), Value (Some (pos 1)), refl, refl,
-      (queue (pos 1 ∷ []), Value (Some (pos 2)), refl, refl, tt)))
+    (λ s. (1, lit< tt, refl), (λ s. (0, lit< tt, refl), (λ s. (2, lit< tt, refl), tt))) (
+      queue (pos 2 ∷ []),
+      Value (Some (pos 2)),
+      refl,
+      refl,
+      (
+        queue (pos 2 ∷ pos 1 ∷ []),
+        Value (Some (pos 1)),
+        refl,
+        refl,
+        (queue (pos 1 ∷ []), Value (Some (pos 2)), refl, refl, tt),
+      ),
+    )
 
 pub overlapping_enqueues-linearizable : IsLinearizable (λ x. Queue) (events overlapping_enqueues)
 overlapping_enqueues-linearizable =
@@ -108,7 +117,7 @@ two_queues-linearizable =
     let second : HasValidOrder (λ x. Queue) two_queues 1 = (pos 3 ∷ pos 1 ∷ [], two_queues-second) in
     named_kinds (λ x. Queue) two_queues two_queues-history
     (All-from_recursion (λ (e : ProcessCall). HasValidOrder (λ x. Queue) two_queues e.object) (calls_in two_queues)
-      (first, (second, (first, (second, tt)))))
+    (first, (second, (first, (second, tt)))))
 
 pub mutex_passed_on-history : IsHistory mutex_passed_on
 mutex_passed_on-history = history 2 mutex_passed_on refl
@@ -118,9 +127,13 @@ mutex_passed_on-valid =
     valid_order Mutex (calls_on 0 mutex_passed_on)
     (returned 0 Acquire 1 None ∷ returned 3 Release 4 None ∷ returned 2 Acquire 5 None ∷ []) refl
     ((0, lit< tt, refl), ((2, lit< tt, refl), ((1, lit< tt, refl), tt)))
-    (λ s. (0, lit< tt, refl), (λ s. (2, lit< tt, refl), (λ s. (1, lit< tt, refl), tt)))
-    (mutex true, Value None, refl, refl,
-      (mutex false, Value None, refl, refl, (mutex true, Value None, refl, refl, tt)))
+    (λ s. (0, lit< tt, refl), (λ s. (2, lit< tt, refl), (λ s. (1, lit< tt, refl), tt))) (
+      mutex true,
+      Value None,
+      refl,
+      refl,
+      (mutex false, Value None, refl, refl, (mutex true, Value None, refl, refl, tt)),
+    )
 
 pub mutex_passed_on-linearizable : IsLinearizable (λ x. Mutex) (events mutex_passed_on)
 mutex_passed_on-linearizable =

@@ -74,8 +74,8 @@ pub none_from : (what : Event → ℕ) (n : ℕ) (h : List Event) → list_all (
     → n ≤ p → filter (λ e. what e == p) h ≡ []
 none_from what n h all p l =
     filter_none (λ e. what e == p) h
-      (λ e i. ne_eqb (what e) p
-      (λ q. let low = ltb-true (what e) n (passes (λ e. nat_lt (what e) n) h all e i) in omega (arith, q)))
+    (λ e i. ne_eqb (what e) p
+    (λ q. let low = ltb-true (what e) n (passes (λ e. nat_lt (what e) n) h all e i) in omega (arith, q)))
 
 pub well_formed : (n : ℕ) (h : List Event) → list_all (λ e. nat_lt (process_of e) n) h ≡ true
     → are_sequential n h ≡ true → IsWellFormed h
@@ -95,7 +95,7 @@ is_history_of n h = rises_from 0 h
 pub history : (n : ℕ) (h : List Numbered) → is_history_of n h ≡ true → IsHistory h
 history n h e =
     let a = and_parts (rises_from 0 h)
-      (list_all (λ e. nat_lt (process_of e) n) (events h) && are_sequential n (events h)) e in
+    (list_all (λ e. nat_lt (process_of e) n) (events h) && are_sequential n (events h)) e in
     let b = and_parts (list_all (λ e. nat_lt (process_of e) n) (events h)) (are_sequential n (events h)) a.1 in
     record {
       rising = all_from_pairs (λ (a b : Numbered). a.number < b.number) h (rises 0 h a.0).0;
@@ -118,12 +118,14 @@ ordered (a ∷ es) e =
     let both = and_parts (list_all good es) (in_order es) e in (
       λ b i.
           let parts = and_parts (not (a.number == b.number)) (not (is_back a.number b.returned))
-            (passes good es both.0 b i) in
+          (passes good es both.0 b i) in
           let apart : (a.number == b.number) ≡ false = not-true (a.number == b.number) parts.0 in
-          let late : is_back a.number b.returned ≡ false = not-true (is_back a.number b.returned) parts.1 in
-          (λ same. let on = eq-eqb a.number b.number same in
-            absurd (cc (apart, on)), λ r. let on = returned_back a.number b.returned r.0 r.1 r.2 in
-            absurd (cc (late, on))),
+          let late : is_back a.number b.returned ≡ false = not-true (is_back a.number b.returned) parts.1 in (
+            λ same. let on = eq-eqb a.number b.number same in
+                absurd (cc (apart, on)),
+            λ r. let on = returned_back a.number b.returned r.0 r.1 r.2 in
+                absurd (cc (late, on)),
+          ),
       ordered es both.1,
     )
 
@@ -140,12 +142,12 @@ valid_order kind calls entries e known whole replies =
       once = all_from_pairs (λ (a b : ℤ). a ≢ b) (map (λ (e : Call). pos e.number) entries)
           (pairs_map (λ (a b : ℤ). a ≢ b) (λ (e : Call). pos e.number) entries
           (pairs_weaker (λ (a b : Call). (a.number ≢ b.number) × (ReturnsBefore b a → ⊥))
-            (λ (a b : Call). pos a.number ≢ pos b.number) entries
-            (λ a b i j r q. r.0 (same_pos a.number b.number q)) o));
+          (λ (a b : Call). pos a.number ≢ pos b.number) entries
+          (λ a b i j r q. r.0 (same_pos a.number b.number q)) o));
       whole = All-from_recursion (λ (e : Call). IsSome e.returned → Contains entries e) calls whole;
       in_order = all_from_pairs (λ (a b : Call). ReturnsBefore b a → ⊥) entries
           (pairs_weaker (λ (a b : Call). (a.number ≢ b.number) × (ReturnsBefore b a → ⊥))
-            (λ (a b : Call). ReturnsBefore b a → ⊥) entries (λ a b i j r. r.1) o);
+          (λ (a b : Call). ReturnsBefore b a → ⊥) entries (λ a b i j r. r.1) o);
       replies = replies;
     }
 
@@ -155,4 +157,4 @@ pub linearizable : (kinds : ℕ → Kind) (h : List Numbered) → IsHistory h
 linearizable kinds h hist all valid =
     named_kinds kinds h hist (all_from_in (λ (e : ProcessCall). HasValidOrder kinds h e.object) (calls_in h)
     (λ e i. subst (HasValidOrder kinds h)
-      (sym (eqb-true e.object 0 (passes (λ e. e.object == 0) (calls_in h) all e i))) valid))
+    (sym (eqb-true e.object 0 (passes (λ e. e.object == 0) (calls_in h) all e i))) valid))

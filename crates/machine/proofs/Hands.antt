@@ -36,10 +36,10 @@ put_back_not s c x r q h can after m =
     let replays : Replays (empty (kind_at s.kinds x)) (get_or s.logs x []) t.content
     = subst (λ (y : ℕ). Replays (empty (kind_at s.kinds y)) (get_or s.logs y []) t.content) same.object i.3 in
     let once : can.0 ≡ t.content =
-      replays_once (empty (kind_at s.kinds x)) can.0 t.content (get_or s.logs x []) can.1 replays in
+    replays_once (empty (kind_at s.kinds x)) can.0 t.content (get_or s.logs x []) can.1 replays in
     let there : IsSome (next t.content t.request.op) =
-      subst (λ (z : Content). IsSome (next z t.request.op)) once
-      (subst (λ (z : AnyRequest). IsSome (next can.0 z.op)) (sym same.request) can.2) in
+    subst (λ (z : Content). IsSome (next z t.request.op)) once
+    (subst (λ (z : AnyRequest). IsSome (next can.0 z.op)) (sym same.request) can.2) in
     let none : next t.content t.request.op ≡ None = t.impossible in
     let no : IsSome {T = Content × AnyReply} None = subst IsSome none there in
     absurd (cc)

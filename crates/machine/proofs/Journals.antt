@@ -21,7 +21,7 @@ journal_called (d ∷ ds) q = ap (λ es. invoked d.request ∷ Returned d.return
 
 pub journal_returned : (ds : List AnyDone) (q : AnyRequest) (a : AnyAnswer) (u : ℕ)
     → journal_of ds (Some q) ++ Returned u a ∷ []
-      ≡ journal_of (ds ++ record { request = q; answer = a; returned = u } ∷ []) None
+    ≡ journal_of (ds ++ record { request = q; answer = a; returned = u } ∷ []) None
 journal_returned [] q a u = refl
 journal_returned (d ∷ ds) q a u =
     ap (λ es. invoked d.request ∷ Returned d.returned d.answer ∷ es) (journal_returned ds q a u)
@@ -55,7 +55,7 @@ pub seen_grown : {A B : Type 0} (f : A → B) (xs : List (List A)) (c : ℕ) (e 
     ≡ set (map (map f) xs) c (get_or (map (map f) xs) c [] ++ f e ∷ [])
 seen_grown f xs c e = map-set (map f) xs c (get_or xs c [] ++ e ∷ [])
     ∙ ap (set (map (map f) xs) c)
-      (map-append f (get_or xs c []) (e ∷ []) ∙ ap (λ es. es ++ f e ∷ []) (sym (ListN.get_or-map (map f) xs c [])))
+    (map-append f (get_or xs c []) (e ∷ []) ∙ ap (λ es. es ++ f e ∷ []) (sym (ListN.get_or-map (map f) xs c [])))
 
 pub if_err : {A E P : Type 0} (r : Result A E) (x : E) → IsErrAnd r (λ e. e ≡ x) → P → IfErr r (λ e. (e ≡ x) × P)
 if_err (Ok a) x h p = tt

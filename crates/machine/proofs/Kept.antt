@@ -53,12 +53,12 @@ run_more kinds n quota step w after c r h =
 pub run_taken : (s s' : State) (c : ℕ) (w : Step) → HasRun s → IsTaken s c w s' → HasRun s'
 run_taken s s' c w run t =
     let same : (ks : List Kind) (n q : ℕ) → s'.kinds ≡ ks → clients_of s' ≡ n → s'.quota ≡ q
-      → IsWorldOfRun ks n q (world_of s') → HasRun s' =
+    → IsWorldOfRun ks n q (world_of s') → HasRun s' =
     λ ks n q a b d h. subst (λ (k : List Kind). IsWorldOfRun k (clients_of s') s'.quota (world_of s')) (sym a)
     (subst (λ (k : ℕ). IsWorldOfRun ks k s'.quota (world_of s')) (sym b)
-      (subst (λ (k : ℕ). IsWorldOfRun ks n k (world_of s')) (sym d) h)) in
+    (subst (λ (k : ℕ). IsWorldOfRun ks n k (world_of s')) (sym d) h)) in
     same s.kinds (clients_of s) s.quota t.kinds t.clients t.quota
-      (run_more s.kinds (clients_of s) s.quota w (world_of s) (world_of s') c run t.moves)
+    (run_more s.kinds (clients_of s) s.quota w (world_of s) (world_of s') c run t.moves)
 
 -- a client that is there has come
 named : (t : AnyStage) → stage_of t ≢ world.absent
@@ -96,7 +96,7 @@ pub record Keeps (contents : List Content) (s : State) : Type 0 where
 module _ (contents : List Content) (s : State) (m : IsMachine contents s) (c : ℕ) (go : IsGoing s c) where
   -- what a client that is going takes is a transition
   moves_on : (w : Step) (after : World) → Takes s.kinds s.quota w (world_of s) c after
-    → Transition s.kinds s.quota w (world_of s) c after
+      → Transition s.kinds s.quota w (world_of s) c after
   moves_on w after t = let low = go.0 in let few = m.few_clients in (omega arith, go.1, is_there s.stages c low, t)
 
   pub kept : (contents' : List Content) (s' : State) (w : Step) → IsLike s s'
@@ -110,7 +110,7 @@ module _ (contents : List Content) (s : State) (m : IsMachine contents s) (c : �
       let fo = m.few_objects in let fc = m.few_clients in let fq = m.few_calls in
       let same_kinds : length s'.kinds ≡ length s.kinds = ap (λ (ks : List Kind). length ks) ek in
       let run : IsWorldOfRun s.kinds (length s.stages) s.quota (world_of s') =
-        run_more s.kinds (clients_of s) s.quota w (world_of s) (world_of s') c m.run moved in (
+      run_more s.kinds (clients_of s) s.quota w (world_of s) (world_of s') c m.run moved in (
         record {
           kinds = keeps.kinds;
           logs = omega arith;
@@ -126,7 +126,7 @@ module _ (contents : List Content) (s : State) (m : IsMachine contents s) (c : �
           single = keeps.single;
           run = subst (λ (ks : List Kind). IsWorldOfRun ks (length s'.stages) s'.quota (world_of s')) (sym ek)
               (subst (λ (q : ℕ). IsWorldOfRun s.kinds (length s'.stages) q (world_of s')) (sym eq)
-                (subst (λ (n : ℕ). IsWorldOfRun s.kinds n s.quota (world_of s')) (sym es) run));
+              (subst (λ (n : ℕ). IsWorldOfRun s.kinds n s.quota (world_of s')) (sym es) run));
         },
         record { moves = moved; kinds = ek; clients = es; quota = eq },
       )
@@ -137,55 +137,71 @@ module _ (contents : List Content) (s : State) (m : IsMachine contents s) (c : �
       → request_of ((world_of s).stage j) ≡ request_of ((world_of s').stage j)
   requests_staged s' r t is same j =
       changed_all (λ k v. request_of ((world_of s).stage k) ≡ request_of v) (world_of s).stage r t (sym same)
-        (λ k _. refl) j ∙ ap (λ (f : ℕ → Stage). request_of (f j)) (sym is)
+      (λ k _. refl) j ∙ ap (λ (f : ℕ → Stage). request_of (f j)) (sym is)
 
   -- A client only goes to another stage, with the same request.
   pub staged_now : (t : AnyStage) (w : Step)
       → Takes s.kinds s.quota w (world_of s) c (staged (world_of s) c (stage_of t))
       → request_of (stage_of t) ≡ request_of ((world_of s).stage c)
       → IsMachine contents (record s { stages = set s.stages c t })
-        × IsTaken s c w (record s { stages = set s.stages c t })
+      × IsTaken s c w (record s { stages = set s.stages c t })
   staged_now t w takes same =
       let s' : State = record s { stages = set s.stages c t } in
       let is : world_of s' ≡ staged (world_of s) c (stage_of t) = world-staged s c t go.0 in
       kept contents s' w
-      (record { kinds = refl; quota = refl; logs = refl; holders = refl; hands = refl;
-        stages = length-set s.stages c t; journals = refl; ended = refl })
+      (record {
+        kinds = refl;
+        quota = refl;
+        logs = refl;
+        holders = refl;
+        hands = refl;
+        stages = length-set s.stages c t;
+        journals = refl;
+        ended = refl;
+      })
       (subst (Takes s.kinds s.quota w (world_of s) c) (sym is) takes)
       (record {
         kinds = m.kinds;
         fits = m.fits;
         single = m.single;
         journals_are = λ j. m.journals_are j
-          ∙ ap (journal_of (done_in (get_or s.journals j [])))
-          (requests_staged s' c (stage_of t) (ap (λ (z : World). z.stage) is) same j);
+            ∙ ap (journal_of (done_in (get_or s.journals j [])))
+            (requests_staged s' c (stage_of t) (ap (λ (z : World). z.stage) is) same j);
       })
 
   -- An object goes to another holder, or to none.
   pub held_now : (x : ℕ) (h : Option ℕ) (w : Step) → x < length s.holders
       → Takes s.kinds s.quota w (world_of s) c (held_by (world_of s) x h)
       → ((d y z : ℕ) → changed (λ k. get_or s.holders k None) x h y ≡ Some d
-        → changed (λ k. get_or s.holders k None) x h z ≡ Some d → y ≡ z)
+      → changed (λ k. get_or s.holders k None) x h z ≡ Some d → y ≡ z)
       → IsMachine contents (record s { holders = set s.holders x h })
-        × IsTaken s c w (record s { holders = set s.holders x h })
+      × IsTaken s c w (record s { holders = set s.holders x h })
   held_now x h w low takes single =
       let s' : State = record s { holders = set s.holders x h } in
       let is : world_of s' ≡ held_by (world_of s) x h = world-held s x h low in
       kept contents s' w
-      (record { kinds = refl; quota = refl; logs = refl; holders = length-set s.holders x h; hands = refl;
-        stages = refl; journals = refl; ended = refl })
+      (record {
+        kinds = refl;
+        quota = refl;
+        logs = refl;
+        holders = length-set s.holders x h;
+        hands = refl;
+        stages = refl;
+        journals = refl;
+        ended = refl;
+      })
       (subst (Takes s.kinds s.quota w (world_of s) c) (sym is) takes)
       (record {
         kinds = m.kinds;
         fits = m.fits;
         journals_are = m.journals_are;
         single = λ d y z a b. single d y z (sym (get_or-set s.holders x h None low y) ∙ a)
-          (sym (get_or-set s.holders x h None low z) ∙ b);
+            (sym (get_or-set s.holders x h None low z) ∙ b);
       })
 
   pub win_now : (x : ℕ) → x < length s.kinds → (world_of s).holder x ≡ None → HoldsNothing (world_of s) c
       → IsMachine contents (record s { holders = set s.holders x (Some c) })
-        × IsTaken s c (win x) (record s { holders = set s.holders x (Some c) })
+      × IsTaken s c (win x) (record s { holders = set s.holders x (Some c) })
   win_now x low free nothing = let e = m.holders in held_now x (Some c) (win x) (omega arith)
       (record { on_object = low; free = free; holds_nothing = nothing; after = refl }) single
     where
@@ -204,14 +220,14 @@ module _ (contents : List Content) (s : State) (m : IsMachine contents s) (c : �
       single : (d y z : ℕ) → changed f x (Some c) y ≡ Some d → changed f x (Some c) z ≡ Some d → y ≡ z
       single d y z a b = dite (ℕ_discrete y x)
           (λ yx. dite (ℕ_discrete z x) (λ zx. yx ∙ sym zx)
-            (λ zo. absurd ((here d z zo b).1 (there d (sym (ap (changed f x (Some c)) yx) ∙ a)))))
+          (λ zo. absurd ((here d z zo b).1 (there d (sym (ap (changed f x (Some c)) yx) ∙ a)))))
           (λ yo. dite (ℕ_discrete z x)
-            (λ zx. absurd ((here d y yo a).1 (there d (sym (ap (changed f x (Some c)) zx) ∙ b))))
-            (λ zo. m.single d y z (here d y yo a).0 (here d z zo b).0))
+          (λ zx. absurd ((here d y yo a).1 (there d (sym (ap (changed f x (Some c)) zx) ∙ b))))
+          (λ zo. m.single d y z (here d y yo a).0 (here d z zo b).0))
 
   pub release_now : (x : ℕ) → x < length s.kinds → (world_of s).holder x ≡ Some c → (world_of s).hand x ≡ None
       → IsMachine contents (record s { holders = set s.holders x None })
-        × IsTaken s c release (record s { holders = set s.holders x None })
+      × IsTaken s c release (record s { holders = set s.holders x None })
   release_now x low held hand = let e = m.holders in held_now x None release (omega arith)
       (record { object = x; held = held; free = hand; after = refl }) single
     where
@@ -234,10 +250,18 @@ module _ (contents : List Content) (s : State) (m : IsMachine contents s) (c : �
       let low = go.0 in let long = m.ended in let within : c < length s.ended = omega arith in
       let is : world_of s' ≡ ended_by (world_of s) c = world-ended s c within in
       kept contents s' end
-      (record { kinds = refl; quota = refl; logs = refl; holders = refl; hands = refl; stages = refl; journals = refl;
-        ended = length-set s.ended c true })
+      (record {
+        kinds = refl;
+        quota = refl;
+        logs = refl;
+        holders = refl;
+        hands = refl;
+        stages = refl;
+        journals = refl;
+        ended = length-set s.ended c true;
+      })
       (subst (Takes s.kinds s.quota end (world_of s) c) (sym is)
-        (record { may_end = may; holds_nothing = nothing; after = refl }))
+      (record { may_end = may; holds_nothing = nothing; after = refl }))
       (record { kinds = m.kinds; fits = m.fits; journals_are = m.journals_are; single = m.single })
 
   -- what a draw leaves: each journal is that of the world
@@ -251,8 +275,16 @@ module _ (contents : List Content) (s : State) (m : IsMachine contents s) (c : �
       let low = go.0 in let long = m.journals in let within : c < length s.journals = omega arith in
       let is : world_of s' ≡ ticked (world_of s) c (stage_of t) (done_in js) = world-ticked s c t js go.0 within in
       kept contents s' w
-      (record { kinds = refl; quota = refl; logs = refl; holders = refl; hands = refl;
-        stages = length-set s.stages c t; journals = length-set s.journals c js; ended = refl })
+      (record {
+        kinds = refl;
+        quota = refl;
+        logs = refl;
+        holders = refl;
+        hands = refl;
+        stages = length-set s.stages c t;
+        journals = length-set s.journals c js;
+        ended = refl;
+      })
       (subst (Takes s.kinds s.quota w (world_of s) c) (sym is) takes)
       (record { kinds = m.kinds; fits = m.fits; single = m.single; journals_are = λ j. each s' is within j })
     where
@@ -260,77 +292,95 @@ module _ (contents : List Content) (s : State) (m : IsMachine contents s) (c : �
       IsOwn js t = js ≡ journal_of (done_in js) (request_of t)
 
       each : (s' : State) → world_of s' ≡ ticked (world_of s) c (stage_of t) (done_in js) → c < length s.journals
-        → (j : ℕ) → IsOwn (get_or (set s.journals c js) j []) ((world_of s').stage j)
+          → (j : ℕ) → IsOwn (get_or (set s.journals c js) j []) ((world_of s').stage j)
       each s' is within j = subst (λ (xs : List AnyEvent). IsOwn xs ((world_of s').stage j))
-        (sym (get_or-set s.journals c js [] within j))
+          (sym (get_or-set s.journals c js [] within j))
           (subst (λ (z : World). IsOwn (changed (λ k. get_or s.journals k []) c js j) (z.stage j)) (sym is)
           (dite (ℕ_discrete j c)
           (λ same. subst (λ k. IsOwn (changed (λ k. get_or s.journals k []) c js k)
-            (changed (world_of s).stage c (stage_of t) k)) (sym same)
+          (changed (world_of s).stage c (stage_of t) k)) (sym same)
           (subst (λ xs. IsOwn xs (changed (world_of s).stage c (stage_of t) c))
-            (sym (changed_here (λ k. get_or s.journals k []) c js))
+          (sym (changed_here (λ k. get_or s.journals k []) c js))
           (subst (IsOwn js) (sym (changed_here (world_of s).stage c (stage_of t))) here)))
           (λ other. subst (λ xs. IsOwn xs (changed (world_of s).stage c (stage_of t) j))
           (sym (changed_else (λ k. get_or s.journals k []) c js j other))
           (subst (IsOwn (get_or s.journals j [])) (sym (changed_else (world_of s).stage c (stage_of t) j other))
-            (m.journals_are j)))))
+          (m.journals_are j)))))
 
   pub call_now : (x : ℕ) (op : AnyOp) → (world_of s).stage c ≡ world.idle
       → calls_made ((world_of s).done c) None < s.quota → x < length s.kinds → kind_of op ≡ kind_at s.kinds x
       → let q : AnyRequest = record { object = x; ticket = s.clock; op = op } in let s' : State =
-      record s { clock = s.clock + 1; stages = set s.stages c (Drawn q);
-          journals = set s.journals c (get_or s.journals c [] ++ invoked q ∷ []) } in
+      record s {
+        clock = s.clock + 1;
+        stages = set s.stages c (Drawn q);
+        journals = set s.journals c (get_or s.journals c [] ++ invoked q ∷ []);
+      } in
       IsMachine contents s' × IsTaken s c (draw_call x op) s'
   call_now x op idle few low kind =
       let q : AnyRequest = record { object = x; ticket = s.clock; op = op } in
       let ds : List AnyDone = (world_of s).done c in
       let js : List AnyEvent = get_or s.journals c [] ++ invoked q ∷ [] in
       let whole : js ≡ journal_of ds (Some q) =
-        ap (λ es. es ++ invoked q ∷ []) (m.journals_are c ∙ ap (λ t. journal_of ds (request_of t)) idle)
-        ∙ journal_called ds q in
+      ap (λ es. es ++ invoked q ∷ []) (m.journals_are c ∙ ap (λ t. journal_of ds (request_of t)) idle)
+      ∙ journal_called ds q in
       let over : done_in js ≡ ds = ap done_in whole ∙ done_in-journal_of ds (Some q) in
       ticked_now (Drawn q) js (draw_call x op)
-      (record { was = idle; calls_left = few; on_object = low; of_kind = kind;
-        after = ap (ticked (world_of s) c (world.drawn q)) over }) (whole ∙ ap (λ z. journal_of z (Some q)) (sym over))
+      (record {
+        was = idle;
+        calls_left = few;
+        on_object = low;
+        of_kind = kind;
+        after = ap (ticked (world_of s) c (world.drawn q)) over;
+      }) (whole ∙ ap (λ z. journal_of z (Some q)) (sym over))
 
   pub return_now : (q : AnyRequest) (a : AnyAnswer) → (world_of s).stage c ≡ world.taken q a
-      → let s' : State = record s
-        { clock = s.clock + 1; stages = set s.stages c Idle;
-        journals = set s.journals c (get_or s.journals c [] ++ Returned s.clock a ∷ []) } in
+      → let s' : State = record s {
+        clock = s.clock + 1;
+        stages = set s.stages c Idle;
+        journals = set s.journals c (get_or s.journals c [] ++ Returned s.clock a ∷ []);
+      } in
       IsMachine contents s' × IsTaken s c draw_return s'
   return_now q a taken =
       let ds : List AnyDone = (world_of s).done c in
       let es : List AnyDone = ds ++ record { request = q; answer = a; returned = s.clock } ∷ [] in
       let js : List AnyEvent = get_or s.journals c [] ++ Returned s.clock a ∷ [] in
       let whole : js ≡ journal_of es None =
-        ap (λ es. es ++ Returned s.clock a ∷ []) (m.journals_are c ∙ ap (λ t. journal_of ds (request_of t)) taken)
-        ∙ journal_returned ds q a s.clock in
+      ap (λ es. es ++ Returned s.clock a ∷ []) (m.journals_are c ∙ ap (λ t. journal_of ds (request_of t)) taken)
+      ∙ journal_returned ds q a s.clock in
       let over : done_in js ≡ es = ap done_in whole ∙ done_in-journal_of es None in
       ticked_now Idle js draw_return
-        (record { request = q; given = a; was = taken; after = ap (ticked (world_of s) c world.idle) over })
-        (whole ∙ ap (λ z. journal_of z None) (sym over))
+      (record { request = q; given = a; was = taken; after = ap (ticked (world_of s) c world.idle) over })
+      (whole ∙ ap (λ z. journal_of z None) (sym over))
 
   -- A request is picked up or put back.
   pub handed_now : (x : ℕ) (h : Option ℕ) (r : ℕ) (t : AnyStage) (w : Step) → x < length s.kinds → r < length s.stages
       → Takes s.kinds s.quota w (world_of s) c (handed (world_of s) x h r (stage_of t))
       → request_of (stage_of t) ≡ request_of ((world_of s).stage r)
       → IsMachine contents (record s { hands = set s.hands x h; stages = set s.stages r t })
-        × IsTaken s c w (record s { hands = set s.hands x h; stages = set s.stages r t })
+      × IsTaken s c w (record s { hands = set s.hands x h; stages = set s.stages r t })
   handed_now x h r t w low within takes same =
       let s' : State = record s { hands = set s.hands x h; stages = set s.stages r t } in
       let long = m.hands in
       let is : world_of s' ≡ handed (world_of s) x h r (stage_of t) = world-handed s x h r t (omega arith) within in
       kept contents s' w
-      (record { kinds = refl; quota = refl; logs = refl; holders = refl; hands = length-set s.hands x h;
-        stages = length-set s.stages r t; journals = refl; ended = refl })
+      (record {
+        kinds = refl;
+        quota = refl;
+        logs = refl;
+        holders = refl;
+        hands = length-set s.hands x h;
+        stages = length-set s.stages r t;
+        journals = refl;
+        ended = refl;
+      })
       (subst (Takes s.kinds s.quota w (world_of s) c) (sym is) takes)
       (record {
         kinds = m.kinds;
         fits = m.fits;
         single = m.single;
         journals_are = λ j. m.journals_are j
-          ∙ ap (journal_of (done_in (get_or s.journals j [])))
-          (requests_staged s' r (stage_of t) (ap (λ (z : World). z.stage) is) same j);
+            ∙ ap (journal_of (done_in (get_or s.journals j [])))
+            (requests_staged s' r (stage_of t) (ap (λ (z : World). z.stage) is) same j);
       })
 
   -- The request in hand is answered: the object contains what the operation leaves, and the log has what was answered.
@@ -339,19 +389,23 @@ module _ (contents : List Content) (s : State) (m : IsMachine contents s) (c : �
       → r < length s.stages → kind_at s.kinds x ≡ kind_with before → kind_with after ≡ kind_with before
       → (world_of s).holder x ≡ Some c → (world_of s).hand x ≡ Some r → (world_of s).stage r ≡ world.picked q
       → IsSome (next before q.op) → Serves before q.op a after
-      → let s' : State = record s
-        { logs = set s.logs x (get_or s.logs x [] ++ logged r q a); hands = set s.hands x None;
-        stages = set s.stages r (Answered q a) } in
+      → let s' : State = record s {
+        logs = set s.logs x (get_or s.logs x [] ++ logged r q a);
+        hands = set s.hands x None;
+        stages = set s.stages r (Answered q a);
+      } in
       IsMachine (set contents x after) s' × IsTaken s c answer s'
   served_now x r q before after a at low within kind same held hand stage can serves =
-      let s' : State = record s
-        { logs = set s.logs x (get_or s.logs x [] ++ logged r q a); hands = set s.hands x None;
-        stages = set s.stages r (Answered q a) } in
+      let s' : State = record s {
+        logs = set s.logs x (get_or s.logs x [] ++ logged r q a);
+        hands = set s.hands x None;
+        stages = set s.stages r (Answered q a);
+      } in
       let hands_long = m.hands in let logs_long = m.logs in
       let there : x < length s.logs = omega arith in
       let is : world_of s' ≡ served_by (world_of s) x r q a = world-served s x r q a (omega arith) there within in
       let replays : Replays (empty (kind_at s.kinds x)) (get_or s.logs x []) before =
-        subst (λ (k : Kind). Replays (empty k) (get_or s.logs x []) before) (sym kind) (m.fits x before at) in
+      subst (λ (k : Kind). Replays (empty k) (get_or s.logs x []) before) (sym kind) (m.fits x before at) in
       kept (set contents x after) s' answer
       (record {
         kinds = refl;
@@ -380,31 +434,32 @@ module _ (contents : List Content) (s : State) (m : IsMachine contents s) (c : �
       (record {
         kinds = m.kinds ∙ sym (map-set_same_at kind_with contents x after before at same);
         fits = fits_served x r q before after a at there kind same
-          (replays_more (empty (kind_with before)) before after (get_or s.logs x []) r q a (m.fits x before at) serves);
+            (replays_more (empty (kind_with before)) before after (get_or s.logs x []) r q a
+            (m.fits x before at) serves);
         single = m.single;
         journals_are = λ j. m.journals_are j
             ∙ ap (journal_of (done_in (get_or s.journals j [])))
-              (requests_staged s' r (world.answered q a) (ap (λ (z : World). z.stage) is)
-              (ap request_of (sym stage)) j);
+            (requests_staged s' r (world.answered q a) (ap (λ (z : World). z.stage) is)
+            (ap request_of (sym stage)) j);
       })
     where
       fits_served : (x r : ℕ) (q : AnyRequest) (before after : Content) (a : AnyAnswer)
-        → slice_get contents x ≡ Some before → x < length s.logs
+          → slice_get contents x ≡ Some before → x < length s.logs
           → kind_at s.kinds x ≡ kind_with before → kind_with after ≡ kind_with before
           → Replays (empty (kind_with before)) (get_or s.logs x [] ++ logged r q a) after
           → (y : ℕ) (d : Content) → slice_get (set contents x after) y ≡ Some d
           → Replays (empty (kind_with d)) (get_or (set s.logs x (get_or s.logs x [] ++ logged r q a)) y []) d
       fits_served x r q before after a at there kind same whole y d e = dite (ℕ_discrete y x)
           (λ yx. let here : after ≡ d =
-            same_Some after d (sym (slice_get-set_same contents x after before at)
-            ∙ ap (slice_get (set contents x after)) (sym yx) ∙ e) in
+          same_Some after d (sym (slice_get-set_same contents x after before at)
+          ∙ ap (slice_get (set contents x after)) (sym yx) ∙ e) in
           subst (λ (z : Content). Replays (empty (kind_with z))
-            (get_or (set s.logs x (get_or s.logs x [] ++ logged r q a)) y []) z) here
+          (get_or (set s.logs x (get_or s.logs x [] ++ logged r q a)) y []) z) here
           (subst (λ (k : Kind). Replays (empty k)
-            (get_or (set s.logs x (get_or s.logs x [] ++ logged r q a)) y []) after) (sym same)
+          (get_or (set s.logs x (get_or s.logs x [] ++ logged r q a)) y []) after) (sym same)
           (subst (λ (l : List AnyEntry). Replays (empty (kind_with before)) l after)
           (sym (ap (λ k. get_or (set s.logs x (get_or s.logs x [] ++ logged r q a)) k []) yx
-            ∙ get_or-set_same s.logs x (get_or s.logs x [] ++ logged r q a) [] there)) whole)))
+          ∙ get_or-set_same s.logs x (get_or s.logs x [] ++ logged r q a) [] there)) whole)))
           (λ yo. subst (λ (l : List AnyEntry). Replays (empty (kind_with d)) l d)
           (sym (get_or-set_other s.logs x y (get_or s.logs x [] ++ logged r q a) [] yo))
-            (m.fits y d (sym (slice_get-set_other contents x after y yo) ∙ e)))
+          (m.fits y d (sym (slice_get-set_other contents x after y yo) ∙ e)))

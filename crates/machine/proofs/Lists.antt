@@ -27,7 +27,7 @@ get_or-set_by {A} {B} f xs i v d low j =
     let g : ℕ → B = λ k. f (get_or xs k d) in
     dite (ℕ_discrete j i)
     (λ same. ap (λ k. f (get_or (set xs i v) k d)) same ∙ ap f (get_or-set_same xs i v d low)
-      ∙ sym (ap (changed g i (f v)) same ∙ changed_here g i (f v)))
+    ∙ sym (ap (changed g i (f v)) same ∙ changed_here g i (f v)))
     (λ other. ap f (get_or-set_other xs i j v d other) ∙ sym (changed_else g i (f v) j other))
 
 pub get_or-set : {A : Type 0} (xs : List A) (i : ℕ) (v d : A) → i < length xs → (j : ℕ)

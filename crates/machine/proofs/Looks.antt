@@ -21,7 +21,7 @@ pub length_seen : {A B Z : Type 0} (f : A → B) (vs : List (Vec A Z)) (c : ℕ)
     → v ≡ get_or vs c v → length (get_or (map (map f) (items_of vs)) c []) ≡ length v.items
 length_seen f vs c v low read =
     ap length (get_or-map (map f) (items_of vs) c v.items [] (simp length-map low)
-      ∙ ap (map f) (get_or-map (λ w. w.items) vs c v v.items low ∙ ap (λ w. w.items) (sym read))) ∙ simp length-map
+    ∙ ap (map f) (get_or-map (λ w. w.items) vs c v v.items low ∙ ap (λ w. w.items) (sym read))) ∙ simp length-map
 
 pub length-journal_of : (ds : List AnyDone) → length (journal_of ds None) ≡ 2 * length ds
 length-journal_of [] = refl
@@ -57,7 +57,7 @@ module _ (contents : List Content) (s : State) (m : IsMachine contents s) where
   calls_half c idle =
       let ds : List AnyDone = (world_of s).done c in
       let long : length (get_or s.journals c []) ≡ 2 * length ds =
-        ap length (m.journals_are c ∙ ap (λ t. journal_of ds (request_of t)) idle) ∙ length-journal_of ds in
+      ap length (m.journals_are c ∙ ap (λ t. journal_of ds (request_of t)) idle) ∙ length-journal_of ds in
       omega arith
 
   -- what is in hand is a request for the object that stands picked up in a client's row
@@ -74,18 +74,18 @@ module _ (contents : List Content) (s : State) (m : IsMachine contents s) where
   pub can_do : (x : ℕ) (c : Content) (op : AnyOp) → slice_get contents x ≡ Some c → kind_at s.kinds x ≡ kind_with c
       → IsSome (next c op) → CanDo s x op
   can_do x c op at kind can =
-    (c, subst (λ (k : Kind). Replays (empty k) (get_or s.logs x []) c) (sym kind) (m.fits x c at), can)
+      (c, subst (λ (k : Kind). Replays (empty k) (get_or s.logs x []) c) (sym kind) (m.fits x c at), can)
 
   pub has_content : (x : ℕ) (c : Content) → slice_get contents x ≡ Some c → kind_at s.kinds x ≡ kind_with c
       → HasContent s x
   has_content x c at kind =
-    (c, subst (λ (k : Kind). Replays (empty k) (get_or s.logs x []) c) (sym kind) (m.fits x c at))
+      (c, subst (λ (k : Kind). Replays (empty k) (get_or s.logs x []) c) (sym kind) (m.fits x c at))
 
   pub can_do_only : (x : ℕ) (c : Content) (op : AnyOp) → slice_get contents x ≡ Some c
       → kind_at s.kinds x ≡ kind_with c → CanDo s x op → IsSome (next c op)
   can_do_only x c op at kind h = subst (λ (z : Content). IsSome (next z op))
       (replays_once (empty (kind_with c)) h.0 c (get_or s.logs x [])
-        (subst (λ (k : Kind). Replays (empty k) (get_or s.logs x []) h.0) kind h.1) (m.fits x c at)) h.2
+      (subst (λ (k : Kind). Replays (empty k) (get_or s.logs x []) h.0) kind h.1) (m.fits x c at)) h.2
 
   pub if_picked : (x : ℕ) (h : Option ℕ) → (world_of s).hand x ≡ h
       → IfSome h (λ r. (r < clients_of s) × HasPicked s x r)

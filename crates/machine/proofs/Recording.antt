@@ -20,23 +20,23 @@ use Rattle.machine.proofs.WorldRuns.{run_sound}
 module _ {S O R : Type 0} (content : S → Content) (op_in : O → AnyOp) (reply_in : R → AnyReply) (m : Inside S O R)
     (is : IsMachine (map content m.objects.items) (state_in content op_in reply_in m)) where
   journals_in : (c : ℕ) → map (event_in op_in reply_in) (get_or (items_of m.journals.items) c [])
-    ≡ journal_in (world_of (state_in content op_in reply_in m)) c
+      ≡ journal_in (world_of (state_in content op_in reply_in m)) c
   journals_in c = sym (ListN.get_or-map (map (event_in op_in reply_in)) (items_of m.journals.items) c [])
-    ∙ is.journals_are c
+      ∙ is.journals_are c
 
   logs_in : (x : ℕ) → map (entry_in op_in reply_in) (get_or (items_of m.logs.items) x [])
-    ≡ (world_of (state_in content op_in reply_in m)).log x
+      ≡ (world_of (state_in content op_in reply_in m)).log x
   logs_in x = sym (ListN.get_or-map (map (entry_in op_in reply_in)) (items_of m.logs.items) x [])
 
   sound_in : IsSoundRecord (state_in content op_in reply_in m).kinds (state_in content op_in reply_in m).quota
       (λ c. map (event_in op_in reply_in) (get_or (items_of m.journals.items) c []))
-        (λ x. map (entry_in op_in reply_in) (get_or (items_of m.logs.items) x []))
+      (λ x. map (entry_in op_in reply_in) (get_or (items_of m.logs.items) x []))
   sound_in =
       let s = state_in content op_in reply_in m in
       subst (λ (js : ℕ → List AnyEvent). IsSoundRecord s.kinds s.quota js
-        (λ x. map (entry_in op_in reply_in) (get_or (items_of m.logs.items) x []))) (λ i c. sym (journals_in c) i)
+      (λ x. map (entry_in op_in reply_in) (get_or (items_of m.logs.items) x []))) (λ i c. sym (journals_in c) i)
       (subst (λ (ls : ℕ → List AnyEntry). IsSoundRecord s.kinds s.quota (journal_in (world_of s)) ls)
-        (λ i x. sym (logs_in x) i)
+      (λ i x. sym (logs_in x) i)
       (sound_record s.kinds s.quota (world_of s) (run_sound s.kinds (clients_of s) s.quota (world_of s) is.run)))
 
   pub is_record_in : IsRecordOf op_in reply_in (recorded m.journals.items m.logs.items)
@@ -44,28 +44,28 @@ module _ {S O R : Type 0} (content : S → Content) (op_in : O → AnyOp) (reply
       let s = state_in content op_in reply_in m in
       let low = is.few_calls in
       let long : length (items_of m.logs.items) ≡ length s.kinds =
-        sym (length-map (items_of m.logs.items) (map (entry_in op_in reply_in))) ∙ is.logs in
+      sym (length-map (items_of m.logs.items) (map (entry_in op_in reply_in))) ∙ is.logs in
       subst (λ (n : ℕ). IsRecord n (λ c. map (event_in op_in reply_in) (get_or (items_of m.journals.items) c []))
-        (λ x. map (entry_in op_in reply_in) (get_or (items_of m.logs.items) x []))) (sym long)
+      (λ x. map (entry_in op_in reply_in) (get_or (items_of m.logs.items) x []))) (sym long)
       (is_record s.kinds s.quota (λ c. map (event_in op_in reply_in) (get_or (items_of m.journals.items) c []))
-        (λ x. map (entry_in op_in reply_in) (get_or (items_of m.logs.items) x [])) sound_in low)
+      (λ x. map (entry_in op_in reply_in) (get_or (items_of m.logs.items) x [])) sound_in low)
 
   -- the same of the state under another name, and of the record that was made
   module _ (now : State) (same : state_in content op_in reply_in m ≡ now) (r : Recorded O R)
       (made : r ≡ record { journals = items_of m.journals.items; logs = items_of m.logs.items }) where
     pub journals_are : (c : ℕ) → map (event_in op_in reply_in) (journal_at r c) ≡ journal_in (world_of now) c
     journals_are c = ap (λ (z : Recorded O R). map (event_in op_in reply_in) (journal_at z c)) made ∙ journals_in c
-      ∙ ap (λ (s : State). journal_in (world_of s) c) same
+        ∙ ap (λ (s : State). journal_in (world_of s) c) same
 
     pub logs_are : (x : ℕ) → map (entry_in op_in reply_in) (log_at r x) ≡ (world_of now).log x
     logs_are x = ap (λ (z : Recorded O R). map (entry_in op_in reply_in) (log_at z x)) made ∙ logs_in x
-      ∙ ap (λ (s : State). (world_of s).log x) same
+        ∙ ap (λ (s : State). (world_of s).log x) same
 
     pub is_sound : IsSoundRecord now.kinds now.quota (λ c. map (event_in op_in reply_in) (journal_at r c))
         (λ x. map (entry_in op_in reply_in) (log_at r x))
     is_sound = subst (λ (s : State). IsSoundRecord s.kinds s.quota
-      (λ c. map (event_in op_in reply_in) (journal_at r c)) (λ x. map (entry_in op_in reply_in) (log_at r x))) same
+        (λ c. map (event_in op_in reply_in) (journal_at r c)) (λ x. map (entry_in op_in reply_in) (log_at r x))) same
         (subst (λ (z : Recorded O R). IsSoundRecord (state_in content op_in reply_in m).kinds
-          (state_in content op_in reply_in m).quota
+        (state_in content op_in reply_in m).quota
         (λ c. map (event_in op_in reply_in) (journal_at z c)) (λ x. map (entry_in op_in reply_in) (log_at z x)))
-          (sym made) sound_in)
+        (sym made) sound_in)

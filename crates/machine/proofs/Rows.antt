@@ -40,8 +40,8 @@ none_of (Some v) never = absurd (never refl)
 module _ {S O R : Type 0} (content : S → Content) (op_in : O → AnyOp) (reply_in : R → AnyReply) where
   abbrev pub state_in : Inside S O R → State
   state_in m = state_of content op_in reply_in m.objects.items
-    (items_of m.logs.items) m.holders.items m.hands.items m.stages.items
-    (items_of m.journals.items) m.ended.items m.clock m.quota
+      (items_of m.logs.items) m.holders.items m.hands.items m.stages.items
+      (items_of m.journals.items) m.ended.items m.clock m.quota
 
   pub journal_there : (m : Inside S O R) → IsMachine (map content m.objects.items) (state_in m) → (c : ℕ)
       → c < clients_of (state_in m) → c < length m.journals.items
@@ -53,30 +53,33 @@ module _ {S O R : Type 0} (content : S → Content) (op_in : O → AnyOp) (reply
   -- an object that is there, by what it contains
   pub object_there : (m : Inside S O R) (x : ℕ) (o : S) → x < length (state_in m).kinds → o ≡ get_or m.objects.items x o
       → (slice_get (map content m.objects.items) x ≡ Some (content o))
-        × (kind_at (state_in m).kinds x ≡ kind_with (content o))
+      × (kind_at (state_in m).kinds x ≡ kind_with (content o))
   object_there m x o low read =
-      let l : x < length m.objects.items = simp length-map at low in
-      (seen_at content m.objects.items x o l read,
+      let l : x < length m.objects.items = simp length-map at low in (
+        seen_at content m.objects.items x o l read,
         get_or-map (λ z. kind_with (content z)) m.objects.items x o Queue l
-        ∙ ap (λ z. kind_with (content z)) (sym read))
+            ∙ ap (λ z. kind_with (content z)) (sym read),
+      )
 
   -- with another stage of the client c
   abbrev pub state_staged : Inside S O R → ℕ → Stage O R → State
   state_staged m c t = state_of content op_in reply_in m.objects.items
-    (items_of m.logs.items) m.holders.items m.hands.items (set m.stages.items c t)
+      (items_of m.logs.items) m.holders.items m.hands.items (set m.stages.items c t)
       (items_of m.journals.items) m.ended.items m.clock m.quota
 
   pub staged_inside : (m : Inside S O R) → IsMachine (map content m.objects.items) (state_in m) → (c : ℕ)
       → IsGoing (state_in m) c → (t : Stage O R) (w : Step)
       → Takes (state_in m).kinds (state_in m).quota w (world_of (state_in m)) c
       (staged (world_of (state_in m)) c (stage_of (stage_in op_in reply_in t)))
-        → request_of (stage_of (stage_in op_in reply_in t)) ≡ request_of ((world_of (state_in m)).stage c)
+      → request_of (stage_of (stage_in op_in reply_in t)) ≡ request_of ((world_of (state_in m)).stage c)
       → IsMachine (map content m.objects.items) (state_staged m c t) × IsTaken (state_in m) c w (state_staged m c t)
   staged_inside m is c go t w takes same =
       let n = staged_now (map content m.objects.items) (state_in m) is c go (stage_in op_in reply_in t) w takes same in
       let e : state_staged m c t
-        ≡ record (state_in m) { stages =
-        set (map (stage_in op_in reply_in) m.stages.items) c (stage_in op_in reply_in t) } =
+      ≡ record (state_in m) {
+        stages =
+            set (map (stage_in op_in reply_in) m.stages.items) c (stage_in op_in reply_in t);
+      } =
       λ i. record (state_in m) { stages = map-set (stage_in op_in reply_in) m.stages.items c t i } in
       subst (λ (z : State). IsMachine (map content m.objects.items) z × IsTaken (state_in m) c w z) (sym e) n
 
@@ -87,9 +90,9 @@ module _ {S O R : Type 0} (content : S → Content) (op_in : O → AnyOp) (reply
   stage_found m c found t there read is =
       let low : c < length m.stages.items = simp length-map at there in
       get_or-map stage_of (map (stage_in op_in reply_in) m.stages.items) c
-        (stage_in op_in reply_in found) world.absent (simp length-map low)
+      (stage_in op_in reply_in found) world.absent (simp length-map low)
       ∙ ap stage_of (get_or-map (stage_in op_in reply_in) m.stages.items c found (stage_in op_in reply_in found) low
-        ∙ ap (stage_in op_in reply_in) (sym read ∙ is))
+      ∙ ap (stage_in op_in reply_in) (sym read ∙ is))
 
   -- which stages of the code stand for which of the world
   pub drawn_is : (t : Stage O R) (q : AnyRequest) → stage_of (stage_in op_in reply_in t) ≡ world.drawn q
@@ -119,7 +122,7 @@ module _ {S O R : Type 0} (content : S → Content) (op_in : O → AnyOp) (reply
         → IsMachine (map content m.objects.items) (record (state_in m) { holders = set m.holders.items x (Some c) })
         × IsTaken now c (win x) (record (state_in m) { holders = set m.holders.items x (Some c) })
     win_done x = subst (λ (z : State). IsGoing z c → x < length z.kinds → (world_of z).holder x ≡ None
-      → HoldsNothing (world_of z) c
+        → HoldsNothing (world_of z) c
         → IsMachine (map content m.objects.items) (record (state_in m) { holders = set m.holders.items x (Some c) })
         × IsTaken z c (win x) (record (state_in m) { holders = set m.holders.items x (Some c) }))
         same (λ go low free nothing. win_now (map content m.objects.items) (state_in m) is c go x low free nothing)
@@ -127,66 +130,77 @@ module _ {S O R : Type 0} (content : S → Content) (op_in : O → AnyOp) (reply
     pub release_done : (x : ℕ) → IsGoing now c → x < length now.kinds → (world_of now).holder x ≡ Some c
         → (world_of now).hand x ≡ None
         → IsMachine (map content m.objects.items) (record (state_in m) { holders = set m.holders.items x None })
-          × IsTaken now c release (record (state_in m) { holders = set m.holders.items x None })
+        × IsTaken now c release (record (state_in m) { holders = set m.holders.items x None })
     release_done x = subst (λ (z : State). IsGoing z c → x < length z.kinds → (world_of z).holder x ≡ Some c
-      → (world_of z).hand x ≡ None
+        → (world_of z).hand x ≡ None
         → IsMachine (map content m.objects.items) (record (state_in m) { holders = set m.holders.items x None })
-          × IsTaken z c release (record (state_in m) { holders = set m.holders.items x None }))
+        × IsTaken z c release (record (state_in m) { holders = set m.holders.items x None }))
         same (λ go low held hand. release_now (map content m.objects.items) (state_in m) is c go x low held hand)
 
     pub end_done : IsGoing now c → MayEnd ((world_of now).stage c) → HoldsNothing (world_of now) c
         → IsMachine (map content m.objects.items) (record (state_in m) { ended = set m.ended.items c true })
-          × IsTaken now c end (record (state_in m) { ended = set m.ended.items c true })
+        × IsTaken now c end (record (state_in m) { ended = set m.ended.items c true })
     end_done = subst (λ (z : State). IsGoing z c → MayEnd ((world_of z).stage c) → HoldsNothing (world_of z) c
         → IsMachine (map content m.objects.items) (record (state_in m) { ended = set m.ended.items c true })
-          × IsTaken z c end (record (state_in m) { ended = set m.ended.items c true }))
+        × IsTaken z c end (record (state_in m) { ended = set m.ended.items c true }))
         same (λ go may nothing. end_now (map content m.objects.items) (state_in m) is c go may nothing)
 
     -- the hand of x and the stage of the row r are written
     abbrev pub state_handed : ℕ → Option ℕ → ℕ → Stage O R → State
     state_handed x h r t = record (state_in m)
-      { hands = set m.hands.items x h; stages = map (stage_in op_in reply_in) (set m.stages.items r t) }
+        { hands = set m.hands.items x h; stages = map (stage_in op_in reply_in) (set m.stages.items r t) }
 
     abbrev handed_alike : (x : ℕ) (h : Option ℕ) (r : ℕ) (t : Stage O R)
-        → record (state_in m) { hands = set m.hands.items x h;
-          stages = set (map (stage_in op_in reply_in) m.stages.items) r (stage_in op_in reply_in t) }
-          ≡ state_handed x h r t
+        → record (state_in m) {
+          hands = set m.hands.items x h;
+          stages = set (map (stage_in op_in reply_in) m.stages.items) r (stage_in op_in reply_in t);
+        }
+        ≡ state_handed x h r t
     handed_alike x h r t = λ i.
-      record (state_in m) { hands = set m.hands.items x h;
-      stages = sym (map-set (stage_in op_in reply_in) m.stages.items r t) i }
+        record (state_in m) {
+          hands = set m.hands.items x h;
+          stages = sym (map-set (stage_in op_in reply_in) m.stages.items r t) i;
+        }
 
     pub pick_done : (x r : ℕ) (q : Request O) → IsGoing now c → x < length now.kinds → r < clients_of now
         → (world_of now).holder x ≡ Some c
         → (world_of now).hand x ≡ None → (world_of now).stage r ≡ world.posted (request_in op_in q) → q.object ≡ x
         → IsMachine (map content m.objects.items) (state_handed x (Some r) r (Picked q))
-          × IsTaken now c (pick r) (state_handed x (Some r) r (Picked q))
+        × IsTaken now c (pick r) (state_handed x (Some r) r (Picked q))
     pick_done x r q = subst
-      (λ (z : State). IsGoing z c → x < length z.kinds → r < clients_of z → (world_of z).holder x ≡ Some c
+        (λ (z : State). IsGoing z c → x < length z.kinds → r < clients_of z → (world_of z).holder x ≡ Some c
         → (world_of z).hand x ≡ None → (world_of z).stage r ≡ world.posted (request_in op_in q) → q.object ≡ x
         → IsMachine (map content m.objects.items) (state_handed x (Some r) r (Picked q))
-          × IsTaken z c (pick r) (state_handed x (Some r) r (Picked q)))
+        × IsTaken z c (pick r) (state_handed x (Some r) r (Picked q)))
         same (λ go low within held hand at on.
-          subst (λ (z : State). IsMachine (map content m.objects.items) z × IsTaken (state_in m) c (pick r) z)
-          (handed_alike x (Some r) r (Picked q))
+        subst (λ (z : State). IsMachine (map content m.objects.items) z × IsTaken (state_in m) c (pick r) z)
+        (handed_alike x (Some r) r (Picked q))
         (handed_now (map content m.objects.items) (state_in m) is c go x (Some r) r
-          (stage_in op_in reply_in (Picked q)) (pick r) low within
-        (record { object = x; request = request_in op_in q; held = held; free = hand; was = at; for_object = on;
-          after = refl }) (sym (ap request_of at))))
+        (stage_in op_in reply_in (Picked q)) (pick r) low within
+        (record {
+          object = x;
+          request = request_in op_in q;
+          held = held;
+          free = hand;
+          was = at;
+          for_object = on;
+          after = refl;
+        }) (sym (ap request_of at))))
 
     pub put_back_done : (x r : ℕ) (q : Request O) → IsGoing now c → IsInHand now c x r (request_in op_in q)
         → HasContent now x → (CanDo now x (op_in q.op) → ⊥)
         → IsMachine (map content m.objects.items) (state_handed x None r (Posted q))
-          × IsTaken now c put_back (state_handed x None r (Posted q))
+        × IsTaken now c put_back (state_handed x None r (Posted q))
     put_back_done x r q = subst
-      (λ (z : State). IsGoing z c → IsInHand z c x r (request_in op_in q) → HasContent z x
-      → (CanDo z x (op_in q.op) → ⊥)
+        (λ (z : State). IsGoing z c → IsInHand z c x r (request_in op_in q) → HasContent z x
+        → (CanDo z x (op_in q.op) → ⊥)
         → IsMachine (map content m.objects.items) (state_handed x None r (Posted q))
-          × IsTaken z c put_back (state_handed x None r (Posted q)))
+        × IsTaken z c put_back (state_handed x None r (Posted q)))
         same (λ go h k never. subst
-          (λ (z : State). IsMachine (map content m.objects.items) z × IsTaken (state_in m) c put_back z)
-          (handed_alike x None r (Posted q))
+        (λ (z : State). IsMachine (map content m.objects.items) z × IsTaken (state_in m) c put_back z)
+        (handed_alike x None r (Posted q))
         (handed_now (map content m.objects.items) (state_in m) is c go x None r
-          (stage_in op_in reply_in (Posted q)) put_back h.object h.row
+        (stage_in op_in reply_in (Posted q)) put_back h.object h.row
         (record {
           object = x;
           row = r;
@@ -199,9 +213,11 @@ module _ {S O R : Type 0} (content : S → Content) (op_in : O → AnyOp) (reply
 
     -- a ticket was drawn: the fields then
     abbrev pub state_ticked : List (List (JournalEvent O R)) → Stage O R → ℕ → State
-    state_ticked js t n = record (state_in m)
-      { clock = n; stages = map (stage_in op_in reply_in) (set m.stages.items c t);
-      journals = map (map (event_in op_in reply_in)) js }
+    state_ticked js t n = record (state_in m) {
+      clock = n;
+      stages = map (stage_in op_in reply_in) (set m.stages.items c t);
+      journals = map (map (event_in op_in reply_in)) js;
+    }
 
     ticked_alike : (js : List (List (JournalEvent O R))) (e : JournalEvent O R) (t : Stage O R) (n : ℕ)
         → js ≡ set (items_of m.journals.items) c (get_or (items_of m.journals.items) c [] ++ e ∷ []) → n ≡ m.clock + 1
@@ -210,13 +226,13 @@ module _ {S O R : Type 0} (content : S → Content) (op_in : O → AnyOp) (reply
           stages = set (map (stage_in op_in reply_in) m.stages.items) c (stage_in op_in reply_in t);
           journals = set (map (map (event_in op_in reply_in)) (items_of m.journals.items)) c
               (get_or (map (map (event_in op_in reply_in)) (items_of m.journals.items)) c []
-                ++ event_in op_in reply_in e ∷ []);
+              ++ event_in op_in reply_in e ∷ []);
         } ≡ state_ticked js t n
     ticked_alike js e t n grew one = λ i. record (state_in m) {
       clock = sym one i;
       stages = sym (map-set (stage_in op_in reply_in) m.stages.items c t) i;
       journals = sym (ap (map (map (event_in op_in reply_in))) grew
-        ∙ seen_grown (event_in op_in reply_in) (items_of m.journals.items) c e) i;
+          ∙ seen_grown (event_in op_in reply_in) (items_of m.journals.items) c e) i;
     }
 
     -- the journals are as they were
@@ -226,22 +242,22 @@ module _ {S O R : Type 0} (content : S → Content) (op_in : O → AnyOp) (reply
 
     pub call_done : (x : ℕ) (op : O) (js : List (List (JournalEvent O R))) (n : ℕ)
         → js ≡ set (items_of m.journals.items) c
-          (get_or (items_of m.journals.items) c [] ++ Invoked m.clock x op ∷ []) → n ≡ m.clock + 1
+        (get_or (items_of m.journals.items) c [] ++ Invoked m.clock x op ∷ []) → n ≡ m.clock + 1
         → IsGoing now c → (world_of now).stage c ≡ world.idle → calls_made ((world_of now).done c) None < now.quota
         → x < length now.kinds → kind_of (op_in op) ≡ kind_at now.kinds x
         → IsMachine (map content m.objects.items)
-          (state_ticked js (Drawn (record { object = x; ticket = m.clock; op = op })) n)
+        (state_ticked js (Drawn (record { object = x; ticket = m.clock; op = op })) n)
         × IsTaken now c (draw_call x (op_in op))
-          (state_ticked js (Drawn (record { object = x; ticket = m.clock; op = op })) n)
+        (state_ticked js (Drawn (record { object = x; ticket = m.clock; op = op })) n)
     call_done x op js n grew one = let t : Stage O R = Drawn (record { object = x; ticket = m.clock; op = op }) in
         subst (λ (z : State). IsGoing z c → (world_of z).stage c ≡ world.idle
-          → calls_made ((world_of z).done c) None < z.quota → x < length z.kinds
-          → kind_of (op_in op) ≡ kind_at z.kinds x
+        → calls_made ((world_of z).done c) None < z.quota → x < length z.kinds
+        → kind_of (op_in op) ≡ kind_at z.kinds x
         → IsMachine (map content m.objects.items) (state_ticked js t n)
-          × IsTaken z c (draw_call x (op_in op)) (state_ticked js t n))
+        × IsTaken z c (draw_call x (op_in op)) (state_ticked js t n))
         same (λ go idle few low kind. subst
         (λ (z : State). IsMachine (map content m.objects.items) z × IsTaken (state_in m) c (draw_call x (op_in op)) z)
-          (ticked_alike js (Invoked m.clock x op) t n grew one)
+        (ticked_alike js (Invoked m.clock x op) t n grew one)
         (call_now (map content m.objects.items) (state_in m) is c go x (op_in op) idle few low kind))
 
     pub return_done : (q : Request O) (a : Answer R) (js : List (List (JournalEvent O R))) (n : ℕ)
@@ -249,47 +265,47 @@ module _ {S O R : Type 0} (content : S → Content) (op_in : O → AnyOp) (reply
         → n ≡ m.clock + 1
         → IsGoing now c → (world_of now).stage c ≡ world.taken (request_in op_in q) (answer_in reply_in a)
         → IsMachine (map content m.objects.items) (state_ticked js Idle n)
-          × IsTaken now c draw_return (state_ticked js Idle n)
+        × IsTaken now c draw_return (state_ticked js Idle n)
     return_done q a js n grew one =
         subst (λ (z : State). IsGoing z c
-          → (world_of z).stage c ≡ world.taken (request_in op_in q) (answer_in reply_in a)
+        → (world_of z).stage c ≡ world.taken (request_in op_in q) (answer_in reply_in a)
         → IsMachine (map content m.objects.items) (state_ticked js Idle n)
-          × IsTaken z c draw_return (state_ticked js Idle n))
+        × IsTaken z c draw_return (state_ticked js Idle n))
         same (λ go taken. subst
-          (λ (z : State). IsMachine (map content m.objects.items) z × IsTaken (state_in m) c draw_return z)
-          (ticked_alike js (Returned m.clock a) Idle n grew one)
+        (λ (z : State). IsMachine (map content m.objects.items) z × IsTaken (state_in m) c draw_return z)
+        (ticked_alike js (Returned m.clock a) Idle n grew one)
         (return_now (map content m.objects.items) (state_in m) is c go (request_in op_in q)
-          (answer_in reply_in a) taken))
+        (answer_in reply_in a) taken))
 
     -- the fields once the request in hand is answered
     abbrev pub state_answered : ℕ → ℕ → S → Vec (LogEntry O R) Global → Stage O R → State
     state_answered x r o l t =
-      state_of content op_in reply_in (set m.objects.items x o) (items_of (set m.logs.items x l)) m.holders.items
+        state_of content op_in reply_in (set m.objects.items x o) (items_of (set m.logs.items x l)) m.holders.items
         (set m.hands.items x None) (set m.stages.items r t) (items_of m.journals.items) m.ended.items m.clock m.quota
 
     answered_alike : (x r : ℕ) (old o : S) (was l : Vec (LogEntry O R) Global) (q : Request O) (a : Answer R)
-      → x < length m.objects.items
+        → x < length m.objects.items
         → old ≡ get_or m.objects.items x old → kind_with (content o) ≡ kind_with (content old)
         → x < length m.logs.items → was ≡ get_or m.logs.items x was
         → map (entry_in op_in reply_in) l.items
-          ≡ map (entry_in op_in reply_in) was.items ++ logged r (request_in op_in q) (answer_in reply_in a)
+        ≡ map (entry_in op_in reply_in) was.items ++ logged r (request_in op_in q) (answer_in reply_in a)
         → record (state_in m) {
           logs = set (map (map (entry_in op_in reply_in)) (items_of m.logs.items)) x
               (get_or (map (map (entry_in op_in reply_in)) (items_of m.logs.items)) x []
-                ++ logged r (request_in op_in q) (answer_in reply_in a));
+              ++ logged r (request_in op_in q) (answer_in reply_in a));
           hands =
               set m.hands.items x None;
           stages = set (map (stage_in op_in reply_in) m.stages.items) r (stage_in op_in reply_in (Answered q a));
         } ≡ state_answered x r o l (Answered q a)
     answered_alike x r old o was l q a low read kind there looked grew = λ i. record (state_in m) {
       kinds = sym (map-set_same_at (λ z. kind_with (content z)) m.objects.items x o old
-        (slice_get_read m.objects.items x old low read) kind) i;
+          (slice_get_read m.objects.items x old low read) kind) i;
       logs = sym (ap (map (map (entry_in op_in reply_in))) (items_of-set m.logs.items x l)
           ∙ map-set (map (entry_in op_in reply_in)) (items_of m.logs.items) x l.items
           ∙ ap (set (map (map (entry_in op_in reply_in)) (items_of m.logs.items)) x)
           (grew ∙ ap (λ es. es ++ logged r (request_in op_in q) (answer_in reply_in a))
           (sym (ListN.get_or-map (map (entry_in op_in reply_in)) (items_of m.logs.items) x []
-            ∙ ap (map (entry_in op_in reply_in)) (items_at m.logs.items x was there looked))))) i;
+          ∙ ap (map (entry_in op_in reply_in)) (items_at m.logs.items x was there looked))))) i;
       hands = set m.hands.items x None;
       stages = sym (map-set (stage_in op_in reply_in) m.stages.items r (Answered q a)) i;
     }
@@ -298,28 +314,28 @@ module _ {S O R : Type 0} (content : S → Content) (op_in : O → AnyOp) (reply
         → old ≡ get_or m.objects.items x old
         → was ≡ get_or m.logs.items x was
         → map (entry_in op_in reply_in) l.items
-          ≡ map (entry_in op_in reply_in) was.items ++ logged r (request_in op_in q) (answer_in reply_in a)
+        ≡ map (entry_in op_in reply_in) was.items ++ logged r (request_in op_in q) (answer_in reply_in a)
         → Serves (content old) (op_in q.op) (answer_in reply_in a) (content o)
         → kind_with (content o) ≡ kind_with (content old) → IsSome (next (content old) (op_in q.op))
         → IsGoing now c → IsInHand now c x r (request_in op_in q)
         → IsMachine (map content (set m.objects.items x o)) (state_answered x r o l (Answered q a))
-          × IsTaken now c answer (state_answered x r o l (Answered q a))
+        × IsTaken now c answer (state_answered x r o l (Answered q a))
     answer_done x r q old o was l a read looked grew serves kind can =
         subst (λ (z : State). IsGoing z c → IsInHand z c x r (request_in op_in q)
         → IsMachine (map content (set m.objects.items x o)) (state_answered x r o l (Answered q a))
-          × IsTaken z c answer (state_answered x r o l (Answered q a)))
+        × IsTaken z c answer (state_answered x r o l (Answered q a)))
         same (λ go h.
         let low : x < length m.objects.items = simp length-map at h.object in
         let logs_long : length m.logs.items ≡ length m.objects.items = simp length-map at is.logs in
         let at = object_there m x old h.object read in
         subst (λ (z : List Content). IsMachine z (state_answered x r o l (Answered q a))
         × IsTaken (state_in m) c answer (state_answered x r o l (Answered q a)))
-          (sym (map-set content m.objects.items x o))
+        (sym (map-set content m.objects.items x o))
         (subst (λ (z : State). IsMachine (set (map content m.objects.items) x (content o)) z
-          × IsTaken (state_in m) c answer z)
+        × IsTaken (state_in m) c answer z)
         (answered_alike x r old o was l q a low read kind (omega arith) looked grew)
         (served_now (map content m.objects.items) (state_in m) is c go x r (request_in op_in q) (content old)
-          (content o) (answer_in reply_in a) at.0
+        (content o) (answer_in reply_in a) at.0
         h.object h.row at.1 kind h.held h.hand h.stage can serves)))
 
   -- post: taken from a drawn stage, and from no other
@@ -327,11 +343,11 @@ module _ {S O R : Type 0} (content : S → Content) (op_in : O → AnyOp) (reply
       → IsGoing (state_in m) c → (found : Stage O R)
       → found ≡ get_or m.stages.items c found → (q : Request O) → found ≡ Drawn q
       → IsMachine (map content m.objects.items) (state_staged m c (Posted q))
-        × IsTaken (state_in m) c post (state_staged m c (Posted q))
+      × IsTaken (state_in m) c post (state_staged m c (Posted q))
   post_taken m is c go found read q e =
       let at = stage_found m c found (Drawn q) go.0 read e in
       staged_inside m is c go (Posted q) post (record { request = request_in op_in q; was = at; after = refl })
-    (sym (ap request_of at))
+      (sym (ap request_of at))
 
   pub post_not : (m : Inside S O R) (c : ℕ) → IsGoing (state_in m) c → (found : Stage O R)
       → found ≡ get_or m.stages.items c found
@@ -345,11 +361,11 @@ module _ {S O R : Type 0} (content : S → Content) (op_in : O → AnyOp) (reply
       → IsGoing (state_in m) c → (found : Stage O R)
       → found ≡ get_or m.stages.items c found → (q : Request O) (a : Answer R) → found ≡ Answered q a
       → IsMachine (map content m.objects.items) (state_staged m c (Taken q a))
-        × IsTaken (state_in m) c take (state_staged m c (Taken q a))
+      × IsTaken (state_in m) c take (state_staged m c (Taken q a))
   take_taken m is c go found read q a e = let at = stage_found m c found (Answered q a) go.0 read e in
       staged_inside m is c go (Taken q a) take
-        (record { request = request_in op_in q; given = answer_in reply_in a; was = at; after = refl })
-        (sym (ap request_of at))
+      (record { request = request_in op_in q; given = answer_in reply_in a; was = at; after = refl })
+      (sym (ap request_of at))
 
   pub take_not : (m : Inside S O R) (c : ℕ) → IsGoing (state_in m) c → (found : Stage O R)
       → found ≡ get_or m.stages.items c found
@@ -379,10 +395,10 @@ module _ {S O R : Type 0} (content : S → Content) (op_in : O → AnyOp) (reply
   -- a stage that was written is that of the world
   pub stage_written : (ts : List (Stage O R)) (r : ℕ) (t : Stage O R) → r < length (map (stage_in op_in reply_in) ts)
       → get_or (map stage_of (map (stage_in op_in reply_in) (set ts r t))) r world.absent
-        ≡ stage_of (stage_in op_in reply_in t)
+      ≡ stage_of (stage_in op_in reply_in t)
   stage_written ts r t low =
       ap (λ us. get_or (map stage_of us) r world.absent) (map-set (stage_in op_in reply_in) ts r t)
       ∙ ap (λ us. get_or us r world.absent)
-        (map-set stage_of (map (stage_in op_in reply_in) ts) r (stage_in op_in reply_in t))
+      (map-set stage_of (map (stage_in op_in reply_in) ts) r (stage_in op_in reply_in t))
       ∙ get_or-set_same (map stage_of (map (stage_in op_in reply_in) ts)) r
-        (stage_of (stage_in op_in reply_in t)) world.absent (simp length-map (simp length-map at low))
+      (stage_of (stage_in op_in reply_in t)) world.absent (simp length-map (simp length-map at low))

@@ -59,7 +59,7 @@ at_start n c = elim (cases_order c n) [
     past : n ≤ c → get_or (replicate n world.idle) c world.absent ≡ (if nat_lt c n then world.idle else world.absent)
     past high = let t : nat_lt c n ≡ false = grind (arith, nat_tests) in let long = length-copies n world.idle in
         get_or_past (replicate n world.idle) c world.absent (omega arith)
-          ∙ sym (ap (λ b. if b then world.idle else world.absent) t)
+        ∙ sym (ap (λ b. if b then world.idle else world.absent) t)
 
 -- the state at the start, of n objects and m clients
 abbrev pub start_state : List Kind → ℕ → ℕ → ℕ → State
@@ -86,7 +86,7 @@ world-start kinds n m quota = λ i. record (start_of m) {
 }
   where
     stage_at : (c : ℕ) → get_or (map stage_of (replicate m Idle)) c world.absent
-      ≡ (if nat_lt c m then world.idle else world.absent)
+        ≡ (if nat_lt c m then world.idle else world.absent)
     stage_at c = ap (λ ts. get_or ts c world.absent) (map-copies stage_of m Idle) ∙ at_start m c
 
 no_request : (b : Bool) → request_of (if b then world.idle else world.absent) ≡ None
@@ -112,12 +112,12 @@ machine_start contents m quota few_objects few_clients few_calls empties =
       few_clients = subst (λ (k : ℕ). k < 33) (sym (length-copies m Idle)) few_clients;
       few_calls = few_calls;
       fits = λ x c at. subst (λ (l : List AnyEntry). Replays (empty (kind_with c)) l c) (sym (get_or-copies n [] x))
-        (sym (empties x c at));
+          (sym (empties x c at));
       journals_are = λ c. get_or-copies m [] c
-        ∙ sym (ap (λ (w : World). journal_in w c) is ∙ ap (journal_of []) (no_request (nat_lt c m)));
+          ∙ sym (ap (λ (w : World). journal_in w c) is ∙ ap (journal_of []) (no_request (nat_lt c m)));
       single = λ c x y a. let e : None ≡ Some c = sym (get_or-copies n None x) ∙ a in absurd (cc);
       run = subst (λ (k : ℕ). IsWorldOfRun (map kind_with contents) k quota (world_of s)) (sym (length-copies m Idle))
-        ([], is);
+          ([], is);
     }
 
 pub items_of-more : {A Z : Type 0} (vs : List (Vec A Z)) (v : Vec A Z)
@@ -133,11 +133,11 @@ kinds_twice content (o ∷ os) = ap (λ ks. kind_with (content o) ∷ ks) (kinds
 pub made_start : {S O R : Type 0} (content : S → Content) (op_in : O → AnyOp) (reply_in : R → AnyReply)
     (objects : List S) (n m quota : ℕ)
     (logs : List (List (LogEntry O R))) (holders hands : List (Option ℕ)) (stages : List (Stage O R))
-      (journals : List (List (JournalEvent O R))) (ended : List Bool)
+    (journals : List (List (JournalEvent O R))) (ended : List Bool)
     → logs ≡ replicate n [] → holders ≡ replicate n None → hands ≡ replicate n None → stages ≡ replicate m Idle
     → journals ≡ replicate m [] → ended ≡ replicate m false
     → state_of content op_in reply_in objects logs holders hands stages journals ended 0 quota
-      ≡ start_state (map kind_with (map content objects)) n m quota
+    ≡ start_state (map kind_with (map content objects)) n m quota
 made_start content op_in reply_in objects n m quota logs holders hands stages journals ended l h a s j e = λ i. record {
   kinds = kinds_twice content objects i;
   logs = (ap (map (map (entry_in op_in reply_in))) l ∙ map-copies (map (entry_in op_in reply_in)) n []) i;
@@ -153,7 +153,7 @@ made_start content op_in reply_in objects n m quota logs holders hands stages jo
 -- each object is empty, by number
 pub empties_at : {S : Type 0} (content : S → Content) (objects : List S)
     → ((i : ℕ) (d : S) → i < length objects
-      → content (get_or objects i d) ≡ empty (kind_with (content (get_or objects i d)))) → (x : ℕ) (c : Content)
+    → content (get_or objects i d) ≡ empty (kind_with (content (get_or objects i d)))) → (x : ℕ) (c : Content)
     → slice_get (map content objects) x ≡ Some c → c ≡ empty (kind_with c)
 empties_at content [] all x c at = absurd (cc)
 empties_at content (o ∷ os) all zero c at =

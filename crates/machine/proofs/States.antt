@@ -11,7 +11,7 @@ use Rattle.machine.proofs.Lists.{get_or-set, get_or-set_by}
 
 staged_at : (s : State) (c : ℕ) (t : AnyStage) → c < length s.stages → (j : ℕ)
     → get_or (map stage_of (set s.stages c t)) j world.absent
-      ≡ changed (λ k. get_or (map stage_of s.stages) k world.absent) c (stage_of t) j
+    ≡ changed (λ k. get_or (map stage_of s.stages) k world.absent) c (stage_of t) j
 staged_at s c t low j =
     ap (λ xs. get_or xs j world.absent) (map-set stage_of s.stages c t)
     ∙ get_or-set (map stage_of s.stages) c (stage_of t) world.absent (simp length-map low) j
@@ -33,16 +33,18 @@ world-ended s c low = λ i. record (world_of s) { ended = λ j. get_or-set s.end
 -- a ticket is drawn: the clock goes on, the stage of one client is written, and its journal
 pub world-ticked : (s : State) (c : ℕ) (t : AnyStage) (js : List AnyEvent) → c < length s.stages → c < length s.journals
     → world_of (record s { clock = s.clock + 1; stages = set s.stages c t; journals = set s.journals c js })
-      ≡ ticked (world_of s) c (stage_of t) (done_in js)
+    ≡ ticked (world_of s) c (stage_of t) (done_in js)
 world-ticked s c t js low within =
-    λ i. record (world_of s)
-    { clock = s.clock + 1; stage = λ j. staged_at s c t low j i;
-    done = λ j. get_or-set_by done_in s.journals c js [] within j i }
+    λ i. record (world_of s) {
+      clock = s.clock + 1;
+      stage = λ j. staged_at s c t low j i;
+      done = λ j. get_or-set_by done_in s.journals c js [] within j i;
+    }
 
 -- the hand of one object and the stage of one row are written
 pub world-handed : (s : State) (x : ℕ) (h : Option ℕ) (r : ℕ) (t : AnyStage) → x < length s.hands → r < length s.stages
     → world_of (record s { hands = set s.hands x h; stages = set s.stages r t })
-      ≡ handed (world_of s) x h r (stage_of t)
+    ≡ handed (world_of s) x h r (stage_of t)
 world-handed s x h r t low within =
     λ i. record (world_of s)
     { hand = λ j. get_or-set s.hands x h None low j i; stage = λ j. staged_at s r t within j i }
@@ -50,8 +52,11 @@ world-handed s x h r t low within =
 -- also the log of the object
 pub world-served : (s : State) (x r : ℕ) (q : AnyRequest) (a : AnyAnswer) → x < length s.hands → x < length s.logs
     → r < length s.stages
-    → world_of (record s { logs = set s.logs x (get_or s.logs x [] ++ logged r q a); hands = set s.hands x None;
-      stages = set s.stages r (Answered q a) }) ≡ served_by (world_of s) x r q a
+    → world_of (record s {
+      logs = set s.logs x (get_or s.logs x [] ++ logged r q a);
+      hands = set s.hands x None;
+      stages = set s.stages r (Answered q a);
+    }) ≡ served_by (world_of s) x r q a
 world-served s x r q a low there within =
     λ i. record (world_of s) {
       hand = λ j. get_or-set s.hands x None None low j i;

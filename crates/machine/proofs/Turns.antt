@@ -14,12 +14,17 @@ pub more : (kinds : List Kind) (quota : ℕ) (w : World) (ms : List (ℕ × Step
     → TakesPossible kinds quota w (ms ++ ns) (n + k) after
 more kinds quota w [] n between ns k after h j = let none = h.0 in
     subst (λ (m : ℕ). TakesPossible kinds quota w ns m after) (let e : k ≡ n + k = omega arith in e)
-      (subst (λ (z : World). TakesPossible kinds quota z ns k after) h.1 j)
+    (subst (λ (z : World). TakesPossible kinds quota z ns k after) h.1 j)
 more kinds quota w (m ∷ ms) n between ns k after h j = elim h [
   | inl t ↦ inl (t.0, t.1, more kinds quota t.0 ms n between ns k after t.2 j)
   | inr p ↦
-      let e = p.2 in inr (p.0, p.1 + k, let f : n + k ≡ p.1 + k + 1 = omega arith in
-      f, more kinds quota w ms p.1 between ns k after p.3 j)
+      let e = p.2 in inr (
+        p.0,
+        p.1 + k,
+        let f : n + k ≡ p.1 + k + 1 = omega arith in
+            f,
+        more kinds quota w ms p.1 between ns k after p.3 j,
+      )
 ]
 
 take_one_more : {A B : Type 0} (f : A → B) (xs : List A) (i : ℕ) (v : A) → i < length xs → v ≡ get_or xs i v

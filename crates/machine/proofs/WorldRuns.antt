@@ -41,21 +41,21 @@ start_sound kinds quota n = record {
   early = λ x. All-nil (λ (e : AnyEntry). e.ticket < 0);
   drawn =
       let none = total_le (λ c. tickets_drawn [] (request_of ((start_of n).stage c))) 32 0
-        (λ c l. let e = ap (tickets_drawn []) (no_request (nat_lt c n)) in omega arith) in omega arith;
+      (λ c l. let e = ap (tickets_drawn []) (no_request (nat_lt c n)) in omega arith) in omega arith;
   within = λ c. let e = ap (calls_made []) (no_request (nat_lt c n)) in omega arith;
   journals = record {
     tickets = record {
       rising = λ c. subst (λ (q : Option AnyRequest). AllPairs (λ t u. t < u) (map ticket_of (journal_of [] q)))
-        (sym (no_request (nat_lt c n))) (λ i j d l m. absurd (omega arith));
+          (sym (no_request (nat_lt c n))) (λ i j d l m. absurd (omega arith));
       below = λ c. subst (λ (q : Option AnyRequest). All (λ t. t < 0) (map ticket_of (journal_of [] q)))
-        (sym (no_request (nat_lt c n))) (All-nil (λ t. t < 0));
+          (sym (no_request (nat_lt c n))) (All-nil (λ t. t < 0));
       apart = λ c d t h. let h' =
-        subst (λ (q : Option AnyRequest). Contains (map ticket_of (journal_of [] q)) t) (no_request (nat_lt c n)) h in
-            let l = h'.1 in absurd (omega arith);
+          subst (λ (q : Option AnyRequest). Contains (map ticket_of (journal_of [] q)) t) (no_request (nat_lt c n)) h in
+          let l = h'.1 in absurd (omega arith);
       each = λ t l. absurd (omega arith);
     };
     on_objects = λ c. subst (λ (q : Option AnyRequest). All (IsAmong kinds) (journal_of [] q))
-      (sym (no_request (nat_lt c n))) (All-nil (IsAmong kinds));
+        (sym (no_request (nat_lt c n))) (All-nil (IsAmong kinds));
     in_time = λ c. All-nil (IsInTime (start_of n) c);
     not_come = λ c e. refl;
   };

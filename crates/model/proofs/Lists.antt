@@ -164,9 +164,9 @@ front_split {X} f n (x ∷ xs) h low =
           let le = low x (inl refl) in
           let far : (y : X) → In y xs → n < f y = λ y i. let g = h.0 y i in let ne' : f x ≢ n = ne in omega arith in
           let none : ks ≡ [] = filter_none (λ x. f x == n) xs
-            (λ y i. let g = far y i in ne_eqb (f y) n (λ q. let q' : f y ≡ n = q in omega arith)) in
+          (λ y i. let g = far y i in ne_eqb (f y) n (λ q. let q' : f y ≡ n = q in omega arith)) in
           let all : ds ≡ xs = filter_all (λ x. not (f x == n)) xs
-            (λ y i. let g = far y i in ap not (ne_eqb (f y) n (λ q. let q' : f y ≡ n = q in omega arith))) in
+          (λ y i. let g = far y i in ap not (ne_eqb (f y) n (λ q. let q' : f y ≡ n = q in omega arith))) in
           sym (ap (λ ys. ys ++ (x ∷ ds)) none ∙ ap (λ ys. x ∷ ys) all)
     ] in
     here (f x == n) refl
@@ -215,7 +215,7 @@ batches {X} f (n ∷ ns) xs up h all =
     let same : flat_map (λ m. filter (λ x. f x == m) xs) ns ≡ flat_map (λ m. filter (λ x. f x == m) later) ns =
     flat_map_same (λ m. filter (λ x. f x == m) xs) (λ m. filter (λ x. f x == m) later) ns
     (λ m i. sym (filter-filter (λ x. f x == m) (λ x. not (f x == n)) xs
-      ∙ filter_same (λ x. not (f x == n) && (f x == m)) (λ x. f x == m) xs (λ x j. apart (f x) n m (up.0 m i)))) in
+    ∙ filter_same (λ x. not (f x == n) && (f x == m)) (λ x. f x == m) xs (λ x j. apart (f x) n m (up.0 m i)))) in
     ap (λ ys. filter (λ x. f x == n) xs ++ ys) (same ∙ rest) ∙ sym split
   where
     apart : (a n m : ℕ) → n < m → (not (a == n) && (a == m)) ≡ (a == m)
@@ -225,10 +225,13 @@ batches {X} f (n ∷ ns) xs up h all =
 pub pairs_append : {X : Type 0} (R : X → X → Type 0) (xs ys : List X) → Pairs R xs → Pairs R ys
     → ((x y : X) → In x xs → In y ys → R x y) → Pairs R (xs ++ ys)
 pairs_append R [] ys h k f = k
-pairs_append R (x ∷ xs) ys h k f = (λ y i. elim (in_append y xs ys i) [
-  | inl a ↦ h.0 y a
-  | inr b ↦ f x y (inl refl) b
-], pairs_append R xs ys h.1 k (λ a b i j. f a b (inr i) j))
+pairs_append R (x ∷ xs) ys h k f = (
+  λ y i. elim (in_append y xs ys i) [
+    | inl a ↦ h.0 y a
+    | inr b ↦ f x y (inl refl) b
+  ],
+  pairs_append R xs ys h.1 k (λ a b i j. f a b (inr i) j),
+)
 
 pub pairs_flat_map : {X Y : Type 0} (R : Y → Y → Type 0) (S : X → X → Type 0) (f : X → List Y) (xs : List X)
     → Pairs S xs
@@ -265,7 +268,7 @@ in_from_contains [] x h = let l = h.1 in absurd (omega arith)
 in_from_contains (y ∷ ys) x h = go h.0 h.1 h.2 (λ k l e. in_from_contains ys x (k, l, e))
   where
     go : (k : ℕ) → k < suc (length ys) → get_or (y ∷ ys) k x ≡ x
-      → ((k : ℕ) → k < length ys → get_or ys k x ≡ x → In x ys) → (x ≡ y) ⊎ In x ys
+        → ((k : ℕ) → k < length ys → get_or ys k x ≡ x → In x ys) → (x ≡ y) ⊎ In x ys
     go zero l e f = inl (sym e)
     go (suc k) l e f = inr (f k (omega arith) e)
 

@@ -90,7 +90,8 @@ RepliesBy {C} step c (e ∷ es) =
 
 -- A valid order of the operations of an object, of which no two have one number: a list of their
 -- numbers.
-pub record IsValidOrderOf (object : Specification) (calls : List Call) (order : List ℤ) : Type 0 where
+pub record IsValidOrderOf (object : Specification) (calls : List Call) (order : List ℤ)
+    : Type 0 where
   -- each number is that of an operation of the object
   pub entries : List Call
   pub numbers : order ≡ map (λ e. pos e.number) entries

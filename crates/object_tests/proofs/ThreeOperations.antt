@@ -25,13 +25,13 @@ each_follows front [] (x ∷ earlier) later e h q = absurd (cc q)
 each_follows front (f ∷ es) [] later e h q =
     let same : f ≡ e = cc in
     subst (λ (x : Event). Follows (front ++ []) x.process x.object x.action) same
-      (subst (λ t. Follows t f.process f.object f.action) (sym (append-nil front)) h.0)
+    (subst (λ t. Follows t f.process f.object f.action) (sym (append-nil front)) h.0)
 each_follows front (f ∷ es) (x ∷ earlier) later e h q =
     let same : f ≡ x = cc in
     let rest : es ≡ earlier ++ e ∷ later = cc in
     subst (λ t. Follows t e.process e.object e.action)
-      (append_assoc front (f ∷ []) earlier ∙ ap (λ y. front ++ y ∷ earlier) same)
-      (each_follows (front ++ f ∷ []) es earlier later e h.1 rest)
+    (append_assoc front (f ∷ []) earlier ∙ ap (λ y. front ++ y ∷ earlier) same)
+    (each_follows (front ++ f ∷ []) es earlier later e h.1 rest)
 
 -- each number is below the next one
 abbrev Rise : ℕ → List Event → Type 0

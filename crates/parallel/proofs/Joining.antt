@@ -66,20 +66,28 @@ put_one : (met : List ObjectCalls) (o : ObjectCalls) (x : ℕ) (old kept new : O
 put_one met o x old kept new h own other = elim (cases_eq x o.object) [
   | inl e ↦ inl (o, contains_from_in (met ++ o ∷ []) o (in_middle o met []), sym e, own e)
   | inr ne ↦ elim h [
-    | inl p ↦ inl (p.0, contains_from_in (met ++ o ∷ []) p.0
-      (in_left p.0 met (o ∷ []) (in_from_contains met p.0 p.1)), p.2, other ne ∙ p.3)
-    | inr p ↦ inr (λ c. absent p.0 ne
-      (in_map (λ (o : ObjectCalls). o.object) x (met ++ o ∷ [])
-        (in_from_contains (map (λ o. o.object) (met ++ o ∷ [])) x c)), other ne ∙ p.1)
+    | inl p ↦ inl (
+      p.0,
+      contains_from_in (met ++ o ∷ []) p.0
+          (in_left p.0 met (o ∷ []) (in_from_contains met p.0 p.1)),
+      p.2,
+      other ne ∙ p.3,
+    )
+    | inr p ↦ inr (
+      λ c. absent p.0 ne
+          (in_map (λ (o : ObjectCalls). o.object) x (met ++ o ∷ [])
+          (in_from_contains (map (λ o. o.object) (met ++ o ∷ [])) x c)),
+      other ne ∙ p.1,
+    )
   ]
 ]
   where
     absent : (Contains (map (λ (o : ObjectCalls). o.object) met) x → ⊥) → x ≢ o.object
-      → ((p : ObjectCalls) × In p (met ++ o ∷ []) × (x ≡ p.object)) → ⊥
+        → ((p : ObjectCalls) × In p (met ++ o ∷ []) × (x ≡ p.object)) → ⊥
     absent not_in ne p = elim (in_append p.0 met (o ∷ []) p.1) [
       | inl i ↦ not_in (contains_from_in (map (λ (o : ObjectCalls). o.object) met) x
           (subst (λ y. In y (map (λ (o : ObjectCalls). o.object) met)) (sym p.2)
-            (in_map_from (λ (o : ObjectCalls). o.object) p.0 met i)))
+          (in_map_from (λ (o : ObjectCalls). o.object) p.0 met i)))
       | inr i ↦ elim i [ inl e ↦ ne (p.2 ∙ ap (λ (o : ObjectCalls). o.object) e) | inr k ↦ absurd k ]
     ]
 
@@ -99,7 +107,7 @@ pub all_put : (all rest given : List ObjectCalls) (old new : BTreeMap ℕ Object
     → IsPutIn given x (get nat_cmp old x) (get nat_cmp new x)
 all_put all rest given old new is over h x =
     subst (λ os. IsPutIn os x (get nat_cmp old x) (get nat_cmp new x))
-      (sym (append-nil h.met) ∙ (ap (λ r. h.met ++ r) (sym over) ∙ (sym h.so_far ∙ is))) (h.kept x)
+    (sym (append-nil h.met) ∙ (ap (λ r. h.met ++ r) (sym over) ∙ (sym h.so_far ∙ is))) (h.kept x)
 
 -- ---- all parts
 
@@ -132,8 +140,8 @@ of_part : (es : List Event) (n parts : ℕ) (os : List ObjectCalls) (o : ObjectC
 of_part es n parts os o h i = record {
   object = refl;
   named = ((h.named o.object).0
-    (contains_from_in (map (λ (o : ObjectCalls). o.object) os) o.object
-    (in_map_from (λ (o : ObjectCalls). o.object) o os i))).0;
+      (contains_from_in (map (λ (o : ObjectCalls). o.object) os) o.object
+      (in_map_from (λ (o : ObjectCalls). o.object) o os i))).0;
   kind = all_at (λ (o : ObjectCalls). o.kind ≡ kind_at es o.object) os h.kinds o i;
   operations = all_at (λ (o : ObjectCalls). o.ops ≡ operations_on o.object es) os h.operations o i;
   calls = all_at (λ (o : ObjectCalls). calls_of o.ops ≡ calls_on o.object (denoted es)) os h.calls o i;
@@ -148,7 +156,7 @@ whole_more es n parts os m next part put h = record {
     | inl p ↦
         let same : p.0 ≡ o = some_is p.0 o (sym p.3 ∙ is) in
         subst (IsObjectOf es x) same
-          (subst (λ y. IsObjectOf es y p.0) p.2 (of_part es n parts os p.0 part (in_from_contains os p.0 p.1)))
+        (subst (λ y. IsObjectOf es y p.0) p.2 (of_part es n parts os p.0 part (in_from_contains os p.0 p.1)))
     | inr p ↦ h.right x o (sym p.1 ∙ is)
   ];
   whole = λ x named l. elim (put x) [
@@ -181,17 +189,17 @@ one_longer (x ∷ xs) y = let l = one_longer xs y in omega (arith, l)
 pub join_more : {V E : Type 0} (items : V → List ObjectCalls) (all rest later : List (Result V E))
     (m next : BTreeMap ℕ ObjectCalls) (r : Result V E)
     (v : V) → AreJoined items all rest m → rest ≡ r ∷ later → r ≡ Ok v
-      → ((x : ℕ) → IsPutIn (items v) x (get nat_cmp m x) (get nat_cmp next x)) → AreJoined items all later next
+    → ((x : ℕ) → IsPutIn (items v) x (get nat_cmp m x) (get nat_cmp next x)) → AreJoined items all later next
 join_more {V} {E} items all rest later m next r v h is ok put = record {
   met = h.met ++ r ∷ [];
   so_far = whole ∙ sym (append_assoc h.met (r ∷ []) later);
   kept = λ es parts.
       let at = parts (length h.met) r (subst (λ xs. length h.met < length xs) (sym whole) (inside h.met later r)) in
       let here : get_or all (length h.met) r ≡ Ok v =
-        ap (λ xs. get_or xs (length h.met) r) whole ∙ (at_end h.met later r r ∙ ok) in
+      ap (λ xs. get_or xs (length h.met) r) whole ∙ (at_end h.met later r r ∙ ok) in
       let part = subst (λ q. IfOk q (λ v. IsGathered es (length h.met) (length all) (items v))) here at in
       subst (λ n. IsWholeTo es n (length all) next) (sym (one_longer h.met r))
-        (whole_more es (length h.met) (length all) (items v) m next part put (h.kept es parts));
+      (whole_more es (length h.met) (length all) (items v) m next part put (h.kept es parts));
 }
   where
     whole : all ≡ h.met ++ r ∷ later
@@ -241,23 +249,23 @@ pub all_listed : (es : List Event) (m : BTreeMap ℕ ObjectCalls) (all rest : Li
     → IsWhole es m → all ≡ m.entries → rest ≡ [] → AreListed all rest os → AreAll es os
 all_listed es m all rest os sorted h from over listed = record {
   rising = all_from_pairs (λ (a b : ObjectCalls). a.object < b.object) os
-    (subst (Pairs (λ (a b : ObjectCalls). a.object < b.object)) (sym is)
+      (subst (Pairs (λ (a b : ObjectCalls). a.object < b.object)) (sym is)
       (pairs_map (λ (a b : ObjectCalls). a.object < b.object) (λ (e : ℕ × ObjectCalls). e.1) m.entries
       (pairs_weaker (λ (a b : ℕ × ObjectCalls). a.0 < b.0)
-        (λ (a b : ℕ × ObjectCalls). a.1.object < b.1.object) m.entries
+      (λ (a b : ℕ × ObjectCalls). a.1.object < b.1.object) m.entries
       (λ a b i j l. let p = (entry a i).object in let q = (entry b j).object in omega (arith, l, p, q))
       (pairs_from_map (λ (a b : ℕ). a < b) (λ (e : ℕ × ObjectCalls). e.0) m.entries (keys_rising (keys m) sorted)))));
   named = λ x. (
     λ c. let o = in_map (λ (o : ObjectCalls). o.object) x os
-      (in_from_contains (map (λ (o : ObjectCalls). o.object) os) x c) in
-      subst (IsNamed es) (sym o.2) (good o.0 o.1).named,
+        (in_from_contains (map (λ (o : ObjectCalls). o.object) os) x c) in
+        subst (IsNamed es) (sym o.2) (good o.0 o.1).named,
     λ n. let o = h.whole x n in
         let i = in_from_contains m.entries (x, o.0)
-          ((btree_map_get_iff nat_cmp_total exact_unsigned m sorted x o.0).0 o.1) in
+        ((btree_map_get_iff nat_cmp_total exact_unsigned m sorted x o.0).0 o.1) in
         contains_from_in (map (λ (o : ObjectCalls). o.object) os) x
-          (subst (λ y. In y (map (λ (o : ObjectCalls). o.object) os)) (h.right x o.0 o.1).object
+        (subst (λ y. In y (map (λ (o : ObjectCalls). o.object) os)) (h.right x o.0 o.1).object
         (in_map_from (λ (o : ObjectCalls). o.object) o.0 os
-          (subst (In o.0) (sym is) (in_map_from (λ (e : ℕ × ObjectCalls). e.1) (x, o.0) m.entries i)))),
+        (subst (In o.0) (sym is) (in_map_from (λ (e : ℕ × ObjectCalls). e.1) (x, o.0) m.entries i)))),
   );
   kinds = all_from_in (λ o. o.kind ≡ kind_at es o.object) os (λ o i. (good o i).kind);
   operations = all_from_in (λ o. o.ops ≡ operations_on o.object es) os (λ o i. (good o i).operations);
@@ -266,12 +274,13 @@ all_listed es m all rest os sorted h from over listed = record {
   where
     is : os ≡ map (λ (e : ℕ × ObjectCalls). e.1) m.entries
     is = sym (append-nil os)
-      ∙ (ap (λ (r : List (ℕ × ObjectCalls)). os ++ map (λ (e : ℕ × ObjectCalls). e.1) r) (sym over) ∙ sym listed
+        ∙ (ap (λ (r : List (ℕ × ObjectCalls)). os ++ map (λ (e : ℕ × ObjectCalls). e.1) r) (sym over) ∙ sym listed
         ∙ ap (map (λ (e : ℕ × ObjectCalls). e.1)) from)
 
     entry : (e : ℕ × ObjectCalls) → In e m.entries → IsObjectOf es e.0 e.1
     entry e i = h.right e.0 e.1
-      (all_at (λ (e : ℕ × ObjectCalls). get nat_cmp m e.0 ≡ Some e.1) m.entries (All-found nat_cmp_total m sorted) e i)
+        (all_at (λ (e : ℕ × ObjectCalls). get nat_cmp m e.0 ≡ Some e.1) m.entries
+        (All-found nat_cmp_total m sorted) e i)
 
     good : (o : ObjectCalls) → In o os → IsObjectOf es o.object o
     good o i =

@@ -59,8 +59,11 @@ pub at_next : (worker workers : ℕ) (os : List ObjectCalls) (certificates : Lis
     → HasChecked worker workers os certificates place
     → IsFineAt os certificates place → HasChecked worker workers os certificates (place + workers)
 at_next worker workers os certificates place some h here = record {
-  own = (h.own.0 + 1, let e = h.own.1 in
-      let m : (h.own.0 + 1) * workers ≡ h.own.0 * workers + workers = one_more h.own.0 in omega arith);
+  own = (
+    h.own.0 + 1,
+    let e = h.own.1 in
+        let m : (h.own.0 + 1) * workers ≡ h.own.0 * workers + workers = one_more h.own.0 in omega arith,
+  );
   fine = λ k l inside own. elim (cases_order k place) [
     | inl e ↦ subst (IsFineAt os certificates) (sym e) here
     | inr r ↦ elim r [
@@ -98,7 +101,7 @@ pub fine_below : (es : List Event) (certificates : List Certificate) (os : List 
 fine_below es certificates os n objects fine o i =
     let p = place_below os n o o i in
     let here : IsFine o.kind (calls_of o.ops) certificates o.object =
-      subst (λ (q : ObjectCalls). IsFine q.kind (calls_of q.ops) certificates q.object) p.3 (fine p.0 p.1 p.2 o) in
+    subst (λ (q : ObjectCalls). IsFine q.kind (calls_of q.ops) certificates q.object) p.3 (fine p.0 p.1 p.2 o) in
     next_fine es certificates os p.0 o objects p.2 (sym p.3) here
 
 -- the least of what was found so far
@@ -195,7 +198,7 @@ fine_before count os certificates rs f shares least k below inside =
     go (get_or rs i (Err f)) (shares.each i (Err f) w.0) at w.1
   where
     go : (r : Result (Unit {0}) RefusedObject) → IsShare (k % count) count os certificates r → IsNotBefore f r
-      → FallsTo (k % count) count k → IsFineAt os certificates k
+        → FallsTo (k % count) count k → IsFineAt os certificates k
     go (Ok u) h n own = h.fine k inside own
     go (Err g) h n own = h.found.before k (omega arith) own
 
@@ -210,7 +213,7 @@ all_fine count os certificates rs shares ok k inside =
     go (get_or rs i d) (shares.each i d w.0) (ok i d (subst (λ n. i < n) (sym shares.long) w.0)) w.1
   where
     go : (r : Result (Unit {0}) RefusedObject) → IsShare (k % count) count os certificates r → IsOk r
-      → FallsTo (k % count) count k → IsFineAt os certificates k
+        → FallsTo (k % count) count k → IsFineAt os certificates k
     go (Ok u) h n own = h.fine k inside own
     go (Err g) h n own = cc n
 
@@ -229,7 +232,7 @@ found_first count os certificates rs f shares stands =
 -- failure alone.
 pub first_of_all : (es : List Event) (count : ℕ) (os : List ObjectCalls) (certificates : List Certificate)
     (rs : List (Result (Unit {0}) RefusedObject)) (f : RefusedObject)
-      → AllPairs (λ a b. a.object ≢ b.object) certificates → AreObjects es os
+    → AllPairs (λ a b. a.object ≢ b.object) certificates → AreObjects es os
     → AreShares count os certificates rs → Contains rs (Err f) → All (IsNotBefore f) rs
     → IsFirstRefusal es certificates f.refusal × (AreValid es certificates → f.refusal ≡ NoMemory)
 first_of_all es count os certificates rs f distinct objects shares stands least =
@@ -238,13 +241,13 @@ first_of_all es count os certificates rs f distinct objects shares stands least 
     let found = found_first count os certificates rs f shares stands in
     let o = element os k found.0 in
     let here = subst (λ (q : ObjectCalls). IsRefused q.kind (calls_of q.ops) certificates q.object f.refusal)
-      (sym o.1) (found.1 o.0) in
+    (sym o.1) (found.1 o.0) in
     next_is_first es certificates os k o.0 f.refusal distinct objects below found.0 o.1 here
 
 pub all_are_fine : (es : List Event) (count : ℕ) (os : List ObjectCalls) (certificates : List Certificate)
     (rs : List (Result (Unit {0}) RefusedObject)) → AreObjects es os → AreShares count os certificates rs
-      → All IsOk rs → AreFine es certificates os
+    → All IsOk rs → AreFine es certificates os
 all_are_fine es count os certificates rs objects shares ok =
     subst (AreFine es certificates) (take_all (length os) os (omega arith))
-      (fine_below es certificates os (length os) objects
-      (λ k l inside. all_fine count os certificates rs shares ok k inside))
+    (fine_below es certificates os (length os) objects
+    (λ k l inside. all_fine count os certificates rs shares ok k inside))

@@ -94,8 +94,11 @@ queue_goes v vs (Enqueue w) =
     λ a. (queue (filter (others v) vs ++ w ∷ []), refl, ap (λ us. queue us) (after_in (others v) w vs (ap not a.0)))
 queue_goes v [] Dequeue = λ a. (queue [], refl, refl)
 queue_goes v (w ∷ vs) Dequeue =
-    λ a. (queue (filter (others v) vs),
-    ap (λ us. next (queue us) Dequeue) (filter_in (others v) w vs (ap not a.1)), refl)
+    λ a. (
+      queue (filter (others v) vs),
+      ap (λ us. next (queue us) Dequeue) (filter_in (others v) w vs (ap not a.1)),
+      refl,
+    )
 queue_goes v vs op = tt
 
 stack_goes : (v : ℤ) (vs : List ℤ) (op : AnyOp)
@@ -116,8 +119,11 @@ heap_goes v vs (Insert w) r = λ a. (
 )
 heap_goes v [] ExtractMin r = λ a. (heap [], refl, (refl, tt))
 heap_goes v (w ∷ vs) ExtractMin r =
-    λ a. (heap (filter (others v) vs), ap (λ us. next (heap us) ExtractMin) (filter_in (others v) w vs (ap not a.1)),
-    (refl, r.1))
+    λ a. (
+      heap (filter (others v) vs),
+      ap (λ us. next (heap us) ExtractMin) (filter_in (others v) w vs (ap not a.1)),
+      (refl, r.1),
+    )
 heap_goes v vs op r = tt
 
 abbrev swapped : Option ℤ → ℤ → ℤ → Bool → Option (Content × AnyReply)
@@ -130,7 +136,7 @@ register_goes v x Read = λ a. (register x, refl, refl)
 register_goes v x (Cas a b) = go (contains_value x a) refl
   where
     go : (t : Bool) → contains_value x a ≡ t
-      → IfSome (swapped x a b t) (λ p. IsApart v (Cas a b) p.1 → Goes v (Cas a b) (register x) p.0 p.1)
+        → IfSome (swapped x a b t) (λ p. IsApart v (Cas a b) p.1 → Goes v (Cas a b) (register x) p.0 p.1)
     go true e = λ k. (register (Some b), ap (swapped x a b) e, refl)
     go false e = λ k. (register x, ap (swapped x a b) e, refl)
 register_goes v x Clear = λ a. (register None, refl, refl)
@@ -231,8 +237,8 @@ skips v (register x) d Read s = λ k. absurd (neither k)
 skips v (register x) d (Cas a b) s = go (contains_value x a)
   where
     go : (t : Bool) → IfSome {T = Content × AnyReply}
-      (cond t (Some (register (Some b), Swapped a b)) (Some (register x, NotSwapped)))
-      (λ p. Touches v (Cas a b) p.1 → IsOthers v p.0 d)
+        (cond t (Some (register (Some b), Swapped a b)) (Some (register x, NotSwapped)))
+        (λ p. Touches v (Cas a b) p.1 → IsOthers v p.0 d)
     go true = λ k. absurd (neither k)
     go false = λ k. absurd (neither k)
 skips v (table m) d (Put k w) s = λ t. absurd (neither t)
@@ -334,13 +340,13 @@ none_after : (v : ℤ) (number : ℕ) (e : Call) (es : List Call) → nat_lt e.n
     → tally (is_taken_before v number) es ≡ 0
 none_after v number e es n f =
     tally_none (is_taken_before v number) es (λ y i. elim (true_or_false (is_taken_before v number y)) [
-  | inl t ↦ absurd (f y i (returned_first v number y e t n))
-  | inr no_removal ↦ no_removal
-])
+      | inl t ↦ absurd (f y i (returned_first v number y e t n))
+      | inr no_removal ↦ no_removal
+    ])
 
 put_cases : (v : ℤ) (number : ℕ) (e : Call)
     → (one (puts_in (int_eq v) e.op) ≡ one (is_put_before v number e))
-      ⊎ ((puts_in (int_eq v) e.op ≡ true) × (nat_lt e.number number ≡ false))
+    ⊎ ((puts_in (int_eq v) e.op ≡ true) × (nat_lt e.number number ≡ false))
 put_cases v number e = go (puts_in (int_eq v) e.op) (nat_lt e.number number)
   where
     go : (a b : Bool) → (one a ≡ one (a && b)) ⊎ ((a ≡ true) × (b ≡ false))
@@ -365,7 +371,7 @@ owed v number (e ∷ es) c h p =
     ]
   where
     sums : (after took size put told here early gone more : ℕ) → after + took ≡ size + put → told ≤ took → here ≤ told
-      → put ≡ early → gone ≤ after + more
+        → put ≡ early → gone ≤ after + more
         → here + gone ≤ size + (early + more)
     sums after took size put told here early gone more a b d e f = omega arith
 
@@ -395,10 +401,10 @@ all_stay v number es c d s h spent none =
     let put : tally (is_put_before v number) es ≡ 0 = second _ _ _ spent none in
     let same = same_content v c d s (first _ _ _ spent none) in
     let whole = filter_all (stays v number) es
-      (λ e i. keep (is_put_before v number e) (is_taken_before v number e)
-      (none_tallied (is_put_before v number) es put e i) (none_tallied (is_taken_before v number) es none e i)) in
+    (λ e i. keep (is_put_before v number e) (is_taken_before v number e)
+    (none_tallied (is_put_before v number) es put e i) (none_tallied (is_taken_before v number) es none e i)) in
     subst (λ (z : Content). RepliesAlong z (filter (stays v number) es)) (sym same)
-      (subst (RepliesAlong c) (sym whole) h)
+    (subst (RepliesAlong c) (sym whole) h)
   where
     first : (size put taken : ℕ) → size + put ≤ taken → taken ≡ 0 → size ≡ 0
     first size put taken l e = omega arith
@@ -418,23 +424,23 @@ early_spent : (v : ℤ) (number : ℕ) (e : Call) (es : List Call) (c after : Co
     → IsSpent v number after es
 early_spent v number e es c after reply t early spent =
     elim (or_true (is_put_before v number e) (is_taken_before v number e) early) [
-  | inl put ↦
-      let puts = ap one (early_put v number e put).0 in
-      let here = ap one put in
-      let no_take = ap one (no_put_takes (int_eq v) e.op (Some reply) (early_put v number e put).0) in
-      let none_here = and_le (takes_out (int_eq v) e.op (reply_of e.returned)) (ended_before number e.returned) in
-      let none_told = ap one (no_put_takes (int_eq v) e.op (reply_of e.returned) (early_put v number e put).0) in
-      put_sums _ _ _ _ _ _ _ _ _ t.balance puts here no_take none_here none_told spent
-  | inr taken ↦
-      let told = ap one (early_removal v number e taken).0 in
-      let here = ap one taken in
-      take_sums (one (takes_out (int_eq v) e.op (Some reply))) _ _ _ _ _ _ _ t.balance t.fewer told here
-        (and_le (puts_in (int_eq v) e.op) (nat_lt e.number number))
-      (no_put e.op (reply_of e.returned) (early_removal v number e taken).0) spent
-]
+      | inl put ↦
+          let puts = ap one (early_put v number e put).0 in
+          let here = ap one put in
+          let no_take = ap one (no_put_takes (int_eq v) e.op (Some reply) (early_put v number e put).0) in
+          let none_here = and_le (takes_out (int_eq v) e.op (reply_of e.returned)) (ended_before number e.returned) in
+          let none_told = ap one (no_put_takes (int_eq v) e.op (reply_of e.returned) (early_put v number e put).0) in
+          put_sums _ _ _ _ _ _ _ _ _ t.balance puts here no_take none_here none_told spent
+      | inr taken ↦
+          let told = ap one (early_removal v number e taken).0 in
+          let here = ap one taken in
+          take_sums (one (takes_out (int_eq v) e.op (Some reply))) _ _ _ _ _ _ _ t.balance t.fewer told here
+          (and_le (puts_in (int_eq v) e.op) (nat_lt e.number number))
+          (no_put e.op (reply_of e.returned) (early_removal v number e taken).0) spent
+    ]
   where
     put_sums : (after took size put early told here more gone : ℕ) → after + took ≡ size + put → put ≡ 1 → early ≡ 1
-      → took ≡ 0 → here ≤ told → told ≡ 0
+        → took ≡ 0 → here ≤ told → told ≡ 0
         → size + (early + more) ≤ here + gone → after + more ≤ gone
     put_sums after took size put early told here more gone a b d e f g h = omega arith
 
@@ -445,7 +451,7 @@ early_spent v number e es c after reply t early spent =
     ]
 
     take_sums : (took after size put told here early more : ℕ) → after + took ≡ size + put → told ≤ took → told ≡ 1
-      → here ≡ 1 → early ≤ put → put ≡ 0
+        → here ≡ 1 → early ≤ put → put ≡ 0
         → size + (early + more) ≤ here + tally (is_taken_before v number) es
         → after + more ≤ tally (is_taken_before v number) es
     take_sums took after size put told here early more a b d e f g h = omega arith
@@ -459,7 +465,7 @@ without_early v number (e ∷ es) c d s h p spent =
     elim (true_or_false (is_put_before v number e || is_taken_before v number e)) [
       | inl early ↦
           let skipped = subst (λ z. IfSome z (λ p. Touches v e.op p.1 → IsOthers v p.0 d)) h.2 (skips v c d e.op s)
-            (touched h.1 early t.fewer) in
+          (touched h.1 early t.fewer) in
           subst (RepliesAlong d) (sym (filter_away (stays v number) e es (ap not early)))
           (without_early v number es h.0 d skipped h.4 p.1 (early_spent v number e es c h.0 h.1 t early spent))
       | inr late ↦
@@ -468,17 +474,17 @@ without_early v number (e ∷ es) c d s h p spent =
             | inl put ↦
                 let later = and_false_right (puts_in (int_eq v) e.op) (nat_lt e.number number) put no_early.0 in
                 all_stay v number (e ∷ es) c d s h spent
-                  (zero _ _ (ap one no_early.1) (none_after v number e es later p.0))
+                (zero _ _ (ap one no_early.1) (none_after v number e es later p.0))
             | inr no_put ↦ elim (true_or_false (takes_out (int_eq v) e.op (Some h.1))) [
               | inl took ↦ absurd (too_many _ _ _ _ _ _ _ _ t.balance (ap one took) (ap one no_put)
-                (ap one no_early.1) spent (owed v number es h.0 h.4 p.1))
+                  (ap one no_early.1) spent (owed v number es h.0 h.4 p.1))
               | inr no_take ↦
                   let g = subst (λ z. IfSome z (λ p. IsApart v e.op p.1 → Goes v e.op d p.0 p.1)) h.2
-                    (goes v c d e.op s) (no_put, no_take) in
+                  (goes v c d e.op s) (no_put, no_take) in
                   let still = unchanged _ _ _ _ _ _ _ _ t.balance (ap one no_take) (ap one no_put)
-                    (ap one no_early.1) spent in
+                  (ap one no_early.1) spent in
                   subst (RepliesAlong d) (sym (filter_here (stays v number) e es (ap not late)))
-                    (g.0, h.1, g.1, h.3, without_early v number es h.0 g.0 g.2 h.4 p.1 still)
+                  (g.0, h.1, g.1, h.3, without_early v number es h.0 g.0 g.2 h.4 p.1 still)
             ]
           ]
     ]
@@ -492,7 +498,7 @@ without_early v number (e ∷ es) c d s h p spent =
     touched reply early fewer = elim (or_true (is_put_before v number e) (is_taken_before v number e) early) [
       | inl put ↦ inl (early_put v number e put).0
       | inr taken ↦ inr (more (takes_out (int_eq v) e.op (reply_of e.returned))
-        (takes_out (int_eq v) e.op (Some reply)) (early_removal v number e taken).0 fewer)
+          (takes_out (int_eq v) e.op (Some reply)) (early_removal v number e taken).0 fewer)
     ]
       where
         more : (a b : Bool) → a ≡ true → one a ≤ one b → b ≡ true
@@ -501,12 +507,12 @@ without_early v number (e ∷ es) c d s h p spent =
         more false false q l = absurd (false_is_not_true q)
 
     too_many : (after took size put here early more gone : ℕ) → after + took ≡ size + put → took ≡ 1 → put ≡ 0
-      → here ≡ 0
+        → here ≡ 0
         → size + (early + more) ≤ here + gone → gone ≤ after + more → ⊥
     too_many after took size put here early more gone a b d e f g = absurd (omega arith)
 
     unchanged : (after took size put here early more gone : ℕ) → after + took ≡ size + put → took ≡ 0 → put ≡ 0
-      → here ≡ 0
+        → here ≡ 0
         → size + (early + more) ≤ here + gone → after + more ≤ gone
     unchanged after took size put here early more gone a b d e f = omega arith
 
@@ -521,20 +527,20 @@ without_valid kind calls v number order rising absent valid =
     let entries = valid.entries in
     let p : Call → Bool = stays v number in
     let known : (e : Call) → In e entries → In e calls =
-      λ e i. in_from_contains calls e (all_at (Contains calls) entries valid.known e i) in
+    λ e i. in_from_contains calls e (all_at (Contains calls) entries valid.known e i) in
     let numbers = pairs_from_map (λ x y. x ≢ y) named entries
-      (subst (Pairs (λ x y. x ≢ y)) valid.numbers (pairs_from_all (λ x y. x ≢ y) order valid.once)) in
+    (subst (Pairs (λ x y. x ≢ y)) valid.numbers (pairs_from_all (λ x y. x ≢ y) order valid.once)) in
     let apart = pairs_weaker (λ x y. named x ≢ named y) (λ x y. x ≢ y) entries
-      (λ x y i j ne e. ne (ap named e)) numbers in
+    (λ x y i j ne e. ne (ap named e)) numbers in
     let distinct = pairs_weaker (λ a b. a.number < b.number) (λ x y. x ≢ y) calls
     (λ x y i j l e. risen x.number y.number l (ap (λ (z : Call). z.number) e))
-      (pairs_from_all (λ a b. a.number < b.number) calls rising) in
+    (pairs_from_all (λ a b. a.number < b.number) calls rising) in
     let in_time = pairs_from_all (λ x y. ReturnsBefore y x → ⊥) entries valid.in_order in
     let puts = count_among (is_put_before v number) entries calls apart (λ e i q. known e i) in
     let takes = count_among (is_taken_before v number) calls entries distinct
     (λ e i q. in_from_contains entries e
-      (all_at (λ e. IsSome e.returned → Contains entries e) calls valid.whole e i
-      (returned e.returned (early_removal v number e q).1))) in
+    (all_at (λ e. IsSome e.returned → Contains entries e) calls valid.whole e i
+    (returned e.returned (early_removal v number e q).1))) in
     let spent = sums _ _ _ _ _ _ _ (size_empty (int_eq v) kind) puts takes
     (count_tally (is_put_before v number) calls) (count_tally (is_taken_before v number) calls) absent.taken in (
       map named (filter p entries),
@@ -543,18 +549,18 @@ without_valid kind calls v number order rising absent valid =
         numbers = refl;
         known = all_from_in (Contains (filter p calls)) (filter p entries) (λ e i.
             contains_from_in (filter p calls) e
-              (in_filter_from p e calls (known e (in_filter p e entries i)) (in_filter_passes p e entries i)));
+            (in_filter_from p e calls (known e (in_filter p e entries i)) (in_filter_passes p e entries i)));
         once = all_from_pairs (λ x y. x ≢ y) (map named (filter p entries))
-          (pairs_map (λ x y. x ≢ y) named (filter p entries)
-          (pairs_filter (λ x y. named x ≢ named y) p entries numbers));
+            (pairs_map (λ x y. x ≢ y) named (filter p entries)
+            (pairs_filter (λ x y. named x ≢ named y) p entries numbers));
         whole = all_from_in (λ e. IsSome e.returned → Contains (filter p entries) e) (filter p calls) (λ e i so.
             let here = in_from_contains entries e
-              (all_at (λ e. IsSome e.returned → Contains entries e) calls valid.whole e (in_filter p e calls i) so) in
+            (all_at (λ e. IsSome e.returned → Contains entries e) calls valid.whole e (in_filter p e calls i) so) in
             contains_from_in (filter p entries) e (in_filter_from p e entries here (in_filter_passes p e calls i)));
         in_order = all_from_pairs (λ x y. ReturnsBefore y x → ⊥) (filter p entries)
-          (pairs_filter (λ x y. ReturnsBefore y x → ⊥) p entries in_time);
+            (pairs_filter (λ x y. ReturnsBefore y x → ⊥) p entries in_time);
         replies = without_early v number entries (empty kind) (empty kind)
-          (empty_others v kind) valid.replies in_time spent;
+            (empty_others v kind) valid.replies in_time spent;
       },
     )
   where
@@ -566,6 +572,6 @@ without_valid kind calls v number order rising absent valid =
     returned (Some r) e = refl
 
     sums : (size put all_put all_took took counted_put counted_took : ℕ) → size ≡ 0 → put ≤ all_put → all_took ≤ took
-      → all_put ≡ counted_put → all_took ≡ counted_took
+        → all_put ≡ counted_put → all_took ≡ counted_took
         → counted_put ≤ counted_took → size + put ≤ took
     sums size put all_put all_took took counted_put counted_took a b d e f g = omega arith

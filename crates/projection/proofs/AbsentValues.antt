@@ -31,7 +31,7 @@ operation_is v before o p e = go (is_late v before o) e
   where
     go : (b : Bool) → cond b (Some o) None ≡ Some p → IsCutOperation o p
     go true e = subst (IsCutOperation o) (same_Some o p e)
-      (record { number = refl; kind = refl; returned = λ at reply e. (reply, e) })
+        (record { number = refl; kind = refl; returned = λ at reply e. (reply, e) })
     go false e = absurd (cc e)
 
 operation_call : (v : ℤ) (before : ℕ) (o : Invocation)
@@ -44,11 +44,11 @@ operation_call v before o = cut_operation (is_late v before o) ∙ sym (part o.�
 
     part : (e : End) → bind (call_with o.number o.op e) (own (late_call v before))
         ≡ cond (not (has_failed e)
-          && not (is_put_before_end v before o.number o.op e || is_taken_before_end v before o.op e))
-          (call_with o.number o.op e) None
+        && not (is_put_before_end v before o.number o.op e || is_taken_before_end v before o.op e))
+        (call_with o.number o.op e) None
     part (Returned at r) = refl
     part Pending = ap (λ (b : Bool). cond (not ((puts_in (int_eq v) o.op && nat_lt o.number before) || b))
-      (call_with o.number o.op Pending) None) (pending_took (is_removal o.op))
+        (call_with o.number o.op Pending) None) (pending_took (is_removal o.op))
     part Failed = refl
 
 pub late_history : (v : ℤ) (before : ℕ) (h : ObjectCalls) → IsObjectHistory h
@@ -56,7 +56,7 @@ pub late_history : (v : ℤ) (before : ℕ) (h : ObjectCalls) → IsObjectHistor
 late_history v before h is =
     subst (λ (ops : List Invocation). IsObjectHistory (record { object = h.object; kind = h.kind; ops = ops }))
     (as_filter (is_late v before) h.ops)
-      (cut_history h.object h.kind h.ops (own (is_late v before)) (λ o p i e. operation_is v before o p e) is)
+    (cut_history h.object h.kind h.ops (own (is_late v before)) (λ o p i e. operation_is v before o p e) is)
 
 pub late_calls_of : (v : ℤ) (before : ℕ) (ops : List Invocation)
     → calls_of (filter (is_late v before) ops) ≡ calls_without v before (calls_of ops)
@@ -73,7 +73,7 @@ put_counts v before ops =
     count_calls (λ o. is_put_before_end v before o.number o.op o.«end») (is_put_before v before) (λ o. go o o.«end») ops
   where
     go : (o : Invocation) (e : End)
-      → is_put_before_end v before o.number o.op e ≡ passes (is_put_before v before) (call_with o.number o.op e)
+        → is_put_before_end v before o.number o.op e ≡ passes (is_put_before v before) (call_with o.number o.op e)
     go o (Returned at r) = refl
     go o Pending = refl
     go o Failed = refl
@@ -84,7 +84,7 @@ taken_counts v before ops =
     count_calls (λ o. is_taken_before_end v before o.op o.«end») (is_taken_before v before) (λ o. go o o.«end») ops
   where
     go : (o : Invocation) (e : End)
-      → is_taken_before_end v before o.op e ≡ passes (is_taken_before v before) (call_with o.number o.op e)
+        → is_taken_before_end v before o.op e ≡ passes (is_taken_before v before) (call_with o.number o.op e)
     go o (Returned at r) = refl
     go o Pending = sym (pending_took (is_removal o.op))
     go o Failed = refl

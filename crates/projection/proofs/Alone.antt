@@ -21,7 +21,7 @@ operation_is o p e = go (lives o) e
   where
     go : (b : Bool) → cond b (Some o) None ≡ Some p → IsCutOperation o p
     go true e = subst (IsCutOperation o) (same_Some o p e)
-      (record { number = refl; kind = refl; returned = λ at reply e. (reply, e) })
+        (record { number = refl; kind = refl; returned = λ at reply e. (reply, e) })
     go false e = absurd (cc e)
 
 operation_lives : (o p : Invocation) → own lives o ≡ Some p → p.«end» ≡ Failed → ⊥
@@ -43,10 +43,13 @@ alone_calls (o ∷ ops) = go o.«end» (alone_calls ops)
   where
     go : (e : End) → calls_of (filter lives ops) ≡ calls_of ops
         → calls_of (cond (not (has_failed e)) (record { number = o.number; op = o.op; «end» = e } ∷ filter lives ops)
-          (filter lives ops)) ≡ cons_option (call_with o.number o.op e) (calls_of ops)
+        (filter lives ops)) ≡ cons_option (call_with o.number o.op e) (calls_of ops)
     go (Returned at r) h = ap
-      (λ (cs : List Call). record { number = o.number; op = o.op;
-      returned = Some (record { at = at; reply = r }) } ∷ cs) h
+        (λ (cs : List Call). record {
+          number = o.number;
+          op = o.op;
+          returned = Some (record { at = at; reply = r });
+        } ∷ cs) h
     go Pending h = ap (λ (cs : List Call). record { number = o.number; op = o.op; returned = None } ∷ cs) h
     go Failed h = h
 

@@ -20,27 +20,27 @@ operation_is : (until : ℕ) (o p : Invocation) → operation_before until o ≡
 operation_is until o p e = lives (has_failed o.«end») e
   where
     was : (end : End) (at : ℕ) (reply : AnyReply) → end_before until end ≡ Returned at reply
-      → (own : AnyReply) × (end ≡ Returned at own)
+        → (own : AnyReply) × (end ≡ Returned at own)
     was (Returned when r) at reply e = back (nat_lt when until) e
       where
         back : (b : Bool) → cond b (Returned when r) Pending ≡ Returned at reply
-          → (own : AnyReply) × (Returned when r ≡ Returned at own)
+            → (own : AnyReply) × (Returned when r ≡ Returned at own)
         back true e = (reply, e)
         back false e = absurd (cc e)
     was Pending at reply e = absurd (cc e)
     was Failed at reply e = absurd (cc e)
 
     go : (b : Bool) → cond b (Some (record { number = o.number; op = o.op; «end» = end_before until o.«end» })) None
-      ≡ Some p → IsCutOperation o p
+        ≡ Some p → IsCutOperation o p
     go true e =
         let q = same_Some _ p e in
         subst (IsCutOperation o) q (record { number = refl; kind = refl; returned = was o.«end» })
     go false e = absurd (cc e)
 
     lives : (b : Bool) → cond b None
-      (cond (nat_lt o.number until)
-      (Some (record { number = o.number; op = o.op; «end» = end_before until o.«end» })) None) ≡ Some p
-      → IsCutOperation o p
+        (cond (nat_lt o.number until)
+        (Some (record { number = o.number; op = o.op; «end» = end_before until o.«end» })) None) ≡ Some p
+        → IsCutOperation o p
     lives true e = absurd (cc e)
     lives false e = go (nat_lt o.number until) e
 
@@ -57,15 +57,15 @@ operation_lives until o p e = lives (has_failed o.«end») refl e
     was Failed q f = absurd (cc q)
 
     go : (b : Bool) → has_failed o.«end» ≡ false
-      → cond b (Some (record { number = o.number; op = o.op; «end» = end_before until o.«end» })) None ≡ Some p
-      → p.«end» ≢ Failed
+        → cond b (Some (record { number = o.number; op = o.op; «end» = end_before until o.«end» })) None ≡ Some p
+        → p.«end» ≢ Failed
     go true q e = subst (λ (z : Invocation). z.«end» ≢ Failed) (same_Some _ p e) (was o.«end» q)
     go false q e = absurd (cc e)
 
     lives : (b : Bool) → has_failed o.«end» ≡ b
         → cond b None (cond (nat_lt o.number until)
-          (Some (record { number = o.number; op = o.op; «end» = end_before until o.«end» })) None) ≡ Some p
-          → p.«end» ≢ Failed
+        (Some (record { number = o.number; op = o.op; «end» = end_before until o.«end» })) None) ≡ Some p
+        → p.«end» ≢ Failed
     lives true q e = absurd (cc e)
     lives false q e = go (nat_lt o.number until) q e
 
@@ -78,21 +78,24 @@ operation_call until o = go o.«end»
   where
     returned : (at : ℕ) (r : AnyReply) (b t : Bool)
         → bind (cond b (Some (record { number = o.number; op = o.op; «end» = cond t (Returned at r) Pending }))
-          None) call_of
-        ≡ cond b (Some (record { number = o.number; op = o.op;
-          returned = cond t (Some (record { at = at; reply = r })) None })) None
+        None) call_of
+        ≡ cond b (Some (record {
+          number = o.number;
+          op = o.op;
+          returned = cond t (Some (record { at = at; reply = r })) None;
+        })) None
     returned at r true true = refl
     returned at r true false = refl
     returned at r false t = refl
 
     pending : (b : Bool) → bind
-      (cond b (Some (record { number = o.number; op = o.op; «end» = Pending })) None) call_of
-      ≡ cond b (Some (record { number = o.number; op = o.op; returned = None })) None
+        (cond b (Some (record { number = o.number; op = o.op; «end» = Pending })) None) call_of
+        ≡ cond b (Some (record { number = o.number; op = o.op; returned = None })) None
     pending true = refl
     pending false = refl
 
     go : (e : End) → bind (operation_before until (record { number = o.number; op = o.op; «end» = e })) call_of
-      ≡ bind (call_with o.number o.op e) (call_then until)
+        ≡ bind (call_with o.number o.op e) (call_then until)
     go (Returned at r) = returned at r (nat_lt o.number until) (nat_lt at until)
     go Pending = pending (nat_lt o.number until)
     go Failed = refl

@@ -138,12 +138,12 @@ entry_put k v q w m = elim (true_or_false (int_eq q k)) [
       let same = same_by_test q k e in
       let got = ap (λ z. map.get (map.insert m z w) k) same ∙ got_same m k w in
       let taken = and_first (int_eq q k) (is_reply v (Some (reply.Value (map.get m q))))
-        (contains_value (map.get m k) v) e
+      (contains_value (map.get m k) v) e
       (reply_value v (map.get m q) ∙ ap (λ z. contains_value (map.get m z) v) same) in
       bound_at (Entry k v) (table m) (table (map.insert m q w)) (Put q w) (reply.Value (map.get m q))
-        (contains_value (map.get m k) v) (int_eq w v)
+      (contains_value (map.get m k) v) (int_eq w v)
       (one (int_eq w v)) (one (contains_value (map.get m k) v)) taken
-        (and_first (int_eq q k) (int_eq w v) (int_eq w v) e refl)
+      (and_first (int_eq q k) (int_eq w v) (int_eq w v) e refl)
       (ap (λ (z : Option ℤ). one (contains_value z v)) got) refl (turned _ _)
   | inr e ↦ bound_at (Entry k v) (table m) (table (map.insert m q w)) (Put q w) (reply.Value (map.get m q)) false false
       (one (contains_value (map.get m k) v)) (one (contains_value (map.get m k) v))
@@ -162,12 +162,12 @@ entry_del k v q m = elim (true_or_false (int_eq q k)) [
       let same = same_by_test q k e in
       let got = ap (λ z. map.get (map.remove m z) k) same ∙ gone_same m k in
       let taken = and_first (int_eq q k) (is_reply v (Some (reply.Value (map.get m q))))
-        (contains_value (map.get m k) v) e
+      (contains_value (map.get m k) v) e
       (reply_value v (map.get m q) ∙ ap (λ z. contains_value (map.get m z) v) same) in
       bound_at (Entry k v) (table m) (table (map.remove m q)) (Del q) (reply.Value (map.get m q))
-        (contains_value (map.get m k) v) false 0
+      (contains_value (map.get m k) v) false 0
       (one (contains_value (map.get m k) v)) taken refl (ap (λ (z : Option ℤ). one (contains_value z v)) got) refl
-        (turned _)
+      (turned _)
   | inr e ↦ bound_at (Entry k v) (table m) (table (map.remove m q)) (Del q) (reply.Value (map.get m q)) false false
       (one (contains_value (map.get m k) v)) (one (contains_value (map.get m k) v))
       (and_not (int_eq q k) (is_reply v (Some (reply.Value (map.get m q)))) e) refl
@@ -185,13 +185,13 @@ none_put k q w m = elim (true_or_false (int_eq q k)) [
       let same = same_by_test q k e in
       let got = ap (λ z. map.get (map.insert m z w) k) same ∙ got_same m k w in
       bound_at (NoEntry k) (table m) (table (map.insert m q w)) (Put q w) (reply.Value (map.get m q))
-        (is_none (map.get m k)) false 0
+      (is_none (map.get m k)) false 0
       (one (is_none (map.get m k))) (taken (map.get m q) e ∙ ap (λ z. is_none (map.get m z)) same) refl
-        (ap (λ (z : Option ℤ). one (is_none z)) got) refl (turned _)
+      (ap (λ (z : Option ℤ). one (is_none z)) got) refl (turned _)
   | inr e ↦ bound_at (NoEntry k) (table m) (table (map.insert m q w)) (Put q w)
       (reply.Value (map.get m q)) false false (one (is_none (map.get m k)))
       (one (is_none (map.get m k))) (left (map.get m q) e) refl
-        (ap (λ (z : Option ℤ). one (is_none z)) (got_other m q k w e)) refl (stays (one (is_none (map.get m k))))
+      (ap (λ (z : Option ℤ). one (is_none z)) (got_other m q k w e)) refl (stays (one (is_none (map.get m k))))
 ]
   where
     turned : (p : ℕ) → 0 + p ≤ p + 0
@@ -212,13 +212,13 @@ none_del k q m = elim (true_or_false (int_eq q k)) [
       let same = same_by_test q k e in
       let got = ap (λ z. map.get (map.remove m z) k) same ∙ gone_same m k in
       bound_at (NoEntry k) (table m) (table (map.remove m q)) (Del q) (reply.Value (map.get m q)) false
-        (is_some (map.get m k)) 1
+      (is_some (map.get m k)) 1
       (one (is_none (map.get m k))) refl (taken (map.get m q) e ∙ ap (λ z. is_some (map.get m z)) same)
-        (ap (λ (z : Option ℤ). one (is_none z)) got) refl (either (map.get m k))
+      (ap (λ (z : Option ℤ). one (is_none z)) got) refl (either (map.get m k))
   | inr e ↦ bound_at (NoEntry k) (table m) (table (map.remove m q)) (Del q) (reply.Value (map.get m q)) false false
       (one (is_none (map.get m k)))
       (one (is_none (map.get m k))) refl (left (map.get m q) e)
-        (ap (λ (z : Option ℤ). one (is_none z)) (gone_other m q k e)) refl (stays (one (is_none (map.get m k))))
+      (ap (λ (z : Option ℤ). one (is_none z)) (gone_other m q k e)) refl (stays (one (is_none (map.get m k))))
 ]
   where
     either : (o : Option ℤ) → 1 + 0 ≤ one (is_none o) + one (is_some o)
@@ -368,8 +368,8 @@ bounded (Value v) (register x) (Cas a b) = go (contains_value x a) refl
   where
     go : (t : Bool) → contains_value x a ≡ t
         → IfSome {T = Content × AnyReply}
-          (cond t (Some (register (Some b), reply.Swapped a b)) (Some (register x, reply.NotSwapped)))
-          (λ p. Bounded (Value v) (Cas a b) (register x) p.0 p.1)
+        (cond t (Some (register (Some b), reply.Swapped a b)) (Some (register x, reply.NotSwapped)))
+        (λ p. Bounded (Value v) (Cas a b) (register x) p.0 p.1)
     go true h = swapped v a b x h
     go false h = stays (one (contains_value x v))
 bounded (Value v) (register x) Clear = none (one (contains_value x v))
@@ -407,8 +407,8 @@ bounded what (register x) Read = nothing
 bounded what (register x) (Cas a b) = go (contains_value x a)
   where
     go : (t : Bool) → IfSome {T = Content × AnyReply}
-      (cond t (Some (register (Some b), reply.Swapped a b)) (Some (register x, reply.NotSwapped)))
-      (λ p. Bounded what (Cas a b) (register x) p.0 p.1)
+        (cond t (Some (register (Some b), reply.Swapped a b)) (Some (register x, reply.NotSwapped)))
+        (λ p. Bounded what (Cas a b) (register x) p.0 p.1)
     go true = nothing
     go false = nothing
 bounded what (table m) (Put q w) = nothing
@@ -483,15 +483,15 @@ turn what e c after r does agrees = go e.returned agrees
     here = subst (λ z. IfSome z (λ p. Bounded what e.op c p.0 p.1)) does (bounded what c e.op)
 
     sums : (after took told size put may : ℕ) → after + took ≤ size + put → told ≡ 0 → put ≤ may
-      → after + told ≤ size + may
+        → after + told ≤ size + may
     sums after took told size put may a b d = omega arith
 
     go : (o : Option Return) → IfSome o (λ t. t.reply ≡ r)
-      → there what after + one (takes what e.op (reply_of o)) ≤ there what c + one (sets what e.op (reply_of o))
+        → there what after + one (takes what e.op (reply_of o)) ≤ there what c + one (sets what e.op (reply_of o))
     go None h = sums _ _ _ _ _ _ here (ap one (none_taken what e.op))
-      (one_le (sets what e.op (Some r)) (sets what e.op None) (may_set what e.op r))
+        (one_le (sets what e.op (Some r)) (sets what e.op None) (may_set what e.op r))
     go (Some t) h = subst (λ (z : AnyReply). there what after + one (takes what e.op (Some z))
-      ≤ there what c + one (sets what e.op (Some z))) (sym h) here
+        ≤ there what c + one (sets what e.op (Some z))) (sym h) here
 
 conserved : (what : Counted) (es : List Call) (c : Content) → RepliesAlong c es
     → tally (taken_by what) es ≤ there what c + tally (set_by what) es
@@ -499,7 +499,7 @@ conserved what [] c h = omega arith
 conserved what (e ∷ es) c h = sums _ _ _ _ _ _ (turn what e c h.0 h.1 h.2 h.3) (conserved what es h.0 h.4)
   where
     sums : (after took size put gone more : ℕ) → after + took ≤ size + put → gone ≤ after + more
-      → took + gone ≤ size + (put + more)
+        → took + gone ≤ size + (put + more)
     sums after took size put gone more a b = omega arith
 
 tally_le : {X : Type 0} (p q : X → Bool) (xs : List X) → ((x : X) → In x xs → p x ≡ true → q x ≡ true)
@@ -535,10 +535,10 @@ from_start : (what : Counted) (es : List Call) (c : Content) → RepliesAlong c 
     → tally (taken_from what 0) es ≤ there what c + tally (set_from what 0) es
 from_start what es c h =
     let a = tally_le (taken_from what 0) (taken_by what) es
-      (λ x i e. (both_true (taken_by what x) (not (nat_lt x.number 0)) e).0) in
+    (λ x i e. (both_true (taken_by what x) (not (nat_lt x.number 0)) e).0) in
     let b = tally_le (set_by what) (set_from what 0) es
-      (λ x i e. joined (set_by what x) (not (ended_before 0 x.returned)) e
-      (not_ended 0 x.returned (λ r q. omega arith))) in
+    (λ x i e. joined (set_by what x) (not (ended_before 0 x.returned)) e
+    (not_ended 0 x.returned (λ r q. omega arith))) in
     let d = conserved what es c h in
     omega arith
 
@@ -581,8 +581,8 @@ single_next (register x) Read = λ e. refl
 single_next (register x) (Cas a b) = go (contains_value x a)
   where
     go : (t : Bool) → IfSome {T = Content × AnyReply}
-      (cond t (Some (register (Some b), reply.Swapped a b)) (Some (register x, reply.NotSwapped)))
-      (λ p. true ≡ true → single p.0 ≡ true)
+        (cond t (Some (register (Some b), reply.Swapped a b)) (Some (register x, reply.NotSwapped)))
+        (λ p. true ≡ true → single p.0 ≡ true)
     go true = λ e. refl
     go false = λ e. refl
 single_next (table m) (Put k v) = λ e. refl
@@ -641,10 +641,10 @@ from_later what from (e ∷ es) c s ends in_time h = elim (true_or_false (taken_
   | inl hit ↦
       let low = begun e.number from (both_true (taken_by what e) (not (nat_lt e.number from)) hit).1 in
       let a = tally_le (taken_from what from) (taken_by what) (e ∷ es)
-        (λ x i q. (both_true (taken_by what x) (not (nat_lt x.number from)) q).0) in
+      (λ x i q. (both_true (taken_by what x) (not (nat_lt x.number from)) q).0) in
       let b = tally_le (set_by what) (set_from what from) (e ∷ es)
-        (λ x i q. joined (set_by what x) (not (ended_before from x.returned)) q
-        (not_ended from x.returned (λ r w. elim i [
+      (λ x i q. joined (set_by what x) (not (ended_before from x.returned)) q
+      (not_ended from x.returned (λ r w. elim i [
         | inl own ↦ reach e.number r.at low (ends e (inl refl) r (ap (λ (z : Call). z.returned) (sym own) ∙ w))
         | inr j ↦ later e.number r.at low (λ l. in_time.0 x j (r, w, l))
       ]))) in
@@ -681,7 +681,7 @@ along : (kind : Kind) (what : Counted) (from most : ℕ) (es : List Call) → mo
 along kind what from most es before ends in_time h = go (from == 0) refl before
   where
     later : (s : Bool) → is_single kind ≡ s → cond s (Some 1) None ≡ Some most
-      → tally (taken_from what from) es ≤ most + tally (set_from what from) es
+        → tally (taken_from what from) es ≤ most + tally (set_from what from) es
     later true q e =
         let a = from_later what from es (empty kind) (single_empty kind q) ends in_time h in
         let b : 1 ≡ most = same_Some 1 most e in
@@ -689,11 +689,11 @@ along kind what from most es before ends in_time h = go (from == 0) refl before
     later false q e = absurd (cc e)
 
     go : (b : Bool) → (from == 0) ≡ b
-      → cond b (Some (times_at_first what)) (cond (is_single kind) (Some 1) None) ≡ Some most
-      → tally (taken_from what from) es ≤ most + tally (set_from what from) es
+        → cond b (Some (times_at_first what)) (cond (is_single kind) (Some 1) None) ≡ Some most
+        → tally (taken_from what from) es ≤ most + tally (set_from what from) es
     go true q e =
         let a = subst (λ (n : ℕ). tally (taken_from what n) es ≤ there what (empty kind) + tally (set_from what n) es)
-          (sym (eqb-true from 0 q)) (from_start what es (empty kind) h) in
+        (sym (eqb-true from 0 q)) (from_start what es (empty kind) h) in
         let b = at_first what kind in
         let d = same_Some (times_at_first what) most e in
         omega arith
@@ -707,23 +707,23 @@ pub count_bounded : (kind : Kind) (calls : List Call) (what : Counted) (from mos
 count_bounded kind calls what from most order rising ends before v =
     let number : Call → ℤ = λ e. pos e.number in
     let known : (e : Call) → In e v.entries → In e calls =
-      λ e i. in_from_contains calls e (all_at (Contains calls) v.entries v.known e i) in
+    λ e i. in_from_contains calls e (all_at (Contains calls) v.entries v.known e i) in
     let apart = pairs_weaker (λ x y. number x ≢ number y) (λ x y. x ≢ y) v.entries (λ x y i j ne e. ne (ap number e))
     (pairs_from_map (λ x y. x ≢ y) number v.entries
-      (subst (Pairs (λ x y. x ≢ y)) v.numbers (pairs_from_all (λ x y. x ≢ y) order v.once))) in
+    (subst (Pairs (λ x y. x ≢ y)) v.numbers (pairs_from_all (λ x y. x ≢ y) order v.once))) in
     let distinct = pairs_weaker (λ a b. a.number < b.number) (λ x y. x ≢ y) calls
     (λ x y i j l e. risen x.number y.number l (ap (λ (z : Call). z.number) e))
-      (pairs_from_all (λ a b. a.number < b.number) calls rising) in
+    (pairs_from_all (λ a b. a.number < b.number) calls rising) in
     let more_sets = count_among (set_from what from) v.entries calls apart (λ e i p. known e i) in
     let more_takes = count_among (taken_from what from) calls v.entries distinct
     (λ e i p. in_from_contains v.entries e
     (all_at (λ e. IsSome e.returned → Contains v.entries e) calls v.whole e i
-      (returned e.op e.returned (both_true (taken_by what e) (not (nat_lt e.number from)) p).0))) in
+    (returned e.op e.returned (both_true (taken_by what e) (not (nat_lt e.number from)) p).0))) in
     let all_sets = count_tally (set_from what from) calls in
     let all_takes = count_tally (taken_from what from) calls in
     let here = along kind what from most v.entries before
     (λ e i. all_at (λ e. (r : Return) → e.returned ≡ Some r → e.number < r.at) calls ends e (known e i))
-      (pairs_from_all (λ x y. ReturnsBefore y x → ⊥) v.entries v.in_order) v.replies in
+    (pairs_from_all (λ x y. ReturnsBefore y x → ⊥) v.entries v.in_order) v.replies in
     sums _ _ _ _ _ _ here more_sets more_takes all_sets all_takes
   where
     risen : (a b : ℕ) → a < b → a ≡ b → ⊥
@@ -734,5 +734,5 @@ count_bounded kind calls what from most order rising ends before v =
     returned op (Some r) e = refl
 
     sums : (took put all_took all_put removals settings : ℕ) → took ≤ most + put → put ≤ all_put → all_took ≤ took
-      → all_put ≡ settings → all_took ≡ removals → removals ≤ most + settings
+        → all_put ≡ settings → all_took ≡ removals → removals ≤ most + settings
     sums took put all_took all_put removals settings a b d e f = omega arith

@@ -31,7 +31,7 @@ tally_calls p q same [] = refl
 tally_calls p q same (o ∷ ops) = ap (λ b. one b + tally p ops) (same o) ∙ go (call_of o) (tally_calls p q same ops)
   where
     go : (z : Option Call) → tally p ops ≡ tally q (calls_of ops)
-      → one (passes q z) + tally p ops ≡ tally q (cons_option z (calls_of ops))
+        → one (passes q z) + tally p ops ≡ tally q (cons_option z (calls_of ops))
     go None h = omega arith
     go (Some c) h = ap (λ (n : ℕ). one (q c) + n) h
 
@@ -58,7 +58,7 @@ gone_count what from ops =
     count_calls (λ o. is_gone what from o.number o.op o.«end») (taken_from what from) (λ o. go o o.«end») ops
   where
     go : (o : Invocation) (e : End)
-      → is_gone what from o.number o.op e ≡ passes (taken_from what from) (call_with o.number o.op e)
+        → is_gone what from o.number o.op e ≡ passes (taken_from what from) (call_with o.number o.op e)
     go o (Returned at r) = refl
     go o Pending = ap (λ b. b && not (nat_lt o.number from)) (sym (none_taken what o.op))
     go o Failed = refl
@@ -68,7 +68,7 @@ overdrawn_shows : (h : ObjectCalls) (count : Count) → IsObjectHistory h → Is
     → IsNoneValid h.kind (calls_of h.ops)
 overdrawn_shows h count is o order v =
     over _ _ o.more (count_bounded h.kind (calls_of h.ops) count.counted count.from o.most order
-      (rising_calls h.ops is.rising) (calls_end h.object h.kind h.ops is) o.before v)
+    (rising_calls h.ops is.rising) (calls_end h.object h.kind h.ops is) o.before v)
   where
     over : (a b : ℕ) → a < b → b ≤ a → ⊥
     over a b l m = absurd (omega arith)
@@ -78,9 +78,12 @@ overdrawn_from : (kind : Kind) (count : Count) (calls : List Call) (most set tak
     → set ≡ set_since count.counted count.from calls → taken ≡ taken_since count.counted count.from calls
     → left ≡ taken - set → nat_lt most left ≡ true → IsOverdrawn kind count calls
 overdrawn_from kind count calls most set taken left before e f g lt =
-    record { most = most; before = sym before;
-        more = more set taken (set_since count.counted count.from calls)
-        (taken_since count.counted count.from calls) e f g lt }
+    record {
+      most = most;
+      before = sym before;
+      more = more set taken (set_since count.counted count.from calls)
+          (taken_since count.counted count.from calls) e f g lt;
+    }
   where
     more : (set taken s t : ℕ) → set ≡ s → taken ≡ t → left ≡ taken - set → nat_lt most left ≡ true → most + s < t
     more set taken s t e f g lt = grind (arith, nat_tests)
@@ -90,20 +93,20 @@ pub decided : (h : ObjectCalls) (count : Count) (most set taken left : ℕ)
     → set ≡ count_by (λ o. is_set count.counted count.from o.op o.«end») h.ops
     → taken ≡ count_by (λ o. is_gone count.counted count.from o.number o.op o.«end») h.ops → left ≡ taken - set
     → MatchBool (nat_lt most left) (IsOverdrawn h.kind count (calls_of h.ops))
-      (IsOverdrawn h.kind count (calls_of h.ops) → ⊥)
+    (IsOverdrawn h.kind count (calls_of h.ops) → ⊥)
 decided h count most set taken left before e f g = go (nat_lt most left) refl
   where
     fewer : (s t m : ℕ) → set ≡ s → taken ≡ t → m ≡ most → nat_lt most left ≡ false → m + s < t → ⊥
     fewer s t m e f d lt more = grind (arith, nat_tests)
 
     go : (b : Bool) → nat_lt most left ≡ b
-      → MatchBool b (IsOverdrawn h.kind count (calls_of h.ops)) (IsOverdrawn h.kind count (calls_of h.ops) → ⊥)
+        → MatchBool b (IsOverdrawn h.kind count (calls_of h.ops)) (IsOverdrawn h.kind count (calls_of h.ops) → ⊥)
     go true q = overdrawn_from h.kind count (calls_of h.ops) most set taken left before
-      (e ∙ set_count count.counted count.from h.ops) (f ∙ gone_count count.counted count.from h.ops) g q
+        (e ∙ set_count count.counted count.from h.ops) (f ∙ gone_count count.counted count.from h.ops) g q
     go false q = λ o. fewer (set_since count.counted count.from (calls_of h.ops))
-      (taken_since count.counted count.from (calls_of h.ops)) o.most
+        (taken_since count.counted count.from (calls_of h.ops)) o.most
         (e ∙ set_count count.counted count.from h.ops) (f ∙ gone_count count.counted count.from h.ops)
-          (same_Some o.most most (sym o.before ∙ sym before)) q o.more
+        (same_Some o.most most (sym o.before ∙ sym before)) q o.more
 
 pub shown : (h : ObjectCalls) (count : Count) (most set taken left : ℕ) → IsObjectHistory h
     → Some most ≡ most_before h.kind count.counted count.from
@@ -112,6 +115,6 @@ pub shown : (h : ObjectCalls) (count : Count) (most set taken left : ℕ) → Is
     → nat_lt most left ≡ true → IsNoneValid h.kind (calls_of h.ops)
 shown h count most set taken left is before e f g q =
     overdrawn_shows h count is
-      (overdrawn_from h.kind count (calls_of h.ops) most set taken left before
-      (e ∙ set_count count.counted count.from h.ops)
+    (overdrawn_from h.kind count (calls_of h.ops) most set taken left before
+    (e ∙ set_count count.counted count.from h.ops)
     (f ∙ gone_count count.counted count.from h.ops) g q)

@@ -36,7 +36,7 @@ filter_map-filter {X} {Y} p f (x ∷ xs) = go (p x) (filter_map-filter p f xs)
   where
     go : (b : Bool) → filter_map (λ x. cond (p x) (Some (f x)) None) xs ≡ map f (filter p xs)
         → cons_option (cond b (Some (f x)) None) (filter_map (λ x. cond (p x) (Some (f x)) None) xs)
-          ≡ map f (cond b (x ∷ filter p xs) (filter p xs))
+        ≡ map f (cond b (x ∷ filter p xs) (filter p xs))
     go true h = ap (λ (ys : List Y). f x ∷ ys) h
     go false h = h
 
@@ -67,20 +67,20 @@ cut_into object kind into ops cut_operation is h = record {
   rising = all_from_pairs (λ a b. a.number < b.number) (filter_map cut_operation ops)
       (pairs_filter_map (λ a b. a.number < b.number) (λ a b. a.number < b.number) cut_operation ops
       (λ x y a b i j l e f. less x.number y.number a.number b.number l (is x a i e).number (is y b j f).number)
-        (pairs_from_all (λ a b. a.number < b.number) ops h.rising));
+      (pairs_from_all (λ a b. a.number < b.number) ops h.rising));
   of_kind = all_from_in (λ o. kind_of o.op ≡ into) (filter_map cut_operation ops)
-    (λ p i. let o = in_filter_map cut_operation p ops i in (is o.0 p o.1 o.2).kind);
+      (λ p i. let o = in_filter_map cut_operation p ops i in (is o.0 p o.1 o.2).kind);
   ends = all_from_in (λ o. EndsAfter o.number (filter_map cut_operation ops) o.«end»)
-    (filter_map cut_operation ops) (λ p i.
+      (filter_map cut_operation ops) (λ p i.
       let o = in_filter_map cut_operation p ops i in
       let own = is o.0 p o.1 o.2 in
       go p.number p.«end» (λ at reply e.
       let t = own.returned at reply e in
       let u = subst (EndsAfter o.0.number ops) t.1
-        (all_at (λ o. EndsAfter o.number ops o.«end») ops h.ends o.0 o.1) in (
+      (all_at (λ o. EndsAfter o.number ops o.«end») ops h.ends o.0 o.1) in (
         subst (λ n. n < at) (sym own.number) u.0,
         all_from_in (λ o. o.number ≡ at → ⊥) (filter_map cut_operation ops)
-          (λ q j e. let w = in_filter_map cut_operation q ops j in
+            (λ q j e. let w = in_filter_map cut_operation q ops j in
             all_at (λ o. o.number ≡ at → ⊥) ops u.1 w.0 w.1 (sym (is w.0 q w.1 w.2).number ∙ e)),
       )));
 }
@@ -90,7 +90,7 @@ cut_into object kind into ops cut_operation is h = record {
 
     go : (number : ℕ) (e : End) → ((at : ℕ) (reply : AnyReply) → e ≡ Returned at reply → (number < at)
         × All (λ o. o.number ≡ at → ⊥) (filter_map cut_operation ops))
-          → EndsAfter number (filter_map cut_operation ops) e
+        → EndsAfter number (filter_map cut_operation ops) e
     go number (Returned at reply) f = f at reply refl
     go number Pending f = tt
     go number Failed f = tt
@@ -102,8 +102,11 @@ pub cut_history : (object : ℕ) (kind : Kind) (ops : List Invocation) (cut_oper
 cut_history object kind ops cut_operation is h =
     cut_into object kind kind ops cut_operation (λ o p i e.
     let q = is o p i e in
-    record { number = q.number; kind = q.kind ∙ all_at (λ o. kind_of o.op ≡ kind) ops h.of_kind o i;
-        returned = q.returned }) h
+    record {
+      number = q.number;
+      kind = q.kind ∙ all_at (λ o. kind_of o.op ≡ kind) ops h.of_kind o i;
+      returned = q.returned;
+    }) h
 
 pub cut_calls : (cut_operation : Invocation → Option Invocation) (part : Call → Option Call) (ops : List Invocation)
     → ((o : Invocation) → bind (cut_operation o) call_of ≡ bind (call_of o) part)
@@ -122,7 +125,7 @@ pub call_cases : (o : Invocation) (c : Call) → call_of o ≡ Some c
 call_cases o c e = go o.«end» e
   where
     go : (h : End) → call_with o.number o.op h ≡ Some c
-      → (c.number ≡ o.number) × (c.op ≡ o.op) × (c.returned ≡ return_of h)
+        → (c.number ≡ o.number) × (c.op ≡ o.op) × (c.returned ≡ return_of h)
     go (Returned at r) e =
         let q = same_Some _ c e in
         (ap (λ (z : Call). z.number) (sym q), ap (λ (z : Call). z.op) (sym q), ap (λ (z : Call). z.returned) (sym q))
@@ -136,7 +139,7 @@ pub rising_calls : (ops : List Invocation) → AllPairs (λ a b. a.number < b.nu
 rising_calls ops h = all_from_pairs (λ a b. a.number < b.number) (calls_of ops)
     (pairs_filter_map (λ a b. a.number < b.number) (λ a b. a.number < b.number) call_of ops
     (λ x y a b i j l e f. less x.number y.number a.number b.number l (call_cases x a e).0 (call_cases y b f).0)
-      (pairs_from_all (λ a b. a.number < b.number) ops h))
+    (pairs_from_all (λ a b. a.number < b.number) ops h))
   where
     less : (a b c d : ℕ) → a < b → c ≡ a → d ≡ b → c < d
     less a b c d l e f = omega arith
@@ -149,11 +152,11 @@ calls_end object kind ops h =
     let o = in_filter_map call_of c ops i in
     let k = call_cases o.0 c o.2 in
     subst (λ n. n < r.at) (sym k.0)
-      (go o.0.number o.0.«end» r (all_at (λ o. EndsAfter o.number ops o.«end») ops h.ends o.0 o.1) (sym k.2 ∙ q)))
+    (go o.0.number o.0.«end» r (all_at (λ o. EndsAfter o.number ops o.«end») ops h.ends o.0 o.1) (sym k.2 ∙ q)))
   where
     go : (number : ℕ) (e : End) (r : Return) → EndsAfter number ops e → return_of e ≡ Some r → number < r.at
     go number (Returned at reply) r h q =
-      subst (λ (x : Return). number < x.at) (same_Some (record { at = at; reply = reply }) r q) h.0
+        subst (λ (x : Return). number < x.at) (same_Some (record { at = at; reply = reply }) r q) h.0
     go number Pending r h q = absurd (cc q)
     go number Failed r h q = absurd (cc q)
 
@@ -165,7 +168,7 @@ all_calls P ops f = all_from_in (λ e. P e.number e.op e.returned) (calls_of ops
     let o = in_filter_map call_of c ops i in
     let k = call_cases o.0 c o.2 in
     subst (λ n. P n c.op c.returned) (sym k.0)
-      (subst (λ op. P o.0.number op c.returned) (sym k.1) (subst (P o.0.number o.0.op) (sym k.2) (f o.0 o.1 c o.2))))
+    (subst (λ op. P o.0.number op c.returned) (sym k.1) (subst (P o.0.number o.0.op) (sym k.2) (f o.0 o.1 c o.2))))
 
 pub same_history : {a b : ℕ} {k l : Kind} {xs ys : List Invocation} → a ≡ b → k ≡ l → xs ≡ ys
     → ◌≡◌ {A = ObjectCalls} (record { object = a; kind = k; ops = xs }) (record { object = b; kind = l; ops = ys })

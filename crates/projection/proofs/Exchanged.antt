@@ -57,7 +57,7 @@ none_before n [] f = refl
 none_before n (e ∷ es) f =
     let rest = none_before n es (λ x i. f x (inr i)) in
     let here = ap one (ap (λ z. is_open e && z) (not_before e.number n (weaker n e.number (f e (inl refl))))
-      ∙ and_false (is_open e)) in
+    ∙ and_false (is_open e)) in
     omega arith
   where
     weaker : (a b : ℕ) → a < b → a ≤ b
@@ -68,18 +68,18 @@ nth [] h i lt = absurd (omega arith)
 nth (e ∷ es) h i lt = go (nth es h.1) (is_open e) refl i lt
   where
     shift : (b : Bool) (n j : ℕ) → is_open e ≡ b → nat_lt e.number n ≡ true → rank es n ≡ j
-      → rank (e ∷ es) n ≡ one b + j
+        → rank (e ∷ es) n ≡ one b + j
     shift b n j q t r = let here = ap one (ap (λ z. is_open e && z) t ∙ and_true (is_open e) ∙ q) in omega arith
 
     first : rank (e ∷ es) e.number ≡ zero
     first =
         let rest = none_before e.number es h.0 in
         let here = ap one (ap (λ z. is_open e && z) (not_before e.number e.number (omega arith))
-          ∙ and_false (is_open e)) in
+        ∙ and_false (is_open e)) in
         omega arith
 
     go : ((j : ℕ) → j < tally is_open es → Nth es j) → (b : Bool) → is_open e ≡ b → (i : ℕ)
-      → i < one b + tally is_open es → Nth (e ∷ es) i
+        → i < one b + tally is_open es → Nth (e ∷ es) i
     go again true q zero lt = record { call = e; known = inl refl; pending = q; at = first }
     go again true q (suc j) lt =
         let r = again j (omega arith) in
@@ -124,8 +124,8 @@ one_late calls xs i p many apart pending known = elim (late p.call.number xs) [
   | inr all ↦
       let test : Call → Bool = λ e. is_open e && nat_lt e.number p.call.number in
       let passes = all_pass test xs
-        (λ x j. ap (λ z. is_open x && z) (before x.number p.call.number (all x j)) ∙ and_true (is_open x)
-        ∙ pending x j) in
+      (λ x j. ap (λ z. is_open x && z) (before x.number p.call.number (all x j)) ∙ and_true (is_open x)
+      ∙ pending x j) in
       let fewer = count_among test xs calls (apart_calls xs apart) (λ x j q. known x j) in
       absurd (sums _ _ _ passes fewer p.at many)
 ]
@@ -268,10 +268,13 @@ keep_own calls kept i d behind e es reply rising closed k here apart time does a
     | inl q ↦ subst (λ (z : Call). In z calls × (kept z.number ≡ true)) (sym q) (here, k)
     | inr l ↦ m.known y l
   ];
-  in_time = (λ y j. elim (m.from y j) [
-    | inl own ↦ time y own.0
-    | inr other ↦ λ rb. not_returned y rb.0 other.0 rb.1
-  ], m.in_time);
+  in_time = (
+    λ y j. elim (m.from y j) [
+      | inl own ↦ time y own.0
+      | inr other ↦ λ rb. not_returned y rb.0 other.0 rb.1
+    ],
+    m.in_time,
+  );
   apart = (
     λ y j. elim (m.from y j) [
       | inl own ↦ apart y own.0
@@ -322,7 +325,7 @@ keep_other calls kept i d behind e x es reply p rising pending k le time does m 
   );
   whole = λ z j kz so. elim j [
     | inl q ↦ absurd (false_is_not_true
-      (sym (open_returned e pending) ∙ ap (λ (u : Call). is_some u.returned) (sym q) ∙ so))
+        (sym (open_returned e pending) ∙ ap (λ (u : Call). is_some u.returned) (sym q) ∙ so))
     | inr l ↦ inr (m.whole z l kz so)
   ];
 }
@@ -361,13 +364,13 @@ walk calls kind all keeps kept s (e ∷ es) i xs c d r h t =
     (takes_out keeps e.op (Some h.1)) refl refl
   where
     steps : (k b : Bool) → fits all keeps k e.op (shown b h.1) ≡ true → TookNone keeps e.op b k h.1
-      → Stepped (IsShadow keeps) e.op k b h.1 d h.0
+        → Stepped (IsShadow keeps) e.op k b h.1 d h.0
     steps k b = subst (λ z. IfSome z (λ p. fits all keeps k e.op (shown b p.1) ≡ true → TookNone keeps e.op b k p.1
         → Stepped (IsShadow keeps) e.op k b p.1 d p.0)) h.2 (step_at all keeps s.every c d e.op r k b)
 
     -- no pending removal took a kept value here
     same : (one (takes_out keeps e.op (reply_of e.returned)) ≡ one (takes_out keeps e.op (Some h.1)))
-      → IsTurn calls keeps i xs es h.0
+        → IsTurn calls keeps i xs es h.0
     same q = record {
       many = t.many;
       pending = t.pending;
@@ -382,12 +385,12 @@ walk calls kind all keeps kept s (e ∷ es) i xs c d r h t =
     }
       where
         sums : (after took size put told gone more a b : ℕ) → after + took ≡ size + put → told ≡ took
-          → size + (put + more) + i + a ≤ b + (told + gone) → after + more + i + a ≤ b + gone
+            → size + (put + more) + i + a ≤ b + (told + gone) → after + more + i + a ≤ b + gone
         sums after took size put told gone more a b f g l = omega arith
 
     -- a pending removal took a kept value, and one more may be done
     fewer : is_some e.returned ≡ false → (j : ℕ) (ys : List Call) → length ys ≡ j
-      → ((x : Call) → In x ys → is_open x ≡ true)
+        → ((x : Call) → In x ys → is_open x ≡ true)
         → ((x : Call) → In x ys → In x calls) → Pairs (λ x y. x.number ≢ y.number) ys
         → ((x y : Call) → In x ys → In y es → x.number ≢ y.number)
         → ((x y : Call) → In x ys → In y es → ReturnsBefore y x → ⊥) → j ≤ i + one (takes_out keeps e.op (Some h.1))
@@ -406,15 +409,15 @@ walk calls kind all keeps kept s (e ∷ es) i xs c d r h t =
     }
       where
         sums : (after took size put told gone more a b : ℕ) → after + took ≡ size + put → told ≡ 0 → j ≤ i + took
-          → size + (put + more) + i + a ≤ b + (told + gone) → after + more + j + a ≤ b + gone
+            → size + (put + more) + i + a ≤ b + (told + gone) → after + more + j + a ≤ b + gone
         sums after took size put told gone more a b f g k l = omega arith
 
     own_told : is_open e ≡ false
-      → one (takes_out keeps e.op (reply_of e.returned)) ≡ one (takes_out keeps e.op (Some h.1))
+        → one (takes_out keeps e.op (reply_of e.returned)) ≡ one (takes_out keeps e.op (Some h.1))
     own_told o = told e.returned refl h.3
       where
         told : (w : Option Return) → e.returned ≡ w → IfSome w (λ r. r.reply ≡ h.1)
-          → one (takes_out keeps e.op (reply_of w)) ≡ one (takes_out keeps e.op (Some h.1))
+            → one (takes_out keeps e.op (reply_of w)) ≡ one (takes_out keeps e.op (Some h.1))
         told None q a =
             let none = closed_removal e o (ap is_some q) in
             ap (λ z. one (z && false)) none ∙ ap (λ z. one (z && is_kept_value keeps (Some h.1))) (sym none)
@@ -425,10 +428,10 @@ walk calls kind all keeps kept s (e ∷ es) i xs c d r h t =
 
     fitting : fits all keeps (kept e.number) e.op (shown (is_some e.returned) h.1) ≡ true
     fitting = sym (ap (fits all keeps (kept e.number) e.op) (reply_shown e.returned h.1 h.3))
-      ∙ s.each e (t.later_known e (inl refl))
+        ∙ s.each e (t.later_known e (inl refl))
 
     exchange : ((j : ℕ) (ys : List Call) (b : Content) → IsShadow keeps h.0 b → IsTurn calls keeps j ys es h.0
-      → Exchanged calls kept j b es)
+        → Exchanged calls kept j b es)
         → is_open e ≡ true → takes_out keeps e.op (Some h.1) ≡ true → (behind : Content)
         → next d e.op ≡ Some (behind, h.1) → IsShadow keeps h.0 behind → Exchanged calls kept i d (e ∷ es)
     exchange again o took behind does q =
@@ -470,11 +473,11 @@ walk calls kind all keeps kept s (e ∷ es) i xs c d r h t =
 
         turned : IsTurn calls keeps (i + 1) (e ∷ xs) es h.0
         turned = fewer (open_returned e o) (i + 1) (e ∷ xs) long pending known apart cross (λ x y. time y x)
-          (let one_more = ap one took in omega arith)
+            (let one_more = ap one took in omega arith)
 
         same_op : p.call.op ≡ e.op
         same_op = same_removal p.call.op e.op (open_removal p.call p.pending) (open_removal e o)
-          (s.of_kind p.call p.known ∙ sym (s.of_kind e (t.later_known e (inl refl))))
+            (s.of_kind p.call p.known ∙ sym (s.of_kind e (t.later_known e (inl refl))))
 
         kept_one : kept p.call.number ≡ true
         kept_one = elim (true_or_false (kept p.call.number)) [
@@ -485,11 +488,11 @@ walk calls kind all keeps kept s (e ∷ es) i xs c d r h t =
         ]
           where
             sums : (put took ranked size more gone : ℕ) → put ≤ took + ranked → ranked ≡ i
-              → size + more + (i + 1) + took ≤ put + gone → gone ≤ size + more → ⊥
+                → size + more + (i + 1) + took ≤ put + gone → gone ≤ size + more → ⊥
             sums put took ranked size more gone a b f g = absurd (omega arith)
 
     go : ((j : ℕ) (ys : List Call) (b : Content) → IsShadow keeps h.0 b → IsTurn calls keeps j ys es h.0
-      → Exchanged calls kept j b es)
+        → Exchanged calls kept j b es)
         → (o took : Bool) → is_open e ≡ o → takes_out keeps e.op (Some h.1) ≡ took → Exchanged calls kept i d (e ∷ es)
     go again false took o w = elim (steps (kept e.number) (is_some e.returned) fitting (own_none o)) [
       | inl skip ↦ leave calls kept i d e es skip.0 (again i xs d skip.1 (same (own_told o)))
@@ -498,16 +501,16 @@ walk calls kind all keeps kept s (e ∷ es) i xs c d r h t =
           (again i xs take.1 take.3 (same (own_told o)))
     ]
     go again true true o w =
-      elim (steps true false (fits_open all keeps true e.op (open_removal e o))
-      (λ b k. absurd (false_is_not_true (sym k)))) [
-      | inl skip ↦ leave calls kept i d e es (inr (open_returned e o))
-          (again i xs d skip.1 (fewer (open_returned e o) i xs t.many t.pending t.known t.apart
-            (λ x y a b. t.cross_apart x y a (inr b)) (λ x y a b. t.cross_time x y a (inr b)) (omega arith)))
-      | inr take ↦ exchange again o w take.1 take.2 take.3
-    ]
+        elim (steps true false (fits_open all keeps true e.op (open_removal e o))
+        (λ b k. absurd (false_is_not_true (sym k)))) [
+          | inl skip ↦ leave calls kept i d e es (inr (open_returned e o))
+              (again i xs d skip.1 (fewer (open_returned e o) i xs t.many t.pending t.known t.apart
+              (λ x y a b. t.cross_apart x y a (inr b)) (λ x y a b. t.cross_time x y a (inr b)) (omega arith)))
+          | inr take ↦ exchange again o w take.1 take.2 take.3
+        ]
     go again true false o w = elim (steps false false (fits_open all keeps false e.op (open_removal e o)) (λ b k. w)) [
       | inl skip ↦ leave calls kept i d e es (inr (open_returned e o))
           (again i xs d skip.1 (fewer (open_returned e o) i xs t.many t.pending t.known t.apart
-            (λ x y a b. t.cross_apart x y a (inr b)) (λ x y a b. t.cross_time x y a (inr b)) (omega arith)))
+          (λ x y a b. t.cross_apart x y a (inr b)) (λ x y a b. t.cross_time x y a (inr b)) (omega arith)))
       | inr take ↦ absurd (false_is_not_true take.0)
     ]

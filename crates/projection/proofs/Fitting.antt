@@ -38,6 +38,11 @@ pub all_step : (all : Bool) (keeps : ℤ → Bool) (es : List Call) (c : Content
     → Replied (MayStep all keeps (λ n. true)) c es
 all_step all keeps [] c f h = tt
 all_step all keeps (e ∷ es) c f h =
-    let fitting = sym (ap (fits all keeps true e.op) (reply_shown e.returned h.1 h.3)) ∙ f e (inl refl) in
-    (h.0, h.1, h.2, h.3, record { fits_part = fitting; took_none = λ b k. absurd (false_is_not_true (sym k)) },
-      all_step all keeps es h.0 (λ x i. f x (inr i)) h.4)
+    let fitting = sym (ap (fits all keeps true e.op) (reply_shown e.returned h.1 h.3)) ∙ f e (inl refl) in (
+      h.0,
+      h.1,
+      h.2,
+      h.3,
+      record { fits_part = fitting; took_none = λ b k. absurd (false_is_not_true (sym k)) },
+      all_step all keeps es h.0 (λ x i. f x (inr i)) h.4,
+    )

@@ -136,9 +136,11 @@ begun_put k v = ap (λ (z : Option ℤ). Some (table (map.insert map.empty k v),
 
 tells_get : (m : map.FinMap int_cmp ℤ) (k : ℤ) (o : Option ℤ) → map.get m k ≡ o → Tells (Get k) (Value o) (table m)
 tells_get m k None e = at_key m map.empty k (map.get-empty {X = ℤ} int_cmp k ∙ sym e)
-tells_get m k (Some v) e =
-    (table (map.insert map.empty k v), begun_put k v,
-    at_key m (map.insert map.empty k v) k (inserted map.empty k v ∙ sym e))
+tells_get m k (Some v) e = (
+  table (map.insert map.empty k v),
+  begun_put k v,
+  at_key m (map.insert map.empty k v) k (inserted map.empty k v ∙ sym e),
+)
 
 -- a put that took place, and one that did not
 tells_put : (m : map.FinMap int_cmp ℤ) (k v : ℤ)
@@ -220,7 +222,7 @@ tells (register (Some v)) Read = (register (Some v), refl, λ k. refl)
 tells (register c) (Cas a b) = go (contains_value c a)
   where
     go : (t : Bool) → IfSome {T = Content × AnyReply}
-      (cond t (Some (register (Some b), Swapped a b)) (Some (register c, NotSwapped))) (λ p. Tells (Cas a b) p.1 p.0)
+        (cond t (Some (register (Some b), Swapped a b)) (Some (register c, NotSwapped))) (λ p. Tells (Cas a b) p.1 p.0)
     go true = (register (Some b), refl, λ k. refl)
     go false = tt
 tells (table m) (Put k v) = tells_put m k v

@@ -42,7 +42,7 @@ operation_is kept o p e = go (is_kept_call kept o) e
   where
     go : (b : Bool) → cond b (Some o) None ≡ Some p → IsCutOperation o p
     go true e = subst (IsCutOperation o) (same_Some o p e)
-      (record { number = refl; kind = refl; returned = λ at reply e. (reply, e) })
+        (record { number = refl; kind = refl; returned = λ at reply e. (reply, e) })
     go false e = absurd (cc e)
 
 -- an operation that is kept only where it did not fail
@@ -72,7 +72,7 @@ operation_call kept o = cut_operation (is_kept_call kept o) ∙ sym (part o.«en
     cut_operation false = refl
 
     part : (e : End) → bind (call_with o.number o.op e) (own (λ z. kept z.number))
-      ≡ cond (not (has_failed e) && kept o.number) (call_with o.number o.op e) None
+        ≡ cond (not (has_failed e) && kept o.number) (call_with o.number o.op e) None
     part (Returned at r) = refl
     part Pending = refl
     part Failed = refl
@@ -82,7 +82,7 @@ pub kept_history : (kept : ℕ → Bool) (h : ObjectCalls) → IsObjectHistory h
 kept_history kept h is =
     subst (λ (ops : List Invocation). IsObjectHistory (record { object = h.object; kind = h.kind; ops = ops }))
     (as_filter (is_kept_call kept) h.ops)
-      (cut_history h.object h.kind h.ops (own (is_kept_call kept)) (λ o p i e. operation_is kept o p e) is)
+    (cut_history h.object h.kind h.ops (own (is_kept_call kept)) (λ o p i e. operation_is kept o p e) is)
 
 pub kept_calls_of : (kept : ℕ → Bool) (ops : List Invocation)
     → calls_of (filter (is_kept_call kept) ops) ≡ kept_calls kept (calls_of ops)
@@ -99,7 +99,7 @@ puts_of keeps (o ∷ ops) = go o.«end» (puts_of keeps ops)
   where
     go : (e : End) → tally (λ o. is_put keeps o.op o.«end») ops ≡ tally (λ e. puts_in keeps e.op) (calls_of ops)
         → cond (is_put keeps o.op e) 1 0 + tally (λ o. is_put keeps o.op o.«end») ops
-          ≡ tally (λ e. puts_in keeps e.op) (cons_option (call_with o.number o.op e) (calls_of ops))
+        ≡ tally (λ e. puts_in keeps e.op) (cons_option (call_with o.number o.op e) (calls_of ops))
     go (Returned at r) h = ap (λ (n : ℕ). cond (puts_in keeps o.op) 1 0 + n) h
     go Pending h = ap (λ (n : ℕ). cond (puts_in keeps o.op) 1 0 + n) h
     go Failed h = omega arith
@@ -115,9 +115,9 @@ taken_of keeps (o ∷ ops) = go o.«end» (taken_of keeps ops)
     nothing false = refl
 
     go : (e : End) → tally (λ o. is_taken keeps o.op o.«end») ops
-      ≡ tally (λ e. takes_out keeps e.op (reply_of e.returned)) (calls_of ops)
+        ≡ tally (λ e. takes_out keeps e.op (reply_of e.returned)) (calls_of ops)
         → cond (is_taken keeps o.op e) 1 0 + tally (λ o. is_taken keeps o.op o.«end») ops
-          ≡ tally (λ e. takes_out keeps e.op (reply_of e.returned))
+        ≡ tally (λ e. takes_out keeps e.op (reply_of e.returned))
         (cons_option (call_with o.number o.op e) (calls_of ops))
     go (Returned at r) h = ap (λ (n : ℕ). cond (takes_out keeps o.op (Some r)) 1 0 + n) h
     go Pending h = let n = nothing (is_removal o.op) in omega arith
@@ -159,10 +159,10 @@ open_of n (o ∷ ops) = go o.«end» (open_of n ops)
     sums a b x y e f = omega arith
 
     go : (e : End) → open_before n ops
-      ≡ tally (λ e. is_pending_removal e.op e.returned && nat_lt e.number n) (calls_of ops)
+        ≡ tally (λ e. is_pending_removal e.op e.returned && nat_lt e.number n) (calls_of ops)
         → cond (is_open_removal o.op e && nat_lt o.number n) 1 0 + open_before n ops
         ≡ tally (λ e. is_pending_removal e.op e.returned && nat_lt e.number n)
-          (cons_option (call_with o.number o.op e) (calls_of ops))
+        (cons_option (call_with o.number o.op e) (calls_of ops))
     go (Returned at r) h = sums _ _ _ _ (ap one (over (is_removal o.op) (nat_lt o.number n))) h
     go Pending h = sums _ _ _ _ (ap one (pending (is_removal o.op) (nat_lt o.number n))) h
     go Failed h = omega arith
@@ -213,7 +213,7 @@ missing : (kept : ℕ → Bool) (m : ℕ) (o : Invocation) (ops : List Invocatio
 missing kept m o ops l q n = go (is_open o) (m == 0) (kept o.number) q (not_zero m l) n
   where
     go : (b d c : Bool) → b ≡ true → d ≡ false → c ≡ false
-      → cond b ((d || c) && keeps_first kept (m - 1) ops) (keeps_first kept m ops) ≡ false
+        → cond b ((d || c) && keeps_first kept (m - 1) ops) (keeps_first kept m ops) ≡ false
     go false d c e f g = absurd (false_is_not_true e)
     go true true c e f g = absurd (false_is_not_true (sym f))
     go true false true e f g = absurd (false_is_not_true (sym g))
@@ -247,12 +247,12 @@ first_kept kept most (y ∷ ops) h k x i o n = go (λ m e j. first_kept kept m o
     none e = omega arith
 
     go : ((m : ℕ) → keeps_first kept m ops ≡ true → In x ops → m ≤ open_before x.number ops) → (b : Bool)
-      → is_open y ≡ b
+        → is_open y ≡ b
         → cond b ((most == 0 || kept y.number) && keeps_first kept (most - 1) ops) (keeps_first kept most ops) ≡ true
         → most ≤ open_before x.number (y ∷ ops)
     go again true q e = elim i [
       | inl w ↦ none (is_zero most
-        (left_out (most == 0) (kept y.number) (keeps_first kept (most - 1) ops) e
+          (left_out (most == 0) (kept y.number) (keeps_first kept (most - 1) ops) e
           (ap (λ (u : Invocation). kept u.number) (sym w) ∙ n)))
       | inr j ↦
           let l = again (most - 1) (rest (most == 0 || kept y.number) (keeps_first kept (most - 1) ops) e) j in
@@ -292,11 +292,11 @@ kept_first kept most (y ∷ ops) h f = go (λ m g. kept_first kept m ops h.1 g) 
         ap (λ z. z || kept y.number) (zero_is most (omega arith))
 
     go : ((m : ℕ) → ((x : Invocation) → In x ops → is_open x ≡ true → kept x.number ≡ false
-      → m ≤ open_before x.number ops)
+        → m ≤ open_before x.number ops)
         → keeps_first kept m ops ≡ true) → (b : Bool) → is_open y ≡ b
-          → cond b ((most == 0 || kept y.number) && keeps_first kept (most - 1) ops) (keeps_first kept most ops) ≡ true
+        → cond b ((most == 0 || kept y.number) && keeps_first kept (most - 1) ops) (keeps_first kept most ops) ≡ true
     go again true q = both (most == 0 || kept y.number) (keeps_first kept (most - 1) ops)
-      (here q (kept y.number) refl) (again (most - 1) (λ x i o n.
+        (here q (kept y.number) refl) (again (most - 1) (λ x i o n.
         let l = f x (inr i) o n in
         let m = open_more y x ops true q (h.0 x i) in
         omega arith))
@@ -324,22 +324,22 @@ each_from_all {X} p (y ∷ ys) h x i = elim i [
 
 pub closed_calls : (vs : Values) (kept : ℕ → Bool) (ops : List Invocation) → AllPairs (λ a b. a.number < b.number) ops
     → keeps_first kept (count_by (λ o. is_put (keeps_value vs) o.op o.«end») ops - count_by
-      (λ o. is_taken (keeps_value vs) o.op o.«end») ops) ops
+    (λ o. is_taken (keeps_value vs) o.op o.«end») ops) ops
     ≡ true → list_all (λ o. fits_end (keeps_all vs) (keeps_value vs) (kept o.number) o.op o.«end») ops ≡ true
-      → IsClosed (keeps_all vs) (keeps_value vs) kept (calls_of ops)
+    → IsClosed (keeps_all vs) (keeps_value vs) kept (calls_of ops)
 closed_calls vs kept ops rising first h = record {
   every = all_keeps vs;
   each = all_calls (λ number op returned. fits (keeps_all vs) (keeps_value vs) (kept number) op (reply_of returned)
-    ≡ true) ops
+      ≡ true) ops
       (λ o i c e. go o.number o.op o.«end» c e
-        (each_from_all (λ o. fits_end (keeps_all vs) (keeps_value vs) (kept o.number) o.op o.«end») ops h o i));
+      (each_from_all (λ o. fits_end (keeps_all vs) (keeps_value vs) (kept o.number) o.op o.«end») ops h o i));
   pending = all_calls (λ number op returned. is_pending_removal op returned ≡ true → kept number ≡ false
       → put_count (keeps_value vs) (calls_of ops)
-        ≤ taken_count (keeps_value vs) (calls_of ops) + pending_before number (calls_of ops)) ops
+      ≤ taken_count (keeps_value vs) (calls_of ops) + pending_before number (calls_of ops)) ops
       (λ o i c e t n. sums _ _ _ _ _ _ (put_counts (keeps_value vs) ops) (taken_counts (keeps_value vs) ops)
-        (pending_counts o.number ops)
+      (pending_counts o.number ops)
       (first_kept kept _ ops (pairs_from_all (λ a b. a.number < b.number) ops rising) first o i
-        (was o.number o.op o.«end» c e t) n));
+      (was o.number o.op o.«end» c e t) n));
 }
   where
     go : (number : ℕ) (op : AnyOp) (e : End) (c : Call) → call_with number op e ≡ Some c
@@ -358,7 +358,7 @@ closed_calls vs kept ops rising first h = record {
     alone false e = e
 
     was : (number : ℕ) (op : AnyOp) (e : End) (c : Call) → call_with number op e ≡ Some c
-      → is_pending_removal op (return_of e) ≡ true → is_open_removal op e ≡ true
+        → is_pending_removal op (return_of e) ≡ true → is_open_removal op e ≡ true
     was number op (Returned at r) c e f = absurd (not_both (is_removal op) f)
     was number op Pending c e f = alone (is_removal op) f
     was number op Failed c e f = absurd (cc e)
@@ -378,23 +378,23 @@ closed_fits vs kept ops h =
     (λ o i. go o i o.«end» refl)
   where
     at : (o : Invocation) → In o ops → (c : Call) → call_of o ≡ Some c
-      → fits (keeps_all vs) (keeps_value vs) (kept c.number) c.op (reply_of c.returned) ≡ true
+        → fits (keeps_all vs) (keeps_value vs) (kept c.number) c.op (reply_of c.returned) ≡ true
     at o i c e = all_at (λ e. fits (keeps_all vs) (keeps_value vs) (kept e.number) e.op (reply_of e.returned) ≡ true)
-      (calls_of ops) h.each c (in_filter_map_from call_of o c ops i e)
+        (calls_of ops) h.each c (in_filter_map_from call_of o c ops i e)
 
     go : (o : Invocation) → In o ops → (e : End) → o.«end» ≡ e
-      → fits_end (keeps_all vs) (keeps_value vs) (kept o.number) o.op e ≡ true
+        → fits_end (keeps_all vs) (keeps_value vs) (kept o.number) o.op e ≡ true
     go o i (Returned when r) q =
-      at o i (record { number = o.number; op = o.op; returned = Some (record { at = when; reply = r }) })
-      (ap (call_with o.number o.op) q)
+        at o i (record { number = o.number; op = o.op; returned = Some (record { at = when; reply = r }) })
+        (ap (call_with o.number o.op) q)
     go o i Pending q = at o i (record { number = o.number; op = o.op; returned = None })
-      (ap (call_with o.number o.op) q)
+        (ap (call_with o.number o.op) q)
     go o i Failed q = refl
 
 pub closed_first : (vs : Values) (kept : ℕ → Bool) (ops : List Invocation) → AllPairs (λ a b. a.number < b.number) ops
     → IsClosed (keeps_all vs) (keeps_value vs) kept (calls_of ops)
     → keeps_first kept (count_by (λ o. is_put (keeps_value vs) o.op o.«end») ops - count_by
-      (λ o. is_taken (keeps_value vs) o.op o.«end») ops) ops ≡ true
+    (λ o. is_taken (keeps_value vs) o.op o.«end») ops) ops ≡ true
 closed_first vs kept ops rising h =
     kept_first kept _ ops (pairs_from_all (λ a b. a.number < b.number) ops rising) (λ o i t n. go o i o.«end» refl t n)
   where
@@ -403,20 +403,20 @@ closed_first vs kept ops rising h =
 
     most : ℕ
     most = count_by (λ o. is_put (keeps_value vs) o.op o.«end») ops - count_by
-      (λ o. is_taken (keeps_value vs) o.op o.«end») ops
+        (λ o. is_taken (keeps_value vs) o.op o.«end») ops
 
     go : (o : Invocation) → In o ops → (e : End) → o.«end» ≡ e → is_open_removal o.op e ≡ true → kept o.number ≡ false
-      → most ≤ open_before o.number ops
+        → most ≤ open_before o.number ops
     go o i (Returned when r) q t n = absurd (false_is_not_true t)
     go o i Failed q t n = absurd (false_is_not_true t)
     go o i Pending q t n =
         let c : Call = record { number = o.number; op = o.op; returned = None } in
         let l = all_at (λ e. is_pending_removal e.op e.returned ≡ true → kept e.number ≡ false
         → put_count (keeps_value vs) (calls_of ops)
-          ≤ taken_count (keeps_value vs) (calls_of ops) + pending_before e.number (calls_of ops))
+        ≤ taken_count (keeps_value vs) (calls_of ops) + pending_before e.number (calls_of ops))
         (calls_of ops) h.pending c (in_filter_map_from call_of o c ops i (ap (call_with o.number o.op) q)) in
         sums _ _ _ _ _ _ (put_counts (keeps_value vs) ops) (taken_counts (keeps_value vs) ops)
-          (pending_counts o.number ops) (l (ap (λ z. z && true) t) n)
+        (pending_counts o.number ops) (l (ap (λ z. z && true) t) n)
 
 pub kept_shows : (vs : Values) (kept : ℕ → Bool) (h : ObjectCalls) → IsObjectHistory h
     → IsClosed (keeps_all vs) (keeps_value vs) kept (calls_of h.ops)
@@ -426,8 +426,8 @@ kept_shows vs kept h is closed = record {
   none_failed = filter_lives (λ o. kept o.number) h.ops;
   shows = λ none order v.
       let of_kind = all_calls (λ number op returned. kind_of op ≡ h.kind) h.ops
-        (λ o i c e. all_at (λ o. kind_of o.op ≡ h.kind) h.ops is.of_kind o i) in
+      (λ o i c e. all_at (λ o. kind_of o.op ≡ h.kind) h.ops is.of_kind o i) in
       let r = projection_valid h.kind (calls_of h.ops) (keeps_all vs) (keeps_value vs) kept order of_kind
-        (rising_calls h.ops is.rising) closed v in
+      (rising_calls h.ops is.rising) closed v in
       none r.0 (subst (λ (cs : List Call). IsValidOrder h.kind cs r.0) (sym (kept_calls_of kept h.ops)) r.1);
 }

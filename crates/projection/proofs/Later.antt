@@ -97,9 +97,9 @@ on_key_each : (ops : List Invocation) (key : Option ℤ) → All (λ e. key_of e
 on_key_each ops key h = all_from_in (IsOnKey key) ops (λ o i. go o i o.«end» refl)
   where
     at : (o : Invocation) → In o ops → (r : Option Return)
-      → call_of o ≡ Some (record { number = o.number; op = o.op; returned = r }) → key_of o.op ≡ key
+        → call_of o ≡ Some (record { number = o.number; op = o.op; returned = r }) → key_of o.op ≡ key
     at o i r e = all_at (λ e. key_of e.op ≡ key) (calls_of ops) h
-      (record { number = o.number; op = o.op; returned = r })
+        (record { number = o.number; op = o.op; returned = r })
         (in_filter_map_from call_of o (record { number = o.number; op = o.op; returned = r }) ops i e)
 
     go : (o : Invocation) → In o ops → (e : End) → o.«end» ≡ e → IsOnKey key o
@@ -119,7 +119,7 @@ start_operation ops from at first s =
       ended = returned_end o.0.«end» at s.reply (sym k.2 ∙ s.returned);
       told = ap (λ (op : AnyOp). leaves op s.reply) (sym k.1) ∙ s.told;
       one_key = on_key_each ops (key_of o.0.op)
-        (subst (λ (op : AnyOp). All (λ e. key_of e.op ≡ key_of op) (calls_of ops)) k.1 s.one_key);
+          (subst (λ (op : AnyOp). All (λ e. key_of e.op ≡ key_of op) (calls_of ops)) k.1 s.one_key);
     }
 
 pub start_from : (ops : List Invocation) (o : Invocation) (at : ℕ) (reply : AnyReply)
@@ -131,7 +131,7 @@ start_from ops o at reply first stands ended told on =
     record {
       call = c;
       known = contains_from_in (calls_of ops) c
-        (in_filter_map_from call_of o c ops (in_from_contains ops o stands) (ap (call_with o.number o.op) ended));
+          (in_filter_map_from call_of o c ops (in_from_contains ops o stands) (ap (call_with o.number o.op) ended));
       number = refl;
       reply = reply;
       returned = refl;
@@ -155,14 +155,14 @@ one_suffix from calls a b rising p q =
     let s = p.start in
     let t = q.start in
     let same = one_number (λ (z : Call). z.number) s.call t.call calls rising (in_from_contains calls s.call s.known)
-      (in_from_contains calls t.call t.known) (s.number ∙ sym t.number) in
+    (in_from_contains calls t.call t.known) (s.number ∙ sym t.number) in
     let ret : ◌≡◌ {A = Return} (record { at = p.at; reply = s.reply }) (record { at = q.at; reply = t.reply })
     = same_Some _ _ (sym s.returned ∙ ap (λ (z : Call). z.returned) same ∙ t.returned) in
     let first : p.first ≡ q.first =
-      same_Some _ _ (sym s.told ∙ ap (λ (z : Call). leaves z.op s.reply) same
-      ∙ ap (λ (z : Return). leaves t.call.op z.reply) ret ∙ t.told) in
+    same_Some _ _ (sym s.told ∙ ap (λ (z : Call). leaves z.op s.reply) same
+    ∙ ap (λ (z : Return). leaves t.call.op z.reply) ret ∙ t.told) in
     p.named ∙ ap (λ (z : Return). calls_from from z.at p.first calls) ret
-      ∙ ap (λ (z : Option (AnyOp × AnyReply)). calls_from from q.at z calls) first ∙ sym q.named
+    ∙ ap (λ (z : Option (AnyOp × AnyReply)). calls_from from q.at z calls) first ∙ sym q.named
 
 -- an operation that is not over before the first one
 later_is : (first : Option (AnyOp × AnyReply)) (at : ℕ) (o : Invocation) → IsCutOperation o (operation_later first at o)
@@ -175,7 +175,7 @@ later_is first at o = whole (nat_lt at o.number)
     same_at a r b t e = cc
 
     with_value : (t : ℕ) (r : AnyReply) → o.«end» ≡ Returned t r → (v : Option ℤ) → written_before first o.op r ≡ v
-      → IsCutOperation o (option_map_or (as_write o.number t) v (as_pending o.number o.op))
+        → IsCutOperation o (option_map_or (as_write o.number t) v (as_pending o.number o.op))
     with_value t r q None w = pending
     with_value t r q (Some v) w = record {
       number = refl;
@@ -199,20 +199,22 @@ operation_is : (h : ObjectCalls) (from at : ℕ) (first : Option (AnyOp × AnyRe
 operation_is h from at first said is s o p i e = failed (has_failed o.«end») e
   where
     begins : (f : Option (AnyOp × AnyReply)) → first ≡ f → o.number ≡ from
-      → option_map (as_returned from at) f ≡ Some p → IsCutOperation o p
+        → option_map (as_returned from at) f ≡ Some p → IsCutOperation o p
     begins None q n e = absurd (cc e)
     begins (Some x) q n e =
         let own = one_number (λ (z : Invocation). z.number) o s.operation h.ops
-          (pairs_from_all (λ a b. a.number < b.number) h.ops is.rising) i s.known (n ∙ sym s.number) in
+        (pairs_from_all (λ a b. a.number < b.number) h.ops is.rising) i s.known (n ∙ sym s.number) in
         let k = subst (λ (z : Option (Option (AnyOp × AnyReply))). IfSome z
-          (λ f. IfSome f (λ p. kind_of p.0 ≡ kind_of s.operation.op)))
+        (λ f. IfSome f (λ p. kind_of p.0 ≡ kind_of s.operation.op)))
         (s.told ∙ ap (λ (z : Option (AnyOp × AnyReply)). Some z) q) (leaves_kind s.operation.op said) in
         let cut_operation : IsCutOperation o (as_returned from at x) = record {
           number = sym n;
           kind = k ∙ ap (λ (z : Invocation). kind_of z.op) (sym own);
-          returned = λ when reply e.
-            (said, ap (λ (z : Invocation). z.«end») own ∙ s.ended
-            ∙ ap (λ (z : ℕ). Returned z said) (same_at at x.1 when reply e));
+          returned = λ when reply e. (
+            said,
+            ap (λ (z : Invocation). z.«end») own ∙ s.ended
+                ∙ ap (λ (z : ℕ). Returned z said) (same_at at x.1 when reply e),
+          );
         } in
         subst (IsCutOperation o) (same_Some (as_returned from at x) p e) cut_operation
       where
@@ -224,14 +226,14 @@ operation_is h from at first said is s o p i e = failed (has_failed o.«end») e
     over false e = subst (IsCutOperation o) (same_Some (operation_later first at o) p e) (later_is first at o)
 
     own_or : (b : Bool) → (o.number == from) ≡ b
-      → cond b (option_map (as_returned from at) first)
-      (cond (is_over from o.«end») None (Some (operation_later first at o))) ≡ Some p → IsCutOperation o p
+        → cond b (option_map (as_returned from at) first)
+        (cond (is_over from o.«end») None (Some (operation_later first at o))) ≡ Some p → IsCutOperation o p
     own_or true n e = begins first refl (eqb-true o.number from n) e
     own_or false n e = over (is_over from o.«end») e
 
     failed : (b : Bool) → cond b None
-      (cond (o.number == from) (option_map (as_returned from at) first)
-      (cond (is_over from o.«end») None (Some (operation_later first at o)))) ≡ Some p → IsCutOperation o p
+        (cond (o.number == from) (option_map (as_returned from at) first)
+        (cond (is_over from o.«end») None (Some (operation_later first at o)))) ≡ Some p → IsCutOperation o p
     failed true e = absurd (cc e)
     failed false e = own_or (o.number == from) refl e
 
@@ -242,10 +244,10 @@ operation_lives from at first o p e = failed (has_failed o.«end») refl e
     begins : (f : Option (AnyOp × AnyReply)) → option_map (as_returned from at) f ≡ Some p → p.«end» ≢ Failed
     begins None e = absurd (cc e)
     begins (Some x) e = subst (λ (z : Invocation). z.«end» ≢ Failed) (same_Some (as_returned from at x) p e)
-      (λ f. absurd (cc f))
+        (λ f. absurd (cc f))
 
     with_value : (number t : ℕ) (op : AnyOp) (v : Option ℤ)
-      → (option_map_or (as_write number t) v (as_pending number op)).«end» ≢ Failed
+        → (option_map_or (as_write number t) v (as_pending number op)).«end» ≢ Failed
     with_value number t op None f = absurd (cc f)
     with_value number t op (Some v) f = absurd (cc f)
 
@@ -255,25 +257,25 @@ operation_lives from at first o p e = failed (has_failed o.«end») refl e
     overlaps Failed f = absurd (cc f)
 
     later : (b : Bool) → has_failed o.«end» ≡ false
-      → (cond b o (overlapping_operation first o.number o.op o.«end»)).«end» ≢ Failed
+        → (cond b o (overlapping_operation first o.number o.op o.«end»)).«end» ≢ Failed
     later true q = did_not_fail o.«end» q
     later false q = overlaps o.«end»
 
     over : (b : Bool) → has_failed o.«end» ≡ false → cond b None (Some (operation_later first at o)) ≡ Some p
-      → p.«end» ≢ Failed
+        → p.«end» ≢ Failed
     over true q e = absurd (cc e)
     over false q e = subst (λ (z : Invocation). z.«end» ≢ Failed) (same_Some (operation_later first at o) p e)
-      (later (nat_lt at o.number) q)
+        (later (nat_lt at o.number) q)
 
     own_or : (b : Bool) → has_failed o.«end» ≡ false
         → cond b (option_map (as_returned from at) first)
-          (cond (is_over from o.«end») None (Some (operation_later first at o))) ≡ Some p → p.«end» ≢ Failed
+        (cond (is_over from o.«end») None (Some (operation_later first at o))) ≡ Some p → p.«end» ≢ Failed
     own_or true q e = begins first e
     own_or false q e = over (is_over from o.«end») q e
 
     failed : (b : Bool) → has_failed o.«end» ≡ b
         → cond b None (cond (o.number == from) (option_map (as_returned from at) first)
-          (cond (is_over from o.«end») None (Some (operation_later first at o)))) ≡ Some p → p.«end» ≢ Failed
+        (cond (is_over from o.«end») None (Some (operation_later first at o)))) ≡ Some p → p.«end» ≢ Failed
     failed true q e = absurd (cc e)
     failed false q e = own_or (o.number == from) q e
 
@@ -288,31 +290,31 @@ operation_call : (from at : ℕ) (first : Option (AnyOp × AnyReply)) (o : Invoc
 operation_call from at first o = go (has_failed o.«end») refl
   where
     begins : (f : Option (AnyOp × AnyReply))
-      → bind (option_map (as_returned from at) f) call_of ≡ option_map (returned_call from at) f
+        → bind (option_map (as_returned from at) f) call_of ≡ option_map (returned_call from at) f
     begins None = refl
     begins (Some x) = refl
 
     with_value : (number at : ℕ) (op : AnyOp) (v : Option ℤ)
         → call_of (option_map_or (as_write number at) v (as_pending number op))
-          ≡ Some (option_map_or (write_call number at) v (pending_call number op))
+        ≡ Some (option_map_or (write_call number at) v (pending_call number op))
     with_value number at op None = refl
     with_value number at op (Some v) = refl
 
     did : (e : End) → has_failed e ≡ false
-      → call_with o.number o.op e ≡ Some (record { number = o.number; op = o.op; returned = return_of e })
+        → call_with o.number o.op e ≡ Some (record { number = o.number; op = o.op; returned = return_of e })
     did (Returned t r) q = refl
     did Pending q = refl
     did Failed q = absurd (cc q)
 
     overlaps : (e : End) → call_of (overlapping_operation first o.number o.op e)
-      ≡ Some (overlapping first o.number o.op (return_of e))
+        ≡ Some (overlapping first o.number o.op (return_of e))
     overlaps (Returned t r) = with_value o.number t o.op (written_before first o.op r)
     overlaps Pending = refl
     overlaps Failed = refl
 
     late : (b : Bool) → has_failed o.«end» ≡ false
         → call_of (cond b o (overlapping_operation first o.number o.op o.«end»))
-          ≡ Some (cond b (as_call o) (overlapping first o.number o.op (return_of o.«end»)))
+        ≡ Some (cond b (as_call o) (overlapping first o.number o.op (return_of o.«end»)))
     late true q = did o.«end» q
     late false q = overlaps o.«end»
 
@@ -322,19 +324,19 @@ operation_call from at first o = go (has_failed o.«end») refl
     over Failed = refl
 
     kept : (b : Bool) → has_failed o.«end» ≡ false
-      → bind (cond b None (Some (operation_later first at o))) call_of
-      ≡ cond b None (Some (call_later first at (as_call o)))
+        → bind (cond b None (Some (operation_later first at o))) call_of
+        ≡ cond b None (Some (call_later first at (as_call o)))
     kept true q = refl
     kept false q = late (nat_lt at o.number) q
 
     own : (b : Bool) → has_failed o.«end» ≡ false
         → bind (cond b (option_map (as_returned from at) first)
-          (cond (is_over from o.«end») None (Some (operation_later first at o)))) call_of
+        (cond (is_over from o.«end») None (Some (operation_later first at o)))) call_of
         ≡ cond b (option_map (returned_call from at) first)
-          (cond (ended_before from (return_of o.«end»)) None (Some (call_later first at (as_call o))))
+        (cond (ended_before from (return_of o.«end»)) None (Some (call_later first at (as_call o))))
     own true q = begins first
     own false q = kept (is_over from o.«end») q
-      ∙ ap (λ b. cond b None (Some (call_later first at (as_call o)))) (over o.«end»)
+        ∙ ap (λ b. cond b None (Some (call_later first at (as_call o)))) (over o.«end»)
 
     failed : (e : End) → has_failed e ≡ true → call_with o.number o.op e ≡ None
     failed (Returned t r) q = absurd (cc q)
@@ -344,15 +346,18 @@ operation_call from at first o = go (has_failed o.«end») refl
     go : (b : Bool) → has_failed o.«end» ≡ b
         → bind (cond b None (cond (o.number == from) (option_map (as_returned from at) first)
         (cond (is_over from o.«end») None (Some (operation_later first at o))))) call_of
-          ≡ bind (call_of o) (call_from from at first)
+        ≡ bind (call_of o) (call_from from at first)
     go true q = ap (λ (z : Option Call). bind z (call_from from at first)) (sym (failed o.«end» q))
     go false q = own (o.number == from) q
-      ∙ ap (λ (z : Option Call). bind z (call_from from at first)) (sym (did o.«end» q))
+        ∙ ap (λ (z : Option Call). bind z (call_from from at first)) (sym (did o.«end» q))
 
 pub from_history : (h : ObjectCalls) (from at : ℕ) (first : Option (AnyOp × AnyReply)) → IsObjectHistory h
     → IsStart (calls_of h.ops) from at first
-    → IsObjectHistory (record { object = h.object; kind = h.kind;
-      ops = filter_map (operation_from from at first) h.ops })
+    → IsObjectHistory (record {
+      object = h.object;
+      kind = h.kind;
+      ops = filter_map (operation_from from at first) h.ops;
+    })
 from_history h from at first is s =
     cut_history h.object h.kind h.ops (operation_from from at first)
     (operation_is h from at first s.reply is (start_operation h.ops from at first s)) is
@@ -370,8 +375,8 @@ from_shows h from at first is s = record {
   none_failed = cut_lives (operation_from from at first) h.ops (operation_lives from at first);
   shows = λ none order v.
       let kinds = all_calls (λ number op returned. kind_of op ≡ h.kind) h.ops
-        (λ z i c q. all_at (λ o. kind_of o.op ≡ h.kind) h.ops is.of_kind z i) in
+      (λ z i c q. all_at (λ o. kind_of o.op ≡ h.kind) h.ops is.of_kind z i) in
       let found = start_valid h.kind (calls_of h.ops) from at first order kinds s v in
       none found.0 (subst (λ (cs : List Call). IsValidOrder h.kind cs found.0)
-        (sym (from_calls from at first h.ops)) found.1);
+      (sym (from_calls from at first h.ops)) found.1);
 }

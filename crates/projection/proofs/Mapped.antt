@@ -18,7 +18,7 @@ abbrev pub StepOf : (Content → Content → Type 0) → Option Call → Content
 StepOf R None d after = R after d
 StepOf R (Some f) d after = ((f.returned ≡ None) × R after d)
     ⊎ ((behind : Content) × (reply : AnyReply) × (next d f.op ≡ Some (behind, reply))
-      × IfSome f.returned (λ r. r.reply ≡ reply) × R after behind)
+    × IfSome f.returned (λ r. r.reply ≡ reply) × R after behind)
 
 pub record Maps (R : Content → Content → Type 0) (cut : Call → Option Call) : Type 0 where
   pub own : (y x : Call) → cut y ≡ Some x → IsTimed x y
@@ -39,7 +39,7 @@ picked R cut m (e ∷ es) c d r h = go (λ b s. picked R cut m es h.0 b s h.4) (
     open_call x f q n so = false_is_not_true (sym (ap is_some (ap (λ (z : Call). z.returned) q ∙ n)) ∙ so)
 
     go : ((b : Content) → R h.0 b → Picked b (filter_map cut es)) → (o : Option Call) → StepOf R o d h.0
-      → Picked d (cons_option o (filter_map cut es))
+        → Picked d (cons_option o (filter_map cut es))
     go again None s = again d s
     go again (Some f) s = elim s [
       | inl skip ↦
@@ -66,12 +66,12 @@ pub mapped_valid : (R : Content → Content → Type 0) (cut : Call → Option C
 mapped_valid R cut calls kind into m start order v =
     let number : Call → ℤ = λ e. pos e.number in
     let known : (e : Call) → In e v.entries → In e calls =
-      λ e i. in_from_contains calls e (all_at (Contains calls) v.entries v.known e i) in
+    λ e i. in_from_contains calls e (all_at (Contains calls) v.entries v.known e i) in
     let p = picked R cut m v.entries (empty kind) (empty into) start v.replies in
     let all : List Call = filter_map cut v.entries in
     let entries : List Call = pick p.flags all in
     let apart = pairs_from_map (λ x y. x ≢ y) number v.entries
-      (subst (Pairs (λ x y. x ≢ y)) v.numbers (pairs_from_all (λ x y. x ≢ y) order v.once)) in
+    (subst (Pairs (λ x y. x ≢ y)) v.numbers (pairs_from_all (λ x y. x ≢ y) order v.once)) in
     let in_order = pairs_from_all (λ x y. ReturnsBefore y x → ⊥) v.entries v.in_order in (
       map number entries,
       record {
@@ -88,18 +88,18 @@ mapped_valid R cut calls kind into m start order v =
         whole = all_from_in (λ x. IsSome x.returned → Contains entries x) (filter_map cut calls) (λ x i so.
             let y = in_filter_map cut x calls i in
             let here = in_from_contains v.entries y.0
-              (all_at (λ e. IsSome e.returned → Contains v.entries e) calls v.whole y.0 y.1
-              (was x.returned y.0.returned (m.own y.0 x y.2).returned so)) in
+            (all_at (λ e. IsSome e.returned → Contains v.entries e) calls v.whole y.0 y.1
+            (was x.returned y.0.returned (m.own y.0 x y.2).returned so)) in
             contains_from_in entries x (p.whole x (in_filter_map_from cut y.0 x v.entries here y.2) so));
         in_order = all_from_pairs (λ x y. ReturnsBefore y x → ⊥) entries
             (pairs_pick (λ x y. ReturnsBefore y x → ⊥) p.flags all
             (pairs_filter_map (λ x y. ReturnsBefore y x → ⊥) (λ x y. ReturnsBefore y x → ⊥) cut v.entries
-              (λ x y a b i j h f g. in_time a b x y (m.own x a f) (m.own y b g) h) in_order));
+            (λ x y a b i j h f g. in_time a b x y (m.own x a f) (m.own y b g) h) in_order));
         replies = p.replies;
       },
     )
   where
     was : (a b : Option Return) → ((t : Return) → a ≡ Some t → (u : Return) × (b ≡ Some u) × (u.at ≡ t.at)) → IsSome a
-      → IsSome b
+        → IsSome b
     was None b f so = absurd (false_is_not_true so)
     was (Some t) b f so = ap is_some (f t refl).1

@@ -33,7 +33,7 @@ pub without_named : (cut : Cut) (v w : ℤ) (before : ℕ) (calls : List Call)
 without_named cut v w before calls (Ok None) e f h = tt
 without_named cut v w before calls (Ok (Some p)) e f h =
     subst (λ (z : Cut). Names z calls (calls_of p.ops)) (sym e)
-      (subst (λ (z : ℤ). IsRest z before calls (calls_of p.ops)) f h)
+    (subst (λ (z : ℤ). IsRest z before calls (calls_of p.ops)) f h)
 without_named cut v w before calls (Err x) e f h = tt
 
 -- the cuts name the same part of the whole as those of them that are left name of what the others cut

@@ -46,10 +46,10 @@ wrote (register c) Read = λ v e. absurd (cc e)
 wrote (register c) (Cas a b) = go (contains_value c a)
   where
     go : (t : Bool) → IfSome {T = Content × AnyReply}
-      (cond t (Some (register (Some b), Swapped a b)) (Some (register c, NotSwapped)))
+        (cond t (Some (register (Some b), Swapped a b)) (Some (register c, NotSwapped)))
         (λ p. (v : ℤ) → written (Cas a b) p.1 ≡ Some v → next (register c) (Write v) ≡ Some (p.0, Value (Some v)))
     go true = λ v e. ap (λ (z : ℤ). next (register c) (Write z)) (sym (same_Some b v e))
-      ∙ ap (λ (z : ℤ). Some (register (Some b), Value (Some z))) (same_Some b v e)
+        ∙ ap (λ (z : ℤ). Some (register (Some b), Value (Some z))) (same_Some b v e)
     go false = λ v e. absurd (cc e)
 wrote (queue vs) (Enqueue v) = λ w e. absurd (cc e)
 wrote (queue []) Dequeue = λ w e. absurd (cc e)
@@ -95,7 +95,7 @@ step_later : (first : Option (AnyOp × AnyReply)) (at : ℕ) (e : Call) (c after
 step_later first at e c after h = whole (nat_lt at e.number)
   where
     with_value : (f : Option (AnyOp × AnyReply)) (r : Return) → r.reply ≡ h.0 → (o : Option ℤ)
-      → written_before f e.op r.reply ≡ o
+        → written_before f e.op r.reply ≡ o
         → Done c after (option_map_or (write_call e.number r.at) o (pending_call e.number e.op))
     with_value None r a (Some v) q = absurd (cc q)
     with_value f r a None q = (h.0, h.1, tt)
@@ -103,7 +103,7 @@ step_later first at e c after h = whole (nat_lt at e.number)
       Value (Some v),
       subst (λ (z : Option (Content × AnyReply)). IfSome z
           (λ p. (v : ℤ) → written e.op p.1 ≡ Some v → next c (Write v) ≡ Some (p.0, Value (Some v)))) h.1
-            (wrote c e.op) v (ap (written e.op) (sym a) ∙ q),
+          (wrote c e.op) v (ap (written e.op) (sym a) ∙ q),
       refl,
     )
 
@@ -141,13 +141,16 @@ cut_of first at y = whole (nat_lt at y.number)
     pending = record { number = refl; key = refl; returned = λ t e. absurd (cc e) }
 
     with_value : (r : Return) → y.returned ≡ Some r → (o : Option ℤ) → written_before first y.op r.reply ≡ o
-      → IsCutOf (option_map_or (write_call y.number r.at) o (pending_call y.number y.op)) y
+        → IsCutOf (option_map_or (write_call y.number r.at) o (pending_call y.number y.op)) y
     with_value r e None q = pending
     with_value r e (Some v) q = record {
       number = refl;
       key = (before_facts first y.op r.reply v q).0;
-      returned = λ t w. (r, e,
-        ap (λ (z : Return). z.at) (same_Some (record { at = r.at; reply = Value (Some v) }) t w));
+      returned = λ t w. (
+        r,
+        e,
+        ap (λ (z : Return). z.at) (same_Some (record { at = r.at; reply = Value (Some v) }) t w),
+      );
     }
 
     returned : (o : Option Return) → y.returned ≡ o → IsCutOf (overlapping first y.number y.op o) y
@@ -200,7 +203,7 @@ front_facts from at first y x e = over (ended_before from y.returned) refl e
     began (Some p) r v q n = absurd (cc n)
 
     with_value : (r : Return) → y.returned ≡ Some r → ended_before from y.returned ≡ false
-      → nat_lt at y.number ≡ false → (o : Option ℤ)
+        → nat_lt at y.number ≡ false → (o : Option ℤ)
         → written_before first y.op r.reply ≡ o → option_map (write_call y.number r.at) o ≡ Some x
         → IsFront from at first y x
     with_value r q n l None w e = absurd (cc e)
@@ -209,7 +212,7 @@ front_facts from at first y x e = over (ended_before from y.returned) refl e
         record {
           not_over = n;
           is_later = ap (λ b. cond b y (overlapping first y.number y.op y.returned)) l
-            ∙ ap (overlapping first y.number y.op) q
+              ∙ ap (overlapping first y.number y.op) q
               ∙ ap (λ (o : Option ℤ). option_map_or (write_call y.number r.at) o (pending_call y.number y.op)) w ∙ here;
           began = began first r v w;
           kind = (before_facts first y.op r.reply v w).1;
@@ -219,18 +222,18 @@ front_facts from at first y x e = over (ended_before from y.returned) refl e
         }
 
     returned : (o : Option Return) → y.returned ≡ o → ended_before from y.returned ≡ false
-      → nat_lt at y.number ≡ false → front_written first y.number y.op o ≡ Some x → IsFront from at first y x
+        → nat_lt at y.number ≡ false → front_written first y.number y.op o ≡ Some x → IsFront from at first y x
     returned None q n l e = absurd (cc e)
     returned (Some r) q n l e = with_value r q n l (written_before first y.op r.reply) refl e
 
     late : (b : Bool) → nat_lt at y.number ≡ b → ended_before from y.returned ≡ false
-      → cond b None (front_written first y.number y.op y.returned) ≡ Some x → IsFront from at first y x
+        → cond b None (front_written first y.number y.op y.returned) ≡ Some x → IsFront from at first y x
     late true l n e = absurd (cc e)
     late false l n e = returned y.returned refl n l e
 
     over : (b : Bool) → ended_before from y.returned ≡ b
-      → cond b None (cond (nat_lt at y.number) None (front_written first y.number y.op y.returned)) ≡ Some x
-      → IsFront from at first y x
+        → cond b None (cond (nat_lt at y.number) None (front_written first y.number y.op y.returned)) ≡ Some x
+        → IsFront from at first y x
     over true n e = absurd (cc e)
     over false n e = late (nat_lt at y.number) refl n e
 
@@ -250,7 +253,7 @@ late_facts from at first y so = whole (nat_lt at y.number) refl so
     some_of (Some r) s = (r, refl)
 
     with_value : (r : Return) → y.returned ≡ Some r → nat_lt at y.number ≡ false → (o : Option ℤ)
-      → written_before first y.op r.reply ≡ o
+        → written_before first y.op r.reply ≡ o
         → IsSome (option_map_or (write_call y.number r.at) o (pending_call y.number y.op)).returned
         → Late from at first y
     with_value r q l None w so = absurd (cc so)
@@ -262,18 +265,18 @@ late_facts from at first y so = whole (nat_lt at y.number) refl so
           ∙ ap (λ b. cond b None (front_written first y.number y.op y.returned)) l
           ∙ ap (front_written first y.number y.op) q ∙ ap (option_map (write_call y.number r.at)) w
           ∙ ap (λ (z : Call). Some z)
-            (sym (ap (λ b. cond b y (overlapping first y.number y.op y.returned)) l
-            ∙ ap (overlapping first y.number y.op) q
+          (sym (ap (λ b. cond b y (overlapping first y.number y.op y.returned)) l
+          ∙ ap (overlapping first y.number y.op) q
           ∙ ap (λ (o : Option ℤ). option_map_or (write_call y.number r.at) o (pending_call y.number y.op)) w)));
     }
 
     returned : (o : Option Return) → y.returned ≡ o → nat_lt at y.number ≡ false
-      → IsSome (overlapping first y.number y.op o).returned → Late from at first y
+        → IsSome (overlapping first y.number y.op o).returned → Late from at first y
     returned None q l so = absurd (cc so)
     returned (Some r) q l so = with_value r q l (written_before first y.op r.reply) refl so
 
     whole : (b : Bool) → nat_lt at y.number ≡ b
-      → IsSome (cond b y (overlapping first y.number y.op y.returned)).returned → Late from at first y
+        → IsSome (cond b y (overlapping first y.number y.op y.returned)).returned → Late from at first y
     whole true l so =
         let r = some_of y.returned so in record { return = r.0; was = r.1; either = inl (less_by_test at y.number l) }
     whole false l so = returned y.returned refl l so
@@ -321,7 +324,7 @@ writes_before [] c from at v es f h = (register (Some v), Value (Some v), refl, 
 writes_before (x ∷ xs) c from at v es f h =
     let w = f x (inl refl) in
     subst (λ (z : Call). RepliesAlong (register c) (z ∷ xs ++ returned_call from at (Write v, Value (Some v)) ∷ es))
-      (sym w.3)
+    (sym w.3)
     (register (Some w.2), Value (Some w.2), refl, refl, writes_before xs (Some w.2) from at v es (λ y i. f y (inr i)) h)
 
 pub front_replies : (kind : Kind) (front : List Call) (from at : ℕ) (p : AnyOp × AnyReply) (d : Content)
@@ -334,9 +337,9 @@ front_replies kind (x ∷ xs) from at p d es does f g h =
     let k = (f x (inl refl)).1 in
     let w = g k in
     let there : next (register None) (Write w.0) ≡ Some (d, p.1) =
-      sym (ap (λ z. next (empty z) p.0) k ∙ ap (λ (q : AnyOp × AnyReply). next (register None) q.0) w.1) ∙ does in
+    sym (ap (λ z. next (empty z) p.0) k ∙ ap (λ (q : AnyOp × AnyReply). next (register None) q.0) w.1) ∙ does in
     let same : register (Some w.0) ≡ d =
-      ap (λ (z : Content × AnyReply). z.0) (same_Some (register (Some w.0), Value (Some w.0)) (d, p.1) there) in
+    ap (λ (z : Content × AnyReply). z.0) (same_Some (register (Some w.0), Value (Some w.0)) (d, p.1) there) in
     subst (λ z. RepliesAlong (empty z) ((x ∷ xs) ++ returned_call from at p ∷ es)) (sym k)
     (subst (λ (q : AnyOp × AnyReply). RepliesAlong (register None) ((x ∷ xs) ++ returned_call from at q ∷ es)) (sym w.1)
     (writes_before (x ∷ xs) None from at w.0 es (λ y i. (f y i).0) (subst (λ c. RepliesAlong c es) (sym same) h)))

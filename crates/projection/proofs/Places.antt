@@ -120,7 +120,7 @@ module _ (place : Place) (keeps : ℤ → Bool) (other : ℤ) where
 
     returned : (kept : Bool) → DoneOf IsAt (done_at place keeps other kept op reply) d after
     returned kept = go (touch_at place op (Some reply)) (touch_kind place op (Some reply)) (λ e. (touched e).0)
-      (λ e. (touched e).1)
+        (λ e. (touched e).1)
       where
         go : (o : Option Touch) → IfSome o (λ t. kind_of op ≡ kind_at place)
             → (kind_with c ≡ kind_at place → Did o (content_at place c) (content_at place after))
@@ -218,7 +218,7 @@ pub into_part : (place : Place) (keeps : ℤ → Bool) (other : ℤ)
     → IsInto (done_at place keeps other) (open_at place keeps other) (λ op. kind_of_part place (kind_of op))
 into_part place keeps other = record {
   returned = λ kept op reply.
-    returned kept op reply (touch_at place op (Some reply)) (touch_kind place op (Some reply));
+      returned kept op reply (touch_at place op (Some reply)) (touch_kind place op (Some reply));
   unfinished = λ op. unfinished op (touch_at place op None) (touch_kind place op None);
 }
   where

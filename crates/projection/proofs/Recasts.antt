@@ -53,19 +53,19 @@ pub recast_timed : (done : AnyOp → AnyReply → Option (AnyOp × AnyReply)) (p
 recast_timed done pending y x e = go y.returned refl e
   where
     finished : (r : Return) → y.returned ≡ Some r → (o : Option (AnyOp × AnyReply))
-      → option_map (returned_call y.number r.at) o ≡ Some x → IsTimed x y
+        → option_map (returned_call y.number r.at) o ≡ Some x → IsTimed x y
     finished r q None e = absurd (cc e)
     finished r q (Some f) e =
-      subst (λ (z : Call). IsTimed z y) (same_Some (returned_call y.number r.at f) x e) (record {
-      number = refl;
-      returned = λ t w. (r, q, ap (λ (z : Return). z.at) (same_Some (record { at = r.at; reply = f.1 }) t w));
-    })
+        subst (λ (z : Call). IsTimed z y) (same_Some (returned_call y.number r.at f) x e) (record {
+          number = refl;
+          returned = λ t w. (r, q, ap (λ (z : Return). z.at) (same_Some (record { at = r.at; reply = f.1 }) t w));
+        })
 
     unfinished : (o : Option AnyOp) → option_map (pending_call y.number) o ≡ Some x → IsTimed x y
     unfinished None e = absurd (cc e)
     unfinished (Some op) e =
-      subst (λ (z : Call). IsTimed z y) (same_Some (pending_call y.number op) x e)
-      (record { number = refl; returned = λ t w. absurd (cc w) })
+        subst (λ (z : Call). IsTimed z y) (same_Some (pending_call y.number op) x e)
+        (record { number = refl; returned = λ t w. absurd (cc w) })
 
     go : (o : Option Return) → y.returned ≡ o → recast done pending y.number y.op o ≡ Some x → IsTimed x y
     go None q e = unfinished (pending y.op) e
@@ -77,17 +77,17 @@ pub recast_maps : (R : Content → Content → Type 0) (done : Done) (pending : 
 recast_maps R done pending kept is = record {
   own = λ y x e. recast_timed (done (kept y.number)) pending y x e;
   step = λ e c d after reply s does agrees.
-    go e after d (subst (λ z. IfSome z (λ p. Steps R done pending e.op d p.0 p.1)) does (is.step c d e.op s))
-    e.returned agrees;
+      go e after d (subst (λ z. IfSome z (λ p. Steps R done pending e.op d p.0 p.1)) does (is.step c d e.op s))
+      e.returned agrees;
 }
   where
     finished : (number at : ℕ) (d after : Content) (o : Option (AnyOp × AnyReply)) → DoneOf R o d after
-      → StepOf R (option_map (returned_call number at) o) d after
+        → StepOf R (option_map (returned_call number at) o) d after
     finished number at d after None s = s
     finished number at d after (Some f) s = inr (s.0, f.1, s.1, refl, s.2)
 
     unfinished : (number : ℕ) (d after : Content) (o : Option AnyOp) → OpenOf R o d after
-      → StepOf R (option_map (pending_call number) o) d after
+        → StepOf R (option_map (pending_call number) o) d after
     unfinished number d after None s = s
     unfinished number d after (Some op) s = elim s [
       | inl skip ↦ inl (refl, skip)
@@ -95,7 +95,7 @@ recast_maps R done pending kept is = record {
     ]
 
     go : (e : Call) (after d : Content) {reply : AnyReply} → Steps R done pending e.op d after reply
-      → (o : Option Return)
+        → (o : Option Return)
         → IfSome o (λ r. r.reply ≡ reply) → StepOf R (recast (done (kept e.number)) pending e.number e.op o) d after
     go e after d s None a = unfinished e.number d after (pending e.op) s.unfinished
     go e after d s (Some r) a = finished e.number r.at d after (done (kept e.number) e.op r.reply)
@@ -115,25 +115,28 @@ pub recast_operation : (done : Done) (pending : Open) (into : AnyOp → Kind) �
 recast_operation done pending into is kept o p e = go o.«end» refl e
   where
     finished : (at : ℕ) (r : AnyReply) → o.«end» ≡ Returned at r → (f : Option (AnyOp × AnyReply))
-      → IfSome f (λ f. kind_of f.0 ≡ into o.op)
+        → IfSome f (λ f. kind_of f.0 ≡ into o.op)
         → option_map (as_returned o.number at) f ≡ Some p → IsCutOperationOf (into o.op) o p
     finished at r q None l e = absurd (cc e)
     finished at r q (Some f) l e = subst (IsCutOperationOf (into o.op) o) (same_Some (as_returned o.number at f) p e)
-        (record { number = refl; kind = l;
-          returned = λ when reply w. (r, q ∙ ap (λ (z : ℕ). Returned z r) (same_at at f.1 when reply w)) })
+        (record {
+          number = refl;
+          kind = l;
+          returned = λ when reply w. (r, q ∙ ap (λ (z : ℕ). Returned z r) (same_at at f.1 when reply w));
+        })
       where
         same_at : (a : ℕ) (r : AnyReply) (b : ℕ) (t : AnyReply) → Returned a r ≡ Returned b t → a ≡ b
         same_at a r b t e = cc
 
     unfinished : (f : Option AnyOp) → IfSome f (λ f. kind_of f ≡ into o.op)
-      → option_map (as_pending o.number) f ≡ Some p → IsCutOperationOf (into o.op) o p
+        → option_map (as_pending o.number) f ≡ Some p → IsCutOperationOf (into o.op) o p
     unfinished None l e = absurd (cc e)
     unfinished (Some op) l e =
-      subst (IsCutOperationOf (into o.op) o) (same_Some (as_pending o.number op) p e)
-      (record { number = refl; kind = l; returned = λ when reply w. absurd (cc w) })
+        subst (IsCutOperationOf (into o.op) o) (same_Some (as_pending o.number op) p e)
+        (record { number = refl; kind = l; returned = λ when reply w. absurd (cc w) })
 
     go : (h : End) → o.«end» ≡ h → recast_end (done kept) pending o.number o.op h ≡ Some p
-      → IsCutOperationOf (into o.op) o p
+        → IsCutOperationOf (into o.op) o p
     go (Returned at r) q e = finished at r q (done kept o.op r) (is.returned kept o.op r) e
     go Pending q e = unfinished (pending o.op) (is.unfinished o.op) e
     go Failed q e = absurd (cc e)
@@ -143,15 +146,15 @@ pub recast_lives : (done : Done) (pending : Open) (kept : Bool) (o p : Invocatio
 recast_lives done pending kept o p e = go o.«end» e
   where
     finished : (at : ℕ) (f : Option (AnyOp × AnyReply)) → option_map (as_returned o.number at) f ≡ Some p
-      → p.«end» ≢ Failed
+        → p.«end» ≢ Failed
     finished at None e = absurd (cc e)
     finished at (Some f) e =
-      subst (λ (z : Invocation). z.«end» ≢ Failed) (same_Some (as_returned o.number at f) p e) (λ q. absurd (cc q))
+        subst (λ (z : Invocation). z.«end» ≢ Failed) (same_Some (as_returned o.number at f) p e) (λ q. absurd (cc q))
 
     unfinished : (f : Option AnyOp) → option_map (as_pending o.number) f ≡ Some p → p.«end» ≢ Failed
     unfinished None e = absurd (cc e)
     unfinished (Some op) e =
-      subst (λ (z : Invocation). z.«end» ≢ Failed) (same_Some (as_pending o.number op) p e) (λ q. absurd (cc q))
+        subst (λ (z : Invocation). z.«end» ≢ Failed) (same_Some (as_pending o.number op) p e) (λ q. absurd (cc q))
 
     go : (h : End) → recast_end (done kept) pending o.number o.op h ≡ Some p → p.«end» ≢ Failed
     go (Returned at r) e = finished at (done kept o.op r) e
@@ -160,21 +163,21 @@ recast_lives done pending kept o p e = go o.«end» e
 
 pub recast_call : (done : Done) (pending : Open) (kept : ℕ → Bool) (o : Invocation)
     → bind (recast_end (done (kept o.number)) pending o.number o.op o.«end») call_of
-      ≡ bind (call_of o) (λ e. recast (done (kept e.number)) pending e.number e.op e.returned)
+    ≡ bind (call_of o) (λ e. recast (done (kept e.number)) pending e.number e.op e.returned)
 recast_call done pending kept o = go o.«end»
   where
     finished : (at : ℕ) (f : Option (AnyOp × AnyReply))
-      → bind (option_map (as_returned o.number at) f) call_of ≡ option_map (returned_call o.number at) f
+        → bind (option_map (as_returned o.number at) f) call_of ≡ option_map (returned_call o.number at) f
     finished at None = refl
     finished at (Some f) = refl
 
     unfinished : (f : Option AnyOp)
-      → bind (option_map (as_pending o.number) f) call_of ≡ option_map (pending_call o.number) f
+        → bind (option_map (as_pending o.number) f) call_of ≡ option_map (pending_call o.number) f
     unfinished None = refl
     unfinished (Some op) = refl
 
     go : (h : End) → bind (recast_end (done (kept o.number)) pending o.number o.op h) call_of
-      ≡ bind (call_with o.number o.op h) (λ e. recast (done (kept e.number)) pending e.number e.op e.returned)
+        ≡ bind (call_with o.number o.op h) (λ e. recast (done (kept e.number)) pending e.number e.op e.returned)
     go (Returned at r) = finished at (done (kept o.number) o.op r)
     go Pending = unfinished (pending o.op)
     go Failed = refl

@@ -56,12 +56,12 @@ record Joined (kind : Kind) (from at : ℕ) (first : Option (AnyOp × AnyReply))
   fronts : (e : Call) → In e front → In e entries
   others : (e : Call) → In e es → In e entries
   from_where : (e : Call) → In e entries
-    → ((p : AnyOp × AnyReply) × (first ≡ Some p) × (e ≡ returned_call from at p)) ⊎ (In e front ⊎ In e es)
+      → ((p : AnyOp × AnyReply) × (first ≡ Some p) × (e ≡ returned_call from at p)) ⊎ (In e front ⊎ In e es)
   pairs : ((e : Call) → In e front → e.number ≢ from) → ((e : Call) → In e es → e.number ≢ from)
       → ((x y : Call) → In x front → In y es → x.number ≢ y.number) → Pairs (λ x y. x.number ≢ y.number) front
       → Pairs (λ x y. x.number ≢ y.number) es → Pairs (λ x y. x.number ≢ y.number) entries
   in_time : ((x : Call) → In x front → at < x.number → ⊥)
-    → ((e : Call) (r : Return) → In e es → e.returned ≡ Some r → r.at < from → ⊥)
+      → ((e : Call) (r : Return) → In e es → e.returned ≡ Some r → r.at < from → ⊥)
       → ((x y : Call) → In x front → In y es → ReturnsBefore y x → ⊥) → Pairs (λ x y. ReturnsBefore y x → ⊥) front
       → Pairs (λ x y. ReturnsBefore y x → ⊥) es → Pairs (λ x y. ReturnsBefore y x → ⊥) entries
 
@@ -84,7 +84,7 @@ joined_some : (kind : Kind) (from at : ℕ) (first : AnyOp × AnyReply) (d : Con
 joined_some kind from at first d front es does writes reg h = record {
   replies = front_replies kind front from at first d es does writes reg h;
   own = λ p e. in_right (returned_call from at p) front (returned_call from at first ∷ es)
-    (inl (ap (returned_call from at) (sym (same_Some first p e))));
+      (inl (ap (returned_call from at) (sym (same_Some first p e))));
   fronts = λ e i. in_left e front (returned_call from at first ∷ es) i;
   others = λ e i. in_right e front (returned_call from at first ∷ es) (inr i);
   from_where = λ e i. elim (in_append e front (returned_call from at first ∷ es) i) [
@@ -92,10 +92,10 @@ joined_some kind from at first d front es does writes reg h = record {
     | inr j ↦ elim j [ inl q ↦ inl (first, refl, q) | inr k ↦ inr (inr k) ]
   ];
   pairs = λ a b c f g. pairs_append (λ x y. x.number ≢ y.number) front (returned_call from at first ∷ es) f
-    (λ y i e. b y i (sym e), g)
+      (λ y i e. b y i (sym e), g)
       (λ x y i j. elim j [ inl q ↦ λ e. a x i (e ∙ ap (λ (z : Call). z.number) q) | inr k ↦ c x y i k ]);
   in_time = λ a b c f g. pairs_append (λ x y. ReturnsBefore y x → ⊥) front (returned_call from at first ∷ es) f
-    (λ y i r. b y r.0 i r.1 r.2, g)
+      (λ y i r. b y r.0 i r.1 r.2, g)
       (λ x y i j. elim j [
         | inl q ↦ λ r. late x.number r.0 (a x i) (sym (ap (λ (z : Call). z.returned) q) ∙ r.1) r.2
         | inr k ↦ c x y i k
@@ -103,9 +103,9 @@ joined_some kind from at first d front es does writes reg h = record {
 }
   where
     late : (number : ℕ) (r : Return) → (at < number → ⊥) → Some (record { at = at; reply = first.1 }) ≡ Some r
-      → r.at < number → ⊥
+        → r.at < number → ⊥
     late number r l e m = l
-      (less at r.at number (ap (λ (z : Return). z.at) (same_Some (record { at = at; reply = first.1 }) r e)) m)
+        (less at r.at number (ap (λ (z : Return). z.at) (same_Some (record { at = at; reply = first.1 }) r e)) m)
       where
         less : (a b c : ℕ) → a ≡ b → b < c → a < c
         less a b c e m = omega arith
@@ -116,37 +116,37 @@ call_from_other : (from at : ℕ) (first : Option (AnyOp × AnyReply)) (y : Call
     → ended_before from y.returned ≡ false → call_from from at first y ≡ Some (call_later first at y)
 call_from_other from at first y ne e =
     ap (λ b. cond b (option_map (returned_call from at) first)
-      (cond (ended_before from y.returned) None (Some (call_later first at y)))) (ne_eqb y.number from ne)
+    (cond (ended_before from y.returned) None (Some (call_later first at y)))) (ne_eqb y.number from ne)
     ∙ ap (λ b. cond b None (Some (call_later first at y))) e
 
 call_from_own : (from at : ℕ) (first : Option (AnyOp × AnyReply)) (y : Call) (p : AnyOp × AnyReply) → y.number ≡ from
     → first ≡ Some p → call_from from at first y ≡ Some (returned_call from at p)
 call_from_own from at first y p e f =
     ap (λ b. cond b (option_map (returned_call from at) first)
-      (cond (ended_before from y.returned) None (Some (call_later first at y)))) (eq-eqb y.number from e)
+    (cond (ended_before from y.returned) None (Some (call_later first at y)))) (eq-eqb y.number from e)
     ∙ ap (option_map (returned_call from at)) f
 
 pub call_from_cases : (from at : ℕ) (first : Option (AnyOp × AnyReply)) (y x : Call)
     → call_from from at first y ≡ Some x
     → ((p : AnyOp × AnyReply) × (first ≡ Some p) × (x ≡ returned_call from at p))
-      ⊎ ((y.number ≢ from) × (x ≡ call_later first at y) × (ended_before from y.returned ≡ false))
+    ⊎ ((y.number ≢ from) × (x ≡ call_later first at y) × (ended_before from y.returned ≡ false))
 call_from_cases from at first y x e = go (y.number == from) refl e
   where
     own : (o : Option (AnyOp × AnyReply)) → option_map (returned_call from at) o ≡ Some x
-      → (p : AnyOp × AnyReply) × (o ≡ Some p) × (x ≡ returned_call from at p)
+        → (p : AnyOp × AnyReply) × (o ≡ Some p) × (x ≡ returned_call from at p)
     own None e = absurd (cc e)
     own (Some p) e = (p, refl, sym (same_Some (returned_call from at p) x e))
 
     other : (b : Bool) → ended_before from y.returned ≡ b → cond b None (Some (call_later first at y)) ≡ Some x
-      → (x ≡ call_later first at y) × (ended_before from y.returned ≡ false)
+        → (x ≡ call_later first at y) × (ended_before from y.returned ≡ false)
     other true n e = absurd (cc e)
     other false n e = (sym (same_Some (call_later first at y) x e), n)
 
     go : (b : Bool) → (y.number == from) ≡ b
         → cond b (option_map (returned_call from at) first)
-          (cond (ended_before from y.returned) None (Some (call_later first at y))) ≡ Some x
+        (cond (ended_before from y.returned) None (Some (call_later first at y))) ≡ Some x
         → ((p : AnyOp × AnyReply) × (first ≡ Some p) × (x ≡ returned_call from at p))
-          ⊎ ((y.number ≢ from) × (x ≡ call_later first at y) × (ended_before from y.returned ≡ false))
+        ⊎ ((y.number ≢ from) × (x ≡ call_later first at y) × (ended_before from y.returned ≡ false))
     go true q e = inl (own first e)
     go false q e = let r = other (ended_before from y.returned) refl e in inr (eqb-false y.number from q, r.0, r.1)
 
@@ -185,20 +185,23 @@ chosen kind key from at first front es after on writes reg begins h = go first r
 
     choice : (d : Content) → IsShadow (on_key key) after d → Choice (λ n. true) d es
     choice d s = choose (IsShadow (on_key key)) (λ n. true) (MayStep (is_free key) (on_key key) (λ n. true))
-      (closed_simulates (is_free key) (on_key key) (λ n. true) (free_keeps key)) es after d s may
+        (closed_simulates (is_free key) (on_key key) (λ n. true) (free_keeps key)) es after d s may
 
     go : (f : Option (AnyOp × AnyReply)) → first ≡ f → Begins (on_key key) kind f after → Chosen kind from at f front es
     go None e b = let m = choice (empty kind) b in
-        record { flags = m.flags; entries = pick m.flags es;
-            joined = joined_none kind from at front (pick m.flags es) (λ x i. (writes x i).0 e) m.replies;
-            whole = λ x i so. m.whole x i refl so }
+        record {
+          flags = m.flags;
+          entries = pick m.flags es;
+          joined = joined_none kind from at front (pick m.flags es) (λ x i. (writes x i).0 e) m.replies;
+          whole = λ x i so. m.whole x i refl so;
+        }
     go (Some p) e b = let m = choice b.0 b.2 in
         record {
           flags = m.flags;
           entries = front ++ returned_call from at p ∷ pick m.flags es;
           joined =
               joined_some kind from at p b.0 front (pick m.flags es) b.1 (λ x i. let w = writes x i in (w.1, w.2))
-                (reg p e) m.replies;
+              (reg p e) m.replies;
           whole = λ x i so. m.whole x i refl so;
         }
 
@@ -212,40 +215,40 @@ suffix_valid kind calls e r first order stands kinds ret fr on v =
     let from : ℕ = e.number in
     let at : ℕ = r.at in
     let known : (x : Call) → In x v.entries → In x calls =
-      λ x i. in_from_contains calls x (all_at (Contains calls) v.entries v.known x i) in
+    λ x i. in_from_contains calls x (all_at (Contains calls) v.entries v.known x i) in
     let in_calls = in_from_contains calls e stands in
     let there : (x : Call) → In x calls → IsSome x.returned → In x v.entries =
-      λ x i so. in_from_contains v.entries x
-      (all_at (λ e. IsSome e.returned → Contains v.entries e) calls v.whole x i so) in
+    λ x i so. in_from_contains v.entries x
+    (all_at (λ e. IsSome e.returned → Contains v.entries e) calls v.whole x i so) in
     let of_kind : (x : Call) → In x calls → kind_of x.op ≡ kind =
-      λ x i. all_at (λ f. kind_of f.op ≡ kind) calls kinds x i in
+    λ x i. all_at (λ f. kind_of f.op ≡ kind) calls kinds x i in
     let s = in_split e v.entries (there e in_calls (ap is_some ret)) in
     let earlier : List Call = s.0 in
     let later : List Call = s.1 in
     let b = replies_after earlier e later (empty kind) (subst (RepliesAlong (empty kind)) s.2 v.replies) in
     let same = subst (λ (o : Option Return). IfSome o (λ r. r.reply ≡ b.reply)) ret b.agrees in
     let told = subst (λ (o : Option (Content × AnyReply)). IfSome o
-      (λ p. IfSome (leaves e.op p.1) (λ f. Begins (on_key (key_of e.op)) (kind_of e.op) f p.0))) b.does
-      (tells b.before e.op) in
+    (λ p. IfSome (leaves e.op p.1) (λ f. Begins (on_key (key_of e.op)) (kind_of e.op) f p.0))) b.does
+    (tells b.before e.op) in
     let begins = subst (λ k. Begins (on_key (key_of e.op)) k first b.after) (of_kind e in_calls)
     (subst (λ (o : Option (Option (AnyOp × AnyReply))). IfSome o
-      (λ f. Begins (on_key (key_of e.op)) (kind_of e.op) f b.after)) (ap (leaves e.op) (sym same) ∙ fr) told) in
+    (λ f. Begins (on_key (key_of e.op)) (kind_of e.op) f b.after)) (ap (leaves e.op) (sym same) ∙ fr) told) in
     let cut : Call → Call = call_later first at in
     let es : List Call = map cut later in
     let front : List Call = filter_map (front_call from at first) earlier in
     let in_later : (y : Call) → In y later → In y v.entries =
-      λ y i. subst (In y) (sym s.2) (in_right y earlier (e ∷ later) (inr i)) in
+    λ y i. subst (In y) (sym s.2) (in_right y earlier (e ∷ later) (inr i)) in
     let in_earlier : (y : Call) → In y earlier → In y v.entries =
-      λ y i. subst (In y) (sym s.2) (in_left y earlier (e ∷ later) i) in
+    λ y i. subst (In y) (sym s.2) (in_left y earlier (e ∷ later) i) in
     let m = chosen kind (key_of e.op) from at first front es b.after
     (λ x i. let y = in_map cut x later i in
-      ap (λ (z : Call). key_of z.op) y.2 ∙ (cut_of first at y.0).key
-      ∙ all_at (λ f. key_of f.op ≡ key_of e.op) calls on y.0 (known y.0 (in_later y.0 y.1)))
+    ap (λ (z : Call). key_of z.op) y.2 ∙ (cut_of first at y.0).key
+    ∙ all_at (λ f. key_of f.op ≡ key_of e.op) calls on y.0 (known y.0 (in_later y.0 y.1)))
     (λ x i. let y = in_filter_map (front_call from at first) x earlier i in
-        let f = front_facts from at first y.0 x y.2 in
+    let f = front_facts from at first y.0 x y.2 in
     (f.began, (y.0.number, f.when, f.value, f.write), sym (of_kind y.0 (known y.0 (in_earlier y.0 y.1))) ∙ f.kind))
     (λ p q k. first_write e.op r.reply p (fr ∙ ap (λ (z : Option (AnyOp × AnyReply)). Some z) q)
-      (of_kind e in_calls ∙ k))
+    (of_kind e in_calls ∙ k))
     begins (later_replies first at later b.after b.replies) in
     let j = m.joined in
     let picked : List Call = pick m.flags es in
@@ -253,54 +256,54 @@ suffix_valid kind calls e r first order stands kinds ret fr on v =
     let numbers_apart : Pairs (λ x y. x.number ≢ y.number) v.entries =
     pairs_weaker (λ x y. number x ≢ number y) (λ x y. x.number ≢ y.number) v.entries (λ x y i k ne q. ne (ap pos q))
     (pairs_from_map (λ x y. x ≢ y) number v.entries
-      (subst (Pairs (λ x y. x ≢ y)) v.numbers (pairs_from_all (λ x y. x ≢ y) order v.once))) in
+    (subst (Pairs (λ x y. x ≢ y)) v.numbers (pairs_from_all (λ x y. x ≢ y) order v.once))) in
     let apart = pairs_at (λ x y. x.number ≢ y.number) earlier e later
-      (subst (Pairs (λ x y. x.number ≢ y.number)) s.2 numbers_apart) in
+    (subst (Pairs (λ x y. x.number ≢ y.number)) s.2 numbers_apart) in
     let in_time = pairs_at (λ x y. ReturnsBefore y x → ⊥) earlier e later
-      (subst (Pairs (λ x y. ReturnsBefore y x → ⊥)) s.2
-      (pairs_from_all (λ x y. ReturnsBefore y x → ⊥) v.entries v.in_order)) in
+    (subst (Pairs (λ x y. ReturnsBefore y x → ⊥)) s.2
+    (pairs_from_all (λ x y. ReturnsBefore y x → ⊥) v.entries v.in_order)) in
     let from_later : (x : Call) → In x picked → (y : Call) × In y later × IsCutOf x y × (x ≡ cut y) = λ x i. let y =
     in_map cut x later (in_pick m.flags es x i) in
-      (y.0, y.1, subst (λ (z : Call). IsCutOf z y.0) (sym y.2) (cut_of first at y.0), y.2) in
+    (y.0, y.1, subst (λ (z : Call). IsCutOf z y.0) (sym y.2) (cut_of first at y.0), y.2) in
     let from_front : (x : Call) → In x front → (y : Call) × In y earlier × IsCutOf x y × IsFront from at first y x =
-      λ x i. let y =
+    λ x i. let y =
     in_filter_map (front_call from at first) x earlier i in
-      (y.0, y.1, front_cut from at first y.0 x y.2, front_facts from at first y.0 x y.2) in (
+    (y.0, y.1, front_cut from at first y.0 x y.2, front_facts from at first y.0 x y.2) in (
       map number entries,
       record {
         entries = entries;
         numbers = refl;
         known = all_from_in (Contains (calls_from from at first calls)) entries
-          (λ x i. contains_from_in (calls_from from at first calls) x (elim (j.from_where x i) [
-          | inl q ↦ in_filter_map_from (call_from from at first) e x calls in_calls
-              (call_from_own from at first e q.0 refl q.1 ∙ ap (λ (z : Call). Some z) (sym q.2))
-          | inr k ↦ elim k [
-            | inl w ↦
-                let y = from_front x w in
-                in_filter_map_from (call_from from at first) y.0 x calls (known y.0 (in_earlier y.0 y.1))
-                (call_from_other from at first y.0 (apart.0 y.0 y.1) y.3.not_over
-                  ∙ ap (λ (z : Call). Some z) y.3.is_later)
-            | inr w ↦
-                let y = from_later x w in
-                in_filter_map_from (call_from from at first) y.0 x calls (known y.0 (in_later y.0 y.1))
-                (call_from_other from at first y.0 (λ q. apart.1 y.0 y.1 (sym q))
-                  (not_ended from y.0.returned (λ t q l. in_time.1 y.0 y.1 (t, q, l)))
-                  ∙ ap (λ (z : Call). Some z) (sym y.3))
-          ]
-        ]));
+            (λ x i. contains_from_in (calls_from from at first calls) x (elim (j.from_where x i) [
+              | inl q ↦ in_filter_map_from (call_from from at first) e x calls in_calls
+                  (call_from_own from at first e q.0 refl q.1 ∙ ap (λ (z : Call). Some z) (sym q.2))
+              | inr k ↦ elim k [
+                | inl w ↦
+                    let y = from_front x w in
+                    in_filter_map_from (call_from from at first) y.0 x calls (known y.0 (in_earlier y.0 y.1))
+                    (call_from_other from at first y.0 (apart.0 y.0 y.1) y.3.not_over
+                    ∙ ap (λ (z : Call). Some z) y.3.is_later)
+                | inr w ↦
+                    let y = from_later x w in
+                    in_filter_map_from (call_from from at first) y.0 x calls (known y.0 (in_later y.0 y.1))
+                    (call_from_other from at first y.0 (λ q. apart.1 y.0 y.1 (sym q))
+                    (not_ended from y.0.returned (λ t q l. in_time.1 y.0 y.1 (t, q, l)))
+                    ∙ ap (λ (z : Call). Some z) (sym y.3))
+              ]
+            ]));
         once = all_from_pairs (λ x y. x ≢ y) (map number entries)
             (pairs_map (λ x y. x ≢ y) number entries
-              (pairs_weaker (λ x y. x.number ≢ y.number) (λ x y. number x ≢ number y) entries
-              (λ x y i k ne q. ne (same_pos x.number y.number q))
+            (pairs_weaker (λ x y. x.number ≢ y.number) (λ x y. number x ≢ number y) entries
+            (λ x y i k ne q. ne (same_pos x.number y.number q))
             (j.pairs
             (λ x i q. let y = from_front x i in apart.0 y.0 y.1 (sym y.2.number ∙ q))
             (λ x i q. let y = from_later x i in apart.1 y.0 y.1 (sym (sym y.2.number ∙ q)))
             (λ x z i k q. let y = from_front x i in let w = from_later z k in
-              apart.4 y.0 w.0 y.1 w.1 (sym y.2.number ∙ q ∙ w.2.number))
+            apart.4 y.0 w.0 y.1 w.1 (sym y.2.number ∙ q ∙ w.2.number))
             (pairs_filter_map (λ x y. x.number ≢ y.number) (λ x y. x.number ≢ y.number)
-              (front_call from at first) earlier
+            (front_call from at first) earlier
             (λ y w x z i k ne f g q.
-              ne (sym (front_cut from at first y x f).number ∙ q ∙ (front_cut from at first w z g).number)) apart.3)
+            ne (sym (front_cut from at first y x f).number ∙ q ∙ (front_cut from at first w z g).number)) apart.3)
             (pairs_pick (λ x y. x.number ≢ y.number) m.flags es
             (pairs_map (λ x y. x.number ≢ y.number) cut later
             (pairs_weaker (λ x y. x.number ≢ y.number) (λ x y. (cut x).number ≢ (cut y).number) later
@@ -315,25 +318,25 @@ suffix_valid kind calls e r first order stands kinds ret fr on v =
                     | inl k ↦ elim l.either [
                       | inl w ↦ absurd (in_time.0 y.0 k (r, ret, w))
                       | inr f ↦ j.fronts x (subst (λ (z : Call). In z front) (sym q.1)
-                        (in_filter_map_from (front_call from at first) y.0 (cut y.0) earlier k (f q.2)))
+                          (in_filter_map_from (front_call from at first) y.0 (cut y.0) earlier k (f q.2)))
                     ]
                     | inr k ↦ elim k [
                       | inl w ↦ absurd (q.0 (ap (λ (z : Call). z.number) w))
                       | inr w ↦ j.others x (m.whole x
-                        (subst (λ (z : Call). In z es) (sym q.1) (in_map_from cut y.0 later w)) so)
+                          (subst (λ (z : Call). In z es) (sym q.1) (in_map_from cut y.0 later w)) so)
                     ]
                   ]
             ]));
         in_order = all_from_pairs (λ x y. ReturnsBefore y x → ⊥) entries (j.in_time
             (λ x i l. let y = from_front x i in in_time.0 y.0 y.1 (r, ret, subst (λ n. at < n) y.2.number l))
             (λ x t i q l. let y = from_later x i in let u = y.2.returned t q in
-              in_time.1 y.0 y.1 (u.0, u.1, subst (λ n. n < from) (sym u.2) l))
+            in_time.1 y.0 y.1 (u.0, u.1, subst (λ n. n < from) (sym u.2) l))
             (λ x z i k. let y = from_front x i in let w = from_later z k in
-              in_time_cut x z y.0 w.0 y.2 w.2 (in_time.4 y.0 w.0 y.1 w.1))
+            in_time_cut x z y.0 w.0 y.2 w.2 (in_time.4 y.0 w.0 y.1 w.1))
             (pairs_filter_map (λ x y. ReturnsBefore y x → ⊥) (λ x y. ReturnsBefore y x → ⊥)
-              (front_call from at first) earlier
+            (front_call from at first) earlier
             (λ y w x z i k h f g. in_time_cut x z y w (front_cut from at first y x f)
-              (front_cut from at first w z g) h) in_time.3)
+            (front_cut from at first w z g) h) in_time.3)
             (pairs_pick (λ x y. ReturnsBefore y x → ⊥) m.flags es
             (pairs_map (λ x y. ReturnsBefore y x → ⊥) cut later
             (pairs_weaker (λ x y. ReturnsBefore y x → ⊥) (λ x y. ReturnsBefore (cut y) (cut x) → ⊥) later
@@ -348,5 +351,5 @@ pub start_valid : (kind : Kind) (calls : List Call) (from at : ℕ) (first : Opt
     → (part : List ℤ) × IsValidOrder kind (calls_from from at first calls) part
 start_valid kind calls from at first order kinds s v =
     let found = suffix_valid kind calls s.call
-      (record { at = at; reply = s.reply }) first order s.known kinds s.returned s.told s.one_key v in
+    (record { at = at; reply = s.reply }) first order s.known kinds s.returned s.told s.one_key v in
     (found.0, subst (λ (n : ℕ). IsValidOrder kind (calls_from n at first calls) found.0) s.number found.1)

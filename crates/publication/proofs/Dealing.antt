@@ -121,7 +121,7 @@ module _ {Z : Type 0} where
         long ∙ count,
         λ c d l. let g = grown.1 c d (omega arith) in let b = all.1 c d l in let e : c ≡ 0 + c = omega arith in (
           g.0 ∙ ((λ i. b.0 i ++ record { roster = id; row = e i; tries = [] } ∷ [])
-            ∙ sym (map-append (λ z. record { roster = z; row = 0 + c; tries = [] }) lists (id ∷ []))),
+              ∙ sym (map-append (λ z. record { roster = z; row = 0 + c; tries = [] }) lists (id ∷ []))),
           (let more = g.2 in let had = b.1 in omega arith),
           g.1 ∙ b.2,
         ),

@@ -25,8 +25,11 @@ module _ {S O R : Type 0} (op_in : O → AnyOp) (reply_in : R → AnyReply) (num
       → IsLegal (kind_at m.0.kinds x) l → IsAccount x (record m.0 { received = h }) l
       → d ≡ (after_meet x l (record m.0 { received = h }), m.1) → TheClient d
   met_ok x l h m d k low legal account e =
-    subst TheClient (sym e) record { agrees = agrees_seeing x l low legal account (agrees_light k.agrees);
-    free = k.free; in_hand = k.in_hand }
+      subst TheClient (sym e) record {
+        agrees = agrees_seeing x l low legal account (agrees_light k.agrees);
+        free = k.free;
+        in_hand = k.in_hand;
+      }
 
 -- what the meeting says: a and b before, a' and b' after
 pub met : (x : ℕ) (one other : Known) (d e : DeskId) (s t : List PlaceSeen) (a b a' b' : DeskView) (l : List AnyEntry)

@@ -23,9 +23,9 @@ pub either_view : (found d : ℕ) (v v' w : DeskView) → v ≡ v' → (found �
     → w ≡ (if eqb found 1 then after_end_seen d v' else after_end_unset d v')
 either_view found d v v' w same hit miss = dite (ℕ_discrete found 1)
     (λ e. hit e ∙ (ap (after_end_seen d) same
-      ∙ ap (λ (b : Bool). if b then after_end_seen d v' else after_end_unset d v') (sym (eq-eqb found 1 e))))
+    ∙ ap (λ (b : Bool). if b then after_end_seen d v' else after_end_unset d v') (sym (eq-eqb found 1 e))))
     (λ n. miss n ∙ (ap (after_end_unset d) same
-      ∙ ap (λ (b : Bool). if b then after_end_seen d v' else after_end_unset d v') (sym (ne_eqb found 1 n))))
+    ∙ ap (λ (b : Bool). if b then after_end_seen d v' else after_end_unset d v') (sym (ne_eqb found 1 n))))
 
 -- the client is the last one itself
 pub own_number : (n : ℕ) (b : Known) → n ≡ b.knows.number → HaveEnded n b → HaveEnded (n + 1) b
@@ -38,11 +38,11 @@ pub one_ended : (n : ℕ) (a b b' : Known) → b'.desk ≡ b.desk → b'.places 
 one_ended n a b b' e t f before is =
     subst (λ z. HaveEnded (n + 1) z × HasLearntEnds a z)
     (λ i. record { desk = sym e i; knows = sym f i; places = sym t i }) (
-  (λ c l other. dite (ℕ_discrete c n)
-      (λ same. subst (Contains (b.knows.retired ++ n ∷ [])) (sym same) (Contains-push b.knows.retired n))
-      (λ apart. Contains-append_left b.knows.retired (n ∷ []) c (before c (omega arith) other))),
-  ap (λ (z : Known). record z { knows = after_end_seen n z.knows }) is,
-)
+      (λ c l other. dite (ℕ_discrete c n)
+          (λ same. subst (Contains (b.knows.retired ++ n ∷ [])) (sym same) (Contains-push b.knows.retired n))
+          (λ apart. Contains-append_left b.knows.retired (n ∷ []) c (before c (omega arith) other))),
+      ap (λ (z : Known). record z { knows = after_end_seen n z.knows }) is,
+    )
 
 -- this one has not
 pub there_still : (d : DeskSeen) (n : ℕ) (a b b' : Known) → n < d.clients → n ≢ b.knows.number
@@ -59,13 +59,13 @@ there_still d n a b b' low other e before is untold = let same = ap (λ z. z.kno
 module _ {S O R : Type 0} (op_in : O → AnyOp) (reply_in : R → AnyReply) where
   -- a client that has only looked at ends
   watching : (number calls quota : ℕ) (outstanding : Bool) (j : Journal O R) (m m' : Me (Slot S O R) DeskView)
-    (retired still_there : List ℕ)
+      (retired still_there : List ℕ)
       → IsClient op_in reply_in number calls quota outstanding j m
       → m' ≡ (record m.0 { retired = retired; still_there = still_there }, m.1)
       → IsClient op_in reply_in number calls quota outstanding j m'
   watching number calls quota outstanding j m m' retired still_there k e =
       subst (IsClient op_in reply_in number calls quota outstanding j)
-        (sym e) record { agrees = agrees_light k.agrees; free = k.free; in_hand = k.in_hand }
+      (sym e) record { agrees = agrees_light k.agrees; free = k.free; in_hand = k.in_hand }
 
   pub watching_ok : (number calls quota : ℕ) (outstanding : Bool) (j : Journal O R) (found d : ℕ)
       (m m' : Me (Slot S O R) DeskView) → IsClient op_in reply_in number calls quota outstanding j m

@@ -40,11 +40,11 @@ module _ {A : Type 0} where
       × (length l + 1 ≡ length m) × ((i : ℕ) → i < length l → get_elem? l i ≡ some (P i))
   one_fewer P l m a e all = let n : length m ≡ length l + 1 = ap length e ∙ length-append l (a ∷ []) in (
     some-injective a (P (length l))
-      (sym (at_last l a (length l) refl) ∙ (ap (λ z. get_elem? z (length l)) (sym e) ∙ all (length l) (omega arith))),
+        (sym (at_last l a (length l) refl) ∙ (ap (λ z. get_elem? z (length l)) (sym e) ∙ all (length l) (omega arith))),
     sym n,
     λ i h. let b = there l i h in
-      b.1 ∙ ap some (some-injective b.0 (P i)
-      (sym (at_longer l (a ∷ []) i b.0 b.1) ∙ (ap (λ z. get_elem? z i) (sym e) ∙ all i (omega arith)))),
+        b.1 ∙ ap some (some-injective b.0 (P i)
+        (sym (at_longer l (a ∷ []) i b.0 b.1) ∙ (ap (λ z. get_elem? z i) (sym e) ∙ all i (omega arith)))),
   )
 
 module _ {S O R : Type 0} where
@@ -54,10 +54,14 @@ module _ {S O R : Type 0} where
       → get_elem? lists (length os) ≡ some k.list.roster → AreCores os lists ss → AreCores os' lists ss'
   cores_more lists os os' ss ss' o k e f n on empty list before x p at = ⊎_elim
       (λ (t : get_elem? os x ≡ some p). let b = before x p t in
-        (b.0, ap (λ z. get_elem? z x) f ∙ at_longer ss (slot.Core k ∷ []) x (slot.Core b.0) b.1, b.2, b.3, b.4))
-      (λ (t : (x ≡ length os) × (o ≡ p)).
-        (k, ap (λ z. get_elem? z x) f ∙ at_last ss (slot.Core k) x (n ∙ sym t.0), on ∙ t.1, empty,
-        ap (get_elem? lists) t.0 ∙ list))
+      (b.0, ap (λ z. get_elem? z x) f ∙ at_longer ss (slot.Core k ∷ []) x (slot.Core b.0) b.1, b.2, b.3, b.4))
+      (λ (t : (x ≡ length os) × (o ≡ p)). (
+        k,
+        ap (λ z. get_elem? z x) f ∙ at_last ss (slot.Core k) x (n ∙ sym t.0),
+        on ∙ t.1,
+        empty,
+        ap (get_elem? lists) t.0 ∙ list,
+      ))
       (at_end os o p x (ap (λ z. get_elem? z x) (sym e) ∙ at))
 
   pub cores_longer : (lists : List TableId) (os : List S) (ss ss' more : List (Slot S O R)) → ss' ≡ ss ++ more

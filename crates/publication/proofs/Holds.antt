@@ -36,12 +36,22 @@ module _ {O R : Type 0} {op_in : O → AnyOp} {reply_in : R → AnyReply} {numbe
     {j : Journal O R} {v : DeskView} where
   -- the client has seen other lists
   agrees_seen : {seen received : List (List AnyEntry)} {h : Held} {back : List PutBack} {left : List Leaving}
-    {missed retired still_there : List ℕ}
+      {missed retired still_there : List ℕ}
       {won : ℕ} {ready : Bool} → length seen ≡ 16 → ((x : ℕ) → IsLegal (kind_at v.kinds x) (get_or seen x []))
       → ((x : ℕ) → IsAccount x v (get_or seen x [])) → Agrees op_in reply_in number calls quota outstanding j v
       → Agrees op_in reply_in number calls quota outstanding j
-      (record v { seen = seen; received = received; held = h; back = back; left = left; missed = missed; won = won;
-        retired = retired; still_there = still_there; ready = ready })
+      (record v {
+        seen = seen;
+        received = received;
+        held = h;
+        back = back;
+        left = left;
+        missed = missed;
+        won = won;
+        retired = retired;
+        still_there = still_there;
+        ready = ready;
+      })
   agrees_seen wide legal accounts k = record {
     client_is = k.client_is;
     number_is = k.number_is;
@@ -65,8 +75,17 @@ module _ {O R : Type 0} {op_in : O → AnyOp} {reply_in : R → AnyReply} {numbe
       {missed retired still_there : List ℕ}
       {won : ℕ} {ready : Bool} → Agrees op_in reply_in number calls quota outstanding j v
       → Agrees op_in reply_in number calls quota outstanding j
-      (record v { received = received; held = h; back = back; left = left; missed = missed; won = won;
-        retired = retired; still_there = still_there; ready = ready })
+      (record v {
+        received = received;
+        held = h;
+        back = back;
+        left = left;
+        missed = missed;
+        won = won;
+        retired = retired;
+        still_there = still_there;
+        ready = ready;
+      })
   agrees_light k = agrees_seen k.wide k.legal k.accounts k
 
   -- the client sees the list l of x
@@ -75,7 +94,7 @@ module _ {O R : Type 0} {op_in : O → AnyOp} {reply_in : R → AnyReply} {numbe
       → Agrees op_in reply_in number calls quota outstanding j (after_meet x l v)
   agrees_seeing x l low legal account k = let wide = k.wide in
       agrees_seen (length-set v.seen x l ∙ wide)
-        (seen_all (λ y z. IsLegal (kind_at v.kinds y) z) v.seen x l (omega arith) legal (λ y _. k.legal y))
+      (seen_all (λ y z. IsLegal (kind_at v.kinds y) z) v.seen x l (omega arith) legal (λ y _. k.legal y))
       (seen_all (λ y z. IsAccount y v z) v.seen x l (omega arith) account (λ y _. k.accounts y)) k
 
 module _ {S O R : Type 0} (op_in : O → AnyOp) (reply_in : R → AnyReply) where
@@ -87,11 +106,11 @@ module _ {S O R : Type 0} (op_in : O → AnyOp) (reply_in : R → AnyReply) wher
       → (vec_capacity k'.log - vec_len k'.log) + length more ≡ vec_capacity k.log - vec_len k.log
   room_taken k k' more e same room =
       let n : vec_len k.log ≡ length (log_of op_in reply_in k) =
-        k.log.ok.0 ∙ sym (length-map k.log.items (entry_in op_in reply_in)) in
+      k.log.ok.0 ∙ sym (length-map k.log.items (entry_in op_in reply_in)) in
       let n' : vec_len k'.log ≡ length (log_of op_in reply_in k') =
-        k'.log.ok.0 ∙ sym (length-map k'.log.items (entry_in op_in reply_in)) in
+      k'.log.ok.0 ∙ sym (length-map k'.log.items (entry_in op_in reply_in)) in
       let long : length (log_of op_in reply_in k') ≡ length (log_of op_in reply_in k) + length more =
-        ap length e ∙ length-append (log_of op_in reply_in k) more in
+      ap length e ∙ length-append (log_of op_in reply_in k) more in
       let capacity = same (omega arith) in
       let within : vec_len k'.log ≤ vec_capacity k'.log = k'.log.ok.1 in
       omega arith
@@ -108,7 +127,7 @@ module _ {S O R : Type 0} (content : S → Content) (op_in : O → AnyOp) (reply
     refl,
     subst (λ z. Replays (empty kind) z (content k'.object)) (sym log)
         (replays_more (empty kind) (content k.object) (content k'.object) (log_of op_in reply_in k) r
-          (request_in op_in q) (answer_in reply_in a)
+        (request_in op_in q) (answer_in reply_in a)
         fits.1 did),
     fits.2 ∙ ap (λ (l : WalkerSeen). some l.roster) (sym same),
   )
@@ -129,7 +148,7 @@ module _ {S O R : Type 0} (content : S → Content) (op_in : O → AnyOp) (reply
 
   pub missed_ok : (i : ℕ) (m d : M) → TheClient m → d ≡ (after_miss i m.0, m.1) → TheClient d
   missed_ok i m d k e = subst TheClient
-    (sym e) record { agrees = agrees_light k.agrees; free = k.free; in_hand = k.in_hand }
+      (sym e) record { agrees = agrees_light k.agrees; free = k.free; in_hand = k.in_hand }
 
   -- the core is out of its slot: m before, a after the win, b with nothing in the slot
   pub pass_ok : (x : ℕ) (k core : Core S O R) (l : List AnyEntry) (m a b : M) → TheClient m
@@ -139,7 +158,7 @@ module _ {S O R : Type 0} (content : S → Content) (op_in : O → AnyOp) (reply
       let log : log_of op_in reply_in core ≡ l = ap (log_of op_in reply_in) same ∙ fits.0 in
       let is : b ≡ (after_win x (log_of op_in reply_in core) m.0, (x, slot.Nothing) ∷ m.1) =
       f ∙ (ap (λ z. (z.0, (x, slot.Nothing) ∷ rest z.1)) e
-        ∙ ap (λ z. (after_win x z m.0, (x, slot.Nothing) ∷ m.1)) (sym log)) in
+      ∙ ap (λ z. (after_win x z m.0, (x, slot.Nothing) ∷ m.1)) (sym log)) in
       subst (ThePass x core) (sym is) record {
         agrees = agrees_light c.agrees;
         holds = refl;
@@ -171,11 +190,11 @@ module _ {S O R : Type 0} (content : S → Content) (op_in : O → AnyOp) (reply
   pub release_ready : (x : ℕ) (core : Core S O R) (m a : M) → ThePass x core m
       → a ≡ (m.0, (x, slot.Core core) ∷ rest m.1)
       → (a.0.role ≡ role.Client) × (a.0.held ≡ held.Pass x (log_of op_in reply_in core))
-        × (a.1 ≡ (x, slot.Core core) ∷ rest m.1)
+      × (a.1 ≡ (x, slot.Core core) ∷ rest m.1)
       × Fits content op_in reply_in (kind_at a.0.kinds x) (get_elem? a.0.lists x) core (log_of op_in reply_in core)
       × IsAtRest a.0.own
   release_ready x core m a p e =
-    subst (λ (z : M). (z.0.role ≡ role.Client) × (z.0.held ≡ held.Pass x (log_of op_in reply_in core))
+      subst (λ (z : M). (z.0.role ≡ role.Client) × (z.0.held ≡ held.Pass x (log_of op_in reply_in core))
       × (z.1 ≡ (x, slot.Core core) ∷ rest m.1)
       × Fits content op_in reply_in (kind_at z.0.kinds x) (get_elem? z.0.lists x) core (log_of op_in reply_in core)
       × IsAtRest z.0.own)
@@ -185,10 +204,10 @@ module _ {S O R : Type 0} (content : S → Content) (op_in : O → AnyOp) (reply
   pub back_ready : (x : ℕ) (core : Core S O R) (r : ℕ) (p : Request O) (m b : M) → TheHand x core r p m
       → b ≡ (m.0, (16 + r, slot.Request p) ∷ rest m.1)
       → (b.0.role ≡ role.Client) × (b.0.held ≡ held.Hand x (log_of op_in reply_in core) r (request_in op_in p))
-        × (b.1 ≡ (16 + r, slot.Request p) ∷ rest m.1)
+      × (b.1 ≡ (16 + r, slot.Request p) ∷ rest m.1)
   back_ready x core r p m b h e =
       subst (λ (z : M). (z.0.role ≡ role.Client)
-        × (z.0.held ≡ held.Hand x (log_of op_in reply_in core) r (request_in op_in p))
+      × (z.0.held ≡ held.Hand x (log_of op_in reply_in core) r (request_in op_in p))
       × (z.1 ≡ (16 + r, slot.Request p) ∷ rest m.1)) (sym e) (h.agrees.client_is, h.holds, refl)
 
   -- with the answer in hand, the client may answer
@@ -197,19 +216,22 @@ module _ {S O R : Type 0} (content : S → Content) (op_in : O → AnyOp) (reply
       → log_of op_in reply_in k' ≡ log_of op_in reply_in k ++ logged r (request_in op_in q) (answer_in reply_in a)
       → Serves (content k.object) (op_in q.op) (answer_in reply_in a) (content k'.object)
       → (b.0.role ≡ role.Client) × (b.0.held ≡ held.Hand x (log_of op_in reply_in k) r (request_in op_in q))
-        × (b.1 ≡ (16 + r, slot.Answer a) ∷ rest m.1)
+      × (b.1 ≡ (16 + r, slot.Answer a) ∷ rest m.1)
       × IsLegal (kind_at b.0.kinds x) (log_of op_in reply_in k ++ logged r (request_in op_in q) (answer_in reply_in a))
   answer_ready x k k' r q a m b h e log did =
       subst (λ (z : M). (z.0.role ≡ role.Client)
-        × (z.0.held ≡ held.Hand x (log_of op_in reply_in k) r (request_in op_in q))
-        × (z.1 ≡ (16 + r, slot.Answer a) ∷ rest m.1)
+      × (z.0.held ≡ held.Hand x (log_of op_in reply_in k) r (request_in op_in q))
+      × (z.1 ≡ (16 + r, slot.Answer a) ∷ rest m.1)
       × IsLegal (kind_at z.0.kinds x)
-        (log_of op_in reply_in k ++ logged r (request_in op_in q) (answer_in reply_in a))) (sym e) (
+      (log_of op_in reply_in k ++ logged r (request_in op_in q) (answer_in reply_in a))) (sym e) (
         h.agrees.client_is,
         h.holds,
         refl,
-        (content k'.object, replays_more (empty (kind_at m.0.kinds x)) (content k.object) (content k'.object)
-          (log_of op_in reply_in k) r (request_in op_in q) (answer_in reply_in a) h.fits.1 did),
+        (
+          content k'.object,
+          replays_more (empty (kind_at m.0.kinds x)) (content k.object) (content k'.object)
+              (log_of op_in reply_in k) r (request_in op_in q) (answer_in reply_in a) h.fits.1 did,
+        ),
       )
 
   -- a pass after a miss at a row
@@ -232,7 +254,7 @@ module _ {S O R : Type 0} (content : S → Content) (op_in : O → AnyOp) (reply
       let l : List AnyEntry = log_of op_in reply_in core in
       let is : b ≡ (after_pick x l r (request_in op_in p) m.0, (16 + r, slot.Nothing) ∷ m.1) =
       f ∙ (ap (λ z. (z.0, (16 + r, slot.Nothing) ∷ rest z.1)) e
-        ∙ ap (λ z. (after_pick x l r (request_in op_in z) m.0, (16 + r, slot.Nothing) ∷ m.1)) same) in
+      ∙ ap (λ z. (after_pick x l r (request_in op_in z) m.0, (16 + r, slot.Nothing) ∷ m.1)) same) in
       subst (TheHand x core r p) (sym is) record {
         agrees = agrees_light k.agrees;
         holds = refl;
@@ -264,11 +286,13 @@ module _ {S O R : Type 0} (content : S → Content) (op_in : O → AnyOp) (reply
       → Fits content op_in reply_in (kind_at m.0.kinds x) (get_elem? m.0.lists x) k' (log_of op_in reply_in k')
       → log_of op_in reply_in k' ≡ log_of op_in reply_in k ++ logged r (request_in op_in q) (answer_in reply_in a)
       → b ≡ (m.0, (16 + r, slot.Answer a) ∷ rest m.1)
-      → d ≡ (after_answer r x (log_of op_in reply_in k ++ logged r (request_in op_in q) (answer_in reply_in a)) b.0,
-        rest m.1) → ThePass x k' d
+      → d ≡ (
+        after_answer r x (log_of op_in reply_in k ++ logged r (request_in op_in q) (answer_in reply_in a)) b.0,
+        rest m.1,
+      ) → ThePass x k' d
   answered_ok x r k k' q a m b d h fits log e f =
       let is : d ≡ (after_answer r x (log_of op_in reply_in k') m.0, rest m.1) =
-        f ∙ λ i. (after_answer r x (sym log i) (e i).0, rest m.1) in
+      f ∙ λ i. (after_answer r x (sym log i) (e i).0, rest m.1) in
       subst (ThePass x k') (sym is) record {
         agrees = agrees_light h.agrees;
         holds = refl;

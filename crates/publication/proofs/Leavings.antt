@@ -62,7 +62,7 @@ none_held (Some c) never = absurd (never c refl)
 module _ {S O R : Type 0} (content : S → Content) (op_in : O → AnyOp) (reply_in : R → AnyReply) (kinds : List Kind)
     (clients quota : ℕ) where
   leavings : (id : ℕ) (v : DeskView) (words : List ℕ) (xs : List (Slot S O R)) → v.role ≡ role.Client
-    → v.held ≡ held.Free → IsAtRest v.own
+      → v.held ≡ held.Free → IsAtRest v.own
       → ((c : ℕ) → c < clients → c ≢ v.number → Contains v.retired c)
       → Final (Seen (Kept content op_in reply_in kinds clients quota) id v) words xs
       → Leavings op_in reply_in kinds clients quota v xs
@@ -70,7 +70,7 @@ module _ {S O R : Type 0} (content : S → Content) (op_in : O → AnyOp) (reply
       let s = f.0 in let k = f.1.0 in let at = f.1.1 in let home = f.4 in let w : World = k.world in let ok =
       mine content op_in reply_in kinds clients quota s k id v cl at in let few = k.few_clients in
       let ended : (c : ℕ) → c < clients → c ≢ v.number → w.ended c ≡ true =
-        λ c l other. All-contains (λ d. w.ended d ≡ true) v.retired c ok.retired (all c l other) in
+      λ c l other. All-contains (λ d. w.ended d ≡ true) v.retired c ok.retired (all c l other) in
       let not_mine : (x : ℕ) → w.holder x ≢ Some v.number = subst (HeldOk (length kinds) w v.number) free ok.held in
       let free_all : (x : ℕ) → w.holder x ≡ None = λ x. none_held (w.holder x) (λ c e. dite (ℕ_discrete c v.number)
       (λ same. not_mine x (e ∙ ap Some same))
@@ -81,11 +81,11 @@ module _ {S O R : Type 0} (content : S → Content) (op_in : O → AnyOp) (reply
         cores = λ x l. let b = k.tied.cores x l (free_all x) in (b.0, home x (slot.Core b.0) b.1, b.2.0);
         seen = ok.seen;
         journals = λ c l other. let b = (k.tied.journals c (omega arith)).at_last (ended c l other) in
-          (b.0, home (48 + c) (slot.Journal b.0) b.1, b.2);
+            (b.0, home (48 + c) (slot.Journal b.0) b.1, b.2);
         left = λ i d l. ((k.seats id v at).left i d l).1;
         own = λ i. journal_of (ok.done i) (own_is v.own (w.stage v.number) ok.own i);
         accounts = λ x. accounts kinds quota w x v (w.log x) rest ok.done ok.own k.sound (starts_same (w.log x))
-          (all_covered kinds quota w v.number x v.done v.own ok.done ok.own k.sound);
+            (all_covered kinds quota w v.number x v.done v.own ok.done ok.own k.sound);
         come = k.come;
       }
 
@@ -108,28 +108,28 @@ module _ {S O R : Type 0} (op_in : O → AnyOp) (reply_in : R → AnyReply) (d :
     (left : Leavings op_in reply_in d.id.kinds d.clients d.id.quota last.knows xs) where
   -- the record's logs and journals are those of the world
   same_logs : AreLogs (length d.id.kinds) xs r.logs → (x : ℕ)
-    → map (entry_in op_in reply_in) (get_or r.logs x []) ≡ left.world.log x
+      → map (entry_in op_in reply_in) (get_or r.logs x []) ≡ left.world.log x
   same_logs logs x = ⊎_elim
       (λ (l : x < length d.id.kinds). let b = left.cores x l in let a = logs.1 x l in
-          let same = same_core b.0 a.0 (sym b.1 ∙ a.1) in
+      let same = same_core b.0 a.0 (sym b.1 ∙ a.1) in
       ap (map (entry_in op_in reply_in)) (sym a.2) ∙ (ap (log_of op_in reply_in) (sym same) ∙ b.2))
       (λ (far : length d.id.kinds ≤ x). let count = logs.0 in
-        ap (map (entry_in op_in reply_in)) (nothing_past r.logs x (omega arith))
+      ap (map (entry_in op_in reply_in)) (nothing_past r.logs x (omega arith))
       ∙ sym (no_log_beyond d.id.kinds d.id.quota left.world left.sound x far))
       (cases_lt x (length d.id.kinds))
 
   same_journals : length r.journals ≡ d.clients
-    → map (event_in op_in reply_in) (get_or r.journals last.knows.number []) ≡ journal last.knows
+      → map (event_in op_in reply_in) (get_or r.journals last.knows.number []) ≡ journal last.knows
       → ((c : ℕ) → c < d.clients → c ≢ last.knows.number → IsJournalOf xs c (get_or r.journals c [])) → (c : ℕ)
       → map (event_in op_in reply_in) (get_or r.journals c []) ≡ journal_in left.world c
   same_journals count own others c = dite (ℕ_discrete c last.knows.number)
       (λ same. subst (λ z. map (event_in op_in reply_in) (get_or r.journals z []) ≡ journal_in left.world z)
-        (sym same) (own ∙ left.own))
+      (sym same) (own ∙ left.own))
       (λ other. ⊎_elim
       (λ (l : c < d.clients). let b = left.journals c l other in let a = others c l other in
-          let same = same_journal b.0 a.0 (sym b.1 ∙ a.1) in
+      let same = same_journal b.0 a.0 (sym b.1 ∙ a.1) in
       ap (map (event_in op_in reply_in)) (sym a.2)
-        ∙ (ap (λ (j : Journal O R). map (event_in op_in reply_in) j.events.items) (sym same) ∙ b.2))
+      ∙ (ap (λ (j : Journal O R). map (event_in op_in reply_in) j.events.items) (sym same) ∙ b.2))
       (λ (far : d.clients ≤ c). ap (map (event_in op_in reply_in)) (nothing_past r.journals c (omega arith))
       ∙ sym (no_journal_beyond d.id.kinds d.id.quota left.world left.sound d.clients left.come c far))
       (cases_lt c d.clients))
@@ -147,7 +147,7 @@ module _ {S O R : Type 0} (op_in : O → AnyOp) (reply_in : R → AnyReply) (d :
     seen = λ x l. subst (λ z. StartsWith z (seen_of last.knows x)) (sym (same x)) (left.seen x);
     accounts = λ x. subst (IsAccount x last.knows) (sym (same x)) (left.accounts x);
     sound = subst (λ (z : (ℕ → List AnyEvent) × (ℕ → List AnyEntry)). IsSoundRecord d.id.kinds d.id.quota z.0 z.1)
-      (λ i. (λ c. sym (same_journals count own others c) i, λ x. sym (same x) i))
+        (λ i. (λ c. sym (same_journals count own others c) i, λ x. sym (same x) i))
         (sound_record d.id.kinds d.id.quota left.world left.sound);
   }
 
@@ -156,8 +156,16 @@ module _ {O R : Type 0} (op_in : O → AnyOp) (reply_in : R → AnyReply) where
   pub closed_same : (d : DeskSeen) (a b : Known) (r : Recorded O R) → HasLearntEnds a b → Closed op_in reply_in d b r
       → Closed op_in reply_in d a r
   closed_same d a b r is k = let same = subst (λ z. Closed op_in reply_in d z r) is k in
-      record { journals = same.journals; logs = same.logs; own = same.own; left = same.left; legal = same.legal;
-          seen = same.seen; accounts = same.accounts; sound = same.sound }
+      record {
+        journals = same.journals;
+        logs = same.logs;
+        own = same.own;
+        left = same.left;
+        legal = same.legal;
+        seen = same.seen;
+        accounts = same.accounts;
+        sound = same.sound;
+      }
 
 module _ {S O R : Type 0} (content : S → Content) (op_in : O → AnyOp) (reply_in : R → AnyReply) where
   -- the same of a desk and its last client, as they are seen
@@ -170,7 +178,7 @@ module _ {S O R : Type 0} (content : S → Content) (op_in : O → AnyOp) (reply
       → Leavings op_in reply_in d.id.kinds d.clients d.id.quota last.knows xs
   left_by plan d last id v words xs kinds clients quota same cl free rest all f =
       subst (λ (t : List Kind × ℕ × ℕ × DeskView). Leavings op_in reply_in t.0 t.1 t.2 t.3 xs)
-        (λ i. (kinds i, clients i, quota i, same i))
+      (λ i. (kinds i, clients i, quota i, same i))
       (leavings content op_in reply_in plan.kinds.items plan.clients plan.quota id v words xs cl free rest
       (subst (λ (t : ℕ × DeskView). (c : ℕ) → c < t.0 → c ≢ t.1.number → Contains t.1.retired c)
-        (λ i. (sym clients i, sym same i)) all) f)
+      (λ i. (sym clients i, sym same i)) all) f)

@@ -26,7 +26,7 @@ use Rattle.publication.specs.Making.{IsLaid, AreEmpty, kinds_with, HasRoom, IsSm
 
 module _ {A : Type 0} where
   holds_there : (P : A → Type 0) (l : List A) (i : ℕ) (a : A) → get_elem? l i ≡ some a
-    → ((k : ℕ) (d : A) → k < length l → P (get_or l k d)) → P a
+      → ((k : ℕ) (d : A) → k < length l → P (get_or l k d)) → P a
   holds_there P [] i a e all = absurd (some-ne-none a (sym e))
   holds_there P (x ∷ xs) zero a e all = subst P (some-injective x a e) (all 0 a (omega arith))
   holds_there P (x ∷ xs) (suc i) a e all = holds_there P xs i a e (λ k d h. all (suc k) d (omega arith))
@@ -41,17 +41,17 @@ module _ {S O R : Type 0} (content : S → Content) (op_in : O → AnyOp) (reply
       → plan.kinds.items ≡ kinds_with content objects
       → AreEmpty content objects → IsLaid objects plan.lists.items slots
       → Kept content op_in reply_in plan.kinds.items plan.clients plan.quota
-        (opening (replicate 81 0) slots (first_maker plan.kinds.items plan.lists.items))
+      (opening (replicate 81 0) slots (first_maker plan.kinds.items plan.lists.items))
   opens_on plan objects slots small are clean laid =
       let count : length plan.kinds.items ≡ length objects =
-        ap length are ∙ length-map objects (λ o. kind_with (content o)) in let few = small.0 in
+      ap length are ∙ length-map objects (λ o. kind_with (content o)) in let few = small.0 in
       opening_keeps_rule content op_in reply_in plan.kinds.items plan.clients plan.quota plan.lists.items
-        (replicate 81 0) slots small.0 small.1 small.2 refl (get_or-replicate_same 0 81) laid.long
+      (replicate 81 0) slots small.0 small.1 small.2 refl (get_or-replicate_same 0 81) laid.long
       (λ x l. let o = there objects x (omega arith) in let k = laid.cores x o.0 o.1 in
       let kind : kind_at plan.kinds.items x ≡ kind_with (content o.0) =
-        ap (λ z. kind_at z x) are ∙ kind_there (λ o. kind_with (content o)) objects x o.0 o.1 in
+      ap (λ z. kind_at z x) are ∙ kind_there (λ o. kind_with (content o)) objects x o.0 o.1 in
       let is : content o.0 ≡ empty (kind_with (content o.0)) =
-        holds_there (λ o. content o ≡ empty (kind_with (content o))) objects x o.0 o.1 clean in
+      holds_there (λ o. content o ≡ empty (kind_with (content o))) objects x o.0 o.1 clean in
       (k.0, k.1, (ap (map (entry_in op_in reply_in)) k.3, ap empty kind ∙ (sym is ∙ ap content (sym k.2)), k.4)))
       (λ i h l. laid.others i (omega arith) l)
 
@@ -63,27 +63,27 @@ module _ {S O R : Type 0} (op_in : O → AnyOp) (reply_in : R → AnyReply) wher
       → m ≡ (with_own own.Idle (new_client kinds lists number), at_hand number own.Idle)
       → IsClient op_in reply_in number 0 quota false j m
   begun_ok kinds lists number quota j m low few room is =
-    subst (IsClient op_in reply_in number 0 quota false j) (sym is) record {
-    agrees = record {
-      client_is = refl;
-      number_is = refl;
-      number_low = low;
-      at_rest = tt;
-      going = refl;
-      calls_is = refl;
-      within = omega arith;
-      few = few;
-      outstanding_is = refl;
-      journal_is = ap (map (event_in op_in reply_in)) room.0;
-      room = room.1;
-      wide = refl;
-      legal = λ x. subst (IsLegal (kind_at kinds x)) (sym (get_or-replicate_same [] 16 x))
-        (empty (kind_at kinds x), refl);
-      accounts = λ x. ([], ap (entries_of number) (get_or-replicate_same [] 16 x), refl);
-    };
-    free = refl;
-    in_hand = refl;
-  }
+      subst (IsClient op_in reply_in number 0 quota false j) (sym is) record {
+        agrees = record {
+          client_is = refl;
+          number_is = refl;
+          number_low = low;
+          at_rest = tt;
+          going = refl;
+          calls_is = refl;
+          within = omega arith;
+          few = few;
+          outstanding_is = refl;
+          journal_is = ap (map (event_in op_in reply_in)) room.0;
+          room = room.1;
+          wide = refl;
+          legal = λ x. subst (IsLegal (kind_at kinds x)) (sym (get_or-replicate_same [] 16 x))
+              (empty (kind_at kinds x), refl);
+          accounts = λ x. ([], ap (entries_of number) (get_or-replicate_same [] 16 x), refl);
+        };
+        free = refl;
+        in_hand = refl;
+      }
 
 module _ {S O R : Type 0} where
   -- its seat: the maker's, then split off, then after its first step
@@ -93,7 +93,7 @@ module _ {S O R : Type 0} where
       → m ≡ (with_own own.Idle new.0, (16 + number, slot.Nothing) ∷ (48 + number, slot.Nothing) ∷ new.1)
       → m ≡ (with_own own.Idle (new_client kinds lists number), at_hand number own.Idle)
   entered kinds lists number f new m a b e =
-    e ∙ (ap (λ (z : Me (Slot S O R) DeskView).
-    (with_own own.Idle z.0, (16 + number, slot.Nothing) ∷ (48 + number, slot.Nothing) ∷ z.1)) b
+      e ∙ (ap (λ (z : Me (Slot S O R) DeskView).
+      (with_own own.Idle z.0, (16 + number, slot.Nothing) ∷ (48 + number, slot.Nothing) ∷ z.1)) b
       ∙ ap (λ (z : Me (Slot S O R) DeskView).
-        (with_own own.Idle (new_client z.0.kinds z.0.lists z.0.made), at_hand number own.Idle)) a)
+      (with_own own.Idle (new_client z.0.kinds z.0.lists z.0.made), at_hand number own.Idle)) a)

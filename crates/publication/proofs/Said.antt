@@ -29,7 +29,7 @@ pub not_got : (p : Holding) (d : DeskId) (n : PassState) (r : ℕ) (w : DeskView
     → NotGot p r (record { desk = d; knows = w; object = v.object; log = v.log; state = n })
 not_got p d n r w v is e none_back =
     subst (λ z. NotGot z r (record { desk = d; knows = w; object = v.object; log = v.log; state = n }))
-      (sym is) record { object = refl; log = refl; knows = e; none_back = none_back }
+    (sym is) record { object = refl; log = refl; knows = e; none_back = none_back }
 
 -- b with the core in its slot, d after the step
 pub is_released : {S O R : Type 0} (p : Holding) (b d : Me (Slot S O R) DeskView) (v : Holding) (i : ℕ)
@@ -48,7 +48,7 @@ pub log_is_seen : {S O R : Type 0} (p : Holding) (b d : Me (Slot S O R) DeskView
 log_is_seen p b d v i s tl is e f low wide =
     ap (λ z. seen_of z p.object) (is_released p b d v i s tl is e f)
     ∙ get_or-set_same p.knows.seen p.object p.log []
-      (subst (λ (z : Holding). z.object < length z.knows.seen) (sym is) (subst (λ z. v.object < z) (sym wide) low))
+    (subst (λ (z : Holding). z.object < length z.knows.seen) (sym is) (subst (λ z. v.object < z) (sym wide) low))
 
 -- b with the answer in its slot, d after the step
 pub answered : {S O R : Type 0} (h : Handling) (z : DeskId) (n : PassState) (a : AnyAnswer)
@@ -60,11 +60,11 @@ pub answered : {S O R : Type 0} (h : Handling) (z : DeskId) (n : PassState) (a :
 answered h z n a b d v log i s tl is e f grown legal =
     subst (λ u. Answered u a (record { desk = z; knows = d.0; object = v.object; log = log; state = n }))
     (sym is) record {
-  object = refl;
-  log = grown;
-  legal = legal;
-  knows = ap (λ z. z.0) f ∙ λ j. after_answer v.row v.object (sym grown j) (e j).0;
-}
+      object = refl;
+      log = grown;
+      legal = legal;
+      knows = ap (λ z. z.0) f ∙ λ j. after_answer v.row v.object (sym grown j) (e j).0;
+    }
 
 -- what the object can do by its log is what it can do
 can_do : (kind : Kind) (log : List AnyEntry) (op : AnyOp) (content : Content) → Replays (empty kind) log content
@@ -79,9 +79,10 @@ does kind log op content h can =
 -- the same of a hand whose object contains this
 pub can_says : (h v : Handling) (content : Content) (b : Bool) → h ≡ v → Replays (empty (kind_held v)) v.log content
     → (IsTrue b ↔ IsSome (next content v.request.op)) → IsTrue b ↔ CanDo (kind_held h) h.log h.request.op
-can_says h v content b is replays can = subst (λ u. IsTrue b ↔ CanDo (kind_held u) u.log u.request.op) (sym is)
-    ((λ t. can_do (kind_held v) v.log v.request.op content replays (can.0 t)),
-      λ t. can.1 (does (kind_held v) v.log v.request.op content replays t))
+can_says h v content b is replays can = subst (λ u. IsTrue b ↔ CanDo (kind_held u) u.log u.request.op) (sym is) (
+  (λ t. can_do (kind_held v) v.log v.request.op content replays (can.0 t)),
+  λ t. can.1 (does (kind_held v) v.log v.request.op content replays t),
+)
 
 pub may_serve : (h v : Handling) (content : Content) → h ≡ v → Replays (empty (kind_held v)) v.log content
     → CanDo (kind_held h) h.log h.request.op → IsSome (next content v.request.op)
@@ -97,10 +98,10 @@ pub is_put_back : {S O R : Type 0} (h : Handling) (z : DeskId) (n : PassState) (
 is_put_back h z n b d v i s tl is e f =
     subst (λ u. IsPutBack u (record { desk = z; knows = d.0; object = v.object; log = v.log; state = n }))
     (sym is) record {
-  object = refl;
-  log = refl;
-  knows = ap (λ z. z.0) f ∙ ap (λ z. after_put_back v.object v.log v.row v.request z.0) e;
-}
+      object = refl;
+      log = refl;
+      knows = ap (λ z. z.0) f ∙ ap (λ z. after_put_back v.object v.log v.row v.request z.0) e;
+    }
 
 module _ {S O R : Type 0} (content : S → Content) (op_in : O → AnyOp) (reply_in : R → AnyReply) where
   -- m before, a after the win, b with nothing in the slot
@@ -116,9 +117,9 @@ module _ {S O R : Type 0} (content : S → Content) (op_in : O → AnyOp) (reply
         object = refl;
         knows = ap (λ z. z.0) f ∙ (ap (λ z. z.0) e ∙ λ i. after_win x (sym log i) (sym is i));
         legal = subst (λ z. IsLegal (kind_at z x) (log_of op_in reply_in core)) (sym kinds)
-          (subst (IsLegal (kind_at m.0.kinds x)) (sym log) (content k.object, fits.1));
+            (subst (IsLegal (kind_at m.0.kinds x)) (sym log) (content k.object, fits.1));
         begins = subst (λ z. StartsWith (log_of op_in reply_in core) (seen_of z x)) (sym is)
-          (subst (λ z. StartsWith z (seen_of m.0 x)) (sym log) begins);
+            (subst (λ z. StartsWith z (seen_of m.0 x)) (sym log) begins);
       }
 
 module _ {S O R : Type 0} (op_in : O → AnyOp) where
@@ -126,21 +127,35 @@ module _ {S O R : Type 0} (op_in : O → AnyOp) where
   pub got : (p : Holding) (d : DeskId) (n : PassState) (r : ℕ) (q q' : Request O) (tl : List (ℕ × Slot S O R))
       (a b : Me (Slot S O R) DeskView)
       (v : Holding) → p ≡ v → a
-        ≡ (after_pick v.object v.log r (request_in op_in q) v.knows, (16 + r, slot.Request q) ∷ tl)
+      ≡ (after_pick v.object v.log r (request_in op_in q) v.knows, (16 + r, slot.Request q) ∷ tl)
       → b ≡ (a.0, (16 + r, slot.Nothing) ∷ rest a.1) → q ≡ q' → q.object ≡ v.object
       → kind_of (op_in q.op) ≡ kind_at v.knows.kinds v.object
       → All (λ b. b.row ≡ r → b.request ≡ request_in op_in q) v.knows.back
       → ((p : AnyRequest) → r ≡ v.knows.number → v.knows.own ≡ own.Waiting p → request_in op_in q ≡ p)
-      → Got p r (record { desk = d; knows = b.0; object = v.object; log = v.log; state = n; row = r;
-        request = request_in op_in q' })
+      → Got p r (record {
+        desk = d;
+        knows = b.0;
+        object = v.object;
+        log = v.log;
+        state = n;
+        row = r;
+        request = request_in op_in q';
+      })
   got p d n r q q' tl a b v is e f same on of_kind again is_own =
-      subst (λ z. Got z r (record { desk = d; knows = b.0; object = v.object; log = v.log; state = n; row = r;
-        request = request_in op_in q' })) (sym is) record {
+      subst (λ z. Got z r (record {
+        desk = d;
+        knows = b.0;
+        object = v.object;
+        log = v.log;
+        state = n;
+        row = r;
+        request = request_in op_in q';
+      })) (sym is) record {
         object = refl;
         log = refl;
         row = refl;
         knows = ap (λ z. z.0) f
-          ∙ (ap (λ z. z.0) e ∙ ap (λ z. after_pick v.object v.log r (request_in op_in z) v.knows) same);
+            ∙ (ap (λ z. z.0) e ∙ ap (λ z. after_pick v.object v.log r (request_in op_in z) v.knows) same);
         on = ap (λ z. z.object) (sym same) ∙ on;
         of_kind = ap (λ z. kind_of (op_in z.op)) (sym same) ∙ of_kind;
         again = subst (λ z. All (λ b. b.row ≡ r → b.request ≡ request_in op_in z) v.knows.back) same again;

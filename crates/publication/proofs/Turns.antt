@@ -49,7 +49,7 @@ own_waiting (own.Taken q b) a e = absurd a
 pub outstanding_is : {S O R : Type 0} {op_in : O → AnyOp} {reply_in : R → AnyReply} {number calls quota : ℕ}
     {a b : Bool} {j : Journal O R}
     {m : Me (Slot S O R) DeskView} → a ≡ b → IsClient op_in reply_in number calls quota a j m
-      → IsClient op_in reply_in number calls quota b j m
+    → IsClient op_in reply_in number calls quota b j m
 outstanding_is {op_in = op_in} {reply_in = reply_in} {number = number} {calls = calls} {quota = quota} {j = j}
     {m = m} e k = subst (λ z. IsClient op_in reply_in number calls quota z j m) e k
 
@@ -64,8 +64,8 @@ module _ {O R : Type 0} (op_in : O → AnyOp) (reply_in : R → AnyReply) where
       → Agrees op_in reply_in number calls quota outstanding j v
       → vec_len j.events ≡ tickets_drawn v.done (own_request v.own)
   events_long number calls quota outstanding j v k =
-    j.events.ok.0 ∙ (sym (length-map j.events.items (event_in op_in reply_in))
-    ∙ (ap length k.journal_is ∙ journal_long v.done (own_request v.own)))
+      j.events.ok.0 ∙ (sym (length-map j.events.items (event_in op_in reply_in))
+      ∙ (ap length k.journal_is ∙ journal_long v.done (own_request v.own)))
 
   -- there is room for the return of the outstanding call
   pub room_to_return : (number calls quota : ℕ) (j : Journal O R) (v : DeskView) (q : AnyRequest)
@@ -75,9 +75,9 @@ module _ {O R : Type 0} (op_in : O → AnyOp) (reply_in : R → AnyReply) where
       let n = events_long number calls quota true j v k in let room = k.room in let within = k.within in
       let count = k.calls_is in
       let tickets : tickets_drawn v.done (own_request v.own) ≡ tickets_drawn v.done (Some q) =
-        ap (λ o. tickets_drawn v.done (own_request o)) is in
+      ap (λ o. tickets_drawn v.done (own_request o)) is in
       let calls' : calls_made v.done (own_request v.own) ≡ calls_made v.done (Some q) =
-        ap (λ o. calls_made v.done (own_request o)) is in omega arith
+      ap (λ o. calls_made v.done (own_request o)) is in omega arith
 
   -- there is room for one call more
   pub room_to_call : (number calls quota : ℕ) (j : Journal O R) (v : DeskView)
@@ -86,18 +86,19 @@ module _ {O R : Type 0} (op_in : O → AnyOp) (reply_in : R → AnyReply) where
       let n = events_long number calls quota false j v k in let room = k.room in let is =
       own_idle v.own k.at_rest (sym k.outstanding_is) in let count = k.calls_is in
       let tickets : tickets_drawn v.done (own_request v.own) ≡ tickets_drawn v.done None =
-        ap (λ o. tickets_drawn v.done (own_request o)) is in
+      ap (λ o. tickets_drawn v.done (own_request o)) is in
       let calls' : calls_made v.done (own_request v.own) ≡ calls_made v.done None =
-        ap (λ o. calls_made v.done (own_request o)) is in omega arith
+      ap (λ o. calls_made v.done (own_request o)) is in omega arith
 
   -- a journal after one event more
   journal_grows : (j j' : Journal O R) (e : JournalEvent O R) (l : List AnyEvent)
-    → map (event_in op_in reply_in) j.events.items ≡ l
+      → map (event_in op_in reply_in) j.events.items ≡ l
       → j'.events.items ≡ j.events.items ++ e ∷ []
       → map (event_in op_in reply_in) j'.events.items ≡ l ++ event_in op_in reply_in e ∷ []
   journal_grows j j' e l is more =
-    ap (map (event_in op_in reply_in)) more
-    ∙ (map-append (event_in op_in reply_in) j.events.items (e ∷ []) ∙ ap (λ z. z ++ event_in op_in reply_in e ∷ []) is)
+      ap (map (event_in op_in reply_in)) more
+      ∙ (map-append (event_in op_in reply_in) j.events.items (e ∷ [])
+      ∙ ap (λ z. z ++ event_in op_in reply_in e ∷ []) is)
 
 module _ {S O R : Type 0} (op_in : O → AnyOp) (reply_in : R → AnyReply) where
   -- a after the request is in the slot, b after the draw, c after the request has its ticket, d after the post
@@ -110,8 +111,8 @@ module _ {S O R : Type 0} (op_in : O → AnyOp) (reply_in : R → AnyReply) wher
       let is = own_idle m.0.own k.agrees.at_rest (sym k.agrees.outstanding_is) in
       let w : AnyRequest = request_in op_in q in
       ed ∙ (ap (λ z. (with_own (own.Waiting w) z.0, rest z.1)) ec
-        ∙ (ap (λ z. (with_own (own.Waiting w) z.0, rest z.1)) eb
-          ∙ (ap (λ z. (with_own (own.Waiting w) z.0, rest z.1)) ea
+      ∙ (ap (λ z. (with_own (own.Waiting w) z.0, rest z.1)) eb
+      ∙ (ap (λ z. (with_own (own.Waiting w) z.0, rest z.1)) ea
       ∙ ap (λ z. (with_own (own.Waiting w) m.0, rest z)) (k.in_hand ∙ ap (at_hand number) is))))
 
   -- the client after a post
@@ -125,7 +126,7 @@ module _ {S O R : Type 0} (op_in : O → AnyOp) (reply_in : R → AnyReply) wher
       let h = k.agrees in let w : AnyRequest = request_in op_in q in let is =
       own_idle m.0.own h.at_rest (sym h.outstanding_is) in let n = h.calls_is in
       let count : calls_made m.0.done (own_request m.0.own) ≡ length m.0.done + 0 =
-        ap (λ z. calls_made m.0.done (own_request z)) is in let room = h.room in
+      ap (λ z. calls_made m.0.done (own_request z)) is in let room = h.room in
       subst (IsClient op_in reply_in number (calls + 1) quota true j') (sym e) record {
         agrees = record {
           client_is = h.client_is;
@@ -143,7 +144,7 @@ module _ {S O R : Type 0} (op_in : O → AnyOp) (reply_in : R → AnyReply) wher
           wide = h.wide;
           legal = h.legal;
           accounts = λ x. let a = h.accounts x in let f : a.0 ≡ [] = subst (λ o. MayHold x m.0.number o a.0) is a.2 in
-            (a.0, a.1, inl f);
+              (a.0, a.1, inl f);
         };
         free = k.free;
         in_hand = refl;
@@ -152,13 +153,15 @@ module _ {S O R : Type 0} (op_in : O → AnyOp) (reply_in : R → AnyReply) wher
   -- what a post says
   pub posted : (number calls quota x t : ℕ) (j : Journal O R) (op : O) (v : DeskView) (m d : Me (Slot S O R) DeskView)
       → IsClient op_in reply_in number calls quota false j m → v ≡ m.0
-      → d ≡ (with_own (own.Waiting record { object = x; ticket = t; op = op_in op }) m.0,
-        (48 + number, slot.Nothing) ∷ []) → Posted v x (op_in op) d.0
+      → d ≡ (
+        with_own (own.Waiting record { object = x; ticket = t; op = op_in op }) m.0,
+        (48 + number, slot.Nothing) ∷ [],
+      ) → Posted v x (op_in op) d.0
   posted number calls quota x t j op v m d k is e =
       let same = own_idle m.0.own k.agrees.at_rest (sym k.agrees.outstanding_is) in let q : AnyRequest =
       record { object = x; ticket = t; op = op_in op } in
       subst (λ z. Posted z x (op_in op) d.0) (sym is)
-        (subst (λ z. Posted m.0 x (op_in op) z) (sym (ap (λ z. z.0) e)) record {
+      (subst (λ z. Posted m.0 x (op_in op) z) (sym (ap (λ z. z.0) e)) record {
         ticket = t;
         was_idle = same;
         knows = refl;
@@ -168,16 +171,18 @@ module _ {S O R : Type 0} (op_in : O → AnyOp) (reply_in : R → AnyReply) wher
   -- a after the take, b with nothing in the slot, d after the draw of the return
   pub poll_turn : (number calls quota t : ℕ) (j : Journal O R) (q : AnyRequest) (e : Answer R) (l : List AnyEntry)
       (m a b d : Me (Slot S O R) DeskView) → IsClient op_in reply_in number calls quota true j m
-        → m.0.own ≡ own.Waiting q
+      → m.0.own ≡ own.Waiting q
       → a ≡ (after_take q (answer_in reply_in e) l m.0, (16 + number, slot.Answer e) ∷ m.1)
       → b ≡ (a.0, (16 + number, slot.Nothing) ∷ rest a.1) → d ≡ (after_return q (answer_in reply_in e) t b.0, b.1)
-      → d ≡ (after_return q (answer_in reply_in e) t (after_take q (answer_in reply_in e) l m.0),
-        (16 + number, slot.Nothing) ∷ (48 + number, slot.Nothing) ∷ [])
+      → d ≡ (
+        after_return q (answer_in reply_in e) t (after_take q (answer_in reply_in e) l m.0),
+        (16 + number, slot.Nothing) ∷ (48 + number, slot.Nothing) ∷ [],
+      )
   poll_turn number calls quota t j q e l m a b d k is ea eb ed = let w : AnyAnswer = answer_in reply_in e in
       ed ∙ (ap (λ z. (after_return q w t z.0, z.1)) eb
-        ∙ (ap (λ z. (after_return q w t z.0, (16 + number, slot.Nothing) ∷ rest z.1)) ea
+      ∙ (ap (λ z. (after_return q w t z.0, (16 + number, slot.Nothing) ∷ rest z.1)) ea
       ∙ ap (λ z. (after_return q w t (after_take q w l m.0), (16 + number, slot.Nothing) ∷ z))
-        (k.in_hand ∙ ap (at_hand number) is)))
+      (k.in_hand ∙ ap (at_hand number) is)))
 
   -- the client after a poll that took the answer
   pub poll_ok : (number calls quota t : ℕ) (j j' : Journal O R) (q : AnyRequest) (e : Answer R) (l : List AnyEntry)
@@ -185,8 +190,10 @@ module _ {S O R : Type 0} (op_in : O → AnyOp) (reply_in : R → AnyReply) wher
       → IsClient op_in reply_in number calls quota true j m → m.0.own ≡ own.Waiting q → q.object < 16
       → IsLegal (kind_at m.0.kinds q.object) l
       → entries_of m.0.number l ≡ served q.object m.0.number m.0.done ++ logged m.0.number q (answer_in reply_in e)
-      → d ≡ (after_return q (answer_in reply_in e) t (after_take q (answer_in reply_in e) l m.0),
-        (16 + number, slot.Nothing) ∷ (48 + number, slot.Nothing) ∷ [])
+      → d ≡ (
+        after_return q (answer_in reply_in e) t (after_take q (answer_in reply_in e) l m.0),
+        (16 + number, slot.Nothing) ∷ (48 + number, slot.Nothing) ∷ [],
+      )
       → j'.events.items ≡ j.events.items ++ Returned t e ∷ [] → vec_capacity j'.events ≡ vec_capacity j.events
       → IsClient op_in reply_in number calls quota false j' d
   poll_ok number calls quota t j j' q e l m d k is low legal counted f more same =
@@ -196,7 +203,7 @@ module _ {S O R : Type 0} (op_in : O → AnyOp) (reply_in : R → AnyReply) wher
       let long : length ds ≡ length m.0.done + 1 =
       length-append m.0.done (record { request = q; answer = w; returned = t } ∷ []) in
       let count : calls_made m.0.done (own_request m.0.own) ≡ length m.0.done + 1 =
-        ap (λ z. calls_made m.0.done (own_request z)) is in
+      ap (λ z. calls_made m.0.done (own_request z)) is in
       subst (IsClient op_in reply_in number calls quota false j') (sym f) record {
         agrees = record {
           client_is = h.client_is;
@@ -210,27 +217,31 @@ module _ {S O R : Type 0} (op_in : O → AnyOp) (reply_in : R → AnyReply) wher
           outstanding_is = refl;
           journal_is = journal_grows op_in reply_in j j' (Returned t e) (journal_of m.0.done (Some q))
               (h.journal_is ∙ ap (λ z. journal_of m.0.done (own_request z)) is) more
-                ∙ sym (journal_over m.0.done q w t);
+              ∙ sym (journal_over m.0.done q w t);
           room = omega arith;
           wide = length-set m.0.seen q.object l ∙ wide;
           legal = seen_all (λ x z. IsLegal (kind_at m.0.kinds x) z) m.0.seen q.object l (omega arith) legal
-            (λ x _. h.legal x);
+              (λ x _. h.legal x);
           accounts = seen_all (λ x z. IsAccount x (after_return q w t (after_take q w l m.0)) z) m.0.seen q.object l
-            (omega arith) (
-            [],
-            counted ∙ (ap (λ z. served q.object m.0.number m.0.done ++ z)
-              (sym (logged_here q.object m.0.number q w refl))
-                ∙ (sym (served_more q.object m.0.number t m.0.done q w)
-                  ∙ sym (append-nil (served q.object m.0.number ds)))),
-            refl,
-          )
+              (omega arith) (
+                [],
+                counted ∙ (ap (λ z. served q.object m.0.number m.0.done ++ z)
+                    (sym (logged_here q.object m.0.number q w refl))
+                    ∙ (sym (served_more q.object m.0.number t m.0.done q w)
+                    ∙ sym (append-nil (served q.object m.0.number ds)))),
+                refl,
+              )
               (λ x other. let a = h.accounts x in
-                  let nothing : logged_on x m.0.number q w ≡ [] = logged_else x m.0.number q w (λ g. other (sym g)) in
+              let nothing : logged_on x m.0.number q w ≡ [] = logged_else x m.0.number q w (λ g. other (sym g)) in
               let none_now : a.0 ≡ [] =
-                ⊎_elim (λ g. g) (λ (g : (b : AnyAnswer) × (a.0 ≡ logged_on x m.0.number q b)). g.1
-              ∙ logged_else x m.0.number q g.0 (λ z. other (sym z))) (subst (λ o. MayHold x m.0.number o a.0) is a.2) in
-              ([], a.1 ∙ (ap (λ z. served x m.0.number m.0.done ++ z) (none_now ∙ sym nothing)
-                ∙ (sym (served_more x m.0.number t m.0.done q w) ∙ sym (append-nil (served x m.0.number ds)))), refl));
+              ⊎_elim (λ g. g) (λ (g : (b : AnyAnswer) × (a.0 ≡ logged_on x m.0.number q b)). g.1
+              ∙ logged_else x m.0.number q g.0 (λ z. other (sym z)))
+              (subst (λ o. MayHold x m.0.number o a.0) is a.2) in (
+                [],
+                a.1 ∙ (ap (λ z. served x m.0.number m.0.done ++ z) (none_now ∙ sym nothing)
+                    ∙ (sym (served_more x m.0.number t m.0.done q w) ∙ sym (append-nil (served x m.0.number ds)))),
+                refl,
+              ));
         };
         free = k.free;
         in_hand = refl;
@@ -240,16 +251,18 @@ module _ {S O R : Type 0} (op_in : O → AnyOp) (reply_in : R → AnyReply) wher
   pub polled : (number calls quota t : ℕ) (j : Journal O R) (q : AnyRequest) (e : Answer R) (l : List AnyEntry)
       (v u : DeskView)
       (m d : Me (Slot S O R) DeskView) → IsClient op_in reply_in number calls quota true j m → v ≡ m.0
-        → m.0.own ≡ own.Waiting q → q.object < 16
+      → m.0.own ≡ own.Waiting q → q.object < 16
       → IsLegal (kind_at m.0.kinds q.object) l → StartsWith l (seen_of m.0 q.object)
       → entries_of m.0.number l ≡ served q.object m.0.number m.0.done ++ logged m.0.number q (answer_in reply_in e)
       → u ≡ after_take q (answer_in reply_in e) l m.0 → All (λ y. y.ticket < t) (seen_of u q.object)
-      → d ≡ (after_return q (answer_in reply_in e) t (after_take q (answer_in reply_in e) l m.0),
-        (16 + number, slot.Nothing) ∷ (48 + number, slot.Nothing) ∷ []) → Polled v (answer_in reply_in e) d.0
+      → d ≡ (
+        after_return q (answer_in reply_in e) t (after_take q (answer_in reply_in e) l m.0),
+        (16 + number, slot.Nothing) ∷ (48 + number, slot.Nothing) ∷ [],
+      ) → Polled v (answer_in reply_in e) d.0
   polled number calls quota t j q e l v u m d k is waits low legal begins counted took later f =
       let w : AnyAnswer = answer_in reply_in e in let wide = k.agrees.wide in
       let now : seen_of u q.object ≡ l =
-        ap (λ z. seen_of z q.object) took ∙ get_or-set_same m.0.seen q.object l [] (omega arith) in
+      ap (λ z. seen_of z q.object) took ∙ get_or-set_same m.0.seen q.object l [] (omega arith) in
       subst (λ z. Polled z w d.0) (sym is) (subst (Polled m.0 w) (sym (ap (λ z. z.0) f)) record {
         request = q;
         log = l;
@@ -262,5 +275,5 @@ module _ {S O R : Type 0} (op_in : O → AnyOp) (reply_in : R → AnyReply) wher
         counted = counted;
         later = subst (All (λ (y : AnyEntry). y.ticket < t)) now later;
         journal = journal_over m.0.done q w t
-          ∙ ap (λ z. journal_of m.0.done (own_request z) ++ Returned t w ∷ []) (sym waits);
+            ∙ ap (λ z. journal_of m.0.done (own_request z) ++ Returned t w ∷ []) (sym waits);
       })

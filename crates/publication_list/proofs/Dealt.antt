@@ -33,11 +33,14 @@ popped id n old new p k more =
     let long : length old ≡ length (new ++ p ∷ []) = ap length more in let both = length-append new (p ∷ []) in
     let count =
     k.0 in let n_is : n ≡ length new + 1 = omega arith in (
-      (refl, λ j h. at_first new p (record { roster = id; row = j; tries = [] }) j h
-        (ap (λ z. get_elem? z j) (sym more) ∙ k.1 j (omega arith))),
+      (
+        refl,
+        λ j h. at_first new p (record { roster = id; row = j; tries = [] }) j h
+            (ap (λ z. get_elem? z j) (sym more) ∙ k.1 j (omega arith)),
+      ),
       some-injective p (record { roster = id; row = length new; tries = [] })
-        (sym (at_last new p (length new) refl)
-        ∙ (ap (λ z. get_elem? z (length new)) (sym more) ∙ k.1 (length new) (omega arith))),
+          (sym (at_last new p (length new) refl)
+          ∙ (ap (λ z. get_elem? z (length new)) (sym more) ∙ k.1 (length new) (omega arith))),
       n_is,
     )
 
@@ -54,7 +57,7 @@ module _ {Z : Type 0} where
       → AreGrownFrom n id old ms → k < n
       → k < length old → m ≡ get_or ms k m → vec_len m < vec_capacity m
   still_room id k n old ms m room g low inside is =
-    subst (λ z. vec_len z < vec_capacity z) (sym (is ∙ g.1 k m low)) (room k m inside)
+      subst (λ z. vec_len z < vec_capacity z) (sym (is ∙ g.1 k m low)) (room k m inside)
 
   pub one_grown : (id : TableId) (k n : ℕ) (old ms ms' : List (Vec PlaceSeen Z)) (m m' : Vec PlaceSeen Z)
       (p : PlaceSeen) → AreGrownFrom n id old ms
@@ -69,22 +72,22 @@ module _ {Z : Type 0} where
         (λ c d h. get_or-set_other ms k c m' d (λ e. omega arith) ∙ g.1 c d (omega arith)),
         λ c d h l. dite (ℕ_discrete c k)
             (λ (e : c ≡ k). subst (λ z.
-              ((get_or (set ms k m') z d).items ≡ (get_or old z d).items ++ record { roster = id; row = z; tries = [] }
+            ((get_or (set ms k m') z d).items ≡ (get_or old z d).items ++ record { roster = id; row = z; tries = [] }
             ∷ []) × (vec_capacity (get_or (set ms k m') z d) ≡ vec_capacity (get_or old z d))
-              × (vec_len (get_or (set ms k m') z d) ≡ vec_len (get_or old z d) + 1)) (sym e)
+            × (vec_len (get_or (set ms k m') z d) ≡ vec_len (get_or old z d) + 1)) (sym e)
             (let here : get_or (set ms k m') k d ≡ m' = get_or-set_same ms k m' d (omega arith) in
-                let there : get_or old k d ≡ m = any_default old k d m inside ∙ sym was in (
+            let there : get_or old k d ≡ m = any_default old k d m inside ∙ sym was in (
               ap (λ (z : Vec PlaceSeen Z). z.items) here
                   ∙ (items ∙ ((λ i. m.items ++ place i ∷ [])
-                    ∙ ap (λ (z : Vec PlaceSeen Z). z.items ++ record { roster = id; row = k; tries = [] } ∷ [])
-                    (sym there))),
+                  ∙ ap (λ (z : Vec PlaceSeen Z). z.items ++ record { roster = id; row = k; tries = [] } ∷ [])
+                  (sym there))),
               ap (λ (z : Vec PlaceSeen Z). vec_capacity z) here
-                ∙ (capacity ∙ ap (λ (z : Vec PlaceSeen Z). vec_capacity z) (sym there)),
+                  ∙ (capacity ∙ ap (λ (z : Vec PlaceSeen Z). vec_capacity z) (sym there)),
               ap (λ (z : Vec PlaceSeen Z). vec_len z) here
-                ∙ (len ∙ ap (λ (z : Vec PlaceSeen Z). vec_len z + 1) (sym there)),
+                  ∙ (len ∙ ap (λ (z : Vec PlaceSeen Z). vec_len z + 1) (sym there)),
             )))
             (λ ne. let same : get_or (set ms k m') c d ≡ get_or ms c d = get_or-set_other ms k c m' d ne in
-                let a = g.2 c d (omega arith) l in (
+            let a = g.2 c d (omega arith) l in (
               ap (λ (z : Vec PlaceSeen Z). z.items) same ∙ a.0,
               ap (λ (z : Vec PlaceSeen Z). vec_capacity z) same ∙ a.1,
               ap (λ (z : Vec PlaceSeen Z). vec_len z) same ∙ a.2,

@@ -51,14 +51,18 @@ unmarked o t is ok e = ⊎_elim (λ a. a)
 
 pub see_keeps_rule : (slots id i c : ℕ) (o : RowKnowledge) (t : List Enlist) (cs : List (ℕ × ℕ))
     → Allows Holds slots id (view.Place c o t, cs) i (λ f. f)
-      (play.sees (step slots i 0 0 maybe.none) (view.Place c o t, cs))
-see_keeps_rule slots id i c o t cs s k deep at small =
-    (view.Place c o t, keeps, tt,
-    same_words_keep_rule s k i id (view.Place c o t) cs (k.seats id (view.Place c o t) at), refl)
+    (play.sees (step slots i 0 0 maybe.none) (view.Place c o t, cs))
+see_keeps_rule slots id i c o t cs s k deep at small = (
+  view.Place c o t,
+  keeps,
+  tt,
+  same_words_keep_rule s k i id (view.Place c o t) cs (k.seats id (view.Place c o t) at),
+  refl,
+)
 
 pub look_keeps_rule : (slots id c : ℕ) (t : List Enlist) (cs : List (ℕ × ℕ))
     → Allows Holds slots id (view.Place c own.Unknown t, cs) (33 + c) (λ f. f)
-      (play.looks (step slots (33 + c) 0 0 maybe.none) (view.Place c own.Unknown t, cs))
+    (play.looks (step slots (33 + c) 0 0 maybe.none) (view.Place c own.Unknown t, cs))
 look_keeps_rule slots id c t cs s k deep at small =
     let w : PublicationList = k.list in
     let me : ListView = view.Place c own.Unknown t in
@@ -72,15 +76,22 @@ look_keeps_rule slots id c t cs s k deep at small =
       keeps,
       tt,
       same_words_keep_rule s k (33 + c) id (view.Place c own.Asleep t) cs (ok.0, ok.1, asleep'),
-      λ d p ts is _. ((λ _. ap (λ (z : ListView). (view.Place (number_of z) own.Asleep (tries_of z), cs)) is),
-        λ ne. absurd (ne zero)),
+      λ d p ts is _. (
+        (λ _. ap (λ (z : ListView). (view.Place (number_of z) own.Asleep (tries_of z), cs)) is),
+        λ ne. absurd (ne zero),
+      ),
     ))
-    (λ ne. (over Already me, keeps, tt, same_words_keep_rule s k (33 + c) id (over Already me) cs ok,
-      λ d p ts is _. ((λ e. absurd (ne e)), λ _. ap (λ (z : ListView). (over Already z, cs)) is)))
+    (λ ne. (
+      over Already me,
+      keeps,
+      tt,
+      same_words_keep_rule s k (33 + c) id (over Already me) cs ok,
+      λ d p ts is _. ((λ e. absurd (ne e)), λ _. ap (λ (z : ListView). (over Already z, cs)) is),
+    ))
 
 pub wake_keeps_rule : (slots id c : ℕ) (t : List Enlist) (cs : List (ℕ × ℕ))
     → Allows Holds slots id (view.Place c own.Asleep t, cs) (33 + c) (λ _. 1)
-      (λ _. play.wakes (step slots (33 + c) 1 0 maybe.none) (view.Place c own.Asleep t, cs) 1)
+    (λ _. play.wakes (step slots (33 + c) 1 0 maybe.none) (view.Place c own.Asleep t, cs) 1)
 wake_keeps_rule slots id c t cs s k deep at small =
     let w : PublicationList = k.list in
     let ok = known s k id c own.Asleep t at in
@@ -100,7 +111,7 @@ wake_keeps_rule slots id c t cs s k deep at small =
         tied = mark_keeps_tied w c 1 (awake n) s.words (omega arith) refl (λ m e. cc) k.sound k.tied;
         unmade = unmade_stay_asleep w c (awake n) low k.unmade;
         others = λ j u other. place_step_keeps_others w c (awake n) w.rows [] not_unlinked (λ e. absurd (cc)) refl j u
-          (λ e. other (e ∙ sym ok.0));
+            (λ e. other (e ∙ sym ok.0));
         own = (ok.0, ok.1, update_self ℕ_discrete c (awake n) w.stage);
       },
       λ d p ts is _. (n, ap (λ (z : ListView). (view.Place (number_of z) (own.Awake n) (tries_of z), cs)) is),
@@ -108,7 +119,7 @@ wake_keeps_rule slots id c t cs s k deep at small =
 
 pub link_keeps_rule : (slots id c m n : ℕ) (t : List Enlist) (cs : List (ℕ × ℕ))
     → Allows Holds slots id (view.Place c (own.Awake m) t, cs) (1 + c) (λ _. n)
-      (λ _. play.links (step slots (1 + c) n 0 maybe.none) (view.Place c (own.Awake m) t, cs) n)
+    (λ _. play.links (step slots (1 + c) n 0 maybe.none) (view.Place c (own.Awake m) t, cs) n)
 link_keeps_rule slots id c m n t cs s k deep at small =
     let w : PublicationList = k.list in
     let ok = known s k id c (own.Awake m) t at in
@@ -127,7 +138,7 @@ link_keeps_rule slots id c m n t cs s k deep at small =
         tied = link_keeps_tied w c n m s.words (omega arith) was k.sound k.tied;
         unmade = unmade_stay_asleep w c (awake n) low k.unmade;
         others = λ j u other. place_step_keeps_others w c (awake n) w.rows [] not_unlinked (λ e. absurd (cc)) refl j u
-          (λ e. other (e ∙ sym ok.0));
+            (λ e. other (e ∙ sym ok.0));
         own = (ok.0, ok.1, update_self ℕ_discrete c (awake n) w.stage);
       },
       λ d p ts is _. ap (λ (z : ListView). (view.Place (number_of z) (own.Awake n) (tries_of z), cs)) is,
@@ -135,7 +146,7 @@ link_keeps_rule slots id c m n t cs s k deep at small =
 
 pub enlist_keeps_rule : (slots id c m : ℕ) (t : List Enlist) (cs : List (ℕ × ℕ))
     → Allows Holds slots id (view.Place c (own.Awake m) t, cs) 0 (λ f. either (eqb f m) (1 + c) f)
-      (play.enlists (step slots 0 m (1 + c) maybe.none) (view.Place c (own.Awake m) t, cs))
+    (play.enlists (step slots 0 m (1 + c) maybe.none) (view.Place c (own.Awake m) t, cs))
 enlist_keeps_rule slots id c m t cs s k deep at small =
     let w : PublicationList = k.list in
     let me : ListView = view.Place c (own.Awake m) t in
@@ -151,7 +162,7 @@ enlist_keeps_rule slots id c m t cs s k deep at small =
       keeps,
       tt,
       subst (λ z. Kept (stepped s 0 (either z (1 + c) found) id cs
-        (view.Place c own.Unknown (t ++ Listed ∷ [])) keeps)) (sym (eq-eqb found m hit))
+          (view.Place c own.Unknown (t ++ Listed ∷ [])) keeps)) (sym (eq-eqb found m hit))
           (kept_after s k id (view.Place c own.Unknown (t ++ Listed ∷ [])) record {
             list = with_stage w c listed (c ∷ w.rows);
             same = refl;
@@ -159,19 +170,21 @@ enlist_keeps_rule slots id c m t cs s k deep at small =
             tied = enlist_keeps_tied w c m s.words (omega arith) was hit k.sound k.tied;
             unmade = unmade_stay_asleep w c listed low k.unmade;
             others = λ j u other. place_step_keeps_others w c listed (c ∷ w.rows) (c ∷ []) not_unlinked
-              (λ e. absurd (cc)) refl j u (λ e. other (e ∙ sym ok.0));
+                (λ e. absurd (cc)) refl j u (λ e. other (e ∙ sym ok.0));
             own = (ok.0, ok.1, inr (inl (update_self ℕ_discrete c listed w.stage)));
           }),
-      λ d p ts is _. ((λ _. ap
-        (λ (z : ListView). (view.Place (number_of z) own.Unknown (tries_of z ++ Listed ∷ []), cs)) is),
-        λ ne. absurd (ne hit)),
+      λ d p ts is _. (
+        (λ _. ap
+            (λ (z : ListView). (view.Place (number_of z) own.Unknown (tries_of z ++ Listed ∷ []), cs)) is),
+        λ ne. absurd (ne hit),
+      ),
     ))
     (λ miss. (
       over Missed me,
       keeps,
       tt,
       subst (λ z. Kept (stepped s 0 (either z (1 + c) found) id cs (over Missed me) keeps))
-        (sym (ne_eqb found m miss)) (same_words_keep_rule s k 0 id (over Missed me) cs ok),
+          (sym (ne_eqb found m miss)) (same_words_keep_rule s k 0 id (over Missed me) cs ok),
       λ d p ts is _. ((λ e. absurd (miss e)), λ _. ap (λ (z : ListView). (over Missed z, cs)) is),
     ))
 
@@ -215,13 +228,13 @@ pub see_allowed : (slots id c : ℕ) (t : List Enlist) (m : Hands) → IsPlace c
     → Allows Holds slots id m 0 (λ f. f) (play.sees (step slots 0 0 0 maybe.none) m)
 see_allowed slots id c t m p = let a = trying c t m p in
     subst (λ z. Allows Holds slots id z 0 (λ f. f) (play.sees (step slots 0 0 0 maybe.none) z)) (sym a.1)
-      (see_keeps_rule slots id 0 c (own.Awake a.0) t [])
+    (see_keeps_rule slots id 0 c (own.Awake a.0) t [])
 
 pub link_allowed : (slots id c n : ℕ) (t : List Enlist) (m : Hands) → IsPlace c true t m
     → Allows Holds slots id m (1 + c) (λ _. n) (λ _. play.links (step slots (1 + c) n 0 maybe.none) m n)
 link_allowed slots id c n t m p = let a = trying c t m p in
     subst (λ z. Allows Holds slots id z (1 + c) (λ _. n) (λ _. play.links (step slots (1 + c) n 0 maybe.none) z n))
-      (sym a.1) (link_keeps_rule slots id c a.0 n t [])
+    (sym a.1) (link_keeps_rule slots id c a.0 n t [])
 
 pub link_leaves_linked : (c n : ℕ) (t : List Enlist) (m m' : Hands) → IsPlace c true t m
     → play.links (step 0 (1 + c) n 0 maybe.none) m n m' → m' ≡ on c (own.Awake n) t
@@ -233,10 +246,16 @@ pub enlist_allowed : (slots id c n : ℕ) (t : List Enlist) (m : Hands) → m �
     → Allows Holds slots id m 0 (λ f. either (eqb f n) (1 + c) f) (play.enlists (step slots 0 n (1 + c) maybe.none) m)
 enlist_allowed slots id c n t m e =
     subst (λ z. Allows Holds slots id z 0 (λ f. either (eqb f n) (1 + c) f)
-      (play.enlists (step slots 0 n (1 + c) maybe.none) z)) (sym e) (enlist_keeps_rule slots id c n t [])
+    (play.enlists (step slots 0 n (1 + c) maybe.none) z)) (sym e) (enlist_keeps_rule slots id c n t [])
 
 pub enlist_leaves_missed : (c n found : ℕ) (t : List Enlist) (m m' : Hands) → c < 32 → m ≡ on c (own.Awake n) t
     → play.enlists (step 0 0 n (1 + c) maybe.none) m found m' → found ≢ n → IsPlace c true (t ++ Missed ∷ []) m'
-enlist_leaves_missed c n found t m m' low is h e =
-    (low, (own.Awake n, (h c (own.Awake n) t (ap (λ z. z.0) is) refl).1 e
-      ∙ ap (λ z. (view.Place c (own.Awake n) (t ++ Missed ∷ []), z.1)) is, (n, refl)))
+enlist_leaves_missed c n found t m m' low is h e = (
+  low,
+  (
+    own.Awake n,
+    (h c (own.Awake n) t (ap (λ z. z.0) is) refl).1 e
+        ∙ ap (λ z. (view.Place c (own.Awake n) (t ++ Missed ∷ []), z.1)) is,
+    (n, refl),
+  ),
+)

@@ -39,15 +39,25 @@ pub opening_keeps_rule : (words : List ℕ) → length words ≡ 65 → ((i : �
     → Holds (opening words [] first_walker)
 opening_keeps_rule words wide zeros = record {
   list = empty_list;
-  sound = record { few = omega arith; low = λ k l. absurd (omega arith); distinct = λ i j l m e. absurd (omega arith);
-    listed = λ k l. absurd (omega arith); stands = λ r e. absurd (cc) };
-  tied = record { wide = wide; head = zeros 0; nexts = λ k l. absurd (omega arith); links = λ r n l e. absurd (cc);
-    marks = λ r l. zeros (33 + r) };
+  sound = record {
+    few = omega arith;
+    low = λ k l. absurd (omega arith);
+    distinct = λ i j l m e. absurd (omega arith);
+    listed = λ k l. absurd (omega arith);
+    stands = λ r e. absurd (cc);
+  };
+  tied = record {
+    wide = wide;
+    head = zeros 0;
+    nexts = λ k l. absurd (omega arith);
+    links = λ r n l e. absurd (cc);
+    marks = λ r l. zeros (33 + r);
+  };
   count = refl;
   unmade = λ r l. refl;
   seats = λ j v e. ⊎_elim (λ (t : get_elem? [] j ≡ some v). absurd (some-ne-none v (sym t)))
       (λ (t : (j ≡ 0) × (first_walker ≡ v)). subst (λ z. ViewOk empty_list j z) t.1
-        (t.0, refl, ([], refl), λ q e. absurd (cc))) (at_end [] first_walker v j e);
+      (t.0, refl, ([], refl), λ q e. absurd (cc))) (at_end [] first_walker v j e);
 }
 
 out_later : (w : PublicationList) (o : Option ℕ) → TakenOutOk w o → TakenOutOk (record w { made = w.made + 1 }) o
@@ -62,7 +72,7 @@ later w j (view.Place d o ts) other ok = let low = ok.1 in (ok.0, omega arith, o
 
 pub split_keeps_rule : (id made : ℕ) (left : List ℕ) (out : Option ℕ) (walks : List (List ℕ)) → made < 32
     → Splits Holds id (view.Walker made left out walks) (view.Walker (made + 1) left out walks)
-      (view.Place made own.Unknown [])
+    (view.Place made own.Unknown [])
 split_keeps_rule id made left out walks low s k at =
     let w : PublicationList = k.list in
     let ok : ViewOk w id (view.Walker made left out walks) = k.seats id (view.Walker made left out walks) at in
@@ -73,20 +83,31 @@ split_keeps_rule id made left out walks low s k at =
     let count = k.count in
     let long = length-set s.views id l in record {
       list = w';
-      sound = record { few = omega arith; low = λ i h. let z = k.sound.low i h in
-        omega arith; distinct = k.sound.distinct; listed = k.sound.listed; stands = k.sound.stands };
-      tied = record { wide = k.tied.wide; head = k.tied.head; nexts = k.tied.nexts; links = k.tied.links;
-        marks = k.tied.marks };
+      sound = record {
+        few = omega arith;
+        low = λ i h. let z = k.sound.low i h in
+            omega arith;
+        distinct = k.sound.distinct;
+        listed = k.sound.listed;
+        stands = k.sound.stands;
+      };
+      tied = record {
+        wide = k.tied.wide;
+        head = k.tied.head;
+        nexts = k.tied.nexts;
+        links = k.tied.links;
+        marks = k.tied.marks;
+      };
       count = let both = length-append (set s.views id l) (new ∷ []) in omega arith;
       unmade = λ r h. k.unmade r (omega arith);
       seats = λ j u e. ⊎_elim
           (λ (t : get_elem? (set s.views id l) j ≡ some u). ⊎_elim
           (λ (h : (j ≡ id) × (l ≡ u)). subst (λ z. ViewOk w' j z) h.1
-            (h.0 ∙ ok.0, omega arith, ok.2, out_later w out ok.3))
+          (h.0 ∙ ok.0, omega arith, ok.2, out_later w out ok.3))
           (λ (h : (j ≢ id) × (get_elem? s.views j ≡ some u)). later w j u (λ z. h.0 (z ∙ sym ok.0)) (k.seats j u h.1))
           (at_set s.views id j l u t))
           (λ (t : (j ≡ length (set s.views id l)) × (new ≡ u)). let here = t.0 in
-            subst (λ z. ViewOk w' j z) t.1 (omega arith, omega arith, inl (k.unmade made (omega arith))))
+          subst (λ z. ViewOk w' j z) t.1 (omega arith, omega arith, inl (k.unmade made (omega arith))))
           (at_end (set s.views id l) new u j e);
     }
 
@@ -106,8 +127,8 @@ pub ArePlaces-more : (id : TableId) (n : ℕ) (xs ys : List PlaceSeen) (p : Plac
 ArePlaces-more id n xs ys p k more is = (
   ap length more ∙ (length-append xs (p ∷ []) ∙ ap (λ z. z + 1) k.0),
   λ j low. subst (λ z. get_elem? z j ≡ some (record { roster = id; row = j; tries = [] })) (sym more)
-    (dite (ℕ_discrete j n)
+      (dite (ℕ_discrete j n)
       (λ (e : j ≡ n). subst (λ z. get_elem? (xs ++ p ∷ []) z ≡ some (record { roster = id; row = z; tries = [] }))
-        (sym e) (at_last xs p n k.0 ∙ ap some is))
+      (sym e) (at_last xs p n k.0 ∙ ap some is))
       (λ ne. at_longer xs (p ∷ []) j (record { roster = id; row = j; tries = [] }) (k.1 j (omega arith)))),
 )

@@ -46,14 +46,17 @@ was_at l i k inside low = let long = length-remove l i inside in dite (dec_le i 
 pub is_at : (l : List ℕ) (i j : ℕ) → i < length l → j < length l → j ≢ i
     → (k : ℕ) × (k < length (remove l i)) × (get_or (remove l i) k 0 ≡ get_or l j 0)
 is_at l i j inside low other = let long = length-remove l i inside in dite (dec_le i j)
-    (λ above. (j - 1, omega arith,
-      get_or-remove_above l i 0 (j - 1) (omega arith) inside ∙ ap (λ z. get_or l z 0) (omega arith)))
+    (λ above. (
+      j - 1,
+      omega arith,
+      get_or-remove_above l i 0 (j - 1) (omega arith) inside ∙ ap (λ z. get_or l z 0) (omega arith),
+    ))
     (λ n. let below = lt_of_not-le n in (j, omega arith, get_or-remove_below l i 0 j below inside))
 
 pub word_at-remove_below : (l : List ℕ) (i k : ℕ) → i < length l → k < i → word_at (remove l i) k ≡ word_at l k
 word_at-remove_below l i k inside low = let long = length-remove l i inside in
     word_at_in (remove l i) k (omega arith)
-      ∙ (ap (λ z. 1 + z) (get_or-remove_below l i 0 k low inside) ∙ sym (word_at_in l k (omega arith)))
+    ∙ (ap (λ z. 1 + z) (get_or-remove_below l i 0 k low inside) ∙ sym (word_at_in l k (omega arith)))
 
 pub word_at-remove_above : (l : List ℕ) (i k : ℕ) → i < length l → i ≤ k → word_at (remove l i) k ≡ word_at l (suc k)
 word_at-remove_above l i k inside above =
@@ -62,13 +65,13 @@ word_at-remove_above l i k inside above =
     (λ past. word_at_past (remove l i) k past ∙ sym (word_at_past l (suc k) (omega arith)))
     (λ n. let low = lt_of_not-le n in word_at_in (remove l i) k low
     ∙ (ap (λ z. 1 + z) (get_or-remove_above l i 0 k above inside ∙ ap (λ z. get_or l z 0) next)
-      ∙ sym (word_at_in l (suc k) (omega arith))))
+    ∙ sym (word_at_in l (suc k) (omega arith))))
 
 pub distinct_right : (xs ys : List ℕ) → IsDistinct (xs ++ ys) → IsDistinct ys
 distinct_right xs ys d i j li lj e = let long = length-append xs ys in
     let both : length xs + i ≡ length xs + j =
-      d (length xs + i) (length xs + j) (omega arith) (omega arith)
-      (get_or-append-add xs ys i 0 ∙ (e ∙ sym (get_or-append-add xs ys j 0))) in omega arith
+    d (length xs + i) (length xs + j) (omega arith) (omega arith)
+    (get_or-append-add xs ys i 0 ∙ (e ∙ sym (get_or-append-add xs ys j 0))) in omega arith
 
 pub distinct_remove : (l : List ℕ) (p : ℕ) → p < length l → IsDistinct l → IsDistinct (remove l p)
 distinct_remove l p inside d i j li lj e =
@@ -78,7 +81,7 @@ distinct_remove l p inside d i j li lj e =
     ⊎_elim (λ (x : (i < p) × (a.0 ≡ i)). ⊎_elim (λ (y : (j < p) × (b.0 ≡ j)). let u = x.1 in let v = y.1 in omega arith)
     (λ (y : (p ≤ j) × (b.0 ≡ j + 1)). let u = x.1 in let v = y.1 in let s = x.0 in let t = y.0 in omega arith) b.3)
     (λ (x : (p ≤ i) × (a.0 ≡ i + 1)). ⊎_elim
-      (λ (y : (j < p) × (b.0 ≡ j)). let u = x.1 in let v = y.1 in let s = x.0 in let t = y.0 in omega arith)
+    (λ (y : (j < p) × (b.0 ≡ j)). let u = x.1 in let v = y.1 in let s = x.0 in let t = y.0 in omega arith)
     (λ (y : (p ≤ j) × (b.0 ≡ j + 1)). let u = x.1 in let v = y.1 in omega arith) b.3) a.3
 
 -- what was taken out is gone
@@ -88,7 +91,7 @@ gone l p k inside d low e =
     let a = was_at l p k inside low in
     let same : a.0 ≡ p = d a.0 p a.1 inside (sym a.2 ∙ e) in
     ⊎_elim (λ (x : (k < p) × (a.0 ≡ k)). let u = x.1 in let v = x.0 in omega arith)
-      (λ (x : (p ≤ k) × (a.0 ≡ k + 1)). let u = x.1 in let v = x.0 in omega arith) a.3
+    (λ (x : (p ≤ k) × (a.0 ≡ k + 1)). let u = x.1 in let v = x.0 in omega arith) a.3
 
 pub distinct_more : (x : ℕ) (xs : List ℕ) → ((k : ℕ) → k < length xs → get_or xs k 0 ≢ x) → IsDistinct xs
     → IsDistinct (x ∷ xs)
@@ -102,10 +105,10 @@ found : (n : ℕ) (l : List ℕ)
 found n [] = inr (λ i h e. omega arith)
 found n (x ∷ xs) = dite (ℕ_discrete x n) (λ e. inl (0, omega arith, e))
     (λ ne. ⊎_elim (λ (t : (i : ℕ) × (i < length xs) × (get_or xs i 0 ≡ n)). let l = t.1 in
-      inl (suc t.0, omega arith, t.2)) (λ t. inr (not_first n x xs ne t)) (found n xs))
+    inl (suc t.0, omega arith, t.2)) (λ t. inr (not_first n x xs ne t)) (found n xs))
   where
     not_first : (n x : ℕ) (xs : List ℕ) → x ≢ n → ((i : ℕ) → i < length xs → get_or xs i 0 ≢ n) → (i : ℕ)
-      → i < length (x ∷ xs) → get_or (x ∷ xs) i 0 ≢ n
+        → i < length (x ∷ xs) → get_or (x ∷ xs) i 0 ≢ n
     not_first n x xs ne t zero h = ne
     not_first n x xs ne t (suc i) h = t i (omega arith)
 
@@ -121,4 +124,4 @@ few_below (suc n) l d low = ⊎_elim
     let e = a.2 in
     let other : get_or (remove l t.0) k 0 ≢ n = λ f. ne (f ∙ sym t.2) in omega arith) in omega arith)
     (λ t. let rest = few_below n l d (λ k h. let lt = low k h in let ne = t k h in omega arith) in omega arith)
-      (found n l)
+    (found n l)

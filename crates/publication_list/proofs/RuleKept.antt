@@ -42,9 +42,12 @@ out_stays w r t rows (Some p) not new ok = (
 pub place_step_keeps_others : (w : PublicationList) (c : ℕ) (t : Stage) (rows pre : List ℕ) → w.stage c ≢ unlinked
     → t ≢ unlinked
     → rows ≡ pre ++ w.rows → (j : ℕ) (u : ListView) → j ≢ 1 + c → ViewOk w j u → ViewOk (with_stage w c t rows) j u
-place_step_keeps_others w c t rows pre not new grown j (view.Walker made left out walks) other ok =
-    (ok.0, ok.1, (pre ++ ok.2.0, grown ∙ (ap (λ z. pre ++ z) ok.2.1 ∙ sym (append_assoc pre ok.2.0 left))),
-      out_stays w c t rows out not new ok.3)
+place_step_keeps_others w c t rows pre not new grown j (view.Walker made left out walks) other ok = (
+  ok.0,
+  ok.1,
+  (pre ++ ok.2.0, grown ∙ (ap (λ z. pre ++ z) ok.2.1 ∙ sym (append_assoc pre ok.2.0 left))),
+  out_stays w c t rows out not new ok.3,
+)
 place_step_keeps_others w c t rows pre not new grown j (view.Place d o ts) other ok =
     (ok.0, ok.1, subst (OwnOk o) (sym (update_of_ne ℕ_discrete (λ e. other (ok.0 ∙ ap (λ z. 1 + z) e)) t w.stage)) ok.2)
 
@@ -77,13 +80,13 @@ mark_keeps_tied w r n t words low word link s k =
       wide = length-set words (33 + r) n ∙ wide;
       head = get_or-set_other words (33 + r) 0 n 0 (λ e. omega arith) ∙ k.head;
       nexts = λ i l. let h = s.low i l in
-        get_or-set_other words (33 + r) (1 + get_or w.rows i 0) n 0 (λ e. omega arith) ∙ k.nexts i l;
+          get_or-set_other words (33 + r) (1 + get_or w.rows i 0) n 0 (λ e. omega arith) ∙ k.nexts i l;
       links = λ q m l e. get_or-set_other words (33 + r) (1 + q) n 0 (λ f. omega arith)
           ∙ updated_all (λ p z. p < 32 → z ≡ awake m → get_or words (1 + p) 0 ≡ m) w.stage r t (λ _. link m)
-            (λ p _ lp. k.links p m lp) q l e;
+          (λ p _ lp. k.links p m lp) q l e;
       marks = updated_all (λ p z. p < 32 → get_or (set words (33 + r) n) (33 + p) 0 ≡ mark_of z) w.stage r t
           (λ _. get_or-set_same words (33 + r) n 0 (omega arith) ∙ word)
-            (λ p other l. get_or-set_other words (33 + r) (33 + p) n 0 (λ e. other (omega arith)) ∙ k.marks p l);
+          (λ p other l. get_or-set_other words (33 + r) (33 + p) n 0 (λ e. other (omega arith)) ∙ k.marks p l);
     }
 
 -- the next word of a row that is awake changes
@@ -95,13 +98,13 @@ link_keeps_tied w r n m words low was s k =
       wide = length-set words (1 + r) n ∙ wide;
       head = get_or-set_other words (1 + r) 0 n 0 (λ e. omega arith) ∙ k.head;
       nexts = λ i l. get_or-set_other words (1 + r) (1 + get_or w.rows i 0) n 0
-        (λ e. let same : get_or w.rows i 0 ≡ r = omega arith in let g =
+          (λ e. let same : get_or w.rows i 0 ≡ r = omega arith in let g =
           sym was ∙ (ap w.stage (sym same) ∙ s.listed i l) in absurd (cc)) ∙ k.nexts i l;
       links = λ q p l. updated_all
-        (λ q z. q < 32 → z ≡ awake p → get_or (set words (1 + r) n) (1 + q) 0 ≡ p) w.stage r (awake n)
+          (λ q z. q < 32 → z ≡ awake p → get_or (set words (1 + r) n) (1 + q) 0 ≡ p) w.stage r (awake n)
           (λ _ e. get_or-set_same words (1 + r) n 0 (omega arith) ∙ (cc))
-            (λ q other lq e. get_or-set_other words (1 + r) (1 + q) n 0 (λ f. other (omega arith))
-            ∙ k.links q p lq e) q l;
+          (λ q other lq e. get_or-set_other words (1 + r) (1 + q) n 0 (λ f. other (omega arith))
+          ∙ k.links q p lq e) q l;
       marks = updated_all (λ q z. q < 32 → get_or (set words (1 + r) n) (33 + q) 0 ≡ mark_of z) w.stage r (awake n)
           (λ l. get_or-set_other words (1 + r) (33 + r) n 0 (λ e. omega arith) ∙ (k.marks r l ∙ ap mark_of was))
           (λ q other l. get_or-set_other words (1 + r) (33 + q) n 0 (λ e. omega arith) ∙ k.marks q l);
@@ -127,7 +130,7 @@ enlist_keeps_sound w r n low was k = record {
     low_there (suc i) l = k.low i (omega arith)
 
     listed_there : (i : ℕ) → i < length (r ∷ w.rows)
-      → update ℕ_discrete w.stage r listed (get_or (r ∷ w.rows) i 0) ≡ listed
+        → update ℕ_discrete w.stage r listed (get_or (r ∷ w.rows) i 0) ≡ listed
     listed_there zero l = update_self ℕ_discrete r listed w.stage
     listed_there (suc i) l =
         let h : i < length w.rows = omega arith in update_of_ne ℕ_discrete (apart i h) listed w.stage ∙ k.listed i h
@@ -140,20 +143,20 @@ enlist_keeps_tied w r n words low was at s k = let wide = k.wide in record {
   head = get_or-set_same words 0 (1 + r) 0 (omega arith);
   nexts = λ i l. next_there i l;
   links = λ q p l. updated_all
-    (λ q z. q < 32 → z ≡ awake p → get_or (set words 0 (1 + r)) (1 + q) 0 ≡ p) w.stage r listed
+      (λ q z. q < 32 → z ≡ awake p → get_or (set words 0 (1 + r)) (1 + q) 0 ≡ p) w.stage r listed
       (λ _ e. absurd (cc)) (λ q other lq e. get_or-set_other words 0 (1 + q) (1 + r) 0 (λ f. omega arith)
-        ∙ k.links q p lq e) q l;
+      ∙ k.links q p lq e) q l;
   marks = updated_all (λ q z. q < 32 → get_or (set words 0 (1 + r)) (33 + q) 0 ≡ mark_of z) w.stage r listed
       (λ l. get_or-set_other words 0 (33 + r) (1 + r) 0 (λ e. omega arith) ∙ (k.marks r l ∙ ap mark_of was))
       (λ q other l. get_or-set_other words 0 (33 + q) (1 + r) 0 (λ e. omega arith) ∙ k.marks q l);
 }
   where
     next_there : (i : ℕ) → i < length (r ∷ w.rows)
-      → get_or (set words 0 (1 + r)) (1 + get_or (r ∷ w.rows) i 0) 0 ≡ word_at (r ∷ w.rows) (suc i)
+        → get_or (set words 0 (1 + r)) (1 + get_or (r ∷ w.rows) i 0) 0 ≡ word_at (r ∷ w.rows) (suc i)
     next_there zero l = get_or-set_other words 0 (1 + r) (1 + r) 0 (λ e. omega arith)
-      ∙ (k.links r n low was ∙ (sym at ∙ k.head))
+        ∙ (k.links r n low was ∙ (sym at ∙ k.head))
     next_there (suc i) l = get_or-set_other words 0 (1 + get_or w.rows i 0) (1 + r) 0 (λ e. omega arith)
-      ∙ k.nexts i (omega arith)
+        ∙ k.nexts i (omega arith)
 
 -- the row after the place p is taken out
 pub unlink_keeps_sound : (w : PublicationList) (p : ℕ) → p < length w.rows → Sound w
@@ -164,64 +167,64 @@ unlink_keeps_sound w p inside k = record {
   distinct = distinct_remove w.rows p inside k.distinct;
   listed = λ i l. let a = was_at w.rows p i inside l in
       update_of_ne ℕ_discrete (gone w.rows p i inside k.distinct l) unlinked w.stage
-        ∙ (ap w.stage a.2 ∙ k.listed a.0 a.1);
+      ∙ (ap w.stage a.2 ∙ k.listed a.0 a.1);
   stands = updated_all (λ q z. z ≡ listed → Stands (remove w.rows p) q) w.stage (get_or w.rows p 0) unlinked
       (λ e. absurd (cc)) (λ q other e. let a = k.stands q e in
-          let b = is_at w.rows p a.0 inside a.1 (λ same. other (sym a.2 ∙ ap (λ z. get_or w.rows z 0) same)) in
-          (b.0, b.1, b.2 ∙ a.2));
+      let b = is_at w.rows p a.0 inside a.1 (λ same. other (sym a.2 ∙ ap (λ z. get_or w.rows z 0) same)) in
+      (b.0, b.1, b.2 ∙ a.2));
 }
 
 pub unlink_keeps_tied : (w : PublicationList) (p n : ℕ) (words : List ℕ) → suc p < length w.rows
     → n ≡ word_at w.rows (suc (suc p)) → Sound w → Tied w words
     → Tied (with_stage w (get_or w.rows (suc p) 0) unlinked (remove w.rows (suc p)))
-      (set words (1 + get_or w.rows p 0) n)
+    (set words (1 + get_or w.rows p 0) n)
 unlink_keeps_tied w p n words inside word s k =
     let wide = k.wide in
     let few = s.few in
     let low = s.low p (omega arith) in record {
       wide = length-set words (1 + get_or w.rows p 0) n ∙ wide;
       head = get_or-set_other words (1 + get_or w.rows p 0) 0 n 0 (λ e. omega arith)
-        ∙ (k.head ∙ sym (word_at-remove_below w.rows (suc p) 0 inside (omega arith)));
+          ∙ (k.head ∙ sym (word_at-remove_below w.rows (suc p) 0 inside (omega arith)));
       nexts = λ i l. next_there i l (was_at w.rows (suc p) i inside l);
       links = λ q m l. updated_all
-        (λ q z. q < 32 → z ≡ awake m → get_or (set words (1 + get_or w.rows p 0) n) (1 + q) 0 ≡ m) w.stage
-        (get_or w.rows (suc p) 0) unlinked
+          (λ q z. q < 32 → z ≡ awake m → get_or (set words (1 + get_or w.rows p 0) n) (1 + q) 0 ≡ m) w.stage
+          (get_or w.rows (suc p) 0) unlinked
           (λ _ e. absurd (cc)) (λ q other lq e.
-            get_or-set_other words (1 + get_or w.rows p 0) (1 + q) n 0 (λ f. let same : q ≡ get_or w.rows p 0 =
+          get_or-set_other words (1 + get_or w.rows p 0) (1 + q) n 0 (λ f. let same : q ≡ get_or w.rows p 0 =
           omega arith in let g = sym e ∙ (ap w.stage same ∙ s.listed p (omega arith)) in absurd (cc))
-            ∙ k.links q m lq e) q l;
+          ∙ k.links q m lq e) q l;
       marks = updated_all (λ q z. q < 32 → get_or (set words (1 + get_or w.rows p 0) n) (33 + q) 0 ≡ mark_of z)
-        w.stage (get_or w.rows (suc p) 0) unlinked
+          w.stage (get_or w.rows (suc p) 0) unlinked
           (λ l. get_or-set_other words (1 + get_or w.rows p 0) (33 + get_or w.rows (suc p) 0) n 0 (λ e. omega arith)
-            ∙ (k.marks (get_or w.rows (suc p) 0) l ∙ ap mark_of (s.listed (suc p) inside)))
+          ∙ (k.marks (get_or w.rows (suc p) 0) l ∙ ap mark_of (s.listed (suc p) inside)))
           (λ q other l. get_or-set_other words (1 + get_or w.rows p 0) (33 + q) n 0 (λ e. omega arith) ∙ k.marks q l);
     }
   where
     -- of another row than that at p, the next word is as it was
     next_else : (j : ℕ) → j < length w.rows → j ≢ p
-      → get_or (set words (1 + get_or w.rows p 0) n) (1 + get_or w.rows j 0) 0 ≡ word_at w.rows (suc j)
+        → get_or (set words (1 + get_or w.rows p 0) n) (1 + get_or w.rows j 0) 0 ≡ word_at w.rows (suc j)
     next_else j l other = get_or-set_other words (1 + get_or w.rows p 0) (1 + get_or w.rows j 0) n 0
-      (λ e. other (s.distinct j p l (omega arith) (omega arith))) ∙ k.nexts j l
+        (λ e. other (s.distinct j p l (omega arith) (omega arith))) ∙ k.nexts j l
 
     next_there : (i : ℕ) → i < length (remove w.rows (suc p))
         → (a : (j : ℕ) × (j < length w.rows) × (get_or (remove w.rows (suc p)) i 0 ≡ get_or w.rows j 0)
         × (((i < suc p) × (j ≡ i)) ⊎ ((suc p ≤ i) × (j ≡ i + 1))))
-          → get_or (set words (1 + get_or w.rows p 0) n) (1 + get_or (remove w.rows (suc p)) i 0) 0
-          ≡ word_at (remove w.rows (suc p)) (suc i)
+        → get_or (set words (1 + get_or w.rows p 0) n) (1 + get_or (remove w.rows (suc p)) i 0) 0
+        ≡ word_at (remove w.rows (suc p)) (suc i)
     next_there i l a =
         let F : ℕ → Type 0 = λ z. get_or (set words (1 + get_or w.rows p 0) n) (1 + z) 0
-          ≡ word_at (remove w.rows (suc p)) (suc i) in subst F (sym a.2) (⊎_elim
+        ≡ word_at (remove w.rows (suc p)) (suc i) in subst F (sym a.2) (⊎_elim
         (λ (b : (i < suc p) × (a.0 ≡ i)). let same = b.1 in let under = b.0 in
-          subst (λ z. F (get_or w.rows z 0)) (sym same) (dite (ℕ_discrete i p)
+        subst (λ z. F (get_or w.rows z 0)) (sym same) (dite (ℕ_discrete i p)
         (λ (e : i ≡ p). subst (λ z. get_or (set words (1 + get_or w.rows p 0) n) (1 + get_or w.rows z 0) 0
-          ≡ word_at (remove w.rows (suc p)) (suc z)) (sym e)
+        ≡ word_at (remove w.rows (suc p)) (suc z)) (sym e)
         (let few = s.few in let low = s.low p (omega arith) in let wide = k.wide in
-          get_or-set_same words (1 + get_or w.rows p 0) n 0 (omega arith)
+        get_or-set_same words (1 + get_or w.rows p 0) n 0 (omega arith)
         ∙ (word ∙ sym (word_at-remove_above w.rows (suc p) (suc p) inside (omega arith)))))
         (λ ne. next_else i (omega arith) ne ∙ sym (word_at-remove_below w.rows (suc p) (suc i) inside (omega arith)))))
         (λ (b : (suc p ≤ i) × (a.0 ≡ i + 1)). let above = b.0 in let same : a.0 ≡ suc i = b.1 ∙ omega arith in
         subst (λ z. F (get_or w.rows z 0)) (sym same)
-          (next_else (suc i) (subst (λ z. z < length w.rows) same a.1) (λ e. omega arith)
+        (next_else (suc i) (subst (λ z. z < length w.rows) same a.1) (λ e. omega arith)
         ∙ sym (word_at-remove_above w.rows (suc p) (suc i) inside (omega arith)))) a.3)
 
 abbrev pub St : Type 0
@@ -263,8 +266,15 @@ pub same_words_keep_rule : (s : St) (k : Kept s) (i id : ℕ) (v' : ListView) (c
 same_words_keep_rule s k i id v' cs ok =
     subst (λ (ws : List ℕ). Kept {S = ℕ} record { words = ws; homes = s.homes; views = set s.views id v' })
     (sym (set-get_or s.words i 0))
-    (kept_after s k id v' record { list = k.list; same = refl; sound = k.sound; tied = k.tied; unmade = k.unmade;
-      others = λ j u _ b. b; own = ok })
+    (kept_after s k id v' record {
+      list = k.list;
+      same = refl;
+      sound = k.sound;
+      tied = k.tied;
+      unmade = k.unmade;
+      others = λ j u _ b. b;
+      own = ok;
+    })
 
 -- a row that has been made is not asleep for want of a place
 pub unmade_stay_asleep : (w : PublicationList) (r : ℕ) (t : Stage) → r < w.made

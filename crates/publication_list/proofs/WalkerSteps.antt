@@ -41,13 +41,13 @@ out_of v = None
 known : (s : St) (k : Kept s) (id made : ℕ) (left : List ℕ) (out : Option ℕ) (walks : List (List ℕ))
     → get_elem? s.views id ≡ some (view.Walker made left out walks)
     → (id ≡ 0) × (made ≡ k.list.made) × ((newcomers : List ℕ) × (k.list.rows ≡ newcomers ++ left))
-      × TakenOutOk k.list out
+    × TakenOutOk k.list out
 known s k id made left out walks at = k.seats id (view.Walker made left out walks) at
 
 -- the list as it is now begins with newcomers, and goes on with what the walker has met
 pub meet_keeps_rule : (slots id made : ℕ) (left : List ℕ) (out : Option ℕ) (walks : List (List ℕ)) (cs : List (ℕ × ℕ))
     → Allows Holds slots id (view.Walker made left out walks, cs) 0 (λ f. f)
-      (play.meets (step slots 0 0 0 maybe.none) (view.Walker made left out walks, cs))
+    (play.meets (step slots 0 0 0 maybe.none) (view.Walker made left out walks, cs))
 meet_keeps_rule slots id made left out walks cs s k deep at small =
     let w : PublicationList = k.list in
     let ok = known s k id made left out walks at in
@@ -56,7 +56,7 @@ meet_keeps_rule slots id made left out walks cs s k deep at small =
       keeps,
       tt,
       same_words_keep_rule s k 0 id (view.Walker made w.rows out (walks ++ w.rows ∷ [])) cs
-        (ok.0, ok.1, ([], refl), ok.3),
+          (ok.0, ok.1, ([], refl), ok.3),
       λ made' left' out' walks' is _. let m : made ≡ made' = ap made_of is in let m' : made ≡ w.made = ok.1 in (
         w.rows,
         ap (λ (z : ListView). (view.Walker (made_of z) w.rows (out_of z) (walks_of z ++ w.rows ∷ []), cs)) is,
@@ -83,12 +83,12 @@ next_of w words pre left i e low k =
     ap (λ z. get_or words (1 + z) 0) (sym (placed w.rows pre left i e))
     ∙ (k.nexts (length pre + i) (placed_low w.rows pre left i e low)
     ∙ (ap (λ z. word_at z (suc (length pre + i))) e
-      ∙ word_at_append pre left (suc i) (suc (length pre + i)) (omega arith)))
+    ∙ word_at_append pre left (suc i) (suc (length pre + i)) (omega arith)))
 
 pub follow_keeps_rule : (slots id i made : ℕ) (left : List ℕ) (out : Option ℕ) (walks : List (List ℕ))
     (cs : List (ℕ × ℕ))
     → Allows Holds slots id (view.Walker made left out walks, cs) i (λ f. f)
-      (play.follows (step slots i 0 0 maybe.none) (view.Walker made left out walks, cs))
+    (play.follows (step slots i 0 0 maybe.none) (view.Walker made left out walks, cs))
 follow_keeps_rule slots id i made left out walks cs s k deep at small =
     let w : PublicationList = k.list in
     let ok = known s k id made left out walks at in
@@ -117,7 +117,7 @@ put_to_sleep t is (own.Awake n) ok = let g = sym is ∙ ok in absurd (cc)
 pub unlink_keeps_rule : (slots id i n p made : ℕ) (left : List ℕ) (walks : List (List ℕ)) (cs : List (ℕ × ℕ))
     → suc p < length left → i ≡ 1 + get_or left p 0 → n ≡ word_at left (suc (suc p))
     → Allows Holds slots id (view.Walker made left None walks, cs) i (λ _. n)
-      (λ _. play.unlinks (step slots i n 0 maybe.none) (view.Walker made left None walks, cs) n)
+    (λ _. play.unlinks (step slots i n 0 maybe.none) (view.Walker made left None walks, cs) n)
 unlink_keeps_rule slots id i n p made left walks cs low word next s k deep at small =
     let w : PublicationList = k.list in
     let ok = known s k id made left None walks at in
@@ -128,11 +128,11 @@ unlink_keeps_rule slots id i n p made left walks cs low word next s k deep at sm
     let at_p : get_or w.rows P 0 ≡ get_or left p 0 = placed w.rows pre left p e in
     let Q_is : Q ≡ length pre + suc p = omega arith in
     let at_q : get_or w.rows Q 0 ≡ get_or left (suc p) 0 =
-      ap (λ z. get_or w.rows z 0) Q_is ∙ placed w.rows pre left (suc p) e in
+    ap (λ z. get_or w.rows z 0) Q_is ∙ placed w.rows pre left (suc p) e in
     let inside : Q < length w.rows =
-      subst (λ z. z < length w.rows) (sym Q_is) (placed_low w.rows pre left (suc p) e low) in
+    subst (λ z. z < length w.rows) (sym Q_is) (placed_low w.rows pre left (suc p) e low) in
     let leads : n ≡ word_at w.rows (suc Q) =
-      next ∙ sym (ap (λ z. word_at z (suc Q)) e ∙ word_at_append pre left (suc (suc p)) (suc Q) (omega arith)) in
+    next ∙ sym (ap (λ z. word_at z (suc Q)) e ∙ word_at_append pre left (suc (suc p)) (suc Q) (omega arith)) in
     let was = k.sound.listed Q inside in
     let v' : ListView = view.Walker made (remove left (suc p)) (Some (get_or left (suc p) 0)) walks in
     let r : ℕ = get_or w.rows Q 0 in
@@ -146,33 +146,38 @@ unlink_keeps_rule slots id i n p made left walks cs low word next s k deep at sm
         same = refl;
         sound = unlink_keeps_sound w Q inside k.sound;
         tied = subst (λ z. Tied w' (set s.words z n)) (ap (λ z. 1 + z) at_p ∙ sym word)
-          (unlink_keeps_tied w P n s.words inside leads k.sound k.tied);
+            (unlink_keeps_tied w P n s.words inside leads k.sound k.tied);
         unmade = unmade_stay_asleep w r unlinked r_low k.unmade;
         others = λ j u other. walker_step_keeps_others w r unlinked (remove w.rows Q) (taken_out (w.stage r) was) j u
-          (λ f. other (f ∙ sym ok.0));
+            (λ f. other (f ∙ sym ok.0));
         own = (
           ok.0,
           ok.1,
           (pre, ap (λ z. remove z Q) e ∙ remove_append pre left (suc p) Q Q_is),
-          subst (λ z. (z < w.made) × (w'.stage z ≡ unlinked) × ((q : ℕ) → w'.stage q ≡ unlinked → q ≡ z)) at_q
-              (r_low, update_self ℕ_discrete r unlinked w.stage,
-                updated_all (λ q z. z ≡ unlinked → q ≡ r) w.stage r unlinked (λ _. refl) (λ q _ e. absurd (ok.3 q e))),
+          subst (λ z. (z < w.made) × (w'.stage z ≡ unlinked) × ((q : ℕ) → w'.stage q ≡ unlinked → q ≡ z)) at_q (
+            r_low,
+            update_self ℕ_discrete r unlinked w.stage,
+            updated_all (λ q z. z ≡ unlinked → q ≡ r) w.stage r unlinked (λ _. refl) (λ q _ e. absurd (ok.3 q e)),
+          ),
         );
       },
       λ made' left' out' walks' q is q_low q_word. let same : left ≡ left' = ap left_of is in
           let q_low' : suc q < length left = subst (λ z. suc q < length z) (sym same) q_low in
           let q_row : get_or left' q 0 ≡ get_or left q 0 = ap (λ z. get_or z q 0) (sym same) in
           let q_is : q ≡ p = distinct_right pre left (subst IsDistinct e k.sound.distinct) q p (omega arith)
-            (omega arith) (omega arith) in
-          ap (λ (z : ListView). (view.Walker (made_of z) (remove (left_of z) (suc p))
-            (Some (get_or (left_of z) (suc p) 0)) (walks_of z), cs)) is
+          (omega arith) (omega arith) in
+          ap (λ (z : ListView). (
+            view.Walker (made_of z) (remove (left_of z) (suc p))
+                (Some (get_or (left_of z) (suc p) 0)) (walks_of z),
+            cs,
+          )) is
           ∙ ap (λ (z : ℕ). (view.Walker made' (remove left' (suc z)) (Some (get_or left' (suc z) 0)) walks', cs))
-            (sym q_is),
+          (sym q_is),
     )
 
 pub sleep_keeps_rule : (slots id r made : ℕ) (left : List ℕ) (walks : List (List ℕ)) (cs : List (ℕ × ℕ))
     → Allows Holds slots id (view.Walker made left (Some r) walks, cs) (33 + r) (λ _. 0)
-      (λ _. play.sleeps (step slots (33 + r) 0 0 maybe.none) (view.Walker made left (Some r) walks, cs) 0)
+    (λ _. play.sleeps (step slots (33 + r) 0 0 maybe.none) (view.Walker made left (Some r) walks, cs) 0)
 sleep_keeps_rule slots id r made left walks cs s k deep at small =
     let w : PublicationList = k.list in
     let ok = known s k id made left (Some r) walks at in
@@ -191,12 +196,16 @@ sleep_keeps_rule slots id r made left walks cs s k deep at small =
         tied = mark_keeps_tied w r 0 asleep s.words (omega arith) refl (λ m e. absurd (cc)) k.sound k.tied;
         unmade = unmade_stay_asleep w r asleep low k.unmade;
         others = λ j u other. walker_step_keeps_others w r asleep w.rows (put_to_sleep (w.stage r) was) j u
-          (λ f. other (f ∙ sym ok.0));
-        own = (ok.0, ok.1, ok.2,
-          updated_all (λ q z. z ≢ unlinked) w.stage r asleep (λ e. absurd (cc)) (λ q other e. other (ok.3.2 q e)));
+            (λ f. other (f ∙ sym ok.0));
+        own = (
+          ok.0,
+          ok.1,
+          ok.2,
+          updated_all (λ q z. z ≢ unlinked) w.stage r asleep (λ e. absurd (cc)) (λ q other e. other (ok.3.2 q e)),
+        );
       },
       λ made' left' r' walks' is _.
-        ap (λ (z : ListView). (view.Walker (made_of z) (left_of z) None (walks_of z), cs)) is,
+          ap (λ (z : ListView). (view.Walker (made_of z) (left_of z) None (walks_of z), cs)) is,
     )
 
 -- ---- the same, of what a walker has in its hands
@@ -229,10 +238,13 @@ pub walk_begins : (found : ℕ) (left : List ℕ) (walks : List (List ℕ)) (m m
 walk_begins found left walks m m' p t =
     let a = t (made_of m.0) left None walks (ap (λ z. z.0) p) refl in
     let is : m' ≡ (view.Walker (made_of m.0) a.0 None (walks ++ a.0 ∷ []), []) =
-      a.1 ∙ ap (λ z. (view.Walker (made_of m.0) a.0 None (walks ++ a.0 ∷ []), z.1)) p in
+    a.1 ∙ ap (λ z. (view.Walker (made_of m.0) a.0 None (walks ++ a.0 ∷ []), z.1)) p in
     let rows : left_of m'.0 ≡ a.0 = ap (λ z. left_of z.0) is in record {
-      met = is ∙ (λ i. (view.Walker (made_of (sym is i).0) (left_of (sym is i).0) None
-        (walks ++ left_of (sym is i).0 ∷ []), []));
+      met = is ∙ (λ i. (
+        view.Walker (made_of (sym is i).0) (left_of (sym is i).0) None
+            (walks ++ left_of (sym is i).0 ∷ []),
+        [],
+      ));
       made = ap (λ z. made_of z.0) is;
       walk = subst (WalkMeets left) (sym rows) a.3;
       low = subst (λ z. (k : ℕ) → k < length z → get_or z k 0 < made_of m.0) (sym rows) a.4;
@@ -254,7 +266,7 @@ module _ (left : List ℕ) (walks : List (List ℕ)) (made : ℕ) (rows : List �
   walk_met_all e = dite (dec_le (length (left_of m.0)) (length rows))
       (λ past. k.so_far ∙ take_all (left_of m.0) (length rows) past)
       (λ n. let low = lt_of_not-le n in let w = word_at_in (left_of m.0) (length rows) low in let a = k.at_is in
-        absurd (omega arith))
+      absurd (omega arith))
 
   -- one row more is met
   module _ (rows' : List ℕ) (i found : ℕ) (m' : Hands) (ne : at ≢ 0) (same : i ≡ at)
@@ -264,7 +276,7 @@ module _ (left : List ℕ) (walks : List (List ℕ)) (made : ℕ) (rows : List �
     told =
         let g = walk_goes_on ne in
         t (made_of m.0) (left_of m.0) None (walks ++ left_of m.0 ∷ []) (length rows) (ap (λ z. z.0) k.met) g.0
-          (same ∙ g.1)
+        (same ∙ g.1)
 
     longer : length rows' ≡ suc (length rows)
     longer = ap length more ∙ (length-append rows ((at - 1) ∷ []) ∙ omega arith)
@@ -285,7 +297,7 @@ module _ (left : List ℕ) (walks : List (List ℕ)) (made : ℕ) (rows : List �
           low = k.low;
           few = k.few;
           so_far = more ∙ ((λ j. k.so_far j ++ row j ∷ [])
-            ∙ (sym (take_more all n low) ∙ ap (λ z. take z all) (sym long)));
+              ∙ (sym (take_more all n low) ∙ ap (λ z. take z all) (sym long)));
           within = omega arith;
           at_is = told.1 ∙ ap (word_at all) (sym long);
         }
@@ -315,7 +327,7 @@ module _ (i n at made : ℕ) (left : List ℕ) (walks : List (List ℕ)) (m : Ha
       let e'' : at + 1 ≡ suc (suc p) = omega arith in
       subst (λ z. Allows Holds slots id z i (λ _. n) (λ _. play.unlinks (step slots i n 0 maybe.none) z n)) (sym is)
       (unlink_keeps_rule slots id i n p made left walks [] (omega arith) (word ∙ ap (λ z. 1 + get_or left z 0) e')
-        (next ∙ ap (word_at left) e''))
+      (next ∙ ap (word_at left) e''))
 
   pub unlink_leaves : (m' : Hands) → play.unlinks (step 0 i n 0 maybe.none) m n m'
       → m' ≡ (view.Walker made (remove left at) (Some (get_or left at 0)) walks, [])
@@ -335,7 +347,7 @@ module _ (r made : ℕ) (left : List ℕ) (walks : List (List ℕ)) (m : Hands)
       → Allows Holds slots id m (33 + r) (λ _. 0) (λ _. play.sleeps (step slots (33 + r) 0 0 maybe.none) m 0)
   sleep_allowed slots id =
       subst (λ z. Allows Holds slots id z (33 + r) (λ _. 0)
-        (λ _. play.sleeps (step slots (33 + r) 0 0 maybe.none) z 0)) (sym is)
+      (λ _. play.sleeps (step slots (33 + r) 0 0 maybe.none) z 0)) (sym is)
       (sleep_keeps_rule slots id r made left walks [])
 
   pub sleep_leaves : (m' : Hands) → play.sleeps (step 0 (33 + r) 0 0 maybe.none) m 0 m'

@@ -27,7 +27,7 @@ pub data InTurn : List AnyEvent → Type 0 where
   none : InTurn []
   last : (t x : ℕ) (op : AnyOp) → InTurn (Invoked t x op ∷ [])
   call : (t x : ℕ) (op : AnyOp) (u : ℕ) (a : AnyAnswer) (es : List AnyEvent) → Fits op a → InTurn es
-    → InTurn (Invoked t x op ∷ Returned u a ∷ es)
+      → InTurn (Invoked t x op ∷ Returned u a ∷ es)
 
 -- so are those of a journal that denotes events in which each reply has its shape
 pub in_turn : (c : ℕ) (js : List AnyEvent) (h : List Numbered) → Denotes c js h
@@ -38,10 +38,10 @@ in_turn c (Invoked t x op ∷ []) h d shape = last t x op
 in_turn c (Invoked t x op ∷ Returned u (Reply r) ∷ es) h d shape =
     let calls : calls_in h ≡ first c t x op u r ∷ calls_in d.0 = ap calls_in d.1 ∙ calls_in-call c t x op u r d.0 in
     let fits : HasShape op r =
-      shape (first c t x op u r) (record { at = u; reply = r })
-      (subst (In (first c t x op u r)) (sym calls) (inl refl)) refl in
+    shape (first c t x op u r) (record { at = u; reply = r })
+    (subst (In (first c t x op u r)) (sym calls) (inl refl)) refl in
     call t x op u (Reply r) es fits
-      (in_turn c es d.0 d.2 (λ o s i back. shape o s (subst (In o) (sym calls) (inr i)) back))
+    (in_turn c es d.0 d.2 (λ o s i back. shape o s (subst (In o) (sym calls) (inr i)) back))
 in_turn c (Invoked t x op ∷ Returned u Refused ∷ es) h d shape = call t x op u Refused es tt (in_turn c es h d shape)
 in_turn c (Invoked t x op ∷ Invoked u y o ∷ es) h d shape = absurd d
 in_turn c (Returned u a ∷ es) h d shape = absurd d
@@ -54,7 +54,7 @@ runs_of c x l (call t y op u a js fits rest) =
     (λ q. (tt, back a fits (runs_of c y js rest)), λ q. absurd (cc (q, eq-eqb c c refl)))
   where
     back : (a : AnyAnswer) → Fits op a → Runs c idle (events_from c y js)
-      → Runs c (busy y op) (record { number = u; process = c; object = y; action = action_of a } ∷ events_from c y js)
+        → Runs c (busy y op) (record { number = u; process = c; object = y; action = action_of a } ∷ events_from c y js)
     back (Reply r) f later = (λ q. ((refl, f), later), λ q. absurd (cc (q, eq-eqb c c refl)))
     back Refused f later = (λ q. (refl, later), λ q. absurd (cc (q, eq-eqb c c refl)))
 

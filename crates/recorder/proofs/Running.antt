@@ -23,13 +23,13 @@ behind p front [] es h =
     append-nil (x ∷ xs) = ap (λ ys. x ∷ ys) (append-nil xs)
 behind p front (e ∷ earlier) es h =
     subst (λ (xs : List Event). Runs p (state_after (last_event p xs)) es) (append_assoc front (e ∷ []) earlier)
-      (behind p (front ++ e ∷ []) earlier es (next (e.process == p) refl))
+    (behind p (front ++ e ∷ []) earlier es (next (e.process == p) refl))
   where
     next : (b : Bool) → (e.process == p) ≡ b → Runs p (state_after (last_event p (front ++ e ∷ []))) (earlier ++ es)
     next true q = subst (λ l. Runs p (state_after l) (earlier ++ es))
-      (sym (last_push p front e ∙ ap (λ b. cond b (Some e) (last_event p front)) q)) (h.0 q).1
+        (sym (last_push p front e ∙ ap (λ b. cond b (Some e) (last_event p front)) q)) (h.0 q).1
     next false q = subst (λ l. Runs p (state_after l) (earlier ++ es))
-      (sym (last_push p front e ∙ ap (λ b. cond b (Some e) (last_event p front)) q)) (h.1 q)
+        (sym (last_push p front e ∙ ap (λ b. cond b (Some e) (last_event p front)) q)) (h.1 q)
 
 -- what a process may do follows
 idle_if : (last : Option Event) (x : ℕ) (op : AnyOp) → MayDo (state_after last) x (Invoke op) → IsIdle last
@@ -48,7 +48,7 @@ follows earlier p x (Invoke op) kinds m = (idle_if (last_event p earlier) x op m
 follows earlier p x (Ok r) kinds m = go (last_event p earlier) refl m
   where
     go : (last : Option Event) → last_event p earlier ≡ last → MayDo (state_after last) x (Ok r)
-      → Follows earlier p x (Ok r)
+        → Follows earlier p x (Ok r)
     go None l n = absurd n
     go (Some e) l n = at e.action refl n
       where
@@ -60,7 +60,7 @@ follows earlier p x (Ok r) kinds m = go (last_event p earlier) refl m
 follows earlier p x Fail kinds m = go (last_event p earlier) refl m
   where
     go : (last : Option Event) → last_event p earlier ≡ last → MayDo (state_after last) x Fail
-      → Follows earlier p x Fail
+        → Follows earlier p x Fail
     go None l n = absurd n
     go (Some e) l n = at e.action refl n
       where
@@ -72,7 +72,7 @@ follows earlier p x Fail kinds m = go (last_event p earlier) refl m
 follows earlier p x Info kinds m = go (last_event p earlier) refl m
   where
     go : (last : Option Event) → last_event p earlier ≡ last → MayDo (state_after last) x Info
-      → Follows earlier p x Info
+        → Follows earlier p x Info
     go None l n = absurd n
     go (Some e) l n = at e.action refl n
       where
@@ -85,17 +85,20 @@ follows earlier p x Info kinds m = go (last_event p earlier) refl m
 -- a process does what its own events say
 pub runs_part : (p : ℕ) (s : State) (es : List Event) → Runs p s (filter (λ e. e.process == p) es) → Runs p s es
 runs_part p s [] h = tt
-runs_part p s (e ∷ es) h =
-    (λ q. let k = own q in ((k.0 q).0, runs_part p (state_by e.object e.action) es (k.0 q).1),
-    λ q. runs_part p s es (other q))
+runs_part p s (e ∷ es) h = (
+  λ q. let k = own q in ((k.0 q).0, runs_part p (state_by e.object e.action) es (k.0 q).1),
+  λ q. runs_part p s es (other q),
+)
   where
     own : (e.process == p) ≡ true → Runs p s (e ∷ filter (λ (x : Event). x.process == p) es)
     own q = subst (Runs p s)
-      (ap (λ b. cond b (e ∷ filter (λ (x : Event). x.process == p) es) (filter (λ (x : Event). x.process == p) es)) q) h
+        (ap (λ b. cond b (e ∷ filter (λ (x : Event). x.process == p) es)
+        (filter (λ (x : Event). x.process == p) es)) q) h
 
     other : (e.process == p) ≡ false → Runs p s (filter (λ (x : Event). x.process == p) es)
     other q = subst (Runs p s)
-      (ap (λ b. cond b (e ∷ filter (λ (x : Event). x.process == p) es) (filter (λ (x : Event). x.process == p) es)) q) h
+        (ap (λ b. cond b (e ∷ filter (λ (x : Event). x.process == p) es)
+        (filter (λ (x : Event). x.process == p) es)) q) h
 
 -- the object of each invocation has its kind
 pub proper_from : (kinds : ℕ → Kind) (es : List Event) → Pairs (λ a b. a.number < b.number) es
@@ -105,13 +108,13 @@ proper_from kinds es up runs of_kind = record {
   rising = all_from_pairs (λ a b. a.number < b.number) es up;
   each = λ earlier later e is.
       let here : Runs e.process (state_after (last_event e.process earlier)) (e ∷ later) =
-        behind e.process [] earlier (e ∷ later) (subst (Runs e.process idle) is (runs e.process)) in
+      behind e.process [] earlier (e ∷ later) (subst (Runs e.process idle) is (runs e.process)) in
       follows earlier e.process e.object e.action (of_one_kind earlier later e is)
-        (here.0 (eq-eqb e.process e.process refl)).0;
+      (here.0 (eq-eqb e.process e.process refl)).0;
 }
   where
     of_one_kind : (earlier later : List Event) (e : Event) → es ≡ earlier ++ e ∷ later → (op : AnyOp)
-      → e.action ≡ Invoke op → IsOfKindAt earlier e.object op
+        → e.action ≡ Invoke op → IsOfKindAt earlier e.object op
     of_one_kind earlier later e is op a f o stands same b =
         let i : In f es = subst (In f) (sym is) (in_left f earlier (e ∷ later) (in_from_contains earlier f stands)) in
         let j : In e es = subst (In e) (sym is) (in_middle e earlier later) in

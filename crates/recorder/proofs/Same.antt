@@ -25,7 +25,7 @@ same_rising f (x ∷ xs) (y ∷ ys) p q g h =
       ]
     ] in
     let rest : xs ≡ ys = same_rising f xs ys p.1 q.1 (λ z i. behind f x y z xs ys p.0 first i (g z (inr i)))
-      (λ z i. behind f y x z ys xs q.0 (sym first) i (h z (inr i))) in
+    (λ z i. behind f y x z ys xs q.0 (sym first) i (h z (inr i))) in
     ap (λ z. z ∷ xs) first ∙ ap (λ zs. y ∷ zs) rest
 
 -- where also the parts of each process are the same, the lists are
@@ -36,7 +36,7 @@ same_by_parts {X} f process xs ys p q e =
     same_rising f xs ys p q (λ x. across x xs ys (e (process x))) (λ x. across x ys xs (sym (e (process x))))
   where
     across : (x : X) (us vs : List X)
-      → filter (λ z. process z == process x) us ≡ filter (λ z. process z == process x) vs → In x us → In x vs
+        → filter (λ z. process z == process x) us ≡ filter (λ z. process z == process x) vs → In x us → In x vs
     across x us vs same i =
-      in_filter (λ z. process z == process x) x vs
-      (subst (In x) same (in_filter_from (λ z. process z == process x) x us i (eq-eqb (process x) (process x) refl)))
+        in_filter (λ z. process z == process x) x vs
+        (subst (In x) same (in_filter_from (λ z. process z == process x) x us i (eq-eqb (process x) (process x) refl)))

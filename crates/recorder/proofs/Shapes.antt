@@ -52,8 +52,8 @@ shape_next (register v) Read d r e = shaped Read _ d _ r (of_value Read refl (λ
 shape_next (register v) (Cas x y) d r e = cas (contains_value v x) e
   where
     cas : (b : Bool) → ◌≡◌ {A = Option (Content × AnyReply)}
-      (cond b (Some (register (Some y), Swapped x y)) (Some (register v, NotSwapped))) (Some (d, r))
-      → HasShape (Cas x y) r
+        (cond b (Some (register (Some y), Swapped x y)) (Some (register v, NotSwapped))) (Some (d, r))
+        → HasShape (Cas x y) r
     cas true f = shaped (Cas x y) _ d _ r refl f
     cas false f = shaped (Cas x y) _ d _ r refl f
 shape_next (register v) Clear d r e = shaped Clear _ d _ r refl e
@@ -100,7 +100,7 @@ along c (f ∷ es) h e r i back = elim i [
       let back' : f.returned ≡ Some r = ap (λ (k : Call). k.returned) (sym same) ∙ back in
       let reply : r.reply ≡ h.1 = subst (λ (o : Option Return). IfSome o (λ r. r.reply ≡ h.1)) back' h.3 in
       subst (λ (op : AnyOp). HasShape op r.reply) (ap (λ (k : Call). k.op) (sym same))
-        (subst (HasShape f.op) (sym reply) (shape_next c f.op h.0 h.1 h.2))
+      (subst (HasShape f.op) (sym reply) (shape_next c f.op h.0 h.1 h.2))
   | inr j ↦ along h.0 es h.4 e r j back
 ]
 
@@ -110,5 +110,5 @@ pub shape_ordered : (kind : Kind) (calls : List Call) (order : List ℤ) → IsV
 shape_ordered kind calls order v e r i back =
     let some : IsSome e.returned = subst IsSome (sym back) refl in
     along (empty kind) v.entries v.replies e r
-      (in_from_contains v.entries e
-      (all_at (λ (k : Call). IsSome k.returned → Contains v.entries k) calls v.whole e i some)) back
+    (in_from_contains v.entries e
+    (all_at (λ (k : Call). IsSome k.returned → Contains v.entries k) calls v.whole e i some)) back

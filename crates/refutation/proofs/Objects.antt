@@ -24,7 +24,7 @@ use Rattle.refutation.specs.Refutations.{HasNoValidOrder, IsShownBy, IsAnswerOn,
 pub none_among : (es : List Event) (objects : List ObjectCalls) → All (λ o. o.kind ≡ kind_at es o.object) objects
     → All (λ o. calls_of o.ops ≡ calls_on o.object (denoted es)) objects
     → ((kinds : ℕ → Kind) (h : List Numbered) → IsHistory h → IsLinearizable kinds (events h) → (x : ℕ)
-      → HasValidOrder kinds h x)
+    → HasValidOrder kinds h x)
     → IsHistory (denoted es) → Any (λ o. IsNoneValid o.kind (calls_of o.ops)) objects
     → IsLinearizable (kind_at es) (events (denoted es)) → ⊥
 none_among es objects kinds calls orders h some lin =
@@ -34,7 +34,7 @@ none_among es objects kinds calls orders h some lin =
     let cs = all_at (λ (o : ObjectCalls). calls_of o.ops ≡ calls_on o.object (denoted es)) objects calls o i in
     let order = orders (kind_at es) (denoted es) h lin o.object in
     some.4 order.0 (subst (λ (z : Kind). IsValidOrder z (calls_of o.ops) order.0) (sym k)
-      (subst (λ (z : List Call). IsValidOrder (kind_at es o.object) z order.0) (sym cs) order.1))
+    (subst (λ (z : List Call). IsValidOrder (kind_at es o.object) z order.0) (sym cs) order.1))
 
 -- each answer so far that is impossible refutes the history
 abbrev pub AreRefutations : Type 0 → List Refutation → Type 0
@@ -77,8 +77,8 @@ pub answered : (objects : List ObjectCalls) (i : ℕ) (o : ObjectCalls) (reason 
     → IfOk answer (λ r. IfNotShown r (IsDoubt reason.basis))
     → IfOk answer (λ r. r ≡ NoPart → (part : List Call) → NamesPart reason.cuts.items (calls_of o.ops) part → ⊥)
     → IfOk answer (λ r. r ≢ OtherObject
-      → (p : ObjectCalls) × Contains objects p × (p.object ≡ reason.object)
-      × IsAnswerOn p.kind (calls_of p.ops) reason r)
+    → (p : ObjectCalls) × Contains objects p × (p.object ≡ reason.object)
+    × IsAnswerOn p.kind (calls_of p.ops) reason r)
 answered objects i o reason (Ok r) lt is e none part shown doubt refused = λ own. (
   o,
   (i, lt, sym is),
@@ -107,7 +107,7 @@ pub answer_is : (es : List Event) (objects : List ObjectCalls) (reason : Reason)
     → All (λ o. calls_of o.ops ≡ calls_on o.object (denoted es)) objects
     → ((x : ℕ) → Contains (map (λ o. o.object) objects) x ↔ IsNamed es x)
     → (r ≢ OtherObject → (o : ObjectCalls) × Contains objects o × (o.object ≡ reason.object)
-      × IsAnswerOn o.kind (calls_of o.ops) reason r)
+    × IsAnswerOn o.kind (calls_of o.ops) reason r)
     → (r ≡ OtherObject → All (λ o. o.object ≢ reason.object) objects) → IsAnswer es reason r
 answer_is es objects reason r kinds calls named on other = go r refl
   where
@@ -118,9 +118,9 @@ answer_is es objects reason r kinds calls named on other = go r refl
         let i = in_from_contains objects o a.1 in
         let k = all_at (λ (o : ObjectCalls). o.kind ≡ kind_at es o.object) objects kinds o i ∙ ap (kind_at es) a.2 in
         let cs = all_at (λ (o : ObjectCalls). calls_of o.ops ≡ calls_on o.object (denoted es)) objects calls o i
-          ∙ ap (λ x. calls_on x (denoted es)) a.2 in
+        ∙ ap (λ x. calls_on x (denoted es)) a.2 in
         subst (λ (z : Kind). IsAnswerOn z (calls_on reason.object (denoted es)) reason r) k
-          (subst (λ (z : List Call). IsAnswerOn o.kind z reason r) cs a.3)
+        (subst (λ (z : List Call). IsAnswerOn o.kind z reason r) cs a.3)
 
     known : r ≢ OtherObject → IsNamed es reason.object
     known q =
@@ -128,12 +128,12 @@ answer_is es objects reason r kinds calls named on other = go r refl
         let o : ObjectCalls = a.0 in
         (named reason.object).0 (contains_from_in (map (λ o. o.object) objects) reason.object
         (subst (λ x. In x (map (λ o. o.object) objects)) a.2
-          (in_map_from (λ (o : ObjectCalls). o.object) o objects (in_from_contains objects o a.1))))
+        (in_map_from (λ (o : ObjectCalls). o.object) o objects (in_from_contains objects o a.1))))
 
     unknown : r ≡ OtherObject → IsNamed es reason.object → ⊥
     unknown q n =
         let i = in_map (λ (o : ObjectCalls). o.object) reason.object objects
-          (in_from_contains (map (λ o. o.object) objects) reason.object ((named reason.object).1 n)) in
+        (in_from_contains (map (λ o. o.object) objects) reason.object ((named reason.object).1 n)) in
         all_at (λ (o : ObjectCalls). o.object ≢ reason.object) objects (other q) i.0 i.1 (sym i.2)
 
     whole : (q : r ≢ OtherObject) → IsAnswer es reason r
@@ -145,8 +145,13 @@ answer_is es objects reason r kinds calls named on other = go r refl
     go NoPart e = whole (λ q. absurd (cc (e, q)))
     go OtherObject e = record {
       on = subst (IsAnswerOn (kind_at es reason.object) (calls_on reason.object (denoted es)) reason) (sym e)
-          (record { impossible = λ q. absurd (unlike q); part = tt; shown = tt; not_shown = tt;
-            no_part = λ q. absurd (cc q) });
+          (record {
+            impossible = λ q. absurd (unlike q);
+            part = tt;
+            shown = tt;
+            not_shown = tt;
+            no_part = λ q. absurd (cc q);
+          });
       other_object = unknown;
       own_object = known;
     }
@@ -157,7 +162,7 @@ answer_is es objects reason r kinds calls named on other = go r refl
 -- no order is valid of the object that was answered
 pub refuted_among : (objects : List ObjectCalls) (reason : Reason) (r : Refutation)
     → (r ≢ OtherObject → (o : ObjectCalls) × Contains objects o × (o.object ≡ reason.object)
-      × IsAnswerOn o.kind (calls_of o.ops) reason r)
+    × IsAnswerOn o.kind (calls_of o.ops) reason r)
     → is_impossible r ≡ true → Any (λ o. IsNoneValid o.kind (calls_of o.ops)) objects
 refuted_among objects reason r on so =
     let a = on (λ q. unlike (sym (ap is_impossible q) ∙ so)) in

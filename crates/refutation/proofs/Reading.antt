@@ -82,7 +82,7 @@ pub one_more_read : (fs : List Form) (i : ℕ) (f : Form) (rs : List Reason) (r 
     → Denotes (views (take (i + 1) fs)) (rs ++ r ∷ [])
 one_more_read fs i f rs r lt is h own =
     let more = ap views (take_more fs i f lt ∙ ap (λ (x : Form). take i fs ++ x ∷ []) (sym is))
-      ∙ map-append view (take i fs) (f ∷ []) in
+    ∙ map-append view (take i fs) (f ∷ []) in
     ap (map reason_in) more ∙ map-append reason_in (views (take i fs)) (view f ∷ [])
     ∙ ap (λ xs. xs ++ reason_in (view f) ∷ []) h
     ∙ ap (λ v. map (λ b. Some (seen b)) rs ++ v ∷ []) own

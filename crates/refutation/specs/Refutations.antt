@@ -1,5 +1,6 @@
 -- What is answered of a reason why no order of an object's operations is valid.
-use Rattle.std.specs.Prelude.{◌≡◌, ◌≢◌, ℕ, Bool, true, false, ⊤, List, Any, IsSome, Option, Some, None}
+use Rattle.std.specs.Prelude.{◌≡◌, ◌≢◌, ℕ, Bool, true, false, ⊤, List, Any, IsSome}
+use Rattle.std.specs.Prelude.{Option, Some, None}
 use Rattle.model.specs.declared.Kind.{Kind}
 use Rattle.model.specs.Orders.{Call, IsValidOrder, calls_on}
 use Rattle.events.specs.declared.event.Event.{Event}

@@ -29,7 +29,7 @@ pub enum Doubt {
     NoMemory,
 }
 
-/// What is answered of a reason.
+/// The answer to a reason.
 #[derive(Debug, Drop)]
 pub enum Refutation {
     /// No order of the object's operations is valid, since none of this part is.
@@ -52,6 +52,7 @@ fn doubt_of_search(alloc: Global, part: &ObjectHistory, trial: Trial, limit: u64
     match outcome {
         Outcome::Found(order) => Some(Doubt::Possible(order)),
         Outcome::Impossible => None,
+        // A search of any size is not too large.
         Outcome::OutOfSteps | Outcome::TooLarge => Some(Doubt::OutOfSteps),
         Outcome::NoMemory => Some(Doubt::NoMemory),
     }
@@ -96,8 +97,8 @@ fn doubt_of(alloc: Global, part: &ObjectHistory, basis: Basis, limit: u64) -> Op
 }
 
 /// Whether the reason shows that no order of the object's operations is valid. A search takes at
-/// most the steps that the reason gives, or else `limit`. The part that the reason names is handed
-/// out.
+/// most the steps that the reason gives, or else `limit`. The part that the reason names is
+/// returned.
 ///
 /// An error: an allocation failed for the part.
 pub fn refute(

@@ -37,7 +37,7 @@ pub enum Fault {
     CertificateForms(CertFault),
 }
 
-/// What is said of a history and its certificates.
+/// The verdict on a history and its certificates.
 #[derive(Debug, PartialEq, Eq, Drop)]
 pub enum Verdict {
     /// The certificates hold, so the history is linearizable.

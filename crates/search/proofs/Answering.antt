@@ -18,20 +18,45 @@ sound_from : (object : ℕ) (kind : Kind) (calls : List Call) (limit : ℕ) (o :
     → (o ≡ outcome.NoMemory → Any (λ call. IsSome call.returned) calls)
     → IsSoundAnswer object kind calls limit (search_for object (record { outcome = o; steps = steps }))
 sound_from object kind calls limit (outcome.Found order) steps f i s out memory =
-    record { found = (refl, f); impossible = λ e. absurd (cc e); steps = s; out_of_steps = λ e. absurd (cc e);
-        memory = λ e. absurd (cc e) }
+    record {
+      found = (refl, f);
+      impossible = λ e. absurd (cc e);
+      steps = s;
+      out_of_steps = λ e. absurd (cc e);
+      memory = λ e. absurd (cc e);
+    }
 sound_from object kind calls limit outcome.Impossible steps f i s out memory =
-    record { found = tt; impossible = λ e. i refl; steps = s; out_of_steps = λ e. absurd (cc e);
-        memory = λ e. absurd (cc e) }
+    record {
+      found = tt;
+      impossible = λ e. i refl;
+      steps = s;
+      out_of_steps = λ e. absurd (cc e);
+      memory = λ e. absurd (cc e);
+    }
 sound_from object kind calls limit outcome.OutOfSteps steps f i s out memory =
-    record { found = tt; impossible = λ e. absurd (cc e); steps = s; out_of_steps = λ e. out refl;
-        memory = λ e. absurd (cc e) }
+    record {
+      found = tt;
+      impossible = λ e. absurd (cc e);
+      steps = s;
+      out_of_steps = λ e. out refl;
+      memory = λ e. absurd (cc e);
+    }
 sound_from object kind calls limit outcome.TooLarge steps f i s out memory =
-    record { found = tt; impossible = λ e. absurd (cc e); steps = s; out_of_steps = λ e. absurd (cc e);
-        memory = λ e. absurd (cc e) }
+    record {
+      found = tt;
+      impossible = λ e. absurd (cc e);
+      steps = s;
+      out_of_steps = λ e. absurd (cc e);
+      memory = λ e. absurd (cc e);
+    }
 sound_from object kind calls limit outcome.NoMemory steps f i s out memory =
-    record { found = tt; impossible = λ e. absurd (cc e); steps = s; out_of_steps = λ e. absurd (cc e);
-        memory = λ e. memory refl }
+    record {
+      found = tt;
+      impossible = λ e. absurd (cc e);
+      steps = s;
+      out_of_steps = λ e. absurd (cc e);
+      memory = λ e. memory refl;
+    }
 
 -- what is too large is so in both words
 large_in : (object : ℕ) (o : Outcome) → (outcome_for object o ≡ TooLarge) ↔ (o ≡ outcome.TooLarge)

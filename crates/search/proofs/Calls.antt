@@ -33,10 +33,13 @@ calls-filter (o ∷ ops) = go o.«end» (calls-filter ops)
     go : (e : End) → calls_of ops ≡ map as_call (filter happens ops)
         → cons_option (call_with o.number o.op e) (calls_of ops)
         ≡ map as_call (cond (is_some (call_with o.number o.op e))
-          (record { number = o.number; op = o.op; «end» = e } ∷ filter happens ops) (filter happens ops))
+        (record { number = o.number; op = o.op; «end» = e } ∷ filter happens ops) (filter happens ops))
     go (Returned at r) h = ap
-      (λ (cs : List Call). record { number = o.number; op = o.op;
-      returned = Some (record { at = at; reply = r }) } ∷ cs) h
+        (λ (cs : List Call). record {
+          number = o.number;
+          op = o.op;
+          returned = Some (record { at = at; reply = r });
+        } ∷ cs) h
     go Pending h = ap (λ (cs : List Call). record { number = o.number; op = o.op; returned = None } ∷ cs) h
     go Failed h = h
 
@@ -77,7 +80,7 @@ arranged h items floors return_floors pending is few p f g within returned = rec
   returned = returned;
   of_kind = λ k l. all_items (λ o. kind_of o.op ≡ h.kind) h.ops items p is.of_kind k _ l;
   ends = λ k r l q. all_items (λ o. (r : Return) → return_of o.«end» ≡ Some r → o.number < r.at) h.ops items p
-    (λ k d l r q. returns_after _ h.ops _ r (is.ends k d l) q) k _ l r q;
+      (λ k d l r q. returns_after _ h.ops _ r (is.ends k d l) q) k _ l r q;
 }
 
 -- ---- how many returned
@@ -102,24 +105,24 @@ count_first items (suc k) l = go (owes (call_at items) [] k) refl (count_first i
     more = ap (λ (x : ℕ). count_by returns (take x items)) (add-one k)
 
     go : (b : Bool) → owes (call_at items) [] k ≡ b
-      → count_below (owes (call_at items) []) k ≡ count_by returns (take k items)
+        → count_below (owes (call_at items) []) k ≡ count_by returns (take k items)
         → cond b (suc (count_below (owes (call_at items) []) k)) (count_below (owes (call_at items) []) k)
-          ≡ count_by returns (take (suc k) items)
+        ≡ count_by returns (take (suc k) items)
     go true e h =
         let q = count_by_more_yes returns items k none (omega arith)
-          (by_owed (returns (get_or items k none)) true e) in let m = more in omega arith
+        (by_owed (returns (get_or items k none)) true e) in let m = more in omega arith
     go false e h =
         let q = count_by_more_no returns items k none (omega arith)
-          (by_owed (returns (get_or items k none)) false e) in let m = more in omega arith
+        (by_owed (returns (get_or items k none)) false e) in let m = more in omega arith
 
 count_kept : (ops : List Invocation) → count_by returns (filter happens ops) ≡ count_by returns ops
 count_kept ops = sym (length-filter returns (filter happens ops))
     ∙ ap length (filter-filter returns happens ops
-      ∙ filter_same (λ o. happens o && returns o) returns ops (λ o i. both o.number o.op o.«end»))
-      ∙ length-filter returns ops
+    ∙ filter_same (λ o. happens o && returns o) returns ops (λ o i. both o.number o.op o.«end»))
+    ∙ length-filter returns ops
   where
     both : (number : ℕ) (op : AnyOp) (e : End)
-      → (is_some (call_with number op e) && is_some (return_of e)) ≡ is_some (return_of e)
+        → (is_some (call_with number op e) && is_some (return_of e)) ≡ is_some (return_of e)
     both number op (Returned at r) = refl
     both number op Pending = refl
     both number op Failed = refl
@@ -130,14 +133,14 @@ pub count-owed : (ops items : List Invocation) (left : ℕ) → IsPermutation (f
 count-owed ops items left p e =
     e ∙ sym (count_kept ops) ∙ sym (sum_by-IsPermutation (λ o. cond (returns o) 1 0) (filter happens ops) items p)
     ∙ sym (count_first items (length items) (omega arith)
-      ∙ ap (count_by returns) (take_all (length items) items (omega arith)))
+    ∙ ap (count_by returns) (take_all (length items) items (omega arith)))
 
 -- where some operation returned, some call did
 pub some_returned : (ops : List Invocation) → count_by returns ops ≢ 0 → Any (λ c. IsSome c.returned) (calls_of ops)
 some_returned ops ne = go (filter returns ops) refl
   where
     happened : (number : ℕ) (op : AnyOp) (e : End) → is_some (return_of e) ≡ true
-      → is_some (call_with number op e) ≡ true
+        → is_some (call_with number op e) ≡ true
     happened number op (Returned at r) q = refl
     happened number op Pending q = refl
     happened number op Failed q = absurd (cc q)
@@ -147,8 +150,8 @@ some_returned ops ne = go (filter returns ops) refl
         let here = in_filter returns o ops i in
         let yes = in_filter_passes returns o ops i in
         let call = subst (In (as_call o)) (sym (calls-filter ops))
-          (in_map_from as_call o (filter happens ops)
-          (in_filter_from happens o ops here (happened o.number o.op o.«end» yes))) in
+        (in_map_from as_call o (filter happens ops)
+        (in_filter_from happens o ops here (happened o.number o.op o.«end» yes))) in
         let k = contains_from_in (calls_of ops) (as_call o) call in
         (k.0, as_call o, k.1, k.2, yes)
 
@@ -162,7 +165,7 @@ none_returned ops e c r i q =
     let m = in_map as_call c (filter happens ops) (subst (In c) (calls-filter ops) i) in
     let yes : returns m.0 ≡ true = ap (λ (x : Call). is_some x.returned) (sym m.2) ∙ ap is_some q in
     nothing m.0 (filter returns ops) (length-filter returns ops ∙ e)
-      (in_filter_from returns m.0 ops (in_filter happens m.0 ops m.1) yes)
+    (in_filter_from returns m.0 ops (in_filter happens m.0 ops m.1) yes)
   where
     nothing : (o : Invocation) (os : List Invocation) → length os ≡ 0 → In o os → ⊥
     nothing o [] e i = i

@@ -33,20 +33,20 @@ if_found NoMemory P c h e = absurd (cc e)
 -- what is found is certified
 pub certifies : (Is : ℕ → Kind → List Call → Search → Type 0)
     → ((x : ℕ) (kind : Kind) (calls : List Call) (s : Search) → Is x kind calls s
-      → IfFound s.found (IsCertificateOf x kind calls)) → Certifies (λ s. certificate_in s.found) Is
+    → IfFound s.found (IsCertificateOf x kind calls)) → Certifies (λ s. certificate_in s.found) Is
 certifies Is found x kind calls s c h e = if_found s.found (IsCertificateOf x kind calls) c (found x kind calls s h) e
 
 -- an object of which no order is valid, against locality
 pub not_linearizable : (es : List Event) (Is : ℕ → Kind → List Call → Search → Type 0) (answers : List (ℕ × Search))
     → ((x : ℕ) (kind : Kind) (calls : List Call) (s : Search) → Is x kind calls s → s.found ≡ Impossible
-      → IsNoneValid kind calls)
+    → IsNoneValid kind calls)
     → ((kinds : ℕ → Kind) (h : List Numbered) → IsHistory h → IsLinearizable kinds (events h) → (x : ℕ)
-      → HasValidOrder kinds h x)
+    → HasValidOrder kinds h x)
     → IsHistory (denoted es) → AreOnAll es Is answers → Any (λ a. a.1.found ≡ Impossible) answers
     → IsLinearizable (kind_at es) (events (denoted es)) → ⊥
 not_linearizable es Is answers none orders h all some lin =
     let a : ℕ × Search = some.1 in
     let answer = all_at (λ (a : ℕ × Search). Is a.0 (kind_at es a.0) (calls_on a.0 (denoted es)) a.1) answers all.each
-      a (in_from_contains answers a (some.0, some.2, some.3)) in
+    a (in_from_contains answers a (some.0, some.2, some.3)) in
     let o = orders (kind_at es) (denoted es) h lin a.0 in
     none a.0 (kind_at es a.0) (calls_on a.0 (denoted es)) a.1 answer some.4 o.0 o.1

@@ -119,7 +119,7 @@ goes_on_from n call done c (e ∷ es) inj known new whole apart order replies =
     (k ∷ rest.0, (left, candidate, replies.0, record { reply = replies.1; does = does; agrees = agrees }, rest.1))
   where
     agree : (o : Option Return) (r : Return) (reply : AnyReply) → o ≡ Some r → IfSome o (λ s. s.reply ≡ reply)
-      → r.reply ≡ reply
+        → r.reply ≡ reply
     agree None r reply q h = absurd (cc q)
     agree (Some s) r reply q h = ap (λ (x : Return). x.reply) (sym (same_Some s r q)) ∙ h
 

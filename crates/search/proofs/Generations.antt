@@ -25,8 +25,10 @@ none_dead t (p ∷ pairs) e = absurd (cc e)
 pub kept_dead : (t : Trials) (before kept : Dead) → AreAllDead t before → IsKept before kept → AreAllDead t kept
 kept_dead t before kept all is_kept = elim is_kept [
   | inl e ↦ subst (AreAllDead t) (sym e) all
-  | inr o ↦ record { older = subst (AreDead t) (sym o.older) all.younger;
-    younger = none_dead t kept.younger.pairs.items o.younger }
+  | inr o ↦ record {
+    older = subst (AreDead t) (sym o.older) all.younger;
+    younger = none_dead t kept.younger.pairs.items o.younger;
+  }
 ]
 
 pub remembered_dead : (t : Trials) (before : Dead) (pair : Pair) (after : Dead) → AreAllDead t before
@@ -38,7 +40,7 @@ remembered_dead t before pair after all dead r =
       older = subst (AreDead t) (sym r.older) k.older;
       younger = subst (AreDead t) (sym r.younger)
           (All-push (λ p. IsDeadPair (length t.items.items) (call_at t.items.items) p.high p.undone.items
-            (content_kept p.content)) r.kept.younger.pairs.items pair k.younger dead);
+          (content_kept p.content)) r.kept.younger.pairs.items pair k.younger dead);
     }
 
 pub remembered_some : (t : Trials) (before : Dead) (pair : Option Pair) (after : Dead) → AreAllDead t before
@@ -51,23 +53,23 @@ remembered_some t before None after all dead r = subst (AreAllDead t) (sym r) al
 pub hit_one : (t : Trials) (start : Content) (ls : List Level) (bs : List Content) (c after : Content)
     (nx pv nx2 : List ℕ) (high at : ℕ) (window : Window) (left high2 : ℕ)
     (gives : AnyReply) (pairs : List Pair)
-      → IsWalk (length t.items.items) (call_at t.items.items) start ls bs (position c nx pv high)
-      (turn at window left) → at < length t.items.items
+    → IsWalk (length t.items.items) (call_at t.items.items) start ls bs (position c nx pv high)
+    (turn at window left) → at < length t.items.items
     → next c (call_at t.items.items at).op ≡ Some (after, gives) → nx2 ≡ next_without nx pv at → high ≤ high2
     → at < high2 → AreDead t pairs
     → HasPair pairs nx2 high2 after → Pair → IsDeadAt (length t.items.items) (call_at t.items.items) (places ls) c at
 hit_one t start ls bs c after nx pv nx2 high at window left high2 gives pairs w l does en hi hat dead h d =
     let q = h.2 d in
     hit (length t.items.items)
-      (call_at t.items.items) start ls bs c after _ nx pv nx2 high at window left high2 _ _ gives w l does en q.1 hi
-      hat (dead h.0 d h.1) q.0 q.2
+    (call_at t.items.items) start ls bs c after _ nx pv nx2 high at window left high2 _ _ gives w l does en q.1 hi
+    hat (dead h.0 d h.1) q.0 q.2
 
 -- one of either generation is met
 pub hit_any : (t : Trials) (start : Content) (ls : List Level) (bs : List Content) (c after : Content)
     (nx pv nx2 : List ℕ) (high at : ℕ) (window : Window) (left high2 : ℕ)
     (gives : AnyReply) (d : Dead)
-      → IsWalk (length t.items.items) (call_at t.items.items) start ls bs (position c nx pv high)
-      (turn at window left) → at < length t.items.items
+    → IsWalk (length t.items.items) (call_at t.items.items) start ls bs (position c nx pv high)
+    (turn at window left) → at < length t.items.items
     → next c (call_at t.items.items at).op ≡ Some (after, gives) → nx2 ≡ next_without nx pv at → high ≤ high2
     → at < high2 → AreAllDead t d
     → HasPair d.older.pairs.items nx2 high2 after ⊎ HasPair d.younger.pairs.items nx2 high2 after → Pair

@@ -67,9 +67,9 @@ around n done nx pv k h l =
       behind = f;
       front = b;
       first = same_stop n done (get_or pv k 0) (get_or nx (get_or pv k 0) 0) k g.stop
-        (stop_of_left n done k l) g.rises b.rises g.gap b.gap;
+          (stop_of_left n done k l) g.rises b.rises g.gap b.gap;
       last = same_slot n done (get_or pv (get_or nx (suc k) 0) 0) (suc k)
-        (get_or nx (suc k) 0) a.slot l a.rises f.rises a.gap f.gap;
+          (get_or nx (suc k) 0) a.slot l a.rises f.rises a.gap f.gap;
       next_in = omega arith;
       before_in = omega arith;
     }
@@ -112,7 +112,7 @@ linked_without n done nx pv k h l =
       forth = λ s le sl. elim (cases_eq s p) [
         | inl e ↦
             let is : get_or (set nx p q) s 0 ≡ q =
-              ap (λ (x : ℕ). get_or (set nx p q) x 0) e ∙ get_or-set_same nx p q 0 a.next_in in
+            ap (λ (x : ℕ). get_or (set nx p q) x 0) e ∙ get_or-set_same nx p q 0 a.next_in in
             let e' : s ≡ p = e in
             subst (IsForth n (k ∷ done) s) (sym is) (record {
               rises = omega arith;
@@ -125,16 +125,16 @@ linked_without n done nx pv k h l =
             subst (IsForth n (k ∷ done) s) (sym is) (record {
               rises = f.rises;
               stop = stop_more n done k (get_or nx s 0) f.stop
-                (λ m. let m' : get_or nx s 0 ≡ k = m in let fr = f.rises in
+                  (λ m. let m' : get_or nx s 0 ≡ k = m in let fr = f.rises in
                   ne (same_slot n done s p k (slot_less n done k s sl) a.front.slot (omega arith) pk
-                    (subst (IsGap done s) m f.gap) a.front.gap));
+                  (subst (IsGap done s) m f.gap) a.front.gap));
               gap = gap_more done k s (get_or nx s 0) f.gap;
             })
       ];
       back = λ t st. elim (cases_eq t q) [
         | inl e ↦
             let is : get_or (set pv q p) t 0 ≡ p =
-              ap (λ (x : ℕ). get_or (set pv q p) x 0) e ∙ get_or-set_same pv q p 0 a.before_in in
+            ap (λ (x : ℕ). get_or (set pv q p) x 0) e ∙ get_or-set_same pv q p 0 a.before_in in
             let e' : t ≡ q = e in
             subst (λ (x : ℕ). IsBack n (k ∷ done) x t) (sym is) (record {
               rises = omega arith;
@@ -147,9 +147,9 @@ linked_without n done nx pv k h l =
             subst (λ (x : ℕ). IsBack n (k ∷ done) x t) (sym is) (record {
               rises = b.rises;
               slot = slot_more n done k (get_or pv t 0) b.slot
-                (λ m. let m' : get_or pv t 0 ≡ suc k = m in let br = b.rises in
+                  (λ m. let m' : get_or pv t 0 ≡ suc k = m in let br = b.rises in
                   ne (same_stop n done (suc k) t q (stop_less n done k t st) a.behind.stop (omega arith) kq
-                    (subst (λ (x : ℕ). IsGap done x t) m b.gap) a.behind.gap));
+                  (subst (λ (x : ℕ). IsGap done x t) m b.gap) a.behind.gap));
               gap = gap_more done k (get_or pv t 0) t b.gap;
             })
       ];
@@ -161,14 +161,14 @@ pub kept_next : (n : ℕ) (done nx pv : List ℕ) (k : ℕ) → Around n done nx
 kept_next n done nx pv k a =
     let r = a.front.rises in
     get_or-set_other nx (get_or pv k 0) (suc k) (get_or nx (suc k) 0) 0
-      (λ e. let e' : suc k ≡ get_or pv k 0 = e in omega arith)
+    (λ e. let e' : suc k ≡ get_or pv k 0 = e in omega arith)
 
 pub kept_before : (n : ℕ) (done nx pv : List ℕ) (k : ℕ) → Around n done nx pv k
     → get_or (before_without nx pv k) k 0 ≡ get_or pv k 0
 kept_before n done nx pv k a =
     let r = a.behind.rises in
     get_or-set_other pv (get_or nx (suc k) 0) k (get_or pv k 0) 0
-      (λ e. let e' : k ≡ get_or nx (suc k) 0 = e in omega arith)
+    (λ e. let e' : k ≡ get_or nx (suc k) 0 = e in omega arith)
 
 -- the place and its neighbours are within the lists, before and after
 pub within_before : (n : ℕ) (done nx pv : List ℕ) (k : ℕ) → Linked n done nx pv → IsLeft n done k → AreWithin nx pv k
@@ -232,7 +232,7 @@ listed_left n done nx pv s (u ∷ us) high h le sl w k i =
     inside nx u (v ∷ us) high w = w.0
 
     listed_here : (n : ℕ) (done nx pv : List ℕ) (s u : ℕ) (us : List ℕ) (high : ℕ) → Linked n done nx pv
-      → IsForth n done s (get_or nx s 0)
+        → IsForth n done s (get_or nx s 0)
         → get_or nx s 0 ≡ u → Lists nx (suc u) us high → IsLeft n done u
     listed_here n done nx pv s u us high h f e w =
         let long = h.long_next in
@@ -258,7 +258,7 @@ listed_cover n done nx pv s (u ∷ us) high h le sl w k sk kn kh out =
         | inl l ↦ f.gap k sk (omega arith)
         | inr l ↦
             let un = here.0 in listed_cover n done nx pv (suc u) us high h (omega arith) here w.2 k
-              (omega arith) kn kh (λ i. out (inr i))
+            (omega arith) kn kh (λ i. out (inr i))
       ]
     ]
 

@@ -9,9 +9,9 @@ one_step k n levels levels2 x x2 l m = let p = mul-le-mul_left (n + 2) l in omeg
 -- with one step more, and one level more at most
 pub step_smaller : (limit steps n levels levels2 at at2 : ℕ) → steps < limit → levels2 ≤ levels + 1
     → (limit - (steps + 1)) * (2 * (n + 2)) + levels2 * (n + 2) + (n + 1 - at2)
-      < (limit - steps) * (2 * (n + 2)) + levels * (n + 2) + (n + 1 - at)
+    < (limit - steps) * (2 * (n + 2)) + levels * (n + 2) + (n + 1 - at)
 step_smaller limit steps n levels levels2 at at2 c l =
     let e : limit - steps ≡ limit - (steps + 1) + 1 = omega arith in
     subst (λ (y : ℕ). (limit - (steps + 1)) * (2 * (n + 2)) + levels2 * (n + 2) + (n + 1 - at2)
-      < y * (2 * (n + 2)) + levels * (n + 2) + (n + 1 - at))
+    < y * (2 * (n + 2)) + levels * (n + 2) + (n + 1 - at))
     (sym e) (one_step (limit - (steps + 1)) n levels levels2 (n + 1 - at) (n + 1 - at2) l (omega arith))

@@ -43,9 +43,9 @@ numbers_differ : (ops items : List Invocation) → AllPairs (λ a b. a.number < 
     → j < k → k < length items → (call_at items j).number ≢ (call_at items k).number
 numbers_differ ops items up p j k l m e =
     let kept = all_from_pairs (λ a b. a.number < b.number) (filter happens ops)
-      (pairs_filter (λ a b. a.number < b.number) happens ops (pairs_from_all (λ a b. a.number < b.number) ops up)) in
+    (pairs_filter (λ a b. a.number < b.number) happens ops (pairs_from_all (λ a b. a.number < b.number) ops up)) in
     let first = IsDistinct-from_apart same_number (filter happens ops)
-      (λ i h d a b. let g = kept i h d a b in ne_eqb _ _ (λ q. omega (arith, q))) in
+    (λ i h d a b. let g = kept i h d a b in ne_eqb _ _ (λ q. omega (arith, q))) in
     let now = IsDistinct-IsPermutation same_number (λ a b. flip a.number b.number) (filter happens ops) items p first in
     let t = apart_from_distinct same_number items j k none now l m in
     let u = eq-eqb _ _ e in
@@ -71,7 +71,7 @@ listed_calls ops items up p = record {
       let o : Invocation = get_or items k none in
       let i = in_from_contains (filter happens ops) o
       (Contains-permutation items (filter happens ops) o (IsPermutation-sym (filter happens ops) items p)
-        (contains_from_in items o (in_from_get items k none l))) in
+      (contains_from_in items o (in_from_get items k none l))) in
       subst (In (as_call o)) (sym (calls-filter ops)) (in_map_from as_call o (filter happens ops) i);
   cover = λ e i.
       let m = in_map as_call e (filter happens ops) (subst (In e) (calls-filter ops) i) in
@@ -124,20 +124,20 @@ valid_from kind calls n call rest order a h eo =
       numbers = eo ∙ twice rest;
       known = all_from_in (Contains calls) (map call rest)
           (λ e i. let k = in_map call e rest i in
-            contains_from_in calls e (subst (λ (x : Call). In x calls) (sym k.2) (a.known k.0 (m.left k.0 k.1).0)));
+          contains_from_in calls e (subst (λ (x : Call). In x calls) (sym k.2) (a.known k.0 (m.left k.0 k.1).0)));
       once = subst (AllPairs (λ x y. x ≢ y)) (sym eo)
           (all_from_pairs (λ x y. x ≢ y) (map (λ k. pos (call k).number) rest)
           (pairs_map (λ x y. x ≢ y) (λ k. pos (call k).number) rest
           (pairs_weaker (λ j k. j ≢ k) (λ j k. pos (call j).number ≢ pos (call k).number) rest
-            (λ j k i l ne e. ne (a.apart j k (m.left j i).0 (m.left k l).0 (same_pos _ _ e))) m.apart)));
+          (λ j k i l ne e. ne (a.apart j k (m.left j i).0 (m.left k l).0 (same_pos _ _ e))) m.apart)));
       whole = all_from_in (λ e. IsSome e.returned → Contains (map call rest) e) calls (λ e i some.
           let k = a.cover e i in
           let r = returned_some e.returned some in
           contains_from_in (map call rest) e
-            (subst (λ (x : Call). In x (map call rest)) k.2
-            (in_map_from call k.0 rest (m.whole k.0 r.0 (k.1, λ z. z) (ap (λ (x : Call). x.returned) k.2 ∙ r.1)))));
+          (subst (λ (x : Call). In x (map call rest)) k.2
+          (in_map_from call k.0 rest (m.whole k.0 r.0 (k.1, λ z. z) (ap (λ (x : Call). x.returned) k.2 ∙ r.1)))));
       in_order = all_from_pairs (λ x y. ReturnsBefore y x → ⊥) (map call rest)
-        (pairs_map (λ x y. ReturnsBefore y x → ⊥) call rest m.in_time);
+          (pairs_map (λ x y. ReturnsBefore y x → ⊥) call rest m.in_time);
       replies = m.replies;
     }
   where
@@ -153,13 +153,13 @@ none_valid kind calls n call a dead order v =
     let number : Call → ℤ = λ e. pos e.number in
     let apart = pairs_weaker (λ x y. number x ≢ number y) (λ x y. x ≢ y) v.entries (λ x y i j ne e. ne (ap number e))
     (pairs_from_map (λ x y. x ≢ y) number v.entries
-      (subst (Pairs (λ x y. x ≢ y)) v.numbers (pairs_from_all (λ x y. x ≢ y) order v.once))) in
+    (subst (Pairs (λ x y. x ≢ y)) v.numbers (pairs_from_all (λ x y. x ≢ y) order v.once))) in
     let r = goes_on_from n call [] (empty kind) v.entries (λ j k l m e. a.apart j k l m (ap (λ (x : Call). x.number) e))
     (λ e i. a.cover e (in_from_contains calls e (all_at (Contains calls) v.entries v.known e i)))
     (λ k l i z. z)
     (λ k r l e. in_from_contains v.entries (call k)
-      (all_at (λ e. IsSome e.returned → Contains v.entries e) calls v.whole (call k) (a.known k l.0)
-      (subst IsSome (sym e) refl)))
+    (all_at (λ e. IsSome e.returned → Contains v.entries e) calls v.whole (call k) (a.known k l.0)
+    (subst IsSome (sym e) refl)))
     apart (pairs_from_all (λ x y. ReturnsBefore y x → ⊥) v.entries v.in_order) v.replies in
     dead r.0 r.1
 
@@ -172,7 +172,7 @@ nothing_valid kind calls pending = record {
   known = all_from_in (Contains calls) [] (λ e i. absurd i);
   once = all_from_pairs (λ x y. x ≢ y) [] tt;
   whole = all_from_in (λ e. IsSome e.returned → Contains [] e) calls
-    (λ e i some. absurd (go e.returned (λ r q. pending e r i q) some));
+      (λ e i some. absurd (go e.returned (λ r q. pending e r i q) some));
   in_order = all_from_pairs (λ x y. ReturnsBefore y x → ⊥) [] tt;
   replies = tt;
 }
@@ -188,7 +188,7 @@ pub places_within : (t : Trials) (levels : List Level)
     → All (λ l. l.place < length t.items.items) levels
 places_within t levels h = all_from_in (λ l. l.place < length t.items.items) levels
     (λ l i. ((ordered (length t.items.items) (call_at t.items.items) [] (empty t.kind) (places levels) h).left l.place
-      (in_map_from (λ (l : Level). l.place) l levels i)).0)
+    (in_map_from (λ (l : Level). l.place) l levels i)).0)
 
 pub order_found : (t : Trials) (levels : List Level) (order : List ℤ)
     → Continues (length t.items.items) (call_at t.items.items) [] (empty t.kind) (places levels)
@@ -196,8 +196,8 @@ pub order_found : (t : Trials) (levels : List Level) (order : List ℤ)
 order_found t levels order h e = record { rest = places levels; goes_on = h; numbers = e ∙ twice levels }
   where
     twice : (ls : List Level)
-      → map (λ l. pos (call_at t.items.items l.place).number) ls
-      ≡ map (λ k. pos (call_at t.items.items k).number) (places ls)
+        → map (λ l. pos (call_at t.items.items l.place).number) ls
+        ≡ map (λ k. pos (call_at t.items.items k).number) (places ls)
     twice [] = refl
     twice (l ∷ ls) = ap (λ (zs : List ℤ). pos (call_at t.items.items l.place).number ∷ zs) (twice ls)
 

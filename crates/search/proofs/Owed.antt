@@ -13,7 +13,7 @@ count_zero f zero k e l = absurd (omega arith)
 count_zero f (suc n) k e l = go (f n) refl e (cases_eq k n) (count_zero f n k)
   where
     go : (b : Bool) → f n ≡ b → cond b (suc (count_below f n)) (count_below f n) ≡ 0 → ((k ≡ n) ⊎ (k ≢ n))
-      → (count_below f n ≡ 0 → k < n → f k ≡ false) → f k ≡ false
+        → (count_below f n ≡ 0 → k < n → f k ≡ false) → f k ≡ false
     go true q h o more = absurd (omega (arith, h))
     go false q h (inl s) more = ap f s ∙ q
     go false q h (inr s) more = let s' : k ≢ n = s in more h (omega arith)
@@ -23,7 +23,7 @@ count_some f zero l = absurd (omega arith)
 count_some f (suc n) l = go (f n) refl l (count_some f n)
   where
     go : (b : Bool) → f n ≡ b → 0 < cond b (suc (count_below f n)) (count_below f n)
-      → (0 < count_below f n → (k : ℕ) × (k < n) × (f k ≡ true)) → (k : ℕ) × (k < suc n) × (f k ≡ true)
+        → (0 < count_below f n → (k : ℕ) × (k < n) × (f k ≡ true)) → (k : ℕ) × (k < suc n) × (f k ≡ true)
     go true q h more = (n, omega arith, q)
     go false q h more = let r = more h in (r.0, (let l = r.1 in omega arith), r.2)
 
@@ -39,13 +39,13 @@ count_one_less f g zero at l t u h = absurd (omega arith)
 count_one_less f g (suc n) at l t u h = elim (cases_eq n at) [
   | inl e ↦
       ap (λ b. cond b (suc (count_below f n)) (count_below f n)) (ap f e ∙ t)
-        ∙ ap suc (count_same f g n (λ k m. h k (λ q. let q' : k ≡ at = q in let e' : n ≡ at = e in omega arith)))
+      ∙ ap suc (count_same f g n (λ k m. h k (λ q. let q' : k ≡ at = q in let e' : n ≡ at = e in omega arith)))
       ∙ sym (ap (λ b. suc (cond b (suc (count_below g n)) (count_below g n))) (ap g e ∙ u))
   | inr ne ↦
       let ne' : n ≢ at = ne in
       let r = count_one_less f g n at (omega arith) t u h in
       ap (λ b. cond b (suc (count_below f n)) (count_below f n)) (h n ne) ∙ ap (λ (m : ℕ). cond (g n) (suc m) m) r
-        ∙ pushed (g n) (count_below g n)
+      ∙ pushed (g n) (count_below g n)
 ]
   where
     pushed : (b : Bool) (m : ℕ) → cond b (suc (suc m)) (suc m) ≡ suc (cond b (suc m) m)
@@ -73,7 +73,7 @@ pub owes_left : (n : ℕ) (call : ℕ → Call) (done : List ℕ) (k : ℕ) → 
 owes_left n call done k l e = go (call k).returned (list_any (λ j. j == k) done) refl refl e
   where
     go : (o : Option Return) (b : Bool) → (call k).returned ≡ o → list_any (λ j. j == k) done ≡ b
-      → (is_some o && not b) ≡ true → IsLeft n done k × ((r : Return) × ((call k).returned ≡ Some r))
+        → (is_some o && not b) ≡ true → IsLeft n done k × ((r : Return) × ((call k).returned ≡ Some r))
     go None b q p h = absurd (cc h)
     go (Some r) true q p h = absurd (cc h)
     go (Some r) false q p h = ((l, λ i. let t = in_any k done i in absurd (cc (t, p))), (r, q))

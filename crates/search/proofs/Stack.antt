@@ -58,8 +58,8 @@ candidate_now n call done at least m low j jl ne b = let g = m.below j b.0 jl b.
 pub dead_now : (n : ℕ) (call : ℕ → Call) (start : Content) (ls : List Level) (bs : List Content) (c : Content)
     (nx pv : List ℕ)
     (high at : ℕ) (window : Window) (left : ℕ)
-      → IsWalk n call start ls bs (position c nx pv high) (turn at window left)
-      → ((k : ℕ) → IsDeadAt n call (places ls) c k) → IsDead n call (places ls) c
+    → IsWalk n call start ls bs (position c nx pv high) (turn at window left)
+    → ((k : ℕ) → IsDeadAt n call (places ls) c k) → IsDead n call (places ls) c
 dead_now n call start ls bs c nx pv high at window left w d =
     let some = count_some (owes call (places ls)) n (subst (λ (x : ℕ). 0 < x) w.counts w.owed) in
     let o = owes_left n call (places ls) some.0 some.1 some.2 in
@@ -167,19 +167,19 @@ bound_now n call start (l ∷ ls) (b ∷ bs) c nx pv high s = s.2
 pub walk_linked : (n : ℕ) (call : ℕ → Call) (start : Content) (ls : List Level) (bs : List Content) (c : Content)
     (nx pv : List ℕ)
     (high at : ℕ) (window : Window) (left : ℕ)
-      → IsWalk n call start ls bs (position c nx pv high) (turn at window left) → Linked n (places ls) nx pv
+    → IsWalk n call start ls bs (position c nx pv high) (turn at window left) → Linked n (places ls) nx pv
 walk_linked n call start ls bs c nx pv high at window left w = linked_now n call start ls bs c nx pv high w.stack
 
 pub walk_bound : (n : ℕ) (call : ℕ → Call) (start : Content) (ls : List Level) (bs : List Content) (c : Content)
     (nx pv : List ℕ)
     (high at : ℕ) (window : Window) (left : ℕ)
-      → IsWalk n call start ls bs (position c nx pv high) (turn at window left) → IsBound (places ls) high
+    → IsWalk n call start ls bs (position c nx pv high) (turn at window left) → IsBound (places ls) high
 walk_bound n call start ls bs c nx pv high at window left w = bound_now n call start ls bs c nx pv high w.stack
 
 pub walk_left : (n : ℕ) (call : ℕ → Call) (start : Content) (ls : List Level) (bs : List Content) (c : Content)
     (nx pv : List ℕ)
     (high at : ℕ) (window : Window) (left : ℕ)
-      → IsWalk n call start ls bs (position c nx pv high) (turn at window left) → at < n → IsLeft n (places ls) at
+    → IsWalk n call start ls bs (position c nx pv high) (turn at window left) → at < n → IsLeft n (places ls) at
 walk_left n call start ls bs c nx pv high at window left w l = (l, w.stop.left l)
 
 -- on to the next place that is left
@@ -205,9 +205,9 @@ passed n call start ls bs c nx pv high at window left w l d =
 pub placed_frame : (n : ℕ) (call : ℕ → Call) (start : Content) (ls : List Level) (bs : List Content)
     (c after : Content) (nx pv : List ℕ)
     (high at : ℕ) (window : Window) (left new_high : ℕ) (lv : Level) → lv.place ≡ at → lv.window ≡ window
-      → lv.high ≡ high →
+    → lv.high ≡ high →
     IsWalk n call start ls bs (position c nx pv high) (turn at window left) → IsCandidate n call (places ls) at
-      → at < n → Places call at c after → high ≤ new_high → at < new_high →
+    → at < n → Places call at c after → high ≤ new_high → at < new_high →
     Stack n call start (lv ∷ ls) (c ∷ bs) (position after (next_without nx pv at) (before_without nx pv at) new_high)
 placed_frame n call start ls bs c after nx pv high at window left new_high lv ep el eh w cand l p hi hat =
     let here = walk_left n call start ls bs c nx pv high at window left w l in
@@ -216,16 +216,16 @@ placed_frame n call start ls bs c after nx pv high at window left new_high lv ep
     let a = around n (places ls) nx pv at link here in
     let new_link = linked_without n (places ls) nx pv at link here in
     let en : next_with (next_without nx pv at) (before_without nx pv at) at ≡ nx =
-      next_again n (places ls) nx pv at a in
+    next_again n (places ls) nx pv at a in
     let eb : before_with (next_without nx pv at) (before_without nx pv at) at ≡ pv =
-      before_again n (places ls) nx pv at a in
+    before_again n (places ls) nx pv at a in
     let frame : Frame n call (places ls) c after at window =
-      record { left = here; candidate = cand; placed = p; tried = w.tried; is_window = w.is_window } in
+    record { left = here; candidate = cand; placed = p; tried = w.tried; is_window = w.is_window } in
     let old : Stack n call start ls bs
-      (position c (next_with (next_without nx pv at) (before_without nx pv at) at)
-      (before_with (next_without nx pv at) (before_without nx pv at) at) high) =
+    (position c (next_with (next_without nx pv at) (before_without nx pv at) at)
+    (before_with (next_without nx pv at) (before_without nx pv at) at) high) =
     subst (λ (x : List ℕ). Stack n call start ls bs
-      (position c x (before_with (next_without nx pv at) (before_without nx pv at) at) high)) (sym en)
+    (position c x (before_with (next_without nx pv at) (before_without nx pv at) at) high)) (sym en)
     (subst (λ (y : List ℕ). Stack n call start ls bs (position c nx y high)) (sym eb) w.stack) in
     let nb : IsBound (at ∷ places ls) new_high = λ k i. elim i [
       | inl e ↦ (let e' : k ≡ at = e in omega arith)
@@ -235,12 +235,12 @@ placed_frame n call start ls bs c after nx pv high at window left new_high lv ep
     × Linked n (x ∷ places ls) (next_without nx pv at) (before_without nx pv at) × IsBound (x ∷ places ls) new_high
     × AreWithin (next_without nx pv at) (before_without nx pv at) x
     × Stack n call start ls bs
-      (position c (next_with (next_without nx pv at) (before_without nx pv at) x)
-      (before_with (next_without nx pv at) (before_without nx pv at) x) z) in
+    (position c (next_with (next_without nx pv at) (before_without nx pv at) x)
+    (before_with (next_without nx pv at) (before_without nx pv at) x) z) in
     subst (λ (x : ℕ). M x lv.window lv.high) (sym ep)
     (subst (λ (y : Window). M at y lv.high) (sym el)
-      (subst (λ (z : ℕ). M at window z) (sym eh)
-      (frame, new_link, nb, within_after n (places ls) nx pv at a link, old)))
+    (subst (λ (z : ℕ). M at window z) (sym eh)
+    (frame, new_link, nb, within_after n (places ls) nx pv at a link, old)))
 
 -- and the walk starts anew at the first place that is left
 pub placed : (n : ℕ) (call : ℕ → Call) (start : Content) (ls : List Level) (bs : List Content) (c : Content)
@@ -263,19 +263,25 @@ placed n call start ls bs c nx pv high window left s is_window counts owed =
 pub came_back : (n : ℕ) (call : ℕ → Call) (start : Content) (lv : Level) (ls : List Level) (b : Content)
     (bs : List Content) (c : Content)
     (nx pv : List ℕ) (high left : ℕ) → Stack n call start (lv ∷ ls) (b ∷ bs) (position c nx pv high)
-      → IsDead n call (lv.place ∷ places ls) c → left ≡ count_below (owes call (places ls)) n → 0 < left →
+    → IsDead n call (lv.place ∷ places ls) c → left ≡ count_below (owes call (places ls)) n → 0 < left →
     IsWalk n call start ls bs (position b (next_with nx pv lv.place) (before_with nx pv lv.place) lv.high)
-      (turn (get_or (next_with nx pv lv.place) (suc lv.place) 0) lv.window left)
+    (turn (get_or (next_with nx pv lv.place) (suc lv.place) 0) lv.window left)
 came_back n call start lv ls b bs c nx pv high left s d counts owed =
     let f = s.0 in
     let l = f.left.0 in
     let w : IsWalk n call start ls bs (position b (next_with nx pv lv.place) (before_with nx pv lv.place) lv.high)
-      (turn lv.place lv.window left) =
-    record { stack = s.4; tried = f.tried; is_window = f.is_window;
-        stop = record { within = omega arith; left = λ m. f.left.1 }; counts = counts; owed = owed } in
+    (turn lv.place lv.window left) =
+    record {
+      stack = s.4;
+      tried = f.tried;
+      is_window = f.is_window;
+      stop = record { within = omega arith; left = λ m. f.left.1 };
+      counts = counts;
+      owed = owed;
+    } in
     passed n call start ls bs b (next_with nx pv lv.place)
-      (before_with nx pv lv.place) lv.high lv.place lv.window left w l
-      (dead_child n call (places ls) b c lv.place f.placed.reply f.placed.does d)
+    (before_with nx pv lv.place) lv.high lv.place lv.window left w l
+    (dead_child n call (places ls) b c lv.place f.placed.reply f.placed.does d)
 
 -- ---- what is done
 
@@ -288,11 +294,11 @@ onto (x ∷ xs) ys = onto xs (x ∷ ys)
 pub continued : (n : ℕ) (call : ℕ → Call) (start : Content) (ls : List Level) (bs : List Content) (c : Content)
     (nx pv : List ℕ) (high : ℕ)
     (rest : List ℕ) → Stack n call start ls bs (position c nx pv high) → Continues n call (places ls) c rest
-      → (all : List ℕ) × Continues n call [] start all × (all ≡ onto (places ls) rest)
+    → (all : List ℕ) × Continues n call [] start all × (all ≡ onto (places ls) rest)
 continued n call start [] [] c nx pv high rest s h =
     (rest, subst (λ (x : Content). Continues n call [] x rest) s.0 h, refl)
 continued n call start [] (b ∷ bs) c nx pv high rest s h = absurd s
 continued n call start (l ∷ ls) [] c nx pv high rest s h = absurd s
 continued n call start (l ∷ ls) (b ∷ bs) c nx pv high rest s h =
     continued n call start ls bs b (next_with nx pv l.place) (before_with nx pv l.place) l.high (l.place ∷ rest) s.4
-      (s.0.left, s.0.candidate, c, s.0.placed, h)
+    (s.0.left, s.0.candidate, c, s.0.placed, h)

@@ -54,7 +54,8 @@ abbrev pub IsCertificateOf : ℕ → Kind → List Call → Certificate → Type
 IsCertificateOf object kind calls c = (c.object ≡ object) × IsValidOrder kind calls c.order.items
 
 -- what a search within a limit may answer of the calls of an object, however many they are
-pub record IsSoundAnswer (object : ℕ) (kind : Kind) (calls : List Call) (limit : ℕ) (s : Search) : Type 0
+pub record IsSoundAnswer (object : ℕ) (kind : Kind) (calls : List Call) (limit : ℕ)
+    (s : Search) : Type 0
   where
     -- what was found is valid
     pub found : IfFound s.found (IsCertificateOf object kind calls)

@@ -66,20 +66,20 @@ from_sorted-insert : (es fs : Entries) (k v : ℤ) → Ordered es → Ordered fs
     → from_sorted {R = int_cmp} fs ≡ insert (from_sorted {R = int_cmp} es) k v
 from_sorted-insert es fs k v he hf changes =
     same_map int_cmp_total int_cmp-IsAntisymmetric _ _
-      (λ q. get-changed es fs k (Some v) he hf changes q ∙ sym (get-insert int_cmp_total _ k v q))
+    (λ q. get-changed es fs k (Some v) he hf changes q ∙ sym (get-insert int_cmp_total _ k v q))
 
 from_sorted-remove : (es fs : Entries) (k : ℤ) → Ordered es → Ordered fs → Changes es fs k None
     → from_sorted {R = int_cmp} fs ≡ remove (from_sorted {R = int_cmp} es) k
 from_sorted-remove es fs k he hf changes =
     same_map int_cmp_total int_cmp-IsAntisymmetric _ _
-      (λ q. get-changed es fs k None he hf changes q ∙ sym (get-remove int_cmp_total _ k q))
+    (λ q. get-changed es fs k None he hf changes q ∙ sym (get-remove int_cmp_total _ k q))
 
 -- maps of ordered entries are equal only where the entries are
 from_sorted-injective : (es fs : Entries) → Ordered es → Ordered fs
     → from_sorted {R = int_cmp} es ≡ from_sorted {R = int_cmp} fs → es ≡ fs
 from_sorted-injective es fs he hf e =
     sym (entries-from_sorted int_cmp es (is_sorted-entries es he)) ∙ ap entries e
-      ∙ entries-from_sorted int_cmp fs (is_sorted-entries fs hf)
+    ∙ entries-from_sorted int_cmp fs (is_sorted-entries fs hf)
 
 pub from_sorted-empty : (es : Entries) → es ≡ [] → Ordered es → from_sorted {R = int_cmp} es ≡ empty
 from_sorted-empty es e h =
@@ -91,7 +91,7 @@ pub next-put : (m : FinMap int_cmp ℤ) (es fs : Entries) (k v : ℤ) (r : Optio
     → next (table m) (Put k v) ≡ Some (table (from_sorted fs), Value r)
 next-put m es fs k v r is he hf changes old =
     ap (λ n. Some (table n, Value (get m k)))
-      (ap (λ n. insert n k v) (sym is) ∙ sym (from_sorted-insert es fs k v he hf changes))
+    (ap (λ n. insert n k v) (sym is) ∙ sym (from_sorted-insert es fs k v he hf changes))
     ∙ ap (λ o. Some (table (from_sorted fs), Value o)) (ap (λ n. get n k) (sym is) ∙ get-at_key es k he ∙ sym old)
 
 pub next-get : (m : FinMap int_cmp ℤ) (es : Entries) (k : ℤ) (r : Option ℤ) → from_sorted es ≡ m → Ordered es
@@ -105,7 +105,7 @@ pub next-del : (m : FinMap int_cmp ℤ) (es fs : Entries) (k : ℤ) (r : Option 
     → next (table m) (Del k) ≡ Some (table (from_sorted fs), Value r)
 next-del m es fs k r is he hf changes old =
     ap (λ n. Some (table n, Value (get m k)))
-      (ap (λ n. remove n k) (sym is) ∙ sym (from_sorted-remove es fs k he hf changes))
+    (ap (λ n. remove n k) (sym is) ∙ sym (from_sorted-remove es fs k he hf changes))
     ∙ ap (λ o. Some (table (from_sorted fs), Value o)) (ap (λ n. get n k) (sym is) ∙ get-at_key es k he ∙ sym old)
 
 table_inserted : (m : FinMap int_cmp ℤ) (es fs : Entries) (k v : ℤ) → from_sorted es ≡ m → Ordered es

@@ -141,7 +141,7 @@ numbers_after has before n (d ∷ ds) = go (is_on has d) refl (numbers_after has
         let k = length before in
         map-append (numbered_by own) (event_of k (client_of d)) (events_from (k + 1) forms)
         ∙ (ap (λ es. es ++ with_numbers own (events_from (k + 1) forms))
-          (form_placed has before later n (client_of d) q)
+        (form_placed has before later n (client_of d) q)
         ∙ (ap (λ es. events_on has (event_of n (client_of d)) ++ es)
         (ap (λ ns. with_numbers ns (events_from (k + 1) forms)) (sym (append_assoc before (n ∷ []) later))
         ∙ (ap (λ j. with_numbers ((before ++ n ∷ []) ++ later) (events_from j forms)) (sym (length_push before n))

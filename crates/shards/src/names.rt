@@ -36,6 +36,7 @@ pub fn object_named(shards: u16, shard: u16, name: u32) -> u32
     let name = name % MOST_NAMES;
     let count = u32::from(shards);
     if count == 0 {
+        // As the definition has it: n mod 0 is n.
         return u32::from(shard) * MOST_NAMES + name;
     }
     let upper = (u32::from(shard) + (count - name % count)) % count;

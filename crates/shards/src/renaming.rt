@@ -27,8 +27,8 @@ fn after_element(text: &[u8]) -> Option<&[u8]> {
     let mut rest = text;
     let mut depth: usize = 0;
     for _ in 0..text.len() {
-        let (token, behind) = next_token(rest)?;
-        rest = behind;
+        let (token, later) = next_token(rest)?;
+        rest = later;
         depth = match token {
             Piece::OpenMap | Piece::OpenVector => depth.saturating_add(1),
             Piece::CloseMap | Piece::CloseVector => depth.saturating_sub(1),
@@ -54,8 +54,8 @@ fn is_object(key: &Piece) -> bool {
 fn around_object(text: &[u8]) -> Option<(&[u8], &[u8])> {
     let mut rest = after(text, b"{")?;
     for _ in 0..text.len() {
-        let (key, behind) = next_token(rest)?;
-        let value = after_gap(behind);
+        let (key, later) = next_token(rest)?;
+        let value = after_gap(later);
         rest = after_element(value)?;
         if is_object(&key) {
             return Some((before(text, value)?, rest));
@@ -99,8 +99,9 @@ fn spells_map(alloc: Global, text: &[u8], map: &ClientMap) -> bool
 }
 
 /// The map of a client, which is written so, with this number of its object. What is written anew
-/// is read again, so that nothing has to be known of where the number was. That it is what it
-/// should be, except where an allocation fails, is tested.
+/// is read again, so that nothing has to be known of where the number was. If the number is not
+/// found, or what is written says something else, this fails as an allocation does; that it never
+/// does so is tested.
 pub(crate) fn renamed_map(
     alloc: Global,
     map: &ClientMap,

@@ -74,7 +74,7 @@ fn divide_last<D: Folder>(
 
 /// Divides a history as `split_over` does, by pieces that are mostly a little longer than
 /// `piece_length` bytes. The shards do not depend on that; which fault is found may, where there
-/// are several.
+/// are several. It is public for tests, which take short pieces.
 pub fn split_by_pieces<F: Source, D: Folder>(
     alloc: Global,
     history: &mut F,

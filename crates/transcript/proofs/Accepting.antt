@@ -43,7 +43,7 @@ kind_named kinds (e ∷ es) of_kind x f o i on is =
     ]
 
     go : (b : Bool) → (e.object == x) ≡ b → (a : Action) → e.action ≡ a → (In f es → kind_at es x ≡ kinds x)
-      → cond b (kind_in a (kind_at es x)) (kind_at es x) ≡ kinds x
+        → cond b (kind_in a (kind_at es x)) (kind_at es x) ≡ kinds x
     go true q (Invoke op) s later = of_kind e op (inl refl) s ∙ ap kinds (eqb-true e.object x q)
     go true q (Ok r) s later = later (at_head (Ok r) s (λ op t. absurd (cc (t))))
     go true q Fail s later = later (at_head Fail s (λ op t. absurd (cc (t))))
@@ -71,34 +71,35 @@ module _ (kinds : List Kind) (quota : ℕ) (journals : ℕ → List AnyEvent) (l
       (pairs_from_all (λ (a b : Numbered). a.number < b.number) (denoted es) (denoted_is_history es proper).rising)
       (pairs_from_all (λ (a b : Numbered). a.number < b.number) s.history s.denoted.rising)
       (λ c. denotes_once c (journals c) _ _
-        (part_denotes c (journals c) es (are.each c) (turns_in kinds quota journals logs s c)) (s.denoted.each c))
+      (part_denotes c (journals c) es (are.each c) (turns_in kinds quota journals logs s c)) (s.denoted.each c))
 
   kind_is : (x : ℕ) → IsNamed es x → kind_at es x ≡ world.kind_at kinds x
   kind_is x n = kind_named (world.kind_at kinds) es
       (λ e op i q. (among kinds quota journals logs s e.process (Invoked e.number e.object op)
-        (invocation_of e.process 0 (journals e.process) e op (own_event journals es are e i) q)).1)
+      (invocation_of e.process 0 (journals e.process) e op (own_event journals es are e i) q)).1)
       x n.event n.op (in_from_contains es n.event n.stands) n.on_object n.invokes
 
   valid_at : (x : ℕ) → IsNamed es x → IsValidOrder (kind_at es x) (calls_on x (denoted es)) (order_of (logs x))
   valid_at x n = subst (λ (k : Kind). IsValidOrder k (calls_on x (denoted es)) (order_of (logs x))) (sym (kind_is x n))
       (subst (λ (h : List Numbered). IsValidOrder (world.kind_at kinds x) (calls_on x h) (order_of (logs x)))
-        (sym history_is) (s.valid x))
+      (sym history_is) (s.valid x))
 
   pub are_valid : (cs : List Certificate) → AreCertificatesOf journals logs cs → AreValid es cs
   are_valid cs h = record {
     each = λ x n.
         let at = in_map (λ (c : Certificate). c.object) x cs
-          (in_from_contains (map (λ (c : Certificate). c.object) cs) x
-          ((h.named x).1 (named_in journals es are x n))) in
+        (in_from_contains (map (λ (c : Certificate). c.object) cs) x
+        ((h.named x).1 (named_in journals es are x n))) in
         let c = at.0 in
         let on : c.object ≡ x = sym at.2 in
         let order : c.order.items ≡ order_of (logs x) =
-          all_at (λ (d : Certificate). d.order.items ≡ order_of (logs d.object)) cs h.orders c at.1
-          ∙ ap (λ y. order_of (logs y)) on in
-        (record { certificate = c; stands = contains_from_in cs c at.1; for_object = on },
-          subst (IsValidOrder (kind_at es x) (calls_on x (denoted es))) (sym order) (valid_at x n));
+        all_at (λ (d : Certificate). d.order.items ≡ order_of (logs d.object)) cs h.orders c at.1
+        ∙ ap (λ y. order_of (logs y)) on in (
+          record { certificate = c; stands = contains_from_in cs c at.1; for_object = on },
+          subst (IsValidOrder (kind_at es x) (calls_on x (denoted es))) (sym order) (valid_at x n),
+        );
     none_besides = all_from_in (λ (c : Certificate). IsNamed es c.object) cs
         (λ c i. named_by journals es are c.object
-          ((h.named c.object).0 (contains_from_in (map (λ (d : Certificate). d.object) cs) c.object
-          (in_map_from (λ (d : Certificate). d.object) c cs i))));
+        ((h.named c.object).0 (contains_from_in (map (λ (d : Certificate). d.object) cs) c.object
+        (in_map_from (λ (d : Certificate). d.object) c cs i))));
   }

@@ -34,10 +34,10 @@ has_log objects journals logs r es are x n =
     let same : es ≡ r.events = same_by_parts (λ (e : Event). e.number) (λ (e : Event). e.process) es r.events
     (pairs_from_all (λ (a b : Event). a.number < b.number) es are.rising)
     (pairs_from_all (λ (a b : Event). a.number < b.number) r.events r.are_events.rising)
-      (λ c. are.each c ∙ sym (r.are_events.each c)) in
+    (λ c. are.each c ∙ sym (r.are_events.each c)) in
     subst (λ (y : ℕ). y < objects) n.on_object
-      (all_at (λ (e : Event). e.object < objects) r.events r.on_objects n.event
-      (subst (In n.event) same (in_from_contains es n.event n.stands)))
+    (all_at (λ (e : Event). e.object < objects) r.events r.on_objects n.event
+    (subst (In n.event) same (in_from_contains es n.event n.stands)))
 
 -- the tickets of a log in memory are low
 pub log_low : {O R : Type 0} (op_in : O → AnyOp) (reply_in : R → AnyReply) (r : Recorded O R)
@@ -45,9 +45,9 @@ pub log_low : {O R : Type 0} (op_in : O → AnyOp) (reply_in : R → AnyReply) (
     → (x : ℕ) (log : List (LogEntry O R)) → log ≡ log_at r x → All (λ e. e.ticket < max_tickets) log
 log_low op_in reply_in r kept x log is = all_from_in (λ (e : LogEntry _ _). e.ticket < max_tickets) log
     (λ e i. all_at (λ (e : AnyEntry). e.ticket < max_tickets) (logs_in op_in reply_in r x) (kept.few_logged x)
-      (entry_in op_in reply_in e)
+    (entry_in op_in reply_in e)
     (subst (λ (xs : List (LogEntry _ _)). In (entry_in op_in reply_in e) (map (entry_in op_in reply_in) xs)) is
-      (in_map_from (entry_in op_in reply_in) e log i)))
+    (in_map_from (entry_in op_in reply_in) e log i)))
 
 -- the certificates, in the order of the named objects
 pub are_certificates : (journals : ℕ → List AnyEvent) (logs : ℕ → List AnyEntry) (es : List Event)
@@ -58,10 +58,10 @@ pub are_certificates : (journals : ℕ → List AnyEvent) (logs : ℕ → List A
 are_certificates journals logs es are names up named cs same orders = record {
   rising = all_from_pairs (λ (a b : Certificate). a.object < b.object) cs
       (pairs_from_map (λ a b. a < b) (λ (c : Certificate). c.object) cs
-        (pairs_from_all (λ a b. a < b) (map (λ (c : Certificate). c.object) cs)
-        (subst (AllPairs (λ a b. a < b)) (sym same) up)));
+      (pairs_from_all (λ a b. a < b) (map (λ (c : Certificate). c.object) cs)
+      (subst (AllPairs (λ a b. a < b)) (sym same) up)));
   named = λ x. subst (λ (ns : List ℕ). Contains ns x ↔ IsNamedIn journals x) (sym same)
-    (λ h. named_in journals es are x ((named x).0 h), λ h. (named x).1 (named_by journals es are x h));
+      (λ h. named_in journals es are x ((named x).0 h), λ h. (named x).1 (named_by journals es are x h));
   orders = orders;
 }
 
@@ -88,4 +88,4 @@ pub names_rise : (os : List ObjectCalls) → AllPairs (λ a b. a.object < b.obje
     → AllPairs (λ a b. a < b) (map (λ o. o.object) os)
 names_rise os up = all_from_pairs (λ a b. a < b) (map (λ (o : ObjectCalls). o.object) os)
     (pairs_map (λ a b. a < b) (λ (o : ObjectCalls). o.object) os
-      (pairs_from_all (λ (a b : ObjectCalls). a.object < b.object) os up))
+    (pairs_from_all (λ (a b : ObjectCalls). a.object < b.object) os up))

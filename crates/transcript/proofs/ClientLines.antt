@@ -53,13 +53,13 @@ goes_part p prior (l ∷ ls) h =
   where
     own : (l.event.process == p) ≡ true → Goes p prior (l ∷ filter (λ (x : Line). x.event.process == p) ls)
     own q = subst (Goes p prior)
-      (ap (λ b. cond b (l ∷ filter (λ (x : Line). x.event.process == p) ls)
-      (filter (λ (x : Line). x.event.process == p) ls)) q) h
+        (ap (λ b. cond b (l ∷ filter (λ (x : Line). x.event.process == p) ls)
+        (filter (λ (x : Line). x.event.process == p) ls)) q) h
 
     other : (l.event.process == p) ≡ false → Goes p prior (filter (λ (x : Line). x.event.process == p) ls)
     other q = subst (Goes p prior)
-      (ap (λ b. cond b (l ∷ filter (λ (x : Line). x.event.process == p) ls)
-      (filter (λ (x : Line). x.event.process == p) ls)) q) h
+        (ap (λ b. cond b (l ∷ filter (λ (x : Line). x.event.process == p) ls)
+        (filter (λ (x : Line). x.event.process == p) ls)) q) h
 
 behind : (p : ℕ) (front earlier ls : List Line) → Goes p (last_line p front) (earlier ++ ls)
     → Goes p (last_line p (front ++ earlier)) ls
@@ -70,13 +70,13 @@ behind p front [] ls h = subst (λ (xs : List Line). Goes p (last_line p xs) ls)
     append-nil (x ∷ xs) = ap (λ ys. x ∷ ys) (append-nil xs)
 behind p front (l ∷ earlier) ls h =
     subst (λ (xs : List Line). Goes p (last_line p xs) ls) (append_assoc front (l ∷ []) earlier)
-      (behind p (front ++ l ∷ []) earlier ls (next (l.event.process == p) refl))
+    (behind p (front ++ l ∷ []) earlier ls (next (l.event.process == p) refl))
   where
     next : (b : Bool) → (l.event.process == p) ≡ b → Goes p (last_line p (front ++ l ∷ [])) (earlier ++ ls)
     next true q = subst (λ o. Goes p o (earlier ++ ls))
-      (sym (last_push p front l ∙ ap (λ b. cond b (Some l) (last_line p front)) q)) (h.0 q).1
+        (sym (last_push p front l ∙ ap (λ b. cond b (Some l) (last_line p front)) q)) (h.0 q).1
     next false q = subst (λ o. Goes p o (earlier ++ ls))
-      (sym (last_push p front l ∙ ap (λ b. cond b (Some l) (last_line p front)) q)) (h.1 q)
+        (sym (last_push p front l ∙ ap (λ b. cond b (Some l) (last_line p front)) q)) (h.1 q)
 
 -- the lines of a journal go on like that
 
@@ -84,22 +84,23 @@ journal_goes : (c : ℕ) (q : Option Call) (prior : Option Line) (js : List AnyE
     → ((k : Line) (p : AnyOp) → prior ≡ Some k → k.event.action ≡ Invoke p → ⊥) → Goes c prior (lines_from c q js)
 journal_goes c q prior l none h = tt
 journal_goes c q prior l (last t x op) h = (λ e. ((refl, h), tt), λ e. tt)
-journal_goes c q prior l (call t x op u a js fits rest) h =
-    (λ e. ((refl, h), back a fits (λ o f. journal_goes c (Some (record { object = x; op = op })) o js rest f)),
-      λ e. absurd (cc (e, eq-eqb c c refl)))
+journal_goes c q prior l (call t x op u a js fits rest) h = (
+  λ e. ((refl, h), back a fits (λ o f. journal_goes c (Some (record { object = x; op = op })) o js rest f)),
+  λ e. absurd (cc (e, eq-eqb c c refl)),
+)
   where
     back : (a : AnyAnswer) → Fits op a
         → ((o : Option Line) → ((k : Line) (p : AnyOp) → o ≡ Some k → k.event.action ≡ Invoke p → ⊥)
-          → Goes c o (lines_from c (Some (record { object = x; op = op })) js))
+        → Goes c o (lines_from c (Some (record { object = x; op = op })) js))
         → Goes c (Some (record { event = event_with c x (Invoked t x op); op = op }))
         (record { event = event_with c x (Returned u a); op = op }
-          ∷ lines_from c (Some (record { object = x; op = op })) js)
+        ∷ lines_from c (Some (record { object = x; op = op })) js)
     back (Reply r) f later = (
       λ e. (
         ((record { event = event_with c x (Invoked t x op); op = op }, refl, refl, refl, refl), f),
         later (Some (record { event = event_with c x (Returned u (Reply r)); op = op }))
             (λ k p s i. let same : record { event = event_with c x (Returned u (Reply r)); op = op } ≡ k = cc (s) in
-                let act : Ok r ≡ Invoke p =
+            let act : Ok r ≡ Invoke p =
             ap (λ (z : Line). z.event.action) same ∙ i in absurd (cc (act))),
       ),
       λ e. absurd (cc (e, eq-eqb c c refl)),
@@ -109,7 +110,7 @@ journal_goes c q prior l (call t x op u a js fits rest) h =
         (record { event = event_with c x (Invoked t x op); op = op }, refl, refl, refl, refl),
         later (Some (record { event = event_with c x (Returned u Refused); op = op }))
             (λ k p s i. let same : record { event = event_with c x (Returned u Refused); op = op } ≡ k = cc (s) in
-                let act : Fail ≡ Invoke p =
+            let act : Fail ≡ Invoke p =
             ap (λ (z : Line). z.event.action) same ∙ i in absurd (cc (act))),
       ),
       λ e. absurd (cc (e, eq-eqb c c refl)),
@@ -122,6 +123,6 @@ pub line_follows : (ls : List Line) (journals : ℕ → List AnyEvent) → ((c :
 line_follows ls journals turn parts earlier later l is =
     let c = l.event.process in
     let all : Goes c None ls =
-      goes_part c None ls (subst (Goes c None) (sym (parts c))
-      (journal_goes c None None (journals c) (turn c) (λ k p s i. absurd (cc (s))))) in
+    goes_part c None ls (subst (Goes c None) (sym (parts c))
+    (journal_goes c None None (journals c) (turn c) (λ k p s i. absurd (cc (s))))) in
     ((behind c [] earlier (l ∷ later) (subst (Goes c None) is all)).0 (eq-eqb c c refl)).0

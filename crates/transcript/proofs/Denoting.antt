@@ -25,10 +25,10 @@ next_part p (e ∷ es) = go (e.process == p) refl (next_part p es)
   where
     go : (b : Bool) → (e.process == p) ≡ b → next_event p (filter (λ e. e.process == p) es) ≡ next_event p es
         → find (λ (x : Event). x.process == p)
-          (cond b (e ∷ filter (λ (x : Event). x.process == p) es) (filter (λ (x : Event). x.process == p) es))
+        (cond b (e ∷ filter (λ (x : Event). x.process == p) es) (filter (λ (x : Event). x.process == p) es))
         ≡ cond b (Some e) (find (λ (x : Event). x.process == p) es)
     go true q later = ap (λ b.
-      cond b (Some e) (find (λ (x : Event). x.process == p) (filter (λ (x : Event). x.process == p) es))) q
+        cond b (Some e) (find (λ (x : Event). x.process == p) (filter (λ (x : Event). x.process == p) es))) q
     go false q later = later
 
 of_process : (n p x : ℕ) (a : Action) (b : Bool) (m : Numbered) → In m (denoted_by n p x a b) → process_of m.event ≡ p
@@ -46,34 +46,34 @@ part_denoted : (c : ℕ) (es : List Event) → part c (denoted es) ≡ denoted (
 part_denoted c [] = refl
 part_denoted c (e ∷ es) =
     filter-append (λ (m : Numbered). process_of m.event == c)
-      (denoted_by e.number e.process e.object e.action (fails (next_event e.process es)))
+    (denoted_by e.number e.process e.object e.action (fails (next_event e.process es)))
     (denoted es) ∙ go (e.process == c) refl (part_denoted c es)
   where
     go : (b : Bool) → (e.process == c) ≡ b → part c (denoted es) ≡ denoted (filter (λ (x : Event). x.process == c) es)
         → part c (denoted_by e.number e.process e.object e.action (fails (next_event e.process es)))
-          ++ part c (denoted es)
+        ++ part c (denoted es)
         ≡ denoted (cond b (e ∷ filter (λ (x : Event). x.process == c) es) (filter (λ (x : Event). x.process == c) es))
     go true q later =
         let own : e.process ≡ c = eqb-true e.process c q in
         let here : part c (denoted_by e.number e.process e.object e.action (fails (next_event e.process es)))
-          ≡ denoted_by e.number e.process e.object e.action (fails (next_event e.process es)) =
+        ≡ denoted_by e.number e.process e.object e.action (fails (next_event e.process es)) =
         filter_all (λ (m : Numbered). process_of m.event == c)
-          (denoted_by e.number e.process e.object e.action (fails (next_event e.process es)))
+        (denoted_by e.number e.process e.object e.action (fails (next_event e.process es)))
         (λ m i. eq-eqb (process_of m.event) c
-          (of_process e.number e.process e.object e.action (fails (next_event e.process es)) m i ∙ own)) in
+        (of_process e.number e.process e.object e.action (fails (next_event e.process es)) m i ∙ own)) in
         let next : next_event e.process es ≡ next_event e.process (filter (λ (x : Event). x.process == c) es) =
         subst (λ (p : ℕ). next_event p es ≡ next_event p (filter (λ (x : Event). x.process == c) es)) (sym own)
-          (sym (next_part c es)) in
+        (sym (next_part c es)) in
         ap (λ xs. xs ++ part c (denoted es)) here
         ∙ (ap (λ o. denoted_by e.number e.process e.object e.action (fails o) ++ part c (denoted es)) next
         ∙ ap (λ xs. denoted_by e.number e.process e.object e.action
-          (fails (next_event e.process (filter (λ (x : Event). x.process == c) es))) ++ xs) later)
+        (fails (next_event e.process (filter (λ (x : Event). x.process == c) es))) ++ xs) later)
     go false q later =
         let here : part c (denoted_by e.number e.process e.object e.action (fails (next_event e.process es))) ≡ [] =
         filter_none (λ (m : Numbered). process_of m.event == c)
-          (denoted_by e.number e.process e.object e.action (fails (next_event e.process es)))
+        (denoted_by e.number e.process e.object e.action (fails (next_event e.process es)))
         (λ m i. ap (λ p. p == c)
-          (of_process e.number e.process e.object e.action (fails (next_event e.process es)) m i) ∙ q) in
+        (of_process e.number e.process e.object e.action (fails (next_event e.process es)) m i) ∙ q) in
         ap (λ xs. xs ++ part c (denoted es)) here ∙ later
 
 -- the next event is the client's own
@@ -87,21 +87,22 @@ denotes_events c x l (last t y op) = refl
 denotes_events c x l (call t y op u a js fits rest) = go a (denotes_events c y js rest)
   where
     go : (a : AnyAnswer) → Denotes c js (denoted (events_from c y js))
-      → Denotes c (Invoked t y op ∷ Returned u a ∷ js) (denoted (events_from c x (Invoked t y op ∷ Returned u a ∷ js)))
+        → Denotes c (Invoked t y op ∷ Returned u a ∷ js)
+        (denoted (events_from c x (Invoked t y op ∷ Returned u a ∷ js)))
     go (Reply r) h =
         let back : Event = record { number = u; process = c; object = y; action = Ok r } in (
           denoted (events_from c y js),
           ap
               (λ b. denoted_by t c y (Invoke op) b
-                ++ (record { number = u; event = Res c y r } ∷ denoted (events_from c y js)))
-                (next_own c back (events_from c y js) refl),
+              ++ (record { number = u; event = Res c y r } ∷ denoted (events_from c y js)))
+              (next_own c back (events_from c y js) refl),
           h,
         )
     go Refused h =
         let back : Event = record { number = u; process = c; object = y; action = Fail } in
         subst (Denotes c js) (sym
-          (ap (λ b. denoted_by t c y (Invoke op) b ++ denoted (events_from c y js))
-          (next_own c back (events_from c y js) refl))) h
+        (ap (λ b. denoted_by t c y (Invoke op) b ++ denoted (events_from c y js))
+        (next_own c back (events_from c y js) refl))) h
 
 -- a journal denotes one list of events
 pub denotes_once : (c : ℕ) (js : List AnyEvent) (h k : List Numbered) → Denotes c js h → Denotes c js k → h ≡ k
@@ -109,7 +110,7 @@ denotes_once c [] h k d e = d ∙ sym e
 denotes_once c (Invoked t x op ∷ []) h k d e = d ∙ sym e
 denotes_once c (Invoked t x op ∷ Returned u (Reply r) ∷ js) h k d e =
     d.1 ∙ (ap (λ ms. record { number = t; event = Inv c x op } ∷ record { number = u; event = Res c x r } ∷ ms)
-      (denotes_once c js d.0 e.0 d.2 e.2) ∙ sym e.1)
+    (denotes_once c js d.0 e.0 d.2 e.2) ∙ sym e.1)
 denotes_once c (Invoked t x op ∷ Returned u Refused ∷ js) h k d e = denotes_once c js h k d e
 denotes_once c (Invoked t x op ∷ Invoked u y o ∷ js) h k d e = absurd d
 denotes_once c (Returned u a ∷ js) h k d e = absurd d

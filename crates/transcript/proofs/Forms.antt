@@ -28,8 +28,13 @@ type_map Info = info
 
 -- the map that a line is
 abbrev pub map_of : Line → ClientMap
-map_of l = record { process = l.event.process; type = type_map l.event.action; function = Some (function_in l.op);
-    object = l.event.object; value = value_form (value_of l.op l.event.action) }
+map_of l = record {
+  process = l.event.process;
+  type = type_map l.event.action;
+  function = Some (function_in l.op);
+  object = l.event.object;
+  value = value_form (value_of l.op l.event.action);
+}
 
 type_is : (a : Action) → type_named (type_of a) ≡ Some (type_map a)
 type_is (Invoke o) = refl
@@ -45,13 +50,18 @@ client_is l low =
     let p = l.event.process in
     let v = value_form (value_of l.op l.event.action) in
     let name : Some (function_in l.op) ≡ function_named (name_of (function_in l.op)) =
-      named_is (Some (function_in l.op)) (name_of (function_in l.op)) refl tt in
+    named_is (Some (function_in l.op)) (name_of (function_in l.op)) refl tt in
     ap (λ t. client_with (Some p) t (Some (name_of (function_in l.op))) (short_in (Some l.event.object)) v)
-      (type_is l.event.action)
+    (type_is l.event.action)
     ∙ (ap (λ x. client_with (Some p) (Some (type_map l.event.action)) (Some (name_of (function_in l.op))) x v)
-      (object_is l.event.object low)
-    ∙ ap (λ f. Some (record { process = p; type = type_map l.event.action; function = f; object = l.event.object;
-      value = v })) (sym name))
+    (object_is l.event.object low)
+    ∙ ap (λ f. Some (record {
+      process = p;
+      type = type_map l.event.action;
+      function = f;
+      object = l.event.object;
+      value = v;
+    })) (sym name))
 
 value_back : (v : Value) → plain_value (value_form v) ≡ Some v
 value_back Nil = refl
@@ -97,12 +107,17 @@ action_is l last h = go l.event.action refl h
   where
     go : (a : Action) → l.event.action ≡ a → MayFollow last l.event.object l.op a
         → action_of (type_map a)
-          (record { process = l.event.process; type = type_map a; function = Some (function_in l.op);
-          object = l.event.object; value = value_form (value_of l.op a) }) ≡ Some a
+        (record {
+          process = l.event.process;
+          type = type_map a;
+          function = Some (function_in l.op);
+          object = l.event.object;
+          value = value_form (value_of l.op a);
+        }) ≡ Some a
     go (Invoke o) is f = ap (option_map Invoke)
-      (ap (λ v. option_and_then (op_with (function_in l.op)) v) (value_back (op_value l.op)) ∙ op_back l.op)
-      ∙ ap (λ z. Some (Invoke z)) f.0
+        (ap (λ v. option_and_then (op_with (function_in l.op)) v) (value_back (op_value l.op)) ∙ op_back l.op)
+        ∙ ap (λ z. Some (Invoke z)) f.0
     go (Ok r) is f = ap (option_map Ok)
-      (ap (λ v. option_and_then (reply_with (function_in l.op)) v) (value_back (reply_value r)) ∙ f.1)
+        (ap (λ v. option_and_then (reply_with (function_in l.op)) v) (value_back (reply_value r)) ∙ f.1)
     go Fail is f = refl
     go Info is f = refl

@@ -50,17 +50,17 @@ first_may p s [] f fs h e = absurd (cc)
 first_may p s (g ∷ es) f fs h e = go (g.process == p) refl (first_may p s es f fs)
   where
     go : (b : Bool) → (g.process == p) ≡ b
-      → (Runs p s es → filter (λ (x : Event). x.process == p) es ≡ f ∷ fs → MayDo s f.object f.action)
-      → MayDo s f.object f.action
+        → (Runs p s es → filter (λ (x : Event). x.process == p) es ≡ f ∷ fs → MayDo s f.object f.action)
+        → MayDo s f.object f.action
     go true q later =
         let whole : g ∷ filter (λ (x : Event). x.process == p) es ≡ f ∷ fs =
-          sym (ap (λ b. cond b (g ∷ filter (λ (x : Event). x.process == p) es)
-          (filter (λ (x : Event). x.process == p) es)) q) ∙ e in
+        sym (ap (λ b. cond b (g ∷ filter (λ (x : Event). x.process == p) es)
+        (filter (λ (x : Event). x.process == p) es)) q) ∙ e in
         let same : g ≡ f = cc (whole) in
         subst (λ (x : Event). MayDo s x.object x.action) same (h.0 q).0
     go false q later = later (h.1 q)
-      (sym (ap (λ b. cond b (g ∷ filter (λ (x : Event). x.process == p) es)
-      (filter (λ (x : Event). x.process == p) es)) q) ∙ e)
+        (sym (ap (λ b. cond b (g ∷ filter (λ (x : Event). x.process == p) es)
+        (filter (λ (x : Event). x.process == p) es)) q) ∙ e)
 
 no_return : (u x : ℕ) (a : AnyAnswer) → MayDo idle x (action_of a) → ⊥
 no_return u x (Reply r) m = m
@@ -83,9 +83,9 @@ pub of_client : (c : ℕ) (last : Option Call) (js : List AnyEvent) (l : Line) �
 of_client c last [] l i = absurd i
 of_client c last (e ∷ js) l i =
     elim (in_append l (line_with c e (call_after last e)) (lines_from c (call_after last e) js) i) [
-  | inl j ↦ of_line c e (call_after last e) l j
-  | inr j ↦ of_client c (call_after last e) js l j
-]
+      | inl j ↦ of_line c e (call_after last e) l j
+      | inr j ↦ of_client c (call_after last e) js l j
+    ]
 
 -- ---- the lines of all journals
 
@@ -104,10 +104,10 @@ lines_at n (j ∷ js) zero =
     let here : n + 0 ≡ n = omega arith in
     let own : filter (λ (l : Line). l.event.process == n + 0) (lines_of n j) ≡ lines_of n j =
     filter_all (λ (l : Line). l.event.process == n + 0) (lines_of n j)
-      (λ l i. eq-eqb l.event.process (n + 0) (of_client n None j l i ∙ sym here)) in
+    (λ l i. eq-eqb l.event.process (n + 0) (of_client n None j l i ∙ sym here)) in
     let others : filter (λ (l : Line). l.event.process == n + 0) (lines_in (n + 1) js) ≡ [] =
     filter_none (λ (l : Line). l.event.process == n + 0) (lines_in (n + 1) js)
-      (λ l i. ne_eqb l.event.process (n + 0) (λ e. let h = not_below (n + 1) js l i in absurd (omega arith))) in
+    (λ l i. ne_eqb l.event.process (n + 0) (λ e. let h = not_below (n + 1) js l i in absurd (omega arith))) in
     filter-append (λ (l : Line). l.event.process == n + 0) (lines_of n j) (lines_in (n + 1) js)
     ∙ (ap (λ xs. xs ++ filter (λ (l : Line). l.event.process == n + 0) (lines_in (n + 1) js)) own
     ∙ (ap (λ xs. lines_of n j ++ xs) others ∙ (append_nil (lines_of n j) ∙ ap (λ m. lines_of m j) (sym here))))
@@ -119,11 +119,11 @@ lines_at n (j ∷ js) (suc k) =
     let there : n + suc k ≡ (n + 1) + k = omega arith in
     let own : filter (λ (l : Line). l.event.process == n + suc k) (lines_of n j) ≡ [] =
     filter_none (λ (l : Line). l.event.process == n + suc k) (lines_of n j)
-      (λ l i. ne_eqb l.event.process (n + suc k) (λ e. let h = of_client n None j l i in absurd (omega arith))) in
+    (λ l i. ne_eqb l.event.process (n + suc k) (λ e. let h = of_client n None j l i in absurd (omega arith))) in
     let rest : filter (λ (l : Line). l.event.process == n + suc k) (lines_in (n + 1) js)
-      ≡ lines_of (n + suc k) (get_or js k []) =
+    ≡ lines_of (n + suc k) (get_or js k []) =
     subst (λ (m : ℕ). filter (λ (l : Line). l.event.process == m) (lines_in (n + 1) js) ≡ lines_of m (get_or js k []))
-      (sym there) (lines_at (n + 1) js k) in
+    (sym there) (lines_at (n + 1) js k) in
     filter-append (λ (l : Line). l.event.process == n + suc k) (lines_of n j) (lines_in (n + 1) js)
     ∙ (ap (λ xs. xs ++ filter (λ (l : Line). l.event.process == n + suc k) (lines_in (n + 1) js)) own ∙ rest)
 
@@ -131,21 +131,21 @@ lines_at n (j ∷ js) (suc k) =
 apart : (n : ℕ) (js : List (List AnyEvent))
     → ((k : ℕ) → Pairs (λ a b. number_in a < number_in b) (lines_of (n + k) (get_or js k [])))
     → ((a b : Line) → In a (lines_in n js) → In b (lines_in n js) → number_in a ≡ number_in b
-      → process_in a ≡ process_in b)
+    → process_in a ≡ process_in b)
     → Pairs (λ a b. number_in a ≢ number_in b) (lines_in n js)
 apart n [] up same = tt
 apart n (j ∷ js) up same =
     let here : n + 0 ≡ n = omega arith in
     pairs_append (λ a b. number_in a ≢ number_in b) (lines_of n j) (lines_in (n + 1) js)
     (pairs_weaker (λ a b. number_in a < number_in b) (λ a b. number_in a ≢ number_in b) (lines_of n j)
-      (λ a b i k l e. omega arith)
+    (λ a b i k l e. omega arith)
     (subst (λ (m : ℕ). Pairs (λ a b. number_in a < number_in b) (lines_of m j)) here (up 0)))
     (apart (n + 1) js
     (λ k. let there : n + suc k ≡ (n + 1) + k = omega arith in
-      subst (λ (m : ℕ). Pairs (λ a b. number_in a < number_in b) (lines_of m (get_or js k []))) there (up (suc k)))
+    subst (λ (m : ℕ). Pairs (λ a b. number_in a < number_in b) (lines_of m (get_or js k []))) there (up (suc k)))
     (λ a b i k. same a b (behind a i) (behind b k)))
     (λ a b i k e. let p = of_client n None j a i in let q = not_below (n + 1) js b k in
-        let s = same a b (before a i) (behind b k) e in omega arith)
+    let s = same a b (before a i) (behind b k) e in omega arith)
   where
     before : (a : Line) → In a (lines_of n j) → In a (lines_in n (j ∷ js))
     before a i = go (lines_of n j) i
@@ -167,16 +167,18 @@ sorted_rises : {X : Type 0} (n : X → ℕ) (xs ys : List X) → AllPairs (λ a 
 sorted_rises {X = X} n xs ys distinct p up i j d low high =
     let start : IsDistinct eqb (map n xs) =
     IsDistinct-from_apart eqb (map n xs)
-      (λ a b k l m. let within : b < length xs = subst (λ (z : ℕ). b < z) (length-map xs n) m in
-      number_apart a b k l within) in
+    (λ a b k l m. let within : b < length xs = subst (λ (z : ℕ). b < z) (length-map xs n) m in
+    number_apart a b k l within) in
     let kept : IsDistinct eqb (map n ys) =
-      IsDistinct-IsPermutation eqb (λ a b. flips a b) (map n xs) (map n ys) (IsPermutation-map n xs ys p) start in
+    IsDistinct-IsPermutation eqb (λ a b. flips a b) (map n xs) (map n ys) (IsPermutation-map n xs ys p) start in
     let long : j < length (map n ys) = subst (λ (z : ℕ). j < z) (sym (length-map ys n)) high in
     let differ = apart_from_distinct eqb (map n ys) i j (n d) kept low long in
     let ne : n (get_or ys i d) ≢ n (get_or ys j d) =
-    λ e. absurd (cc (differ,
+    λ e. absurd (cc (
+      differ,
       eq-eqb (get_or (map n ys) i (n d)) (get_or (map n ys) j (n d))
-      (get_or-map n ys i d (n d) (omega arith) ∙ e ∙ sym (get_or-map n ys j d (n d) high)))) in
+          (get_or-map n ys i d (n d) (omega arith) ∙ e ∙ sym (get_or-map n ys j d (n d) high)),
+    )) in
     let le = up i j d (omega arith) high in
     omega arith
   where
@@ -191,10 +193,10 @@ sorted_rises {X = X} n xs ys distinct p up i j d low high =
     number_apart a b k l within = first xs distinct within
       where
         first : (zs : List X) → AllPairs (λ a b. n a ≢ n b) zs → b < length zs
-          → eqb (get_or (map n zs) a k) (get_or (map n zs) b k) ≡ false
+            → eqb (get_or (map n zs) a k) (get_or (map n zs) b k) ≡ false
         first [] h w = absurd (omega arith)
         first (z ∷ zs) h w = ne_eqb _ _
-          (λ e. h a b z l w (sym (get_or-map n (z ∷ zs) a z k (omega arith)) ∙ e ∙ get_or-map n (z ∷ zs) b z k w))
+            (λ e. h a b z l w (sym (get_or-map n (z ∷ zs) a z k (omega arith)) ∙ e ∙ get_or-map n (z ∷ zs) b z k w))
 
 -- ---- a record's
 
@@ -204,8 +206,8 @@ filter_events c [] = refl
 filter_events c (l ∷ ls) =
     elim (l.event.process == c) as (λ b. cond b (l.event ∷ filter (λ (e : Event). e.process == c) (events_in ls))
     (filter (λ (e : Event). e.process == c) (events_in ls))
-      ≡ events_in (cond b (l ∷ filter (λ (k : Line). k.event.process == c) ls)
-      (filter (λ (k : Line). k.event.process == c) ls))) [
+    ≡ events_in (cond b (l ∷ filter (λ (k : Line). k.event.process == c) ls)
+    (filter (λ (k : Line). k.event.process == c) ls))) [
       | true ↦ ap (λ es. l.event ∷ es) (filter_events c ls)
       | false ↦ filter_events c ls
     ]
@@ -219,26 +221,26 @@ module _ (journals : ℕ → List AnyEvent) (es : List Event) (are : AreEventsOf
   events_are c = go (journals c) (are.each c)
     where
       go : (js : List AnyEvent) → filter (λ (e : Event). e.process == c) es ≡ events_of c js
-        → events_in (lines_of c js) ≡ events_of c js
+          → events_in (lines_of c js) ≡ events_of c js
       go [] h = refl
       go (Invoked t x op ∷ js) h =
-        ap (λ (fs : List Event). event_with c x (Invoked t x op) ∷ fs)
-        (events_after c (record { object = x; op = op }) js)
+          ap (λ (fs : List Event). event_with c x (Invoked t x op) ∷ fs)
+          (events_after c (record { object = x; op = op }) js)
       go (Returned u a ∷ js) h =
-        absurd (no_return u 0 a
-        (first_may c idle es (event_with c 0 (Returned u a)) (events_from c 0 js) (runs_from_start es c proper) h))
+          absurd (no_return u 0 a
+          (first_may c idle es (event_with c 0 (Returned u a)) (events_from c 0 js) (runs_from_start es c proper) h))
 
   lines_rise : (c : ℕ) → Pairs (λ a b. number_in a < number_in b) (lines_of c (journals c))
   lines_rise c = pairs_from_map (λ (a b : Event). a.number < b.number) (λ (l : Line). l.event) (lines_of c (journals c))
       (subst (Pairs (λ (a b : Event). a.number < b.number)) (are.each c ∙ sym (events_are c))
-        (pairs_filter (λ (a b : Event). a.number < b.number) (λ (e : Event). e.process == c) es rises))
+      (pairs_filter (λ (a b : Event). a.number < b.number) (λ (e : Event). e.process == c) es rises))
 
   -- lines in order of tickets have these events
   pub are_events : (ls : List Line) → AreLinesOf journals ls → AreEventsOf journals (events_in ls)
   are_events ls h = record {
     rising = all_from_pairs (λ (a b : Event). a.number < b.number) (events_in ls)
         (pairs_map (λ (a b : Event). a.number < b.number) (λ (l : Line). l.event) ls
-          (pairs_from_all (λ a b. number_in a < number_in b) ls h.rising));
+        (pairs_from_all (λ a b. number_in a < number_in b) ls h.rising));
     each = λ c. filter_events c ls ∙ (ap events_in (h.each c) ∙ events_are c);
   }
 
@@ -256,19 +258,19 @@ module _ (journals : ℕ → List AnyEvent) (es : List Event) (are : AreEventsOf
     of_one : (c : ℕ) → filter (λ l. l.event.process == c) (lines_in 0 js) ≡ lines_of c (journals c)
     of_one c = let e : 0 + c ≡ c = omega arith in
         subst (λ (m : ℕ). filter (λ (l : Line). l.event.process == m) (lines_in 0 js) ≡ lines_of m (get_or js c [])) e
-          (lines_at 0 js c) ∙ ap (lines_of c) (same c)
+        (lines_at 0 js c) ∙ ap (lines_of c) (same c)
 
     own : (l : Line) → In l (lines_in 0 js) → In l (lines_of (process_in l) (journals (process_in l)))
     own l i = subst (In l) (of_one (process_in l))
-      (in_filter_from (λ (k : Line). k.event.process == process_in l) l (lines_in 0 js) i
-      (eq-eqb (process_in l) (process_in l) refl))
+        (in_filter_from (λ (k : Line). k.event.process == process_in l) l (lines_in 0 js) i
+        (eq-eqb (process_in l) (process_in l) refl))
 
     in_events : (l : Line) → In l (lines_in 0 js) → In l.event es
     in_events l i =
         let c = process_in l in
         let there : In l.event (events_of c (journals c)) =
-          subst (In l.event) (events_are c)
-          (in_map_from (λ (k : Line). k.event) l (lines_of c (journals c)) (own l i)) in
+        subst (In l.event) (events_are c)
+        (in_map_from (λ (k : Line). k.event) l (lines_of c (journals c)) (own l i)) in
         in_filter (λ (e : Event). e.process == c) l.event es (subst (In l.event) (sym (are.each c)) there)
 
     all_apart : Pairs (λ a b. number_in a ≢ number_in b) (lines_in 0 js)
@@ -276,34 +278,34 @@ module _ (journals : ℕ → List AnyEvent) (es : List Event) (are : AreEventsOf
         (λ k. let e : 0 + k ≡ k = omega arith in
         subst (λ (m : ℕ). Pairs (λ a b. number_in a < number_in b) (lines_of m (get_or js k []))) (sym e)
         (subst (λ (j : List AnyEvent). Pairs (λ a b. number_in a < number_in b) (lines_of k j)) (sym (same k))
-          (lines_rise k)))
+        (lines_rise k)))
         (λ a b i k e. ap (λ (x : Event). x.process)
-          (same_event es a.event b.event rises (in_events a i) (in_events b k) e))
+        (same_event es a.event b.event rises (in_events a i) (in_events b k) e))
 
     back : (l : Line) → In l ls → In l (lines_in 0 js)
     back l i = in_from_contains (lines_in 0 js) l
-      (Contains-permutation ls (lines_in 0 js) l (IsPermutation-sym (lines_in 0 js) ls p) (contains_from_in ls l i))
+        (Contains-permutation ls (lines_in 0 js) l (IsPermutation-sym (lines_in 0 js) ls p) (contains_from_in ls l i))
 
     forth : (l : Line) → In l (lines_in 0 js) → In l ls
     forth l i = in_from_contains ls l
-      (Contains-permutation (lines_in 0 js) ls l p (contains_from_in (lines_in 0 js) l i))
+        (Contains-permutation (lines_in 0 js) ls l p (contains_from_in (lines_in 0 js) l i))
 
     sorted : AllPairs (λ a b. a.event.number < b.event.number) ls
     sorted = sorted_rises (λ (l : Line). l.event.number) (lines_in 0 js) ls
-      (all_from_pairs (λ a b. number_in a ≢ number_in b) (lines_in 0 js) all_apart) p up
+        (all_from_pairs (λ a b. number_in a ≢ number_in b) (lines_in 0 js) all_apart) p up
 
     part_is : (c : ℕ) → filter (λ l. l.event.process == c) ls ≡ lines_of c (journals c)
     part_is c = same_rising number_in (filter (λ (l : Line). l.event.process == c) ls) (lines_of c (journals c))
         (pairs_filter (λ a b. number_in a < number_in b) (λ (l : Line). l.event.process == c) ls
-          (pairs_from_all (λ a b. number_in a < number_in b) ls sorted)) (lines_rise c)
+        (pairs_from_all (λ a b. number_in a < number_in b) ls sorted)) (lines_rise c)
         (λ l i.
         let at : process_in l ≡ c =
-          eqb-true (process_in l) c (in_filter_passes (λ (k : Line). k.event.process == c) l ls i) in
+        eqb-true (process_in l) c (in_filter_passes (λ (k : Line). k.event.process == c) l ls i) in
         subst (λ (m : ℕ). In l (lines_of m (journals m))) at
-          (own l (back l (in_filter (λ (k : Line). k.event.process == c) l ls i))))
+        (own l (back l (in_filter (λ (k : Line). k.event.process == c) l ls i))))
         (λ l i. in_filter_from (λ (k : Line). k.event.process == c) l ls
         (forth l (in_filter (λ (k : Line). k.event.process == c) l (lines_in 0 js) (subst (In l) (sym (of_one c)) i)))
-          (eq-eqb (process_in l) c (of_client c None (journals c) l i)))
+        (eq-eqb (process_in l) c (of_client c None (journals c) l i)))
 
     pub are_lines : AreLinesOf journals ls
     are_lines = record { rising = sorted; each = part_is }

@@ -14,4 +14,4 @@ journal_more f js i j old new all low is h more =
     ap (λ xs. xs ++ lines_in (i + 1) (map f (drop (i + 1) js))) more
     ∙ (append_assoc old (lines_of i (f j)) (lines_in (i + 1) (map f (drop (i + 1) js)))
     ∙ (ap (λ xs. old ++ xs)
-      (sym (ap (λ xs. lines_in i (map f xs)) (drop_more js i j low ∙ ap (λ x. x ∷ drop (i + 1) js) (sym is)))) ∙ h))
+    (sym (ap (λ xs. lines_in i (map f xs)) (drop_more js i j low ∙ ap (λ x. x ∷ drop (i + 1) js) (sym is)))) ∙ h))

@@ -28,34 +28,34 @@ event_of c x (Returned u a ∷ js) t y op i = elim i [ inl e ↦ absurd (cc (e))
 module _ (journals : ℕ → List AnyEvent) (es : List Event) (are : AreEventsOf journals es) where
   pub own_event : (e : Event) → In e es → In e (events_of e.process (journals e.process))
   own_event e i = subst (In e) (are.each e.process)
-    (in_filter_from (λ (f : Event). f.process == e.process) e es i (eq-eqb e.process e.process refl))
+      (in_filter_from (λ (f : Event). f.process == e.process) e es i (eq-eqb e.process e.process refl))
 
   pub named_in : (x : ℕ) → IsNamed es x → IsNamedIn journals x
   named_in x n =
       let e = n.event in
       let here = invocation_of e.process 0 (journals e.process) e n.op
-        (own_event e (in_from_contains es e n.stands)) n.invokes in
+      (own_event e (in_from_contains es e n.stands)) n.invokes in
       record {
         client = e.process;
         ticket = e.number;
         op = n.op;
         stands =
             subst (λ (y : ℕ). Contains (journals e.process) (Invoked e.number y n.op)) n.on_object
-              (contains_from_in (journals e.process) (Invoked e.number e.object n.op) here);
+            (contains_from_in (journals e.process) (Invoked e.number e.object n.op) here);
       }
 
   pub named_by : (x : ℕ) → IsNamedIn journals x → IsNamed es x
   named_by x n =
       let e : Event = record { number = n.ticket; process = n.client; object = x; action = Invoke n.op } in
       let there : In e (events_of n.client (journals n.client)) =
-        event_of n.client 0 (journals n.client) n.ticket x n.op
-        (in_from_contains (journals n.client) (Invoked n.ticket x n.op) n.stands) in
+      event_of n.client 0 (journals n.client) n.ticket x n.op
+      (in_from_contains (journals n.client) (Invoked n.ticket x n.op) n.stands) in
       record {
         event = e;
         op = n.op;
         stands =
             contains_from_in es e (in_filter (λ (f : Event). f.process == n.client) e es
-              (subst (In e) (sym (are.each n.client)) there));
+            (subst (In e) (sym (are.each n.client)) there));
         on_object = refl;
         invokes = refl;
       }

@@ -69,7 +69,7 @@ pub profiles_more : (ls : List Line) (i : ℕ) (d : Line) → i < length ls → 
     → InProfile (form_of (get_or ls i d)) → All (λ l. InProfile (form_of l)) (take (i + 1) ls)
 profiles_more ls i d low so_far here =
     subst (All (λ (l : Line). InProfile (form_of l))) (sym (take_more ls i d low))
-      (All-push (λ (l : Line). InProfile (form_of l)) (take i ls) (get_or ls i d) so_far here)
+    (All-push (λ (l : Line). InProfile (form_of l)) (take i ls) (get_or ls i d) so_far here)
 
 pub all_profiles : (ls : List Line) (i : ℕ) → length ls ≤ i → All (λ l. InProfile (form_of l)) (take i ls)
     → All (λ l. InProfile (form_of l)) ls
@@ -89,10 +89,10 @@ module _ {O R : Type 0} (op_in : O → AnyOp) (reply_in : R → AnyReply) (r : R
       low l i =
           let own : In l (lines_of l.event.process (journals_in op_in reply_in r l.event.process)) =
           subst (In l) (are.each l.event.process)
-            (in_filter_from (λ (k : Line). k.event.process == l.event.process) l ls i
-            (eq-eqb l.event.process l.event.process refl)) in
+          (in_filter_from (λ (k : Line). k.event.process == l.event.process) l ls i
+          (eq-eqb l.event.process l.event.process refl)) in
           elim (cases_lt l.event.process n) [
             | inl h ↦ h
             | inr h ↦ absurd (subst (λ (js : List AnyEvent). In l (lines_of l.event.process js))
-              (past l.event.process (omega arith)) own)
+                (past l.event.process (omega arith)) own)
           ]

@@ -69,11 +69,14 @@ counted n count (e ∷ es) up within each =
       is,
       counted (n + 1) count es up.1 (λ f i. let l = up.0 f i in let w = within f (inr i) in (omega arith, w.1))
           (λ t low high.
-          let f = each t (omega arith) high in
-          (f.0, elim f.1 [
-            | inl s ↦ (let q : e.number ≡ t = ap (λ (x : Event). x.number) (sym s) ∙ f.2 in absurd (omega arith))
-            | inr i ↦ i
-          ], f.2)),
+          let f = each t (omega arith) high in (
+            f.0,
+            elim f.1 [
+              | inl s ↦ (let q : e.number ≡ t = ap (λ (x : Event). x.number) (sym s) ∙ f.2 in absurd (omega arith))
+              | inr i ↦ i
+            ],
+            f.2,
+          )),
     )
 
 count_few : (n m : ℕ) (es : List Event) → CountFrom n es → ((e : Event) → In e es → e.number < m) → n ≤ m
@@ -111,18 +114,18 @@ last_is p ls = ap (find (λ (m : ClientMap). m.process == p)) (sym (map-reverse 
     map-reverse [] = refl
     map-reverse (k ∷ ks) = ap (map map_of) (reverse-append (k ∷ []) ks)
         ∙ (map-append map_of (reverse ks) (k ∷ [])
-          ∙ (ap (λ ms. ms ++ map_of k ∷ []) (map-reverse ks) ∙ sym (reverse-append (map_of k ∷ []) (map map_of ks))))
+        ∙ (ap (λ ms. ms ++ map_of k ∷ []) (map-reverse ks) ∙ sym (reverse-append (map_of k ∷ []) (map map_of ks))))
 
     found : (ks : List Line)
-      → find (λ (m : ClientMap). m.process == p) (map map_of ks)
-      ≡ option_map map_of (find (λ (l : Line). l.event.process == p) ks)
+        → find (λ (m : ClientMap). m.process == p) (map map_of ks)
+        ≡ option_map map_of (find (λ (l : Line). l.event.process == p) ks)
     found [] = refl
     found (k ∷ ks) = go (k.event.process == p) (found ks)
       where
         go : (b : Bool) → find (λ (m : ClientMap). m.process == p) (map map_of ks)
-          ≡ option_map map_of (find (λ (l : Line). l.event.process == p) ks)
+            ≡ option_map map_of (find (λ (l : Line). l.event.process == p) ks)
             → cond b (Some (map_of k)) (find (λ (m : ClientMap). m.process == p) (map map_of ks))
-              ≡ option_map map_of (cond b (Some k) (find (λ (l : Line). l.event.process == p) ks))
+            ≡ option_map map_of (cond b (Some k) (find (λ (l : Line). l.event.process == p) ks))
         go true h = refl
         go false h = h
 
@@ -147,7 +150,7 @@ outstanding before p o h = go (last_line p before) refl (sym (last_is p before) 
     invoked Info e = absurd (cc)
 
     go : (q : Option Line) → last_line p before ≡ q → option_map map_of q ≡ Some o
-      → (k : Line) × (last_line p before ≡ Some k) × (o ≡ map_of k) × (op : AnyOp) × (k.event.action ≡ Invoke op)
+        → (k : Line) × (last_line p before ≡ Some k) × (o ≡ map_of k) × (op : AnyOp) × (k.event.action ≡ Invoke op)
     go None is e = absurd (cc)
     go (Some k) is e =
         let same : o ≡ map_of k = sym (same_Some (map_of k) o e) in
@@ -165,11 +168,11 @@ no_bad m a is h = go m.type is h
 
 module _ (before : List Line) (l : Line) (fine : IsFine before l) where
   busy : (a : Action) → l.event.action ≡ a → type_map a ≡ invoke → (o : ClientMap)
-    → IsOutstanding (map map_of before) l.event.process o → ⊥
+      → IsOutstanding (map map_of before) l.event.process o → ⊥
   busy (Invoke op) is t o h =
       let k = outstanding before l.event.process o h in
       let f : MayFollow (last_line l.event.process before) l.event.object l.op (Invoke op) =
-        subst (MayFollow (last_line l.event.process before) l.event.object l.op) is fine.follows in
+      subst (MayFollow (last_line l.event.process before) l.event.object l.op) is fine.follows in
       f.1 k.0 k.3 k.1 k.4
   busy (Ok r) is t o h = absurd (cc)
   busy Fail is t o h = absurd (cc)
@@ -177,15 +180,15 @@ module _ (before : List Line) (l : Line) (fine : IsFine before l) where
 
   -- a completion's process has its call outstanding
   pending : (a : Action) → l.event.action ≡ a → (type_map a ≢ invoke)
-    → (k : Line) × (last_line l.event.process before ≡ Some k) × (op : AnyOp)
+      → (k : Line) × (last_line l.event.process before ≡ Some k) × (op : AnyOp)
       × (k.event.action ≡ Invoke op) × (k.op ≡ l.op) × (k.event.object ≡ l.event.object)
   pending (Invoke op) is t = absurd (t refl)
   pending (Ok r) is t = let f : MayFollow (last_line l.event.process before) l.event.object l.op (Ok r) =
       subst (MayFollow (last_line l.event.process before) l.event.object l.op) is fine.follows in
-        (f.0.0, f.0.1, l.op, f.0.2, f.0.3, f.0.4)
+      (f.0.0, f.0.1, l.op, f.0.2, f.0.3, f.0.4)
   pending Fail is t = let f : MayFollow (last_line l.event.process before) l.event.object l.op Fail =
       subst (MayFollow (last_line l.event.process before) l.event.object l.op) is fine.follows in
-        (f.0, f.1, l.op, f.2, f.3, f.4)
+      (f.0, f.1, l.op, f.2, f.3, f.4)
   pending Info is t = let f : MayFollow (last_line l.event.process before) l.event.object l.op Info =
       subst (MayFollow (last_line l.event.process before) l.event.object l.op) is fine.follows in absurd f
 
@@ -210,15 +213,17 @@ module _ (before : List Line) (l : Line) (fine : IsFine before l) where
       let object : k.0.event.object ≡ l.event.object = ap (λ (m : ClientMap). m.object) (sym k.2) ∙ h.same_object in
       let own : function_in l.op ≡ h.known = same_Some (function_in l.op) h.known h.is_known in
       let other : function_in k.0.op ≡ h.other_known =
-        same_Some (function_in k.0.op) h.other_known
-        (ap (λ (m : ClientMap). m.function) (sym k.2) ∙ h.other_is_known) in
+      same_Some (function_in k.0.op) h.other_known
+      (ap (λ (m : ClientMap). m.function) (sym k.2) ∙ h.other_is_known) in
       h.apart (ap kind_of_function (sym other)
-        ∙ (sym (kind_of_op k.0.op) ∙ (fine.of_kind k.0 k.1 object ∙ (kind_of_op l.op ∙ ap kind_of_function own))))
+      ∙ (sym (kind_of_op k.0.op) ∙ (fine.of_kind k.0 k.1 object ∙ (kind_of_op l.op ∙ ap kind_of_function own))))
   no_fault Busy h = busy l.event.action refl h.0 h.1 h.2
   no_fault Stray h =
       let k = pending l.event.action refl h.0 in
-      h.2 (map_of k.0) (record { last = last_is l.event.process before ∙ ap (option_map map_of) k.1;
-        invoked = ap type_map k.3 })
+      h.2 (map_of k.0) (record {
+        last = last_is l.event.process before ∙ ap (option_map map_of) k.1;
+        invoked = ap type_map k.3;
+      })
   no_fault Mismatch h =
       let k = pending l.event.action refl h.0 in
       let o = outstanding before l.event.process h.1 h.2 in
@@ -279,9 +284,15 @@ form_fits l = (
   (
     (λ h. cc, (λ h. cc, (λ h. cc, (λ h. cc, tt)))),
     tt,
-    ((λ h. cc, (λ h. cc, (λ h. cc, tt))), tt,
-      ((λ h. cc, (λ h. cc, tt)), tt,
-      ((λ h. cc, tt), value_fits 15 (lit< tt) (value_of l.op l.event.action), (tt, tt, tt)))),
+    (
+      (λ h. cc, (λ h. cc, (λ h. cc, tt))),
+      tt,
+      (
+        (λ h. cc, (λ h. cc, tt)),
+        tt,
+        ((λ h. cc, tt), value_fits 15 (lit< tt) (value_of l.op l.event.action), (tt, tt, tt)),
+      ),
+    ),
   ),
 )
 
@@ -292,14 +303,14 @@ each_spelled (l ∷ ls) p =
 
 events_are : (n : ℕ) (ls : List Line) → CountFrom n (events_in ls)
     → ((l : Line) → In l ls
-      → (l.event.object ≤ max_object) × (action_of (map_of l).type (map_of l) ≡ Some l.event.action))
-      → events_in ls ≡ events_from n (map form_of ls)
+    → (l.event.object ≤ max_object) × (action_of (map_of l).type (map_of l) ≡ Some l.event.action))
+    → events_in ls ≡ events_from n (map form_of ls)
 events_are n [] c h = refl
 events_are n (l ∷ ls) c h =
     let here = h l (inl refl) in
     let one : l.event ∷ [] ≡ event_with n (map_of l) (action_of (map_of l).type (map_of l)) =
     ap (λ (k : ℕ). record { number = k; process = l.event.process; object = l.event.object; action = l.event.action }
-      ∷ []) c.0 ∙ ap (event_with n (map_of l)) (sym here.1) in
+    ∷ []) c.0 ∙ ap (event_with n (map_of l)) (sym here.1) in
     ap (λ es. l.event ∷ es) (events_are (n + 1) ls c.1 (λ k i. h k (inr i)))
     ∙ (ap (λ (es : List Event). es ++ events_from (n + 1) (map form_of ls)) one
     ∙ ap (λ m. event_of n m ++ events_from (n + 1) (map form_of ls)) (sym (client_is l here.0)))
@@ -323,32 +334,32 @@ module _ (objects : ℕ) (journals : ℕ → List AnyEvent) (logs : ℕ → List
   has_ticket t l =
       let c = tickets.each t l in
       let drawn : In t (map (λ (e : Event). e.number) (events_of c.0 (journals c.0))) =
-        subst (In t) (sym (numbers_of c.0 0 (journals c.0))) (in_from_contains (map ticket_of (journals c.0)) t c.1) in
+      subst (In t) (sym (numbers_of c.0 0 (journals c.0))) (in_from_contains (map ticket_of (journals c.0)) t c.1) in
       let e = in_map (λ (e : Event). e.number) t (events_of c.0 (journals c.0)) drawn in
       let own : In e.0 record_is.events =
-        in_filter (λ (f : Event). f.process == c.0) e.0 record_is.events
-        (subst (In e.0) (sym (record_is.are_events.each c.0)) e.1) in
+      in_filter (λ (f : Event). f.process == c.0) e.0 record_is.events
+      (subst (In e.0) (sym (record_is.are_events.each c.0)) e.1) in
       (e.0, subst (In e.0) same own, sym e.2)
 
   number_low : (e : Event) → In e (events_in ls) → e.number < count
   number_low e i =
       let own : In e (events_of e.process (journals e.process)) =
       subst (In e) (record_is.are_events.each e.process)
-        (in_filter_from (λ (f : Event). f.process == e.process) e record_is.events (subst (In e) (sym same) i)
-        (eq-eqb e.process e.process refl)) in
+      (in_filter_from (λ (f : Event). f.process == e.process) e record_is.events (subst (In e) (sym same) i)
+      (eq-eqb e.process e.process refl)) in
       all_at (λ t. t < count) (map ticket_of (journals e.process)) (tickets.below e.process) e.number
       (subst (In e.number) (numbers_of e.process 0 (journals e.process))
-        (in_map_from (λ (f : Event). f.number) e (events_of e.process (journals e.process)) own))
+      (in_map_from (λ (f : Event). f.number) e (events_of e.process (journals e.process)) own))
 
   numbered : CountFrom 0 (events_in ls)
   numbered = counted 0 count (events_in ls)
       (subst (Pairs (λ (a b : Event). a.number < b.number)) same
-        (pairs_from_all (λ (a b : Event). a.number < b.number) record_is.events record_is.are_events.rising))
+      (pairs_from_all (λ (a b : Event). a.number < b.number) record_is.events record_is.are_events.rising))
       (λ e i. (omega arith, number_low e i)) (λ t a b. has_ticket t b)
 
   number_few : (e : Event) → In e (events_in ls) → e.number < max_tickets
   number_few e i = all_at (λ (f : Event). f.number < max_tickets) record_is.events record_is.few e
-    (subst (In e) (sym same) i)
+      (subst (In e) (sym same) i)
 
   few_lines : length ls ≤ 640000
   few_lines =
@@ -361,17 +372,19 @@ module _ (objects : ℕ) (journals : ℕ → List AnyEvent) (logs : ℕ → List
 
   -- the invocation of a line's call
   call_event : (l : Line) → In l ls
-    → (t : ℕ) × In (record { number = t; process = l.event.process; object = l.event.object; action = Invoke l.op })
-    record_is.events
+      → (t : ℕ) × In (record { number = t; process = l.event.process; object = l.event.object; action = Invoke l.op })
+      record_is.events
   call_event l i =
       let c = l.event.process in
       let own = subst (In l) (are.each c)
-        (in_filter_from (λ (k : Line). k.event.process == c) l ls i (eq-eqb c c refl)) in
+      (in_filter_from (λ (k : Line). k.event.process == c) l ls i (eq-eqb c c refl)) in
       let h = line_call c None (journals c) (turn c) l own in
       let invoked : Event = record { number = h.0; process = c; object = l.event.object; action = Invoke l.op } in
-      let there = invocation_event c 0 h.0 l.event.object l.op (journals c) h.1 in
-      (h.0, in_filter (λ (f : Event). f.process == c) invoked record_is.events
-        (subst (In invoked) (sym (record_is.are_events.each c)) there))
+      let there = invocation_event c 0 h.0 l.event.object l.op (journals c) h.1 in (
+        h.0,
+        in_filter (λ (f : Event). f.process == c) invoked record_is.events
+            (subst (In invoked) (sym (record_is.are_events.each c)) there),
+      )
 
   kinds_here : (k l : Line) → In k ls → In l ls → k.event.object ≡ l.event.object → kind_of k.op ≡ kind_of l.op
   kinds_here k l i j on =
@@ -380,10 +393,10 @@ module _ (objects : ℕ) (journals : ℕ → List AnyEvent) (logs : ℕ → List
       one_kind journals record_is.events record_is.are_events record_is.proper
       (record { number = e.0; process = k.event.process; object = k.event.object; action = Invoke k.op })
       (record { number = f.0; process = l.event.process; object = l.event.object; action = Invoke l.op }) k.op l.op
-        e.1 f.1 on refl refl
+      e.1 f.1 on refl refl
 
   follows_at : (before after : List Line) (l : Line) → ls ≡ before ++ l ∷ after
-    → Follows (last_line l.event.process before) l
+      → Follows (last_line l.event.process before) l
   follows_at before after l is = line_follows ls journals turn are.each before after l is
 
   not_info : (l : Line) → In l ls → l.event.action ≢ Info
@@ -395,7 +408,7 @@ module _ (objects : ℕ) (journals : ℕ → List AnyEvent) (logs : ℕ → List
   fine_at before after l is = record {
     follows = follows_at before after l is;
     of_kind = λ k i on. kinds_here k l (subst (In k) (sym is) (in_left k before (l ∷ after) i))
-      (subst (In l) (sym is) (in_middle l before after)) on;
+        (subst (In l) (sym is) (in_middle l before after)) on;
     none_unknown = λ k i. not_info k (subst (In k) (sym is) (in_left k before (l ∷ after) i));
   }
 
@@ -407,8 +420,8 @@ module _ (objects : ℕ) (journals : ℕ → List AnyEvent) (logs : ℕ → List
       let here : In l ls = subst (In l) (sym r.3) (in_middle l before r.1) in
       let client : client_of d ≡ Some (map_of l) = ap client_of r.5 ∙ client_is l (object_low l here) in
       let maps : clients earlier ≡ map map_of before =
-        ap clients r.4 ∙ clients_are before
-        (λ k i. object_low k (subst (In k) (sym r.3) (in_left k before (l ∷ r.1) i))) in
+      ap clients r.4 ∙ clients_are before
+      (λ k i. object_low k (subst (In k) (sym r.3) (in_left k before (l ∷ r.1) i))) in
       no_fault before l (fine_at before r.1 l r.3) kind
       (subst (λ (ms : List ClientMap). ClientFault ms (map_of l) kind) maps
       (fault_of earlier d (map_of l) kind client fault))
@@ -435,13 +448,13 @@ module _ (objects : ℕ) (journals : ℕ → List AnyEvent) (logs : ℕ → List
   read_back profile es h = record {
     forms = map form_of ls;
     spelled = lines_spell_them (map form_of ls)
-      (each_spelled ls (λ l i. all_at (λ (k : Line). InProfile (form_of k)) ls profile l i));
+        (each_spelled ls (λ l i. all_at (λ (k : Line). InProfile (form_of k)) ls profile l i));
     denoted = record {
       faultless = faultless;
       events = (same_by_parts (λ (e : Event). e.number) (λ (e : Event). e.process) es record_is.events
           (pairs_from_all (λ (a b : Event). a.number < b.number) es h.rising)
           (pairs_from_all (λ (a b : Event). a.number < b.number) record_is.events record_is.are_events.rising)
-            (λ c. h.each c ∙ sym (record_is.are_events.each c)) ∙ same)
+          (λ c. h.each c ∙ sym (record_is.are_events.each c)) ∙ same)
           ∙ events_are 0 ls numbered (λ l i. (object_low l i, says_action l i));
     };
   }

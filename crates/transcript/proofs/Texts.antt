@@ -36,10 +36,10 @@ line_is l =
     let t = type_of l.event.action in
     let f = name_of (function_in l.op) in
     flat (codes "{") (codes ":process ") (decimal l.event.process) (codes ", :type :") t (codes ", :f :") f
-      (codes ", :value ")
+    (codes ", :value ")
     (text_of (value_form value)) (codes ", :object ") (decimal l.event.object) (codes "}") (10 ∷ [])
     ∙ ap (λ v. (codes "{:process " ++ (decimal l.event.process ++ (codes ", :type :" ++ t)))
-      ++ ((codes ", :f :" ++ (f ++ (codes ", :value " ++ v))) ++ object_text l.event.object)) (value_is value)
+    ++ ((codes ", :f :" ++ (f ++ (codes ", :value " ++ v))) ++ object_text l.event.object)) (value_is value)
 
 pub texts_are : (ls : List Line) → history_text ls ≡ lines_text ls
 texts_are [] = refl

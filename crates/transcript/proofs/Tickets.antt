@@ -22,13 +22,13 @@ pub ticket_low : (objects : ℕ) (journals : ℕ → List AnyEvent) (logs : ℕ 
     → IsRecord objects journals logs → (c : ℕ) (e : AnyEvent) → In e (journals c) → ticket_of e < max_tickets
 ticket_low objects journals logs r c e i =
     let drawn : In (ticket_of e) (map (λ (f : Event). f.number) (events_of c (journals c))) =
-      subst (In (ticket_of e)) (sym (numbers_of c 0 (journals c))) (in_map_from ticket_of e (journals c) i) in
+    subst (In (ticket_of e)) (sym (numbers_of c 0 (journals c))) (in_map_from ticket_of e (journals c) i) in
     let own = in_map (λ (f : Event). f.number) (ticket_of e) (filter (λ (f : Event). f.process == c) r.events)
     (subst (λ (fs : List Event). In (ticket_of e) (map (λ (f : Event). f.number) fs))
-      (sym (r.are_events.each c)) drawn) in
+    (sym (r.are_events.each c)) drawn) in
     subst (λ (n : ℕ). n < max_tickets) (sym own.2)
-      (all_at (λ (f : Event). f.number < max_tickets) r.events r.few own.0
-      (in_filter (λ (f : Event). f.process == c) own.0 r.events own.1))
+    (all_at (λ (f : Event). f.number < max_tickets) r.events r.few own.0
+    (in_filter (λ (f : Event). f.process == c) own.0 r.events own.1))
 
 module _ {O R : Type 0} (op_in : O → AnyOp) (reply_in : R → AnyReply) where
   -- the journals in memory, and what they stand for
@@ -51,20 +51,20 @@ module _ {O R : Type 0} (op_in : O → AnyOp) (reply_in : R → AnyReply) where
       let here : js ≡ journal_at r c =
       value ∙ (ap (λ (w : Vec (JournalEvent O R) Z). w.items) read
       ∙ (sym (get_or-map (λ (w : Vec (JournalEvent O R) Z). w.items) vs c v [] low)
-        ∙ ap (λ (xs : List (List (JournalEvent O R))). get_or xs c []) same)) in
+      ∙ ap (λ (xs : List (List (JournalEvent O R))). get_or xs c []) same)) in
       ticket_low _ (journals_in op_in reply_in r) _ kept c e
       (subst (λ (xs : List (JournalEvent O R)). In e (map (event_in op_in reply_in) xs)) here
-        (in_map_from (event_in op_in reply_in) (get_or js k d) js (in_from_get js k d within)))
+      (in_map_from (event_in op_in reply_in) (get_or js k d) js (in_from_get js k d within)))
 
   -- no journal is left
   pub all_lines : {Z : Type 0} (vs : List (Vec (JournalEvent O R) Z)) (js : List (List (JournalEvent O R)))
       → items_of vs ≡ js → (i : ℕ) (ls : List Line) → length vs ≤ i
       → ls ++ lines_in i (map (λ v. map (event_in op_in reply_in) v.items) (drop i vs))
       ≡ lines_in 0 (map (λ v. map (event_in op_in reply_in) v.items) vs)
-        → ls ≡ lines_in 0 (map (map (event_in op_in reply_in)) js)
+      → ls ≡ lines_in 0 (map (map (event_in op_in reply_in)) js)
   all_lines {Z} vs js same i ls high h =
       let none = at_drop_all (λ (ws : List (Vec (JournalEvent O R) Z)). lines_in i
-        (map (λ (v : Vec (JournalEvent O R) Z). map (event_in op_in reply_in) v.items) ws)) vs i high in
+      (map (λ (v : Vec (JournalEvent O R) Z). map (event_in op_in reply_in) v.items) ws)) vs i high in
       sym (ap (λ xs. ls ++ xs) none ∙ append-nil ls)
-        ∙ (h ∙ (ap (lines_in 0) (maps vs)
-          ∙ ap (λ (xs : List (List (JournalEvent O R))). lines_in 0 (map (map (event_in op_in reply_in)) xs)) same))
+      ∙ (h ∙ (ap (lines_in 0) (maps vs)
+      ∙ ap (λ (xs : List (List (JournalEvent O R))). lines_in 0 (map (map (event_in op_in reply_in)) xs)) same))

@@ -21,7 +21,7 @@ own_runs p s [] h = tt
 own_runs p s (e ∷ es) h = go (e.process == p) refl (λ t k. own_runs p t es k)
   where
     go : (b : Bool) → (e.process == p) ≡ b
-      → ((t : State) → Runs p t es → Runs p t (filter (λ (x : Event). x.process == p) es))
+        → ((t : State) → Runs p t es → Runs p t (filter (λ (x : Event). x.process == p) es))
         → Runs p s (cond b (e ∷ filter (λ (x : Event). x.process == p) es) (filter (λ (x : Event). x.process == p) es))
     go true q rest = let f = h.0 q in (λ r. (f.0, rest (state_by e.object e.action) f.1), λ r. absurd (cc (q, r)))
     go false q rest = rest s (h.1 q)
@@ -45,15 +45,15 @@ turns c x (Returned u a ∷ js) h = absurd (no_return x a (h.0 (eq-eqb c c refl)
 module _ (journals : ℕ → List AnyEvent) (es : List Event) (are : AreEventsOf journals es) (proper : IsProper es) where
   pub turns_in : (c : ℕ) → InTurn (journals c)
   turns_in c = turns c 0 (journals c)
-    (subst (Runs c idle) (are.each c) (own_runs c idle es (runs_from_start es c proper)))
+      (subst (Runs c idle) (are.each c) (own_runs c idle es (runs_from_start es c proper)))
 
   -- two invocations on one object, the one before the other
   kinds_before : (earlier later : List Event) (e f : Event) (o p : AnyOp) → es ≡ earlier ++ f ∷ later → In e earlier
-    → e.object ≡ f.object
+      → e.object ≡ f.object
       → e.action ≡ Invoke o → f.action ≡ Invoke p → kind_of o ≡ kind_of p
   kinds_before earlier later e f o p is i on invokes also =
       let h : Follows earlier f.process f.object (Invoke p) =
-        subst (Follows earlier f.process f.object) also (proper.each earlier later f is) in
+      subst (Follows earlier f.process f.object) also (proper.each earlier later f is) in
       h.1 e o (contains_from_in earlier e i) on invokes
 
   pub one_kind : (e f : Event) (o p : AnyOp) → In e es → In f es → e.object ≡ f.object → e.action ≡ Invoke o
@@ -64,7 +64,7 @@ module _ (journals : ℕ → List AnyEvent) (es : List Event) (are : AreEventsOf
         | inl before ↦ kinds_before r.0 r.1 e f o p r.2 before on invokes also
         | inr rest ↦ elim rest [
           | inl same ↦ (let act : Invoke o ≡ Invoke p = sym invokes ∙ ap (λ (x : Event). x.action) same ∙ also in
-            let op : o ≡ p = cc (act) in ap kind_of op)
+              let op : o ≡ p = cc (act) in ap kind_of op)
           | inr after ↦
               let s = in_split e r.1 after in
               let whole = r.2 ∙ (ap (λ xs. r.0 ++ f ∷ xs) s.2 ∙ sym (append_assoc r.0 (f ∷ s.0) (e ∷ s.1))) in

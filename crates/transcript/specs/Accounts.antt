@@ -25,7 +25,8 @@ pub record IsAccepted (journals : ℕ → List AnyEvent) (logs : ℕ → List An
   pub valid : AreValid events certificates
 
 -- this is the first refusal of the record's certificates
-pub record IsRecordRefused (journals : ℕ → List AnyEvent) (logs : ℕ → List AnyEntry) (r : Refusal) : Type
+pub record IsRecordRefused (journals : ℕ → List AnyEvent) (logs : ℕ → List AnyEntry)
+    (r : Refusal) : Type
     0 where
   pub events : List Event
   pub certificates : List Certificate

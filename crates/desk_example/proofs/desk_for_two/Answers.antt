@@ -7,7 +7,7 @@ pub returns : goal.returns
 returns c =
     let new = begun c.in_ok-desk.desk.id in
     let one = one_fewer new c.pop.new.self.items c.in_ok-desk.clients.items c.in-Some.one c.in-Some.ensures.items
-      c.in_ok-desk.ensures.clients.1 in
+    c.in_ok-desk.ensures.clients.1 in
     let zero = one_fewer new c.pop-2.new.self.items c.pop.new.self.items c.in-Some-pop.zero
-      c.in-Some-pop.ensures.items one.2 in
+    c.in-Some-pop.ensures.items one.2 in
     (ap (λ k. k.desk) zero.0, ap (λ k. k.desk) one.0)

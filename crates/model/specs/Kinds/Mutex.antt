@@ -1,5 +1,5 @@
--- Of a mutex, whether it is held. It is acquired only while it is free, and released only while it
--- is held.
+-- A mutex contains whether it is held. It is acquired only while it is free, and released only
+-- while it is held.
 use Rattle.std.specs.Prelude.{Bool, true, false, Option, Some, None}
 use Rattle.model.specs.declared.AnyOp.{AnyOp}
 use Rattle.model.specs.declared.AnyOp.TheVariants.{Acquire, Release}

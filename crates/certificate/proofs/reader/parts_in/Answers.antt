@@ -12,36 +12,36 @@ pub returns-in_default-object-clause-none : goal.returns-in_default-object-claus
 returns-in_default-object-clause-none c =
     let es = c.in-Map.entries.items in
     let there : option_map (λ f. view f.now) c.value_at.result
-      ≡ value_at (codes "object") (entries_of (pair_views es)) =
+    ≡ value_at (codes "object") (entries_of (pair_views es)) =
     c.value_at.ensures ∙ ap (λ xs. value_at (codes "object") (entries_of (pair_views xs))) c.deref.ensures.value in
     rw (c.in-Map.is, map_view)
-      (sym (no_object (entries_of (pair_views es)) _ c.natural-number.result there c.natural-number.ensures
-      (sym c.in_default-object.is ∙ c.object.ensures)))
+    (sym (no_object (entries_of (pair_views es)) _ c.natural-number.result there c.natural-number.ensures
+    (sym c.in_default-object.is ∙ c.object.ensures)))
 
 pub returns-in_default-order_in-clause-none : goal.returns-in_default-order_in-clause-none
 returns-in_default-order_in-clause-none c =
     let es = c.in-Map.entries.items in
     let there : option_map (λ f. view f.now) c.value_at.result
-      ≡ value_at (codes "object") (entries_of (pair_views es)) =
+    ≡ value_at (codes "object") (entries_of (pair_views es)) =
     c.value_at.ensures ∙ ap (λ xs. value_at (codes "object") (entries_of (pair_views xs))) c.deref.ensures.value in
     let order : option_map (λ f. view f.now) c.value_at-2.result
-      ≡ value_at (codes "order") (entries_of (pair_views es)) = c.value_at-2.ensures
+    ≡ value_at (codes "order") (entries_of (pair_views es)) = c.value_at-2.ensures
     ∙ ap (λ xs. value_at (codes "order") (entries_of (pair_views xs))) c.deref-2.ensures.value in
     rw (c.in-Map.is, map_view) (sym
     (both_keys (entries_of (pair_views es)) _ _ c.natural-number.result
-      (Some c.in-Some.object) None there c.natural-number.ensures
+    (Some c.in-Some.object) None there c.natural-number.ensures
     (sym c.in-Some.is ∙ c.object.ensures) order (sym c.in_default-order_in.ensures.none)))
 
 pub returns-clause-some : goal.returns-clause-some
 returns-clause-some c =
     let es = c.in-Map.entries.items in
     let there : option_map (λ f. view f.now) c.value_at.result
-      ≡ value_at (codes "object") (entries_of (pair_views es)) =
+    ≡ value_at (codes "object") (entries_of (pair_views es)) =
     c.value_at.ensures ∙ ap (λ xs. value_at (codes "object") (entries_of (pair_views xs))) c.deref.ensures.value in
     let order : option_map (λ f. view f.now) c.value_at-2.result
-      ≡ value_at (codes "order") (entries_of (pair_views es)) = c.value_at-2.ensures
+    ≡ value_at (codes "order") (entries_of (pair_views es)) = c.value_at-2.ensures
     ∙ ap (λ xs. value_at (codes "order") (entries_of (pair_views xs))) c.deref-2.ensures.value in
     rw (c.in-Map.is, map_view) (sym
     (both_keys (entries_of (pair_views es)) _ _ c.natural-number.result (Some c.in-Some.object)
     (integers_in (items_of (views c.in-Some-order_in.forms.now))) there c.natural-number.ensures
-      (sym c.in-Some.is ∙ c.object.ensures) order (sym c.in-Some-order_in.ensures.some)))
+    (sym c.in-Some.is ∙ c.object.ensures) order (sym c.in-Some-order_in.ensures.some)))

@@ -14,9 +14,9 @@ returns-in-Err-clause-fault c =
     let f = c.form-item.result in
     let lt : c.loop-place.place < length fs = omega (arith, ap length c.deref-form-items.ensures.value) in
     let is : f ≡ get_or fs c.loop-place.place f =
-      c.form-item.is ∙ ap (λ (xs : List Form). get_or xs c.loop-place.place f) c.deref-form-items.ensures.value in
+    c.form-item.is ∙ ap (λ (xs : List Form). get_or xs c.loop-place.place f) c.deref-form-items.ensures.value in
     first_fault fs c.loop-place.place f c.loop-place.certificates.items
-      (contains nat_cmp c.loop-place.objects) c.in-Err.kind lt is c.loop-place.invariant c.in-Err.ensures.fault
+    (contains nat_cmp c.loop-place.objects) c.in-Err.kind lt is c.loop-place.invariant c.in-Err.ensures.fault
 
 pub returns-in-Err-clause-refused : goal.returns-in-Err-clause-refused
 returns-in-Err-clause-refused c =
@@ -28,10 +28,10 @@ returns-in-Err-clause-memory c = λ want.
     let f = c.form-item.result in
     let lt : c.loop-place.place < length fs = omega (arith, ap length c.deref-form-items.ensures.value) in
     let is : f ≡ get_or fs c.loop-place.place f =
-      c.form-item.is ∙ ap (λ (xs : List Form). get_or xs c.loop-place.place f) c.deref-form-items.ensures.value in
+    c.form-item.is ∙ ap (λ (xs : List Form). get_or xs c.loop-place.place f) c.deref-form-items.ensures.value in
     let r = subst (IsFaultAmong (contains nat_cmp c.loop-place.objects) (view f)) want c.in-Err.ensures.fault in
     sound_at fs c.loop-place.place f c.loop-place.certificates.items
-      (contains nat_cmp c.loop-place.objects) r.0 lt is c.loop-place.invariant r.1 r.2
+    (contains nat_cmp c.loop-place.objects) r.0 lt is c.loop-place.invariant r.1 r.2
 
 pub returns-in-Err-push-clause-memory : goal.returns-in-Err-push-clause-memory
 returns-in-Err-push-clause-memory c = λ _.
@@ -39,9 +39,9 @@ returns-in-Err-push-clause-memory c = λ _.
     let f = c.form-item.result in
     let lt : c.loop-place.place < length fs = omega (arith, ap length c.deref-form-items.ensures.value) in
     let is : f ≡ get_or fs c.loop-place.place f =
-      c.form-item.is ∙ ap (λ (xs : List Form). get_or xs c.loop-place.place f) c.deref-form-items.ensures.value in
+    c.form-item.is ∙ ap (λ (xs : List Form). get_or xs c.loop-place.place f) c.deref-form-items.ensures.value in
     sound_at fs c.loop-place.place f c.loop-place.certificates.items (contains nat_cmp c.loop-place.objects)
-      (reading_of c.in-Ok.certificate) lt
+    (reading_of c.in-Ok.certificate) lt
     is c.loop-place.invariant c.in-Ok.ensures.own c.in-Ok.ensures.new
 
 pub loop-place-preserved : goal.loop-place-preserved
@@ -50,9 +50,9 @@ loop-place-preserved c =
     let f = c.form-item.result in
     let lt : c.loop-place.place < length fs = omega (arith, ap length c.deref-form-items.ensures.value) in
     let is : f ≡ get_or fs c.loop-place.place f =
-      c.form-item.is ∙ ap (λ (xs : List Form). get_or xs c.loop-place.place f) c.deref-form-items.ensures.value in
+    c.form-item.is ∙ ap (λ (xs : List Form). get_or xs c.loop-place.place f) c.deref-form-items.ensures.value in
     rw (taken_one_more fs c.loop-place.place f lt is, c.in-Ok-push.ensures.items)
     (one_more_read (views (take c.loop-place.place fs)) c.loop-place.certificates.items
-      (contains nat_cmp c.loop-place.objects)
+    (contains nat_cmp c.loop-place.objects)
     (contains nat_cmp c.next_certificate.new.objects) (view f) c.in-Ok.certificate c.loop-place.invariant
     c.in-Ok.ensures.own c.in-Ok.ensures.new c.in-Ok.ensures.among)

@@ -12,15 +12,15 @@ use Rattle.certificate.proofs.text_reader.read_certificates_text.Goals as goal
 pub elements-preserved : goal.elements-preserved
 elements-preserved c =
     let e = reads_some (keeping_in c.elements.elements) c.in-Ok-true.field-0 (left_of c.elements.elements)
-      (tokens_in c.advance.new.self)
+    (tokens_in c.advance.new.self)
     (integer_vector_in c.advance.new.self)
-      (left_of c.advance.new.self) c.in-Ok-true.field-0-test c.in-Ok-true.ensures.reads in
+    (left_of c.advance.new.self) c.in-Ok-true.field-0-test c.in-Ok-true.ensures.reads in
     let t = c.take_integer_vector-integer_vector in
     let k = c.elements.invariant.keeps in
     let along = along_more (keeping_in c.elements.elements) (IsReading c.elements.reading)
-      (IsReading c.take.new.self) c.args.text.now
+    (IsReading c.take.new.self) c.args.text.now
     (left_of c.elements.elements) (left_of c.advance.new.self) (start_of c.elements.elements)
-      (start_of c.advance.new.self)
+    (start_of c.advance.new.self)
     (tokens_in c.advance.new.self) (integer_vector_in c.advance.new.self) e c.in-Ok-true.ensures.moves
     (λ ds d q r h. c.take.ensures ds d (
       c.pieces.ensures ∙ t.ensures.tokens ∙ q ∙ ap (λ (x : Keeping). tokens_of (kept_of x.cuts d)) k,
@@ -28,7 +28,7 @@ elements-preserved c =
     ) h) c.elements.invariant.along in
     record {
       along = along_moved (IsReading c.take.new.self) c.args.text.now (left_of c.advance.new.self)
-        (left_of t.new.self) (start_of c.advance.new.self)
+          (left_of t.new.self) (start_of c.advance.new.self)
           (start_of t.new.self) t.ensures.left.0 t.ensures.left.1 along;
       short = c.elements.invariant.short;
       utf8 = c.elements.invariant.utf8;
@@ -39,11 +39,14 @@ pub returns-in-Ok-finish-clause-denotes : goal.returns-in-Ok-finish-clause-denot
 returns-in-Ok-finish-clause-denotes c =
     let a = c.elements.invariant.along in
     let n = reads_none (keeping_in c.elements.elements) c.in-Ok-false.field-0 (left_of c.elements.elements)
-      (tokens_in c.advance.new.self)
+    (tokens_in c.advance.new.self)
     (integer_vector_in c.advance.new.self)
-      (left_of c.advance.new.self) c.in-Ok-false.field-0-test c.in-Ok-false.ensures.reads in
-    (a.forms, along_spells (IsReading c.elements.reading) c.args.text.now (left_of c.elements.elements)
-      (start_of c.elements.elements) a n, c.in-Ok-finish.ensures a.forms a.holds)
+    (left_of c.advance.new.self) c.in-Ok-false.field-0-test c.in-Ok-false.ensures.reads in (
+      a.forms,
+      along_spells (IsReading c.elements.reading) c.args.text.now (left_of c.elements.elements)
+          (start_of c.elements.elements) a n,
+      c.in-Ok-finish.ensures a.forms a.holds,
+    )
 
 pub returns-in-Ok-finish-clause-distinct : goal.returns-in-Ok-finish-clause-distinct
 returns-in-Ok-finish-clause-distinct c =
@@ -53,9 +56,9 @@ pub returns-in-Err-finish-clause-fault : goal.returns-in-Err-finish-clause-fault
 returns-in-Err-finish-clause-fault c =
     let a = c.elements.invariant.along in
     let n = reads_none (keeping_in c.elements.elements) c.in-Ok-false.field-0 (left_of c.elements.elements)
-      (tokens_in c.advance.new.self)
+    (tokens_in c.advance.new.self)
     (integer_vector_in c.advance.new.self)
-      (left_of c.advance.new.self) c.in-Ok-false.field-0-test c.in-Ok-false.ensures.reads in (
+    (left_of c.advance.new.self) c.in-Ok-false.field-0-test c.in-Ok-false.ensures.reads in (
       c.elements.invariant.short,
       a.forms,
       along_spells (IsReading c.elements.reading) c.args.text.now (left_of c.elements.elements)
@@ -68,7 +71,7 @@ returns-in-Err-advance-clause-fault c =
     let a = c.elements.invariant.along in
     let e = c.in-Err-advance.ensures in (
       unreadable_after (IsReading c.elements.reading) c.args.text.now (left_of c.elements.elements)
-        (start_of c.elements.elements) c.in-Err-advance.fault c.elements.invariant.short a e.short e.none,
+          (start_of c.elements.elements) c.in-Err-advance.fault c.elements.invariant.short a e.short e.none,
       λ m. (
         c.elements.invariant.short,
         sound_after c.args.text.now (left_of c.elements.elements) a.forms (start_of c.elements.elements)
@@ -89,9 +92,9 @@ elements-preserved-in-Some c =
     record {
       along = along_passed (IsReading c.elements.reading) (IsReading c.take_said.new.self) c.args.text.now
           (left_of c.elements.elements) (left_of c.pass.new.self) (start_of c.elements.elements)
-            (start_of c.pass.new.self)
+          (start_of c.pass.new.self)
           read.form front c.pass.ensures.moves
-            (λ ds h. c.take_said.ensures ds read.form read.own h) c.elements.invariant.along;
+          (λ ds h. c.take_said.ensures ds read.form read.own h) c.elements.invariant.along;
       short = c.elements.invariant.short;
       utf8 = c.elements.invariant.utf8;
       keeps = c.pass.ensures.keeps ∙ c.elements.invariant.keeps;

@@ -7,13 +7,13 @@ use Rattle.certificate.proofs.usual.order_after.Goals as goal
 pub returns-in-93 : goal.returns-in-93
 returns-in-93 c =
     order_ends c.numbers.order.items c.args.text.now c.numbers.rest.now c.after_space-here.result.now _
-      c.numbers.invariant
+    c.numbers.invariant
     c.after_space-here.ensures (head_is c.after_space-here.result.now 93 (omega arith) (search rules))
 
 pub numbers-preserved : goal.numbers-preserved
 numbers-preserved c =
     let more = one_more c.numbers.order.items c.in_ok-number.number c.args.text.now c.numbers.rest.now
-      c.after_space-here.result.now c.in_ok-number.tail.now
+    c.after_space-here.result.now c.in_ok-number.tail.now
     c.numbers.invariant c.after_space-here.ensures c.in_ok-number.ensures in
     let same : to_z w64 (of_z w64 c.in_ok-number.number) ≡ c.in_ok-number.number = omega (arith, ints) in
     rw (c.in-Ok.ensures, same) more

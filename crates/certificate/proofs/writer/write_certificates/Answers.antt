@@ -13,9 +13,9 @@ returns-in_err-write_line-clause-sent g c =
     let l = c.loop-certificate in
     let h = c.in_err-write_line.ensures.sent in
     let left = lines_left c.args.certificates.now l.certificate-index c.certificate-item.result
-      c.loop-certificate-test.true c.certificate-item.is in
+    c.loop-certificate-test.true c.certificate-item.is in
     fails _ _ _ _ _ (search rules)
-      (within _ _ _ _ l.invariant.done _ _ _ l.invariant.parts left l.invariant.sent h.1.0) h.1.1
+    (within _ _ _ _ l.invariant.done _ _ _ l.invariant.parts left l.invariant.sent h.1.0) h.1.1
 
 pub loop-certificate-preserved : goal.loop-certificate-preserved
 loop-certificate-preserved g c =
@@ -23,7 +23,7 @@ loop-certificate-preserved g c =
     let h = c.in_ok-write_line.ensures.sent.0 in
     let cs = c.args.certificates.now in
     let left = lines_left cs l.certificate-index c.certificate-item.result c.loop-certificate-test.true
-      c.certificate-item.is in
+    c.certificate-item.is in
     let f = further _ _ _ (lines_of cs) l.invariant.done _ _ _ l.invariant.parts left l.invariant.sent h.0 in
     record {
       usable = h.1;
@@ -31,7 +31,7 @@ loop-certificate-preserved g c =
       parts = f.1;
       sent = f.2;
       in_profile = all_taken_item
-        (λ (x : Certificate). AllByRecursion IsInt64 x.order.items) cs l.certificate-index c.certificate-item.result
+          (λ (x : Certificate). AllByRecursion IsInt64 x.order.items) cs l.certificate-index c.certificate-item.result
           c.loop-certificate-test.true c.certificate-item.is l.invariant.in_profile c.in_ok-write_line.ensures.in_range;
     }
 

@@ -16,42 +16,42 @@ pub returns-in_err-write_integer-clause-sent : goal.returns-in_err-write_integer
 returns-in_err-write_integer-clause-sent g c =
     let x = c.args.certificate.now.object in
     let h : WritesPrefix (g.S.Sink.sent c.write_bytes.new.sink) (g.S.Sink.sent c.write_integer.new.sink)
-      (signed_decimal (pos x)) = search rules in
+    (signed_decimal (pos x)) = search rules in
     fails _ _ _ _ _ (search rules)
-      (three_2 _ _ _ (codes "{:object ") (signed_decimal (pos x)) _ c.in_ok-write_bytes.ensures.sent.0.0 h)
-      c.in_err-write_integer.ensures.sent.1.1
+    (three_2 _ _ _ (codes "{:object ") (signed_decimal (pos x)) _ c.in_ok-write_bytes.ensures.sent.0.0 h)
+    c.in_err-write_integer.ensures.sent.1.1
 
 pub returns-in_err-write_bytes-2-clause-sent : goal.returns-in_err-write_bytes-2-clause-sent
 returns-in_err-write_bytes-2-clause-sent g c =
     let x = c.args.certificate.now.object in
     let h = c.in_err-write_bytes-2.ensures.sent in
     let n : Appends (g.S.Sink.sent c.write_bytes.new.sink) (g.S.Sink.sent c.write_integer.new.sink)
-      (signed_decimal (pos x)) = search rules in
+    (signed_decimal (pos x)) = search rules in
     fails _ _ _ _ _ (search rules)
-      (three_3 _ _ _ _ (codes "{:object ") (signed_decimal (pos x)) _ c.in_ok-write_bytes.ensures.sent.0.0 n
-      (front_of_first _ _ (codes ", :order [") _ h.1.0)) h.1.1
+    (three_3 _ _ _ _ (codes "{:object ") (signed_decimal (pos x)) _ c.in_ok-write_bytes.ensures.sent.0.0 n
+    (front_of_first _ _ (codes ", :order [") _ h.1.0)) h.1.1
 
 pub returns-in_err-write_numbers-clause-sent : goal.returns-in_err-write_numbers-clause-sent
 returns-in_err-write_numbers-clause-sent g c =
     let x = c.args.certificate.now.object in
     let zs = c.args.certificate.now.order.items in
     let n : Appends (g.S.Sink.sent c.write_bytes.new.sink) (g.S.Sink.sent c.write_integer.new.sink)
-      (signed_decimal (pos x)) = search rules in
+    (signed_decimal (pos x)) = search rules in
     let h : WritesPrefix (g.S.Sink.sent c.write_bytes-2.new.sink) (g.S.Sink.sent c.write_numbers.new.sink)
-      (numbers_text true zs) = search rules in
+    (numbers_text true zs) = search rules in
     let order = three_2 _ _ _ (codes ", :order [") (numbers_text true zs) _ c.in_ok-write_bytes-2.ensures.sent.0.0 h in
     fails _ _ _ _ _ (search rules)
-      (three_3 _ _ _ _ (codes "{:object ") (signed_decimal (pos x)) _ c.in_ok-write_bytes.ensures.sent.0.0 n order)
-      c.in_err-write_numbers.ensures.sent.1.1
+    (three_3 _ _ _ _ (codes "{:object ") (signed_decimal (pos x)) _ c.in_ok-write_bytes.ensures.sent.0.0 n order)
+    c.in_err-write_numbers.ensures.sent.1.1
 
 pub returns-clause-sent : goal.returns-clause-sent
 returns-clause-sent g c =
     let x = c.args.certificate.now.object in
     let zs = c.args.certificate.now.order.items in
     let n : Appends (g.S.Sink.sent c.write_bytes.new.sink) (g.S.Sink.sent c.write_integer.new.sink)
-      (signed_decimal (pos x)) = search rules in
+    (signed_decimal (pos x)) = search rules in
     let h : Appends (g.S.Sink.sent c.write_bytes-2.new.sink) (g.S.Sink.sent c.write_numbers.new.sink)
-      (numbers_text true zs) = search rules in
+    (numbers_text true zs) = search rules in
     sends_third _ _ _ _ _ _ (codes "{:object ") (signed_decimal (pos x)) _ c.in_ok-write_bytes.ensures.sent.0.0 n
     (sends_third _ _ _ _ _ _ (codes ", :order [") (numbers_text true zs)
-      (codes "]}\n") c.in_ok-write_bytes-2.ensures.sent.0.0 h c.write_bytes-3.ensures.sent)
+    (codes "]}\n") c.in_ok-write_bytes-2.ensures.sent.0.0 h c.write_bytes-3.ensures.sent)

@@ -14,7 +14,7 @@ returns-in_err-write_between-clause-sent g c =
 pub returns-clause-sent : goal.returns-clause-sent
 returns-clause-sent g c =
     let h : Writes c.write_integer.result (g.S.Sink.sent c.write_between.new.sink)
-      (g.S.Sink.sent c.write_integer.new.sink)
+    (g.S.Sink.sent c.write_integer.new.sink)
     (g.S.Sink.broken c.write_integer.new.sink) (signed_decimal c.args.n) = search rules in
     sends_after _ _ _ _ _ (between c.args.first (codes " "))
-      (signed_decimal c.args.n) c.in_ok-write_between.ensures.sent.0.0 h
+    (signed_decimal c.args.n) c.in_ok-write_between.ensures.sent.0.0 h

@@ -14,19 +14,24 @@ returns-in_err-write_next-clause-sent g c =
     let l = c.loop-n in
     let zs = c.args.numbers.now in
     let h : WritesPrefix (g.S.Sink.sent l.sink) (g.S.Sink.sent c.write_next.new.sink)
-      (between l.first (codes " ") ++ signed_decimal (get_or zs l.n-index (pos 0))) = search rules in
+    (between l.first (codes " ") ++ signed_decimal (get_or zs l.n-index (pos 0))) = search rules in
     fails _ _ _ _ _ (search rules) (within _ _ _ _ l.invariant.done _ _ _ l.invariant.parts
     (numbers_left zs l.n-index (pos 0) l.first c.loop-n-test.true) l.invariant.sent h)
-      c.in_err-write_next.ensures.sent.1.1
+    c.in_err-write_next.ensures.sent.1.1
 
 pub loop-n-preserved : goal.loop-n-preserved
 loop-n-preserved g c =
     let l = c.loop-n in
     let zs = c.args.numbers.now in
     let h : Appends (g.S.Sink.sent l.sink) (g.S.Sink.sent c.write_next.new.sink)
-      (between l.first (codes " ") ++ signed_decimal (get_or zs l.n-index (pos 0))) = search rules in
+    (between l.first (codes " ") ++ signed_decimal (get_or zs l.n-index (pos 0))) = search rules in
     let small : IsInt64 (get_or zs l.n-index (pos 0)) = search rules in
     let f = further _ _ _ (numbers_text true zs) l.invariant.done _ _ _ l.invariant.parts
-      (numbers_left zs l.n-index (pos 0) l.first c.loop-n-test.true) l.invariant.sent h in
-    record { usable = c.in_ok-write_next.ensures.sent.0.1; done = f.0; parts = f.1; sent = f.2;
-        in_range = all_taken IsInt64 zs l.n-index (pos 0) c.loop-n-test.true l.invariant.in_range small }
+    (numbers_left zs l.n-index (pos 0) l.first c.loop-n-test.true) l.invariant.sent h in
+    record {
+      usable = c.in_ok-write_next.ensures.sent.0.1;
+      done = f.0;
+      parts = f.1;
+      sent = f.2;
+      in_range = all_taken IsInt64 zs l.n-index (pos 0) c.loop-n-test.true l.invariant.in_range small;
+    }

@@ -13,7 +13,7 @@ use Rattle.checker.proofs.all.check_all.Goals.{In_err-check_object_at, After-str
 pub loop-object-init : goal.loop-object-init
 loop-object-init c = record {
   objects = are_objects c.args.history.now c.deref-object-items.result.now c.in-Ok.objects.items
-    c.deref-object-items.ensures.value
+      c.deref-object-items.ensures.value
       c.in-Ok.ensures.rising c.in-Ok.ensures.named c.in-Ok.ensures.kinds c.in-Ok.ensures.calls;
   fine = λ o i. absurd i;
 }
@@ -25,9 +25,9 @@ first : (c : In_err-check_object_at)
 first c =
     let l = c.loop-object in
     next_is_first c.args.history.now c.args.certificates.now c.deref-object-items.result.now l.object-index
-      c.object-item.result
+    c.object-item.result
     c.in_err-check_object_at.field-0.0 c.requires l.invariant.objects l.invariant.fine c.loop-object-test.true
-      c.object-item.is c.in_err-check_object_at.ensures.refused
+    c.object-item.is c.in_err-check_object_at.ensures.refused
 
 pub returns-in_err-check_object_at-clause-refused : goal.returns-in_err-check_object_at-clause-refused
 returns-in_err-check_object_at-clause-refused c =
@@ -50,10 +50,12 @@ loop-object-preserved c =
     let inside = c.loop-object-test.true in
     let whole = take_more fs i o inside ∙ ap (λ x. take i fs ++ x ∷ []) (sym c.object-item.is) in
     let fine = next_fine es certificates fs i o l.invariant.objects inside c.object-item.is
-      c.in_ok-check_object_at.ensures.fine in
-    record { objects = l.invariant.objects;
-        fine = subst (AreFine es certificates) (sym whole)
-        (one_more_fine es certificates (take i fs) o l.invariant.fine fine) }
+    c.in_ok-check_object_at.ensures.fine in
+    record {
+      objects = l.invariant.objects;
+      fine = subst (AreFine es certificates) (sym whole)
+          (one_more_fine es certificates (take i fs) o l.invariant.fine fine);
+    }
 
 -- at the end all objects are checked
 checked : (c : After-strange_object)
@@ -72,9 +74,9 @@ returns-in-Some-clause-refused c =
     let x = c.in-Some.object in
     let d = (goal.at.returns-in-Some-clause-refused c).After-strange_object in
     least_strange c.args.history.now certificates c.deref-object-items.result.now x c.requires
-      c.loop-object.invariant.objects (checked d)
+    c.loop-object.invariant.objects (checked d)
     (subst (λ os. IsLeastBesides (map (λ (o : ObjectCalls). o.object) os) certificates x)
-      (same_objects d) c.in-Some.ensures.least)
+    (same_objects d) c.in-Some.ensures.least)
 
 pub returns-in-Some-clause-exact : goal.returns-in-Some-clause-exact
 returns-in-Some-clause-exact c =
@@ -86,9 +88,9 @@ returns-clause-valid c =
     let certificates = c.args.certificates.now in
     let d = (goal.at.returns-clause-valid c).After-strange_object in
     all_valid c.args.history.now certificates c.deref-object-items.result.now c.loop-object.invariant.objects
-      (checked d)
+    (checked d)
     (subst (λ os. AreForThese (map (λ (o : ObjectCalls). o.object) os) certificates)
-      (same_objects d) c.in-None.ensures.none)
+    (same_objects d) c.in-None.ensures.none)
 
 pub returns-in_err-check_object_at-clause-answer : goal.returns-in_err-check_object_at-clause-answer
 returns-in_err-check_object_at-clause-answer c =

@@ -19,13 +19,13 @@ pub check_object-requires : goal.check_object-requires
 check_object-requires c =
     let p = here (goal.at.check_object-requires c).In-Some in
     sym (ap (λ (d : Certificate). d.object) c.index-certificates-place.is
-      ∙ p.for_object c.index-certificates-place.result)
+    ∙ p.for_object c.index-certificates-place.result)
 
 pub returns-in_default-clause-refused : goal.returns-in_default-clause-refused
 returns-in_default-clause-refused c =
     let x = c.args.object.now.object in
     let none : value_of c.args.places.now x ≡ None =
-      ap (value_of c.args.places.now) (sym c.object.ensures) ∙ (sym c.get.ensures ∙ c.in_default.is) in
+    ap (value_of c.args.places.now) (sym c.object.ensures) ∙ (sym c.get.ensures ∙ c.in_default.is) in
     (c.object-object.ensures, no_certificate c.args.certificates.now c.args.places.now x c.requires none)
 
 pub returns-clause-fine : goal.returns-clause-fine
@@ -33,7 +33,7 @@ returns-clause-fine c =
     let o = c.args.object.now in
     let p = here (goal.at.returns-clause-fine c).In-Some in
     fine_here o.kind (calls_of o.ops) c.args.certificates.now o.object c.in-Some.place
-      c.index-certificates-place.result c.check_object.result p
+    c.index-certificates-place.result c.check_object.result p
     c.index-certificates-place.is c.check_object.ensures.valid c.check_object.ensures.faultless
 
 pub returns-clause-refused : goal.returns-clause-refused
@@ -41,5 +41,5 @@ returns-clause-refused c =
     let o = c.args.object.now in
     let p = here (goal.at.returns-clause-refused c).In-Some in
     refused_here o.kind (calls_of o.ops) c.args.certificates.now o.object c.in-Some.place
-      c.index-certificates-place.result c.check_object.result p
+    c.index-certificates-place.result c.check_object.result p
     c.index-certificates-place.is c.check_object.ensures.refused c.check_object.ensures.exact

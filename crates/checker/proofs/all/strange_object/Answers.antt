@@ -12,18 +12,18 @@ loop-object-preserved c =
     let os = c.args.objects.now in
     let i = c.loop-object.object-index in
     let whole = take_more os i c.object-item.result c.loop-object-test.true
-      ∙ ap (λ x. take i os ++ x ∷ []) (sym c.object-item.is) in
+    ∙ ap (λ x. take i os ++ x ∷ []) (sym c.object-item.is) in
     subst (λ xs. AreLeft certificates xs c.remove.new.self) (sym whole)
     (one_taken certificates
-      (take i os) c.object-item.result c.loop-object.places c.remove.new.self c.loop-object.invariant (search rules)
-      (search rules))
+    (take i os) c.object-item.result c.loop-object.places c.remove.new.self c.loop-object.invariant (search rules)
+    (search rules))
 
 pub returns-clause-none : goal.returns-clause-none
 returns-clause-none c =
     let os = c.args.objects.now in
     let l = c.loop-object in
     let left = subst (λ xs. AreLeft c.args.certificates.now xs l.places)
-      (take_all l.object-index os c.loop-object-test.false) l.invariant in
+    (take_all l.object-index os c.loop-object-test.false) l.invariant in
     (strange c.args.certificates.now os l.places c.least_placed.result left c.least_placed.ensures).0
 
 pub returns-clause-least : goal.returns-clause-least
@@ -31,5 +31,5 @@ returns-clause-least c =
     let os = c.args.objects.now in
     let l = c.loop-object in
     let left = subst (λ xs. AreLeft c.args.certificates.now xs l.places)
-      (take_all l.object-index os c.loop-object-test.false) l.invariant in
+    (take_all l.object-index os c.loop-object-test.false) l.invariant in
     (strange c.args.certificates.now os l.places c.least_placed.result left c.least_placed.ensures).1

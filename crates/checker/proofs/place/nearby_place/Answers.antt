@@ -8,7 +8,7 @@ returns-in_default c =
     let k = c.loop.k in
     let true_here = c.if-number-entry.true in
     let same : pos (get_or c.args.ops.now k placeholder_operation).number ≡ c.args.entry =
-      omega (arith, ints, true_here) in
+    omega (arith, ints, true_here) in
     let found = found_by_number c.args.ops.now c.args.entry k placeholder_operation c.requires c.if-k-ops.false same
-      c.in_default.not-Failed in
+    c.in_default.not-Failed in
     (c.if-k-ops.false, (found.0, found.1.found, found.1.is))

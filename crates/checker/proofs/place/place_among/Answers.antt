@@ -9,7 +9,7 @@ use Rattle.checker.proofs.place.place_among.Goals as goal
 pub returns-in_default-clause-none : goal.returns-in_default-clause-none
 returns-in_default-clause-none c =
     let by_number = c.in_default.ensures.position (λ o. pos o.number)
-      (answers_always _ _ _ (λ f a r g called. search rules)) in
+    (answers_always _ _ _ (λ f a r g called. search rules)) in
     let e : to_z w64 (of_z w64 c.args.entry) ≡ c.args.entry = omega (arith, ints) in
     let parts = by_number (search_rises c.args.ops.now (to_z w64 (of_z w64 c.args.entry)) c.requires) in
     none_here c.args.ops.now c.args.entry c.in_default.field-0 placeholder_operation (
@@ -20,20 +20,20 @@ returns-in_default-clause-none c =
 pub returns-in-Failed-clause-none : goal.returns-in-Failed-clause-none
 returns-in-Failed-clause-none c =
     let by_number = c.in-Ok.ensures.position (λ o. pos o.number)
-      (answers_always _ _ _ (λ f a r g called. search rules)) in
+    (answers_always _ _ _ (λ f a r g called. search rules)) in
     let e : to_z w64 (of_z w64 c.args.entry) ≡ c.args.entry = omega (arith, ints) in
     let o = get_or c.args.ops.now c.in-Ok.k placeholder_operation in
     failed_here c.args.ops.now c.args.entry c.in-Ok.k placeholder_operation c.requires c.in-Ok.ensures.bound
     (ap (int_cmp (pos o.number)) (sym e) ∙ by_number placeholder_operation)
-      (ap (call_with o.number o.op) c.in-Failed.is)
+    (ap (call_with o.number o.op) c.in-Failed.is)
 
 pub returns-in_default-end : goal.returns-in_default-end
 returns-in_default-end c =
     let by_number = c.in-Ok.ensures.position (λ o. pos o.number)
-      (answers_always _ _ _ (λ f a r g called. search rules)) in
+    (answers_always _ _ _ (λ f a r g called. search rules)) in
     let e : to_z w64 (of_z w64 c.args.entry) ≡ c.args.entry = omega (arith, ints) in
     let o = get_or c.args.ops.now c.in-Ok.k placeholder_operation in
     let found = found_here c.args.ops.now c.args.entry c.in-Ok.k placeholder_operation c.requires
-      c.in-Ok.ensures.bound (ap (int_cmp (pos o.number)) (sym e) ∙ by_number placeholder_operation)
-      c.in_default-end.not-Failed in
+    c.in-Ok.ensures.bound (ap (int_cmp (pos o.number)) (sym e) ∙ by_number placeholder_operation)
+    c.in_default-end.not-Failed in
     record { some = (c.in-Ok.ensures.bound, (found.0, found.1.found, found.1.is)); none = tt }

@@ -24,7 +24,7 @@ entry_at o i l e = slice_get-get_or o i (pos 0) l ∙ ap Some (sym e)
 here : (g : Over) (c : After-late_by g)
     → IsHere c.args.kind c.args.ops.now c.args.order.now c.loop-entry.entry-index c.loop-entry.seen.items
     (g.S.SeqObject.content c.loop-entry.object) c.loop-entry.greatest
-      (entry c.args.order.now c.loop-entry.entry-index) c.in-Some.k c.in-Some.ensures.some.1.0
+    (entry c.args.order.now c.loop-entry.entry-index) c.in-Some.k c.in-Some.ensures.some.1.0
 here g c =
     let s = c.in-Some.ensures.some in
     let w = c.loop-entry.invariant in
@@ -47,7 +47,7 @@ pub returns-in_default-place_of-clause-refused : goal.returns-in_default-place_o
 returns-in_default-place_of-clause-refused g c =
     let at = entry_at c.args.order.now c.loop-entry.entry-index c.loop-entry-test.true (omega (arith, ints)) in
     refused_by _ _ _ _ _ _ c.refuse.ensures
-      (unknown_first _ _ _ _ _ _ c.loop-entry.invariant.so_far at c.in_default-place_of.ensures.none)
+    (unknown_first _ _ _ _ _ _ c.loop-entry.invariant.so_far at c.in_default-place_of.ensures.none)
 
 pub returns-then-index-clause-refused : goal.returns-then-index-clause-refused
 returns-then-index-clause-refused g c =
@@ -56,10 +56,10 @@ returns-then-index-clause-refused g c =
     let w = c.loop-entry.invariant in
     let len : c.in-Some.k < length c.loop-entry.seen.items = omega (arith, w.long, s.0) in
     let marked = read_at c.loop-entry.seen.items c.in-Some.k c.index.result.now true len c.index.ensures
-      c.if-index.true in
+    c.if-index.true in
     refused_by _ _ _ _ _ _ c.refuse-then-index.ensures
-      (repeated_at _ _ _ _ _ _ _ _ _ _ placeholder_operation w at
-      (record { within = s.0; found = s.1.1; is = s.1.2 }) marked)
+    (repeated_at _ _ _ _ _ _ _ _ _ _ placeholder_operation w at
+    (record { within = s.0; found = s.1.1; is = s.1.2 }) marked)
 
 pub returns-in-Some-late_by-clause-refused : goal.returns-in-Some-late_by-clause-refused
 returns-in-Some-late_by-clause-refused g c =
@@ -71,27 +71,27 @@ pub returns-then-not-possible-clause-refused : goal.returns-then-not-possible-cl
 returns-then-not-possible-clause-refused g c =
     let h = here g (goal.at.returns-then-not-possible-clause-refused g c).After-late_by in
     refused_by _ _ _ _ _ _ c.refuse-then-not-possible.ensures
-      (impossible_at _ _ _ _ _ _ _ _ _ _ _ _ _ h c.in_default-late_by.ensures
-      (c.requires.own_ops _) c.possible.ensures c.if-not-possible.true)
+    (impossible_at _ _ _ _ _ _ _ _ _ _ _ _ _ h c.in_default-late_by.ensures
+    (c.requires.own_ops _) c.possible.ensures c.if-not-possible.true)
 
 pub returns-then-differs-clause-refused : goal.returns-then-differs-clause-refused
 returns-then-differs-clause-refused g c =
     let h = here g (goal.at.returns-then-differs-clause-refused g c).After-late_by in
     let done = c.in-Ok-apply.ensures.ok
-      ∙ ap (λ (r : AnyReply). Some (g.S.SeqObject.content c.apply.new.self, r))
-      (c.requires.own_replies c.in-Ok-apply.gives) in
+    ∙ ap (λ (r : AnyReply). Some (g.S.SeqObject.content c.apply.new.self, r))
+    (c.requires.own_replies c.in-Ok-apply.gives) in
     refused_by _ _ _ _ _ _ c.refuse-then-differs.ensures
-      (wrong_at _ _ _ _ _ _ _ _ _ _ _ _ _ _ h c.in_default-late_by.ensures
-      (c.requires.own_ops _) done c.if-differs.ensures)
+    (wrong_at _ _ _ _ _ _ _ _ _ _ _ _ _ _ h c.in_default-late_by.ensures
+    (c.requires.own_ops _) done c.if-differs.ensures)
 
 pub loop-entry-preserved : goal.loop-entry-preserved
 loop-entry-preserved g c =
     let h = here g (goal.at.loop-entry-preserved g c).After-late_by in
     let done = c.in-Ok-apply.ensures.ok
-      ∙ ap (λ (r : AnyReply). Some (g.S.SeqObject.content c.apply.new.self, r))
-      (c.requires.own_replies c.in-Ok-apply.gives) in
+    ∙ ap (λ (r : AnyReply). Some (g.S.SeqObject.content c.apply.new.self, r))
+    (c.requires.own_replies c.in-Ok-apply.gives) in
     next_at _ _ _ _ _ _ _ _ _ _ _ _ _ _ _ c.requires.rising h c.loop-entry-test.true
-      (omega (arith, ints)) c.in_default-late_by.ensures
+    (omega (arith, ints)) c.in_default-late_by.ensures
     (c.requires.own_ops _) done c.if-differs.ensures c.in-Ok-apply.ensures.kind c.greatest_with.ensures
 
 pub returns-in-Some-first_omitted-clause-refused : goal.returns-in-Some-first_omitted-clause-refused
@@ -99,11 +99,11 @@ returns-in-Some-first_omitted-clause-refused g c =
     let w = over g (goal.at.returns-in-Some-first_omitted-clause-refused g c).After-first_omitted in
     refused_by _ _ _ _ _ _ c.refuse-in-Some-first_omitted.ensures
     (omitted_at _ _ _ _ _ _ _ placeholder_operation c.requires.rising w
-      (subst (λ m. IsFirstUnmarked c.args.ops.now m c.in-Some-first_omitted.op) c.deref.ensures.value
-      c.in-Some-first_omitted.ensures.some))
+    (subst (λ m. IsFirstUnmarked c.args.ops.now m c.in-Some-first_omitted.op) c.deref.ensures.value
+    c.in-Some-first_omitted.ensures.some))
 
 pub returns-clause-valid : goal.returns-clause-valid
 returns-clause-valid g c =
     let w = over g (goal.at.returns-clause-valid g c).After-first_omitted in
     all_marked _ _ _ _ _ _ placeholder_operation c.requires.rising w
-      (subst (λ m. AreMarked c.args.ops.now m (length c.args.ops.now)) c.deref.ensures.value c.in-None.ensures.none)
+    (subst (λ m. AreMarked c.args.ops.now m (length c.args.ops.now)) c.deref.ensures.value c.in-None.ensures.none)

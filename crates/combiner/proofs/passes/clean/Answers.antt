@@ -11,6 +11,7 @@ loop-at-init g c =
     ((c.args.pass.now.state.list, c.args.pass.now.state.ages, refl), omega arith)
 
 pub loop-at-preserved : goal.loop-at-preserved
-loop-at-preserved g c =
-    (same_on c.args.pass.now c.loop-at.pass c.clean_at.new.pass c.loop-at.invariant.0 c.clean_at.ensures.same,
-    c.clean_at.ensures.rows)
+loop-at-preserved g c = (
+  same_on c.args.pass.now c.loop-at.pass c.clean_at.new.pass c.loop-at.invariant.0 c.clean_at.ensures.same,
+  c.clean_at.ensures.rows,
+)

@@ -23,6 +23,8 @@ loop-at-preserved g c = let n = c.loop-at.invariant.1 in elim c.if-row-own.branc
         w.try_row-after.ensures.goes w.pass-is,
     (let i = w.count-is in omega arith),
   )
-  | else-row-own w ↦ (subst (λ z. Goes c.args.pass z) (sym w.pass-is) c.loop-at.invariant.0,
-    (let i = w.count-is in omega arith))
+  | else-row-own w ↦ (
+    subst (λ z. Goes c.args.pass z) (sym w.pass-is) c.loop-at.invariant.0,
+    (let i = w.count-is in omega arith),
+  )
 ]

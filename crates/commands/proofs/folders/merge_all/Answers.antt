@@ -6,8 +6,12 @@ use Rattle.commands.proofs.Merges.{none_read, read_more}
 use Rattle.commands.proofs.folders.merge_all.Goals as goal
 
 pub loop-shard-init : goal.loop-shard-init
-loop-shard-init g c = ([], refl,
-    none_read (IsReadAs (g.F.ShardFiles.holds c.args.files.now) c.args.shards c.args.steps), c.new-merging.ensures)
+loop-shard-init g c = (
+  [],
+  refl,
+  none_read (IsReadAs (g.F.ShardFiles.holds c.args.files.now) c.args.shards c.args.steps),
+  c.new-merging.ensures,
+)
 
 pub loop-shard-preserved : goal.loop-shard-preserved
 loop-shard-preserved g c =

@@ -11,7 +11,7 @@ returns-clause-leaves g c =
     let h = c.deref.result.now in
     let e = c.deref-2.result.now in
     let is_read : IsHistoryRead h c.history_of_text_by_workers-read.result =
-      c.history_of_text_by_workers-read.ensures in
+    c.history_of_text_by_workers-read.ensures in
     let first = subst
     (λ (x : List ℕ). WasRead read_limit (g.H.Source.remaining c.args.history.now)
     (g.H.Source.remaining c.read_text.new.source) x)

@@ -11,11 +11,11 @@ pub pairs-preserved : goal.pairs-preserved
 pairs-preserved c =
     let put : WithPair c.pairs.values c.with-values.result c.in-Some.name.now c.in-Some.value.now =
     subst (λ (n : List ℕ). WithPair c.pairs.values c.with-values.result n c.in-Some.value.now)
-      c.as_bytes.ensures.value c.with-values.ensures in
+    c.as_bytes.ensures.value c.with-values.ensures in
     λ es q. walk_goes_on es (token_buffer_tokens c.pairs.rest.now)
-      (token_buffer_tokens c.after_value-rest.result.now) c.pairs.values
+    (token_buffer_tokens c.after_value-rest.result.now) c.pairs.values
     c.with-values.result c.in-Some.name.now c.in-Some.value.now c.in-Some.ensures c.after_value-rest.ensures.tokens
-      put (c.pairs.invariant es q)
+    put (c.pairs.invariant es q)
 
 pub returns : goal.returns
 returns c = λ es q. walk_ends es (token_buffer_tokens c.pairs.rest.now) c.pairs.values c.in_default.ensures

@@ -10,7 +10,7 @@ pairs-init c = λ es q. left_first c.args.key.now es (token_buffer_tokens c.args
 pub pairs-preserved : goal.pairs-preserved
 pairs-preserved c = λ es q. left_more c.args.key.now c.in-Some.name.now es (token_buffer_tokens c.pairs.rest.now)
     (token_buffer_tokens c.after_value-rest.result.now) c.in-Some.value.now c.in-Some.ensures
-      c.after_value-rest.ensures.tokens
+    c.after_value-rest.ensures.tokens
     (c.if-is_same.ensures ∙ ap (same_bytes c.args.key.now) c.as_bytes.ensures.value) (c.pairs.invariant es q)
 
 pub returns-then-is_same : goal.returns-then-is_same

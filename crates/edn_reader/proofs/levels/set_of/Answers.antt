@@ -6,4 +6,4 @@ pub loop-name-preserved : goal.loop-name-preserved
 loop-name-preserved c =
     let lt : c.loop-name.name-index < length c.args.names.now = omega arith in
     names_with c.loop-name.set c.insert.new.self _ _ _ c.in_ok-insert.ensures.updates c.loop-name.invariant
-      (views_more c.args.names.now c.loop-name.name-index _ lt)
+    (views_more c.args.names.now c.loop-name.name-index _ lt)

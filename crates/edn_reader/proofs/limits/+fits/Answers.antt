@@ -14,14 +14,14 @@ entries_fit-returns-then-is_among t c =
     let x = c.entry-item.result in
     let lt : c.loop-i.i < length xs = omega (arith, ap length c.deref-entry-items.ensures.value) in
     let is : x ≡ get_or xs c.loop-i.i x =
-      c.entry-item.is ∙ ap (λ (ys : List (Name × Form)). get_or ys c.loop-i.i x) c.deref-entry-items.ensures.value in
+    c.entry-item.is ∙ ap (λ (ys : List (Name × Form)). get_or ys c.loop-i.i x) c.deref-entry-items.ensures.value in
     let remains : c.split_at.result.1.now ≡ drop (c.loop-i.i + 1) xs =
-      c.split_at.ensures.back ∙ ap (drop (c.loop-i.i + 1)) c.deref.ensures.value in (
+    c.split_at.ensures.back ∙ ap (drop (c.loop-i.i + 1)) c.deref.ensures.value in (
       λ h. cc,
       λ h. absurd (key_again c.args.depth xs c.split_at.result.1.now c.loop-i.i x lt is remains
           (c.if-is_among.ensures ∙ ap
-            (λ (k : List ℕ). has_key k (pair_views c.split_at.result.1.now)) c.as_bytes.ensures.text)
-            (c.loop-i.invariant.1 h)),
+          (λ (k : List ℕ). has_key k (pair_views c.split_at.result.1.now)) c.as_bytes.ensures.text)
+          (c.loop-i.invariant.1 h)),
     )
 
 pub entries_fit-loop-i-preserved : goal.entries_fit-loop-i-preserved
@@ -30,12 +30,12 @@ entries_fit-loop-i-preserved t c =
     let x = c.entry-item.result in
     let lt : c.loop-i.i < length xs = omega (arith, ap length c.deref-entry-items.ensures.value) in
     let is : x ≡ get_or xs c.loop-i.i x =
-      c.entry-item.is ∙ ap (λ (ys : List (Name × Form)). get_or ys c.loop-i.i x) c.deref-entry-items.ensures.value in
+    c.entry-item.is ∙ ap (λ (ys : List (Name × Form)). get_or ys c.loop-i.i x) c.deref-entry-items.ensures.value in
     let remains : c.split_at.result.1.now ≡ drop (c.loop-i.i + 1) xs =
-      c.split_at.ensures.back ∙ ap (drop (c.loop-i.i + 1)) c.deref.ensures.value in
+    c.split_at.ensures.back ∙ ap (drop (c.loop-i.i + 1)) c.deref.ensures.value in
     fits_on c.args.depth xs c.split_at.result.1.now c.loop-i.i x lt is remains
     (c.if-is_among.ensures ∙ ap
-      (λ (k : List ℕ). has_key k (pair_views c.split_at.result.1.now)) c.as_bytes.ensures.text)
+    (λ (k : List ℕ). has_key k (pair_views c.split_at.result.1.now)) c.as_bytes.ensures.text)
     (c.if-not-fits_within.ensures.0 refl) (EntriesFit c.args.depth (entries_of (pair_views xs))) c.loop-i.invariant
 
 pub fits_within-returns-then-depth-gt0-2 : goal.fits_within-returns-then-depth-gt0-2

@@ -12,4 +12,4 @@ returns c =
     λ d e. (let f = c.in_ok-form.ensures in
     let s = same_datum (view c.in_ok-form.form) d f.0 [] (sym f.1 ∙ e ∙ sym (append-nil (tokens_of d))) in
     views_with c.args.forms.now.items c.push.new.self.items c.in_ok-form.form c.in_ok-push.ensures.items
-      ∙ ap (λ (x : Datum). views c.args.forms.now.items ++ x ∷ []) s.0)
+    ∙ ap (λ (x : Datum). views c.args.forms.now.items ++ x ∷ []) s.0)

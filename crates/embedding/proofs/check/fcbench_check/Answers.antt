@@ -19,11 +19,11 @@ returns c =
     answered (IsCheck h o) c.verdict_output.result c.answer.result out c.answer.new.out c.answer.new.needed
     (IfOk-weaker c.verdict_output.result _ _ (λ made k. is_check h o made.status made.text.items
     (v, record { linearizable = e.linearizable; judges = e.holds.judges; accepts = e.holds.accepts }, k.0, k.1))
-      c.verdict_output.ensures) c.answer.ensures.made c.answer.ensures.memory in
+    c.verdict_output.ensures) c.answer.ensures.made c.answer.ensures.memory in
     record {
       linearizable = shows (IsCheck h o)
-        (IsLinearizableText h) Yes c.answer.result out c.answer.new.out c.answer.new.needed yes_by_number yes_is_other
-        (λ status text is. is.linearizable) checked;
+          (IsLinearizableText h) Yes c.answer.result out c.answer.new.out c.answer.new.needed yes_by_number yes_is_other
+          (λ status text is. is.linearizable) checked;
       checked = checked;
       accepts = accepted h o c.answer.result out c.answer.new.out c.answer.new.needed checked;
     }

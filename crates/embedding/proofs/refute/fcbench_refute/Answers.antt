@@ -17,9 +17,9 @@ returns c =
     let told : IsAnswered Is c.answer.result out c.answer.new.out c.answer.new.needed =
     answered Is c.refute.result c.answer.result out c.answer.new.out c.answer.new.needed
     (subst (λ (steps : ℕ). IfOk c.refute.result (λ o. IsRefute h c.args.reasons.now steps o.status o.text.items))
-      c.search_steps.ensures c.refute.ensures) c.answer.ensures.made c.answer.ensures.memory in
+    c.search_steps.ensures c.refute.ensures) c.answer.ensures.made c.answer.ensures.memory in
     record {
       refuted = shows Is (IsNotLinearizableText h) No c.answer.result out c.answer.new.out c.answer.new.needed
-        no_by_number no_is_other (λ status text is. is.refuted) told;
+          no_by_number no_is_other (λ status text is. is.refuted) told;
       answered = told;
     }

@@ -19,12 +19,12 @@ returns c =
     let verified : IsAnswered Is c.answer.result out c.answer.new.out c.answer.new.needed =
     answered Is c.verify.result c.answer.result out c.answer.new.out c.answer.new.needed
     (subst (λ (steps : ℕ). IfOk c.verify.result (λ o. IsVerification h e steps o.status o.text.items))
-      c.search_steps.ensures c.verify.ensures) c.answer.ensures.made c.answer.ensures.memory in
+    c.search_steps.ensures c.verify.ensures) c.answer.ensures.made c.answer.ensures.memory in
     record {
       linearizable = shows Is
-        (IsLinearizableText h) Yes c.answer.result out c.answer.new.out c.answer.new.needed yes_by_number yes_is_other
-        (λ status text is. is.linearizable) verified;
+          (IsLinearizableText h) Yes c.answer.result out c.answer.new.out c.answer.new.needed yes_by_number yes_is_other
+          (λ status text is. is.linearizable) verified;
       refuted = shows Is (IsNotLinearizableText h) No c.answer.result out c.answer.new.out c.answer.new.needed
-        no_by_number no_is_other (λ status text is. is.refuted) verified;
+          no_by_number no_is_other (λ status text is. is.refuted) verified;
       verified = verified;
     }

@@ -8,7 +8,7 @@ pub returns : goal.returns
 returns c = λ es h.
     let v = c.args.values.now in
     client_is c.client_with.result c.natural_at.result _ _ c.object_on.result c.plain_on.result es
-      c.client_with.ensures.map c.client_with.ensures.value
+    c.client_with.ensures.map c.client_with.ensures.value
     (c.natural_at.ensures ∙ natural_is v.process.now (value_at (codes "process") es) h.process)
     (c.keyword_at.ensures ∙ keyword_is v.map_type.now (value_at (codes "type") es) h.map_type)
     (c.keyword_at-2.ensures ∙ keyword_is v.function.now (value_at (codes "f") es) h.function)

@@ -7,5 +7,5 @@ pub returns : goal.returns
 returns c =
     let text = heads_are c.args.text.now 58 (get_or c.args.text.now 1 0) (omega arith) (search rules) refl in
     function_here c.in_ok-function.function c.args.text.now c.in_ok-function.rest.now
-      (c.ends_word.ensures c.if-not-ends_word.false)
+    (c.ends_word.ensures c.if-not-ends_word.false)
     (text ∙ ap (λ (x : List ℕ). 58 ∷ x) c.in_ok-function.ensures)

@@ -29,6 +29,6 @@ returns-in-116 c = word c.args.text.now (codes "true") True c.word_at-in-116.res
 pub returns-in_ok-number-in_default : goal.returns-in_ok-number-in_default
 returns-in_ok-number-in_default c =
     let e : to_z w64 (of_z w64 c.in_ok-number-in_default.number) ≡ c.in_ok-number-in_default.number =
-      omega (arith, ints) in
+    omega (arith, ints) in
     rw e (integer_here c.in_ok-number-in_default.number c.args.text.now c.in_ok-number-in_default.rest.now
-      c.in_ok-number-in_default.ensures)
+    c.in_ok-number-in_default.ensures)

@@ -11,5 +11,5 @@ returns-in_ok-rest-in-58 c =
     let k = c.in_ok-rest-in-58.field-0-0.now in (
       keyword k,
       subst (λ (x : List ℕ). BeginWith (leaf (atom (keyword k)) ∷ []) x c.in_ok-rest-in-58.rest.now) (sym q)
-        (first_here _ c.in_ok-rest-in-58.rest.now (leaf (atom (keyword k))) c.in_ok-rest-in-58.ensures),
+          (first_here _ c.in_ok-rest-in-58.rest.now (leaf (atom (keyword k))) c.in_ok-rest-in-58.ensures),
     )

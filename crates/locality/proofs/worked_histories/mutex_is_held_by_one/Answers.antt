@@ -3,5 +3,9 @@ use Rattle.locality.proofs.WorkedOrders.{mutex_passed_on-history, mutex_passed_o
 use Rattle.locality.proofs.worked_histories.mutex_is_held_by_one.Goals as goal
 
 pub returns : goal.returns
-returns c = record { history = mutex_passed_on-history; valid = mutex_passed_on-valid;
-    refuses_acquire_of_held = mutex_passed_on-acquire_of_held; linearizable = mutex_passed_on-linearizable }
+returns c = record {
+  history = mutex_passed_on-history;
+  valid = mutex_passed_on-valid;
+  refuses_acquire_of_held = mutex_passed_on-acquire_of_held;
+  linearizable = mutex_passed_on-linearizable;
+}

@@ -16,4 +16,4 @@ returns c =
     let ok = c.loop-part.part-iterator.rest.ok in
     let none = c.in-None.ensures.steps.0 in
     all_joined (λ v. v.items) _ _ _ _ c.into_iter-part-iterator.ensures.into_iter_gives.0
-      (nil_from_length _ (omega (arith, ok, none))) c.requires c.loop-part.invariant
+    (nil_from_length _ (omega (arith, ok, none))) c.requires c.loop-part.invariant

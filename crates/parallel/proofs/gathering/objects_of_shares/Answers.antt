@@ -14,5 +14,5 @@ pub returns : goal.returns
 returns c = λ es parts.
     let gives = c.into_iter-object-iterator.ensures.into_iter_gives in
     all_listed es c.in_ok-sorted.sorted c.into_iter-object-iterator.result _ c.loop-object.objects.items gives.5
-      (c.in_ok-sorted.ensures es parts)
+    (c.in_ok-sorted.ensures es parts)
     gives.0 c.in-None.ensures.steps.0 c.loop-object.invariant

@@ -21,4 +21,4 @@ returns c =
     let ok = c.loop-object.object-iterator.rest.ok in
     let none = c.in-None.ensures.steps.0 in
     all_put _ _ _ _ _ c.into_iter-object-iterator.ensures.into_iter_gives.0
-      (nil_from_length _ (omega (arith, ok, none))) c.loop-object.invariant
+    (nil_from_length _ (omega (arith, ok, none))) c.loop-object.invariant

@@ -6,7 +6,7 @@ use Rattle.parallel.proofs.gathering.split_by_workers.Goals as goal
 pub returns-then-workers-eq1 : goal.returns-then-workers-eq1
 returns-then-workers-eq1 g c =
     all_split (λ v. v.items) c.args.history.now c.split.result c.split.ensures.rising c.split.ensures.named
-      c.split.ensures.kinds c.split.ensures.operations c.split.ensures.calls
+    c.split.ensures.kinds c.split.ensures.operations c.split.ensures.calls
 
 pub objects_of_shares-requires : goal.objects_of_shares-requires
 objects_of_shares-requires g c =
@@ -24,5 +24,5 @@ returns g c =
     let long : length rs ≡ c.args.workers = omega (arith, ok, len) in
     let parts : AreGathered (λ v. v.items) es rs =
     λ i d l. subst (λ n. IfOk (get_or rs i d) (λ v. IsGathered es i n v.items)) (sym long)
-      (c.in_ok-found.ensures.each i d (subst (λ n. i < n) long l)).1.met in
+    (c.in_ok-found.ensures.each i d (subst (λ n. i < n) long l)).1.met in
     c.objects_of_shares.ensures es parts

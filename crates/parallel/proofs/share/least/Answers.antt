@@ -10,10 +10,10 @@ loop-share-preserved c =
     let next = c.earlier-least.result in
     subst (λ rs. IsLeastOf rs next) (sym (take_more found i (Ok tt) c.loop-share-test.true))
     (one_more_found (take i found)
-      (get_or found i (Ok tt)) c.loop-share.least next c.loop-share.invariant c.earlier-least.ensures)
+    (get_or found i (Ok tt)) c.loop-share.least next c.loop-share.invariant c.earlier-least.ensures)
 
 pub returns-clause-none : goal.returns-clause-none
 returns-clause-none c =
     let l = c.loop-share in
     none_found c.args.found.now l.least
-      (subst (λ rs. IsLeastOf rs l.least) (take_all l.share-index c.args.found.now c.loop-share-test.false) l.invariant)
+    (subst (λ rs. IsLeastOf rs l.least) (take_all l.share-index c.args.found.now c.loop-share-test.false) l.invariant)

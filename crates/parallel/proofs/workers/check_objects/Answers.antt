@@ -19,7 +19,7 @@ shares g c = record {
   some = subst (λ n. 0 < n) (sym c.clamp-count.ensures) (le-max_left 1 _);
   long = c.deref.ensures.len ∙ c.in-Ok-found.ensures.len;
   each = λ i d l. subst (λ rs.
-    IsShare i c.clamp-count.result c.args.objects.now c.args.certificates.now (get_or rs i d))
+      IsShare i c.clamp-count.result c.args.objects.now c.args.certificates.now (get_or rs i d))
       (sym c.deref.ensures.value) (c.in-Ok-found.ensures.each i d l).1.met;
 }
 
@@ -28,7 +28,7 @@ returns-in-Some g c = record {
   answer = λ es all.
       let d = (goal.at.returns-in-Some g c).After-least in
       let first = first_of_all es _ _ _ _ _ c.requires.distinct (objects g d es all)
-        (shares g d) c.in-Some.ensures.stands c.in-Some.ensures.least in
+      (shares g d) c.in-Some.ensures.stands c.in-Some.ensures.least in
       record { valid = tt; refused = first.0; exact = first.1 };
 }
 
@@ -38,10 +38,13 @@ returns-in-Some-strange_object g c = record {
       let d = (goal.at.returns-in-Some-strange_object g c).After-least in
       let fine = all_are_fine es _ _ _ _ (objects g d es all) (shares g d) c.in_default-least.ensures.none in
       let strange = least_strange es _ _ _ c.requires.distinct
-        (objects g d es all) fine c.in-Some-strange_object.ensures.least in
-      record { valid = tt; refused = strange;
-          exact = λ valid. absurd
-          (strange_is_not_valid es c.args.certificates.now c.in-Some-strange_object.object strange valid) };
+      (objects g d es all) fine c.in-Some-strange_object.ensures.least in
+      record {
+        valid = tt;
+        refused = strange;
+        exact = λ valid. absurd
+            (strange_is_not_valid es c.args.certificates.now c.in-Some-strange_object.object strange valid);
+      };
 }
 
 pub returns : goal.returns
@@ -49,6 +52,9 @@ returns g c = record {
   answer = λ es all.
       let d = (goal.at.returns g c).After-least in
       let fine = all_are_fine es _ _ _ _ (objects g d es all) (shares g d) c.in_default-least.ensures.none in
-      record { valid = all_valid es _ _ (objects g d es all) fine c.in-None.ensures.none; refused = tt;
-          exact = λ valid. tt };
+      record {
+        valid = all_valid es _ _ (objects g d es all) fine c.in-None.ensures.none;
+        refused = tt;
+        exact = λ valid. tt;
+      };
 }

@@ -9,9 +9,9 @@ returns-clause-yes c e =
     let os = c.args.operations.now in
     let same = to_z-of_z w64 c.args.value c.ranges.value in
     let put = c.put_count.ensures
-      ∙ ap (λ (z : ℤ). count_by (λ o. is_put_before_end z c.args.before o.number o.op o.«end») os) same in
+    ∙ ap (λ (z : ℤ). count_by (λ o. is_put_before_end z c.args.before o.number o.op o.«end») os) same in
     let taken = c.taken_count.ensures
-      ∙ ap (λ (z : ℤ). count_by (λ o. is_taken_before_end z c.args.before o.op o.«end») os) same in
+    ∙ ap (λ (z : ℤ). count_by (λ o. is_taken_before_end z c.args.before o.op o.«end») os) same in
     absent_from c.args.value c.args.before os c.put_count.result c.taken_count.result put taken e
 
 pub returns-clause-no : goal.returns-clause-no
@@ -19,7 +19,7 @@ returns-clause-no c absent =
     let os = c.args.operations.now in
     let same = to_z-of_z w64 c.args.value c.ranges.value in
     let put = c.put_count.ensures
-      ∙ ap (λ (z : ℤ). count_by (λ o. is_put_before_end z c.args.before o.number o.op o.«end») os) same in
+    ∙ ap (λ (z : ℤ). count_by (λ o. is_put_before_end z c.args.before o.number o.op o.«end») os) same in
     let taken = c.taken_count.ensures
-      ∙ ap (λ (z : ℤ). count_by (λ o. is_taken_before_end z c.args.before o.op o.«end») os) same in
+    ∙ ap (λ (z : ℤ). count_by (λ o. is_taken_before_end z c.args.before o.op o.«end») os) same in
     absent_to c.args.value c.args.before os c.put_count.result c.taken_count.result put taken absent

@@ -13,10 +13,10 @@ pub new-requires : goal.new-requires
 new-requires c =
     let h = c.args.history.now in
     let own = ap (λ (z : ℤ). filter (is_late z c.args.before) c.ops-operations.result.now)
-      (to_z-of_z w64 c.args.value c.ranges.value) in
+    (to_z-of_z w64 c.args.value c.ranges.value) in
     let late = ap (filter (is_late c.args.value c.args.before)) c.ops-operations.ensures.ops in
     subst IsObjectHistory (sym (same_history c.object.ensures c.kind.ensures (c.in_ok-ops.ensures ∙ own ∙ late)))
-      (late_history c.args.value c.args.before h c.ops-operations.ensures.kept)
+    (late_history c.args.value c.args.before h c.ops-operations.ensures.kept)
 
 pub returns-clause-part : goal.returns-clause-part
 returns-clause-part c =
@@ -25,11 +25,11 @@ returns-clause-part c =
     let own = ap (λ (z : ℤ). filter (is_late z c.args.before) c.ops-operations.result.now) same in
     let late = ap (filter (is_late c.args.value c.args.before)) c.ops-operations.ensures.ops in
     let here = subst (λ (z : ℤ). IsAbsent z c.args.before (calls_of c.ops-operations.result.now)) same
-      (c.is_absent.ensures.yes c.if-not-is_absent.false) in
+    (c.is_absent.ensures.yes c.if-not-is_absent.false) in
     let absent = subst (λ (os : List Invocation). IsAbsent c.args.value c.args.before (calls_of os))
-      c.ops-operations.ensures.ops here in
+    c.ops-operations.ensures.ops here in
     subst (IsPart h) (sym (c.new.ensures
-      ∙ same_history c.object.ensures c.kind.ensures (c.in_ok-ops.ensures ∙ own ∙ late)))
+    ∙ same_history c.object.ensures c.kind.ensures (c.in_ok-ops.ensures ∙ own ∙ late)))
     (late_shows c.args.value c.args.before h c.ops-operations.ensures.kept absent)
 
 pub returns-clause-calls : goal.returns-clause-calls
@@ -39,19 +39,19 @@ returns-clause-calls c =
     let own = ap (λ (z : ℤ). filter (is_late z c.args.before) c.ops-operations.result.now) same in
     let late = ap (filter (is_late c.args.value c.args.before)) c.ops-operations.ensures.ops in
     let here = subst (λ (z : ℤ). IsAbsent z c.args.before (calls_of c.ops-operations.result.now)) same
-      (c.is_absent.ensures.yes c.if-not-is_absent.false) in (
+    (c.is_absent.ensures.yes c.if-not-is_absent.false) in (
       subst (λ (os : List Invocation). IsAbsent c.args.value c.args.before (calls_of os))
-        c.ops-operations.ensures.ops here,
+          c.ops-operations.ensures.ops here,
       ap (λ (z : ObjectCalls). calls_of z.ops) c.new.ensures ∙ ap calls_of (c.in_ok-ops.ensures ∙ own ∙ late)
-        ∙ late_calls_of c.args.value c.args.before h.ops,
+          ∙ late_calls_of c.args.value c.args.before h.ops,
     )
 
 pub returns-then-not-is_absent-clause-refused : goal.returns-then-not-is_absent-clause-refused
 returns-then-not-is_absent-clause-refused c e part =
     let same = to_z-of_z w64 c.args.value c.ranges.value in
     let there = subst (λ (os : List Invocation). IsAbsent c.args.value c.args.before (calls_of os))
-      (sym c.ops-operations.ensures.ops) part in
+    (sym c.ops-operations.ensures.ops) part in
     let yes = c.is_absent.ensures.no
-      (subst (λ (z : ℤ). IsAbsent z c.args.before (calls_of c.ops-operations.result.now)) (sym same) there) in
+    (subst (λ (z : ℤ). IsAbsent z c.args.before (calls_of c.ops-operations.result.now)) (sym same) there) in
     let no = c.if-not-is_absent.true in
     absurd (cc (yes, no))

@@ -10,21 +10,21 @@ pub new-requires : goal.new-requires
 new-requires c =
     let h = c.args.history.now in
     subst IsObjectHistory (sym
-      (same_history c.object.ensures c.kind.ensures
-      (c.in_ok-ops.ensures ∙ ap (filter (λ o. not (has_failed o.«end»))) c.ops.ensures.ops)))
+    (same_history c.object.ensures c.kind.ensures
+    (c.in_ok-ops.ensures ∙ ap (filter (λ o. not (has_failed o.«end»))) c.ops.ensures.ops)))
     (alone_history h c.ops.ensures.kept)
 
 pub returns-clause-part : goal.returns-clause-part
 returns-clause-part c =
     let h = c.args.history.now in
     subst (IsPart h) (sym (c.new.ensures
-      ∙ same_history c.object.ensures c.kind.ensures
-      (c.in_ok-ops.ensures ∙ ap (filter (λ o. not (has_failed o.«end»))) c.ops.ensures.ops)))
+    ∙ same_history c.object.ensures c.kind.ensures
+    (c.in_ok-ops.ensures ∙ ap (filter (λ o. not (has_failed o.«end»))) c.ops.ensures.ops)))
     (alone_shows h)
 
 pub returns-clause-calls : goal.returns-clause-calls
 returns-clause-calls c =
     let h = c.args.history.now in
     ap (λ (z : ObjectCalls). calls_of z.ops) c.new.ensures
-      ∙ ap calls_of (c.in_ok-ops.ensures ∙ ap (filter (λ o. not (has_failed o.«end»))) c.ops.ensures.ops)
-      ∙ alone_calls h.ops
+    ∙ ap calls_of (c.in_ok-ops.ensures ∙ ap (filter (λ o. not (has_failed o.«end»))) c.ops.ensures.ops)
+    ∙ alone_calls h.ops

@@ -15,9 +15,9 @@ pub new-requires : goal.new-requires
 new-requires c =
     let h = c.args.history.now in
     subst IsObjectHistory (sym
-      (same_history c.object.ensures c.kind.ensures
-      (c.in_ok-ops.ensures ∙ ap
-      (filter (is_kept_call (keeps_number c.args.numbers.now))) c.ops-operations.ensures.ops)))
+    (same_history c.object.ensures c.kind.ensures
+    (c.in_ok-ops.ensures ∙ ap
+    (filter (is_kept_call (keeps_number c.args.numbers.now))) c.ops-operations.ensures.ops)))
     (kept_history (keeps_number c.args.numbers.now) h c.ops-operations.ensures.kept)
 
 pub returns-clause-part : goal.returns-clause-part
@@ -25,10 +25,10 @@ returns-clause-part c =
     let h = c.args.history.now in
     let kept = keeps_number c.args.numbers.now in
     let closed = subst (λ (os : List Invocation). IsClosedPart c.args.values.now c.args.numbers.now (calls_of os))
-      c.ops-operations.ensures.ops (c.is_closed.ensures.yes c.if-not-is_closed.false) in
+    c.ops-operations.ensures.ops (c.is_closed.ensures.yes c.if-not-is_closed.false) in
     subst (IsPart h) (sym (c.new.ensures
-      ∙ same_history c.object.ensures c.kind.ensures
-      (c.in_ok-ops.ensures ∙ ap (filter (is_kept_call kept)) c.ops-operations.ensures.ops)))
+    ∙ same_history c.object.ensures c.kind.ensures
+    (c.in_ok-ops.ensures ∙ ap (filter (is_kept_call kept)) c.ops-operations.ensures.ops)))
     (kept_shows c.args.values.now kept h c.ops-operations.ensures.kept closed)
 
 pub returns-clause-closed : goal.returns-clause-closed
@@ -41,13 +41,13 @@ returns-clause-calls c =
     let h = c.args.history.now in
     ap (λ (z : ObjectCalls). calls_of z.ops) c.new.ensures
     ∙ ap calls_of (c.in_ok-ops.ensures
-      ∙ ap (filter (is_kept_call (keeps_number c.args.numbers.now))) c.ops-operations.ensures.ops)
-      ∙ kept_calls_of (keeps_number c.args.numbers.now) h.ops
+    ∙ ap (filter (is_kept_call (keeps_number c.args.numbers.now))) c.ops-operations.ensures.ops)
+    ∙ kept_calls_of (keeps_number c.args.numbers.now) h.ops
 
 pub returns-then-not-is_closed-clause-refused : goal.returns-then-not-is_closed-clause-refused
 returns-then-not-is_closed-clause-refused c e part =
     let yes = c.is_closed.ensures.no
-      (subst (λ (os : List Invocation). IsClosedPart c.args.values.now c.args.numbers.now (calls_of os))
-      (sym c.ops-operations.ensures.ops) part) in
+    (subst (λ (os : List Invocation). IsClosedPart c.args.values.now c.args.numbers.now (calls_of os))
+    (sym c.ops-operations.ensures.ops) part) in
     let not_closed = c.if-not-is_closed.true in
     absurd (cc (yes, not_closed))

@@ -11,21 +11,21 @@ pub new-requires : goal.new-requires
 new-requires c =
     let h = c.args.history.now in
     subst IsObjectHistory (sym
-      (same_history c.object.ensures c.kind.ensures
-      (c.in_ok-ops.ensures ∙ ap (filter_map (operation_before c.args.until)) c.ops.ensures.ops)))
+    (same_history c.object.ensures c.kind.ensures
+    (c.in_ok-ops.ensures ∙ ap (filter_map (operation_before c.args.until)) c.ops.ensures.ops)))
     (before_history c.args.until h c.ops.ensures.kept)
 
 pub returns-clause-part : goal.returns-clause-part
 returns-clause-part c =
     let h = c.args.history.now in
     subst (IsPart h) (sym (c.new.ensures
-      ∙ same_history c.object.ensures c.kind.ensures
-      (c.in_ok-ops.ensures ∙ ap (filter_map (operation_before c.args.until)) c.ops.ensures.ops)))
+    ∙ same_history c.object.ensures c.kind.ensures
+    (c.in_ok-ops.ensures ∙ ap (filter_map (operation_before c.args.until)) c.ops.ensures.ops)))
     (before_shows c.args.until h c.ops.ensures.kept)
 
 pub returns-clause-calls : goal.returns-clause-calls
 returns-clause-calls c =
     let h = c.args.history.now in
     ap (λ (z : ObjectCalls). calls_of z.ops) c.new.ensures
-      ∙ ap calls_of (c.in_ok-ops.ensures ∙ ap (filter_map (operation_before c.args.until)) c.ops.ensures.ops)
-      ∙ before_calls c.args.until h.ops
+    ∙ ap calls_of (c.in_ok-ops.ensures ∙ ap (filter_map (operation_before c.args.until)) c.ops.ensures.ops)
+    ∙ before_calls c.args.until h.ops

@@ -8,4 +8,4 @@ returns-then-are_on_key-clause-some c =
     let ops = c.args.operations.now in
     let on = subst (λ key. All (IsOnKey key) ops) c.key_of.ensures (c.are_on_key.ensures.yes c.if-are_on_key.true) in
     start_from ops c.args.operation c.in-Returned.at c.in-Returned.reply c.in_ok-first.first c.requires
-      c.in-Returned.is (sym c.first_of.ensures ∙ c.in_ok-first.was) on
+    c.in-Returned.is (sym c.first_of.ensures ∙ c.in_ok-first.was) on

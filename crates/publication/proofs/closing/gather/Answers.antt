@@ -19,27 +19,27 @@ pub take_logs-requires-clause-cores : goal.take_logs-requires-clause-cores
 take_logs-requires-clause-cores g c lfts within =
     let d = c.desk.invariant.0 in let k = c.last.invariant.0 in let e = c.close_with-left.ensures in
     let left = left_by g.S.SeqObject.content g.S.SeqObject.op_in g.S.SeqObject.reply_in c.desk.inside.table.shared.key
-      c.args.desk c.args.last
+    c.args.desk c.args.last
     c.last.inside.seat.id c.last.inside.seat.me.0 (slots_items c.close_with-left.result.words)
-      (values_of c.close_with-left.result)
+    (values_of c.close_with-left.result)
     (d.2 ∙ ap (λ s. s.id.kinds) c.desk.view_is) (d.3 ∙ ap (λ s. s.clients) c.desk.view_is)
-      (d.4 ∙ ap (λ s. s.id.quota) c.desk.view_is)
+    (d.4 ∙ ap (λ s. s.id.quota) c.desk.view_is)
     (ap (λ k. k.knows) c.last.view_is) k.agrees.client_is k.free k.agrees.at_rest c.requires.ended e.values.2 in
     let n = c.len-objects.ensures in
     let count : length c.desk.inside.kinds.items ≡ vec_len c.desk.inside.kinds = search rules in
     let same : length c.desk.inside.kinds.items ≡ length c.args.desk.id.kinds =
-      ap (λ s. length s.id.kinds) c.desk.view_is in
+    ap (λ s. length s.id.kinds) c.desk.view_is in
     λ x l. let b = left.cores x (omega arith) in (b.0, b.1)
 
 pub take_all_journals-requires-clause-slots : goal.take_all_journals-requires-clause-slots
 take_all_journals-requires-clause-slots g c lfts within =
     let d = c.desk.invariant.0 in let k = c.last.invariant.0 in let e = c.close_with-left.ensures in
     let left = left_by g.S.SeqObject.content g.S.SeqObject.op_in g.S.SeqObject.reply_in c.desk.inside.table.shared.key
-      c.args.desk c.args.last
+    c.args.desk c.args.last
     c.last.inside.seat.id c.last.inside.seat.me.0 (slots_items c.close_with-left.result.words)
-      (values_of c.close_with-left.result)
+    (values_of c.close_with-left.result)
     (d.2 ∙ ap (λ s. s.id.kinds) c.desk.view_is) (d.3 ∙ ap (λ s. s.clients) c.desk.view_is)
-      (d.4 ∙ ap (λ s. s.id.quota) c.desk.view_is)
+    (d.4 ∙ ap (λ s. s.id.quota) c.desk.view_is)
     (ap (λ k. k.knows) c.last.view_is) k.agrees.client_is k.free k.agrees.at_rest c.requires.ended e.values.2 in
     let low = left.number_low in let own : c.last.inside.number ≡ c.args.last.knows.number = sym k.agrees.number_is
     ∙ ap (λ k. k.knows.number) c.last.view_is in let clients = ap (λ s. s.clients) c.desk.view_is in
@@ -49,87 +49,87 @@ pub take_all_journals-requires-clause-present : goal.take_all_journals-requires-
 take_all_journals-requires-clause-present g c lfts within =
     let d = c.desk.invariant.0 in let k = c.last.invariant.0 in let e = c.close_with-left.ensures in
     let left = left_by g.S.SeqObject.content g.S.SeqObject.op_in g.S.SeqObject.reply_in c.desk.inside.table.shared.key
-      c.args.desk c.args.last
+    c.args.desk c.args.last
     c.last.inside.seat.id c.last.inside.seat.me.0 (slots_items c.close_with-left.result.words)
-      (values_of c.close_with-left.result)
+    (values_of c.close_with-left.result)
     (d.2 ∙ ap (λ s. s.id.kinds) c.desk.view_is) (d.3 ∙ ap (λ s. s.clients) c.desk.view_is)
-      (d.4 ∙ ap (λ s. s.id.quota) c.desk.view_is)
+    (d.4 ∙ ap (λ s. s.id.quota) c.desk.view_is)
     (ap (λ k. k.knows) c.last.view_is) k.agrees.client_is k.free k.agrees.at_rest c.requires.ended e.values.2 in
     let own : c.last.inside.number ≡ c.args.last.knows.number =
-      sym k.agrees.number_is ∙ ap (λ k. k.knows.number) c.last.view_is in
-          let clients = ap (λ s. s.clients) c.desk.view_is in
+    sym k.agrees.number_is ∙ ap (λ k. k.knows.number) c.last.view_is in
+    let clients = ap (λ s. s.clients) c.desk.view_is in
     λ n l other. subst (λ xs. HasJournal xs n) (sym (c.pass_over.ensures.1 ∙ c.take_logs.ensures.slots.1))
-      (let b = left.journals n (omega arith) (λ f. other (f ∙ sym own)) in (b.0, b.1))
+    (let b = left.journals n (omega arith) (λ f. other (f ∙ sym own)) in (b.0, b.1))
 
 pub returns : goal.returns
 returns g c = let d = c.desk.invariant.0 in let k = c.last.invariant.0 in let e = c.close_with-left.ensures in
     let left = left_by g.S.SeqObject.content g.S.SeqObject.op_in g.S.SeqObject.reply_in c.desk.inside.table.shared.key
-      c.args.desk c.args.last
+    c.args.desk c.args.last
     c.last.inside.seat.id c.last.inside.seat.me.0 (slots_items c.close_with-left.result.words)
-      (values_of c.close_with-left.result)
+    (values_of c.close_with-left.result)
     (d.2 ∙ ap (λ s. s.id.kinds) c.desk.view_is) (d.3 ∙ ap (λ s. s.clients) c.desk.view_is)
-      (d.4 ∙ ap (λ s. s.id.quota) c.desk.view_is)
+    (d.4 ∙ ap (λ s. s.id.quota) c.desk.view_is)
     (ap (λ k. k.knows) c.last.view_is) k.agrees.client_is k.free k.agrees.at_rest c.requires.ended e.values.2 in
     let own : c.last.inside.number ≡ c.args.last.knows.number =
-      sym k.agrees.number_is ∙ ap (λ k. k.knows.number) c.last.view_is in
+    sym k.agrees.number_is ∙ ap (λ k. k.knows.number) c.last.view_is in
     let n = c.len-objects.ensures in
     let count : length c.desk.inside.kinds.items ≡ vec_len c.desk.inside.kinds = search rules in
     let same : length c.desk.inside.kinds.items ≡ length c.args.desk.id.kinds =
-      ap (λ s. length s.id.kinds) c.desk.view_is in
+    ap (λ s. length s.id.kinds) c.desk.view_is in
     let all : c.len-objects.result ≡ length c.args.desk.id.kinds = omega arith in
     let clients : c.desk.inside.clients ≡ c.args.desk.clients = ap (λ s. s.clients) c.desk.view_is in
     closed_ok g.S.SeqObject.op_in g.S.SeqObject.reply_in c.args.desk c.args.last
-      (values_of c.close_with-left.result) c.new.result left
+    (values_of c.close_with-left.result) c.new.result left
     (subst (λ m. AreLogs m (values_of c.close_with-left.result) c.new.result.logs) all
     (subst (λ l. AreLogs c.len-objects.result (values_of c.close_with-left.result) l)
-      (sym (ap (λ r. r.logs) c.new.ensures)) c.take_logs.ensures.logs))
+    (sym (ap (λ r. r.logs) c.new.ensures)) c.take_logs.ensures.logs))
     (ap (λ r. length r.journals) c.new.ensures
-      ∙ (c.take_all_journals.ensures.count ∙ ap (λ s. s.clients) c.desk.view_is))
+    ∙ (c.take_all_journals.ensures.count ∙ ap (λ s. s.clients) c.desk.view_is))
     (ap (λ r. map (event_in g.S.SeqObject.op_in g.S.SeqObject.reply_in)
-      (get_or r.journals c.args.last.knows.number [])) c.new.ensures
+    (get_or r.journals c.args.last.knows.number [])) c.new.ensures
     ∙ (ap (λ m. map (event_in g.S.SeqObject.op_in g.S.SeqObject.reply_in)
-      (get_or (items_of c.take_all_journals.new.journals.items) m [])) (sym own)
+    (get_or (items_of c.take_all_journals.new.journals.items) m [])) (sym own)
     ∙ (ap (map (event_in g.S.SeqObject.op_in g.S.SeqObject.reply_in)) c.take_all_journals.ensures.own
-      ∙ (ap (λ j. map (event_in g.S.SeqObject.op_in g.S.SeqObject.reply_in) j.events.items)
-        c.into_journal-journal.ensures ∙ k.agrees.journal_is ∙ ap (λ k. journal k.knows) c.last.view_is))))
+    ∙ (ap (λ j. map (event_in g.S.SeqObject.op_in g.S.SeqObject.reply_in) j.events.items)
+    c.into_journal-journal.ensures ∙ k.agrees.journal_is ∙ ap (λ k. journal k.knows) c.last.view_is))))
     (λ n l other. subst (λ js. IsJournalOf (values_of c.close_with-left.result) n (get_or js n []))
-      (sym (ap (λ r. r.journals) c.new.ensures))
+    (sym (ap (λ r. r.journals) c.new.ensures))
     (subst (λ xs. IsJournalOf xs n (get_or (items_of c.take_all_journals.new.journals.items) n []))
-      (c.pass_over.ensures.1 ∙ c.take_logs.ensures.slots.1)
+    (c.pass_over.ensures.1 ∙ c.take_logs.ensures.slots.1)
     (c.take_all_journals.ensures.others n (omega arith) (λ f. other (f ∙ own)))))
 
 pub new-requires-clause-kept : goal.new-requires-clause-kept
 new-requires-clause-kept g c lfts within =
     let d = c.desk.invariant.0 in let k = c.last.invariant.0 in let e = c.close_with-left.ensures in
     let left = left_by g.S.SeqObject.content g.S.SeqObject.op_in g.S.SeqObject.reply_in c.desk.inside.table.shared.key
-      c.args.desk c.args.last
+    c.args.desk c.args.last
     c.last.inside.seat.id c.last.inside.seat.me.0 (slots_items c.close_with-left.result.words)
-      (values_of c.close_with-left.result)
+    (values_of c.close_with-left.result)
     (d.2 ∙ ap (λ s. s.id.kinds) c.desk.view_is) (d.3 ∙ ap (λ s. s.clients) c.desk.view_is)
-      (d.4 ∙ ap (λ s. s.id.quota) c.desk.view_is)
+    (d.4 ∙ ap (λ s. s.id.quota) c.desk.view_is)
     (ap (λ k. k.knows) c.last.view_is) k.agrees.client_is k.free k.agrees.at_rest c.requires.ended e.values.2 in
     let own : c.last.inside.number ≡ c.args.last.knows.number =
-      sym k.agrees.number_is ∙ ap (λ k. k.knows.number) c.last.view_is in
+    sym k.agrees.number_is ∙ ap (λ k. k.knows.number) c.last.view_is in
     let n = c.len-objects.ensures in
     let count : length c.desk.inside.kinds.items ≡ vec_len c.desk.inside.kinds = search rules in
     let same : length c.desk.inside.kinds.items ≡ length c.args.desk.id.kinds =
-      ap (λ s. length s.id.kinds) c.desk.view_is in
+    ap (λ s. length s.id.kinds) c.desk.view_is in
     let all : c.len-objects.result ≡ length c.args.desk.id.kinds = omega arith in
     let clients : c.desk.inside.clients ≡ c.args.desk.clients = ap (λ s. s.clients) c.desk.view_is in
     let r = recorded c.take_all_journals.new.journals.items c.take_logs.new.logs.items in
     let closed = closed_ok g.S.SeqObject.op_in g.S.SeqObject.reply_in c.args.desk c.args.last
-      (values_of c.close_with-left.result) r left
+    (values_of c.close_with-left.result) r left
     (subst (λ m. AreLogs m (values_of c.close_with-left.result) r.logs) all c.take_logs.ensures.logs)
     (c.take_all_journals.ensures.count ∙ ap (λ s. s.clients) c.desk.view_is)
     (ap (λ m. map (event_in g.S.SeqObject.op_in g.S.SeqObject.reply_in)
-      (get_or (items_of c.take_all_journals.new.journals.items) m [])) (sym own)
+    (get_or (items_of c.take_all_journals.new.journals.items) m [])) (sym own)
     ∙ (ap (map (event_in g.S.SeqObject.op_in g.S.SeqObject.reply_in)) c.take_all_journals.ensures.own
-      ∙ (ap (λ j. map (event_in g.S.SeqObject.op_in g.S.SeqObject.reply_in) j.events.items)
-        c.into_journal-journal.ensures ∙ k.agrees.journal_is ∙ ap (λ k. journal k.knows) c.last.view_is)))
+    ∙ (ap (λ j. map (event_in g.S.SeqObject.op_in g.S.SeqObject.reply_in) j.events.items)
+    c.into_journal-journal.ensures ∙ k.agrees.journal_is ∙ ap (λ k. journal k.knows) c.last.view_is)))
     (λ n l other. subst (λ xs. IsJournalOf xs n (get_or (items_of c.take_all_journals.new.journals.items) n []))
-      (c.pass_over.ensures.1 ∙ c.take_logs.ensures.slots.1)
+    (c.pass_over.ensures.1 ∙ c.take_logs.ensures.slots.1)
     (c.take_all_journals.ensures.others n (omega arith) (λ f. other (f ∙ own)))) in
     let quota : c.desk.inside.quota ≡ c.args.desk.id.quota = ap (λ s. s.id.quota) c.desk.view_is in
     let few = d.7 in
     record_from g.S.SeqObject.op_in g.S.SeqObject.reply_in r c.args.desk.id.kinds c.args.desk.id.quota closed.sound
-      closed.logs (omega arith)
+    closed.logs (omega arith)

@@ -12,18 +12,19 @@ pub load-requires : goal.load-requires
 load-requires g c =
     let d = c.desk.invariant.0 in let wide = d.0 in let few = d.6 in let low = c.requires.client in
     let count = ap (λ s. s.clients) c.desk.view_is in (
-  ap (λ k. k.desk.table) c.last.view_is
-    ∙ (ap (λ s. s.table) c.requires.desk ∙ sym (ap (λ s. s.id.table) c.desk.view_is)),
-  omega arith,
-  look_at_end_keeps_rule _ _ _ _ _ _ _ _ _ _ c.last.invariant.0.agrees.client_is (omega arith),
-)
+      ap (λ k. k.desk.table) c.last.view_is
+          ∙ (ap (λ s. s.table) c.requires.desk ∙ sym (ap (λ s. s.id.table) c.desk.view_is)),
+      omega arith,
+      look_at_end_keeps_rule _ _ _ _ _ _ _ _ _ _ c.last.invariant.0.agrees.client_is (omega arith),
+    )
 
 pub invariant_of-last : goal.invariant_of-last
 invariant_of-last g c = let t = c.load.ensures.2 c.args.client refl in
     let lists : c.load.new.seat.me.0.lists ≡ c.last.inside.seat.me.0.lists =
-      dite (ℕ_discrete c.load.result 1) (λ e. ap (λ m. m.0.lists) (t.0 e)) (λ n. ap (λ m. m.0.lists) (t.1 n).0) in
-    (watching_ok _ _ _ _ _ _ _ c.load.result c.args.client _ _ c.last.invariant.0 t.0 (λ n. (t.1 n).0),
-      own_still _ _ _ _ lists c.last.invariant.1)
+    dite (ℕ_discrete c.load.result 1) (λ e. ap (λ m. m.0.lists) (t.0 e)) (λ n. ap (λ m. m.0.lists) (t.1 n).0) in (
+      watching_ok _ _ _ _ _ _ _ c.load.result c.args.client _ _ c.last.invariant.0 t.0 (λ n. (t.1 n).0),
+      own_still _ _ _ _ lists c.last.invariant.1,
+    )
 
 pub returns-clause-seen : goal.returns-clause-seen
 returns-clause-seen g c = let t = c.load.ensures.2 c.args.client refl in
@@ -33,7 +34,7 @@ returns-clause-seen g c = let t = c.load.ensures.2 c.args.client refl in
 pub returns-clause-desk : goal.returns-clause-desk
 returns-clause-desk g c = let t = c.load.ensures.2 c.args.client refl in
     let kinds : c.load.new.seat.me.0.kinds ≡ c.last.inside.seat.me.0.kinds =
-      dite (ℕ_discrete c.load.result 1) (λ e. ap (λ m. m.0.kinds) (t.0 e)) (λ n. ap (λ m. m.0.kinds) (t.1 n).0) in
+    dite (ℕ_discrete c.load.result 1) (λ e. ap (λ m. m.0.kinds) (t.0 e)) (λ n. ap (λ m. m.0.kinds) (t.1 n).0) in
     (λ i. record {
       table = (c.load.ensures.0) i;
       quota = c.last.inside.member.quota;
@@ -45,4 +46,4 @@ returns-clause-desk g c = let t = c.load.ensures.2 c.args.client refl in
 pub returns-clause-untold : goal.returns-clause-untold
 returns-clause-untold g c = let t = c.load.ensures.2 c.args.client refl in
     λ f. subst (λ (k : Known). All (λ l. l.client ≢ c.args.client) k.knows.left) c.last.view_is
-      (t.1 (λ e. let z = sym f ∙ eq-eqb c.load.result 1 e in absurd (cc))).1
+    (t.1 (λ e. let z = sym f ∙ eq-eqb c.load.result 1 e in absurd (cc))).1

@@ -17,27 +17,27 @@ take_journals-requires-2-clause-slots g c lfts within = let t = c.pass_over.ensu
 pub take_journals-requires-2-clause-present : goal.take_journals-requires-2-clause-present
 take_journals-requires-2-clause-present g c lfts within =
     λ d l h. subst (λ xs. HasJournal xs d) (sym (c.pass_over.ensures.1 ∙ c.take_journals.ensures.slots.1))
-      (c.requires.present d h (λ e. omega arith))
+    (c.requires.present d h (λ e. omega arith))
 
 pub returns-clause-own : goal.returns-clause-own
 returns-clause-own g c =
     let e = grown c.take_journals.new.journals.items c.push_reserved.new.self.items c.args.own
-      c.push_reserved.ensures.items in
+    c.push_reserved.ensures.items in
     c.take_journals-2.ensures.journals.1 c.args.number (omega arith)
     ∙ row_here (items_of c.take_journals.new.journals.items)
-      (items_of c.push_reserved.new.self.items) c.args.own.items c.args.number e c.take_journals.ensures.journals.0.0
+    (items_of c.push_reserved.new.self.items) c.args.own.items c.args.number e c.take_journals.ensures.journals.0.0
 
 pub returns-clause-others : goal.returns-clause-others
 returns-clause-others g c = let e =
     grown c.take_journals.new.journals.items c.push_reserved.new.self.items c.args.own
-      c.push_reserved.ensures.items in let long = c.take_journals.ensures.journals.0.0 in
+    c.push_reserved.ensures.items in let long = c.take_journals.ensures.journals.0.0 in
     λ d l other. dite (dec_le d c.args.number)
     (λ below. let low : d < c.args.number = omega arith in
-      subst (IsJournalOf (values_of c.args.left.now) d) (sym (c.take_journals-2.ensures.journals.1 d (omega arith)
+    subst (IsJournalOf (values_of c.args.left.now) d) (sym (c.take_journals-2.ensures.journals.1 d (omega arith)
     ∙ row_there (items_of c.take_journals.new.journals.items)
-      (items_of c.push_reserved.new.self.items) c.args.own.items d e (omega arith)))
-      (c.take_journals.ensures.journals.0.1 d (omega arith) low))
+    (items_of c.push_reserved.new.self.items) c.args.own.items d e (omega arith)))
+    (c.take_journals.ensures.journals.0.1 d (omega arith) low))
     (λ above. subst (λ xs. IsJournalOf xs d
     (Rattle.std.proofs.Common.get_or (items_of c.take_journals-2.new.journals.items) d Rattle.std.proofs.Common.[]))
-      (c.pass_over.ensures.1 ∙ c.take_journals.ensures.slots.1)
+    (c.pass_over.ensures.1 ∙ c.take_journals.ensures.slots.1)
     (c.take_journals-2.ensures.journals.0.1 d (omega arith) l))

@@ -7,7 +7,7 @@ use Rattle.publication.proofs.closing.take_journals.Goals as goal
 pub take_journal-requires-clause-journal : goal.take_journal-requires-clause-journal
 take_journal-requires-clause-journal g c lfts within = let i = c.loop-client.invariant in
     subst (λ xs. HasJournal xs c.loop-client.client) (sym i.1)
-      (c.requires.present c.loop-client.client c.loop-client.auto.client c.loop-client-test.true)
+    (c.requires.present c.loop-client.client c.loop-client.auto.client c.loop-client-test.true)
 
 pub loop-client-preserved : goal.loop-client-preserved
 loop-client-preserved g c =
@@ -15,24 +15,26 @@ loop-client-preserved g c =
     c.take_journal.ensures.slots.0 in let near = c.loop-client.auto.client in let long = i.4.0 in
     let e = grown c.loop-client.journals.items c.push_reserved.new.self.items c.take_journal.result p.items in
     let journal = subst (λ xs. IsJournalOf xs c.loop-client.client c.take_journal.result.items) i.1
-      c.take_journal.ensures.journal in (
+    c.take_journal.ensures.journal in (
       (t.0, (λ k l h. t.1 k (omega arith) h), λ k h. t.2 k (omega arith)),
       c.take_journal.ensures.slots.1 ∙ i.1,
       omega arith,
       search rules,
       (
         one_longer (items_of c.loop-client.journals.items)
-          (items_of c.push_reserved.new.self.items) c.take_journal.result.items c.loop-client.client e i.4.0,
+            (items_of c.push_reserved.new.self.items) c.take_journal.result.items c.loop-client.client e i.4.0,
         rows_more (IsJournalOf (values_of c.args.left.now)) c.args.from c.loop-client.client
-          (items_of c.loop-client.journals.items)
+            (items_of c.loop-client.journals.items)
             (items_of c.push_reserved.new.self.items) c.take_journal.result.items e i.4.0 i.4.1 journal,
       ),
       same_more c.args.from (items_of c.args.journals.now.items) (items_of c.loop-client.journals.items)
-        (items_of c.push_reserved.new.self.items) c.take_journal.result.items e (omega arith) i.5,
+          (items_of c.push_reserved.new.self.items) c.take_journal.result.items e (omega arith) i.5,
     )
 
 pub returns-clause-journals : goal.returns-clause-journals
 returns-clause-journals g c = let i = c.loop-client.invariant in let past = c.loop-client-test.false in let end =
-    c.loop-client.auto.client-end c.requires.slots.1 in let same : c.loop-client.client ≡ c.args.to = omega arith in
-    (subst (λ n. AreJournals c.args.from n (values_of c.args.left.now) (items_of c.loop-client.journals.items)) same
-      i.4, i.5)
+    c.loop-client.auto.client-end c.requires.slots.1 in let same : c.loop-client.client ≡ c.args.to = omega arith in (
+      subst (λ n. AreJournals c.args.from n (values_of c.args.left.now) (items_of c.loop-client.journals.items)) same
+          i.4,
+      i.5,
+    )

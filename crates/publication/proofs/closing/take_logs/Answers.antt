@@ -20,9 +20,9 @@ loop-x-preserved g c =
       search rules,
       (
         one_longer (items_of c.loop-x.logs.items)
-          (items_of c.push_reserved.new.self.items) c.take_log.result.items c.loop-x.x e i.4.0,
+            (items_of c.push_reserved.new.self.items) c.take_log.result.items c.loop-x.x e i.4.0,
         λ k h. rows_more (IsLogOf (values_of c.args.left.now)) 0 c.loop-x.x (items_of c.loop-x.logs.items)
-          (items_of c.push_reserved.new.self.items)
+            (items_of c.push_reserved.new.self.items)
             c.take_log.result.items e i.4.0 (λ k l h. i.4.1 k h) log k (omega arith) h,
       ),
     )

@@ -19,9 +19,9 @@ loop-slots-preserved g c =
       search rules,
       omega arith,
       cores_longer (rosters_of c.args.lists.items) c.args.objects.items c.loop-slots.slots.items
-        c.push_reserved.new.self.items (slot.Nothing ∷ []) p.items i.4,
+          c.push_reserved.new.self.items (slot.Nothing ∷ []) p.items i.4,
       λ j l h. nothing_more c.loop-slots.slots.items c.push_reserved.new.self.items
-        (length c.args.objects.items) p.items (λ x a b. i.5 x a (omega arith)) j l (omega arith),
+          (length c.args.objects.items) p.items (λ x a b. i.5 x a (omega arith)) j l (omega arith),
     )
 
 pub returns : goal.returns

@@ -22,6 +22,6 @@ loop-alloc-preserved c =
       omega arith,
       omega arith,
       ap rosters_of q.items ∙ (map-append (λ (w : WalkerSeen). w.roster) c.loop-alloc.walkers.items
-        (c.in_ok-roster.walker ∷ []) ∙ ((λ j. i.4 j ++ (d.walker j).roster ∷ []) ∙ sym p.items)),
+          (c.in_ok-roster.walker ∷ []) ∙ ((λ j. i.4 j ++ (d.walker j).roster ∷ []) ∙ sym p.items)),
       one_dealt c.in_ok-roster.roster _ _ _ _ _ p.items i.5 d.grown,
     )

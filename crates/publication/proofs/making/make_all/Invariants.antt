@@ -12,8 +12,12 @@ invariant-loop-journal g l =
     × AreDealt l.number (vec_len l.journals) l.table.shared.key.lists.items l.owners.items
     × (vec_len l.made ≡ l.number) × (l.table.shared.key.clients ≤ vec_capacity l.made)
     × (length l.made.items ≡ l.number)
-    × AllBegun (record { table = l.table.shared.table_id; quota = l.quota; kinds = l.table.shared.key.kinds.items;
-      lists = l.table.shared.key.lists.items }) l.made.items
+    × AllBegun (record {
+      table = l.table.shared.table_id;
+      quota = l.quota;
+      kinds = l.table.shared.key.kinds.items;
+      lists = l.table.shared.key.lists.items;
+    }) l.made.items
 
 abbrev pub decreases-loop-journal : goal.decreases-loop-journal
 decreases-loop-journal g l = vec_len l.journals

@@ -14,7 +14,8 @@ store-requires c =
       c.load-first.ensures.0 ∙ t.0,
       omega arith,
       link_allowed _ _ _ _ (tries_of c.args.seat.now.me.0) _
-        (subst (IsPlace c.args.row true (tries_of c.args.seat.now.me.0)) (sym c.load-first.ensures.2) c.requires.seat),
+          (subst (IsPlace c.args.row true (tries_of c.args.seat.now.me.0))
+            (sym c.load-first.ensures.2) c.requires.seat),
     )
 
 pub compare_exchange-requires : goal.compare_exchange-requires
@@ -23,8 +24,8 @@ compare_exchange-requires c = let t = c.requires.table in (
   omega arith,
   enlist_allowed _ _ _ _ (tries_of c.args.seat.now.me.0) _
       (link_leaves_linked _ _ (tries_of c.args.seat.now.me.0) _ _
-        (subst (IsPlace c.args.row true (tries_of c.args.seat.now.me.0)) (sym c.load-first.ensures.2) c.requires.seat)
-        c.store.ensures.2),
+      (subst (IsPlace c.args.row true (tries_of c.args.seat.now.me.0)) (sym c.load-first.ensures.2) c.requires.seat)
+      c.store.ensures.2),
 )
 
 pub returns-then-compare_exchange-first-clause-seat : goal.returns-then-compare_exchange-first-clause-seat
@@ -32,4 +33,4 @@ returns-then-compare_exchange-first-clause-seat c =
     enlist_leaves_missed _ _ _ (tries_of c.args.seat.now.me.0) _ _ c.requires.seat.0
     (link_leaves_linked _ _ (tries_of c.args.seat.now.me.0) _ _
     (subst (IsPlace c.args.row true (tries_of c.args.seat.now.me.0)) (sym c.load-first.ensures.2) c.requires.seat)
-      c.store.ensures.2) c.compare_exchange.ensures.2 c.if-compare_exchange-first.true
+    c.store.ensures.2) c.compare_exchange.ensures.2 c.if-compare_exchange-first.true

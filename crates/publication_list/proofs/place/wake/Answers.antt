@@ -10,9 +10,11 @@ load-requires c =
 pub store-requires : goal.store-requires
 store-requires c =
     let t = c.requires.table in
-    let low = c.requires.seat.0 in
-    (c.load.ensures.0 ∙ t.0, omega arith,
-      wake_allowed _ _ _ _ _ (look_found_asleep _ _ _ _ _ c.requires.seat c.load.ensures.2 c.if-load-ne0.false))
+    let low = c.requires.seat.0 in (
+      c.load.ensures.0 ∙ t.0,
+      omega arith,
+      wake_allowed _ _ _ _ _ (look_found_asleep _ _ _ _ _ c.requires.seat c.load.ensures.2 c.if-load-ne0.false),
+    )
 
 pub returns-clause-seat : goal.returns-clause-seat
 returns-clause-seat c =

@@ -10,8 +10,13 @@ use Rattle.publication_list.proofs.roster.make_all.Goals as goal
 pub loop-row-init : goal.loop-row-init
 loop-row-init c =
     let m = c.requires.made in
-    record { table = refl; seat = c.requires.seat; long = m.1; room = m.2;
-        made = (ap length m.0, λ k l. absurd (omega arith)) }
+    record {
+      table = refl;
+      seat = c.requires.seat;
+      long = m.1;
+      room = m.2;
+      made = (ap length m.0, λ k l. absurd (omega arith));
+    }
 
 pub split_seat-chair-requires : goal.split_seat-chair-requires
 split_seat-chair-requires c =
@@ -53,7 +58,7 @@ loop-row-preserved c =
       long = omega arith;
       room = omega arith;
       made = ArePlaces-more c.args.seat.now.table_id c.loop-row.row c.loop-row.made.items
-        c.push_reserved.new.self.items _ i.made p.items
+          c.push_reserved.new.self.items _ i.made p.items
           (λ j. record { roster = (s.3 ∙ i.table) j; row = c.loop-row.row; tries = tries_of (new j).0 });
     }
 
@@ -64,10 +69,10 @@ ended row rows a b = omega arith
 pub returns-clause-seat : goal.returns-clause-seat
 returns-clause-seat c =
     c.loop-row.invariant.seat
-      ∙ ap (λ (z : ℕ). (view.Walker z [] None [], []))
-      (ended c.loop-row.row c.args.rows c.loop-row-test.false c.loop-row.auto.row-end)
+    ∙ ap (λ (z : ℕ). (view.Walker z [] None [], []))
+    (ended c.loop-row.row c.args.rows c.loop-row-test.false c.loop-row.auto.row-end)
 
 pub returns-clause-made : goal.returns-clause-made
 returns-clause-made c =
     subst (λ (z : ℕ). ArePlaces c.args.seat.now.table_id z c.loop-row.made.items)
-      (ended c.loop-row.row c.args.rows c.loop-row-test.false c.loop-row.auto.row-end) c.loop-row.invariant.made
+    (ended c.loop-row.row c.args.rows c.loop-row-test.false c.loop-row.auto.row-end) c.loop-row.invariant.made

@@ -15,7 +15,7 @@ loop-at-init c = record {
   room = c.clear.ensures.capacity;
   long = c.clear.ensures.len ∙ ap length (sym c.clear.ensures.items);
   meeting = subst (λ z. Meeting (left_of c.args.seat.now.me.0) (walks_of c.args.seat.now.me.0)
-    (made_of c.args.seat.now.me.0) z c.load-at.result
+      (made_of c.args.seat.now.me.0) z c.load-at.result
       c.load-at.new.seat.me) (sym c.clear.ensures.items) (walk_begins _ _ _ _ _ c.requires.seat c.load-at.ensures.2);
 }
 
@@ -54,7 +54,7 @@ loop-at-smaller c =
     let k = c.loop-at.invariant.meeting in
     let word = (walk_goes_on _ _ _ _ _ _ k c.loop-at-test.true).1 in
     walk_gets_shorter _ _ _ _ _ _ k _ (1 + (c.loop-at.at - 1)) _ _ c.loop-at-test.true
-      (omega arith) c.push_reserved.ensures.items c.load-at-in-loop-at.ensures.2
+    (omega arith) c.push_reserved.ensures.items c.load-at-in-loop-at.ensures.2
 
 pub loop-at-preserved : goal.loop-at-preserved
 loop-at-preserved c =
@@ -68,16 +68,16 @@ loop-at-preserved c =
       table = c.load-at-in-loop-at.ensures.0 ∙ i.table;
       room = p.capacity ∙ i.room;
       long = (let more = ap length p.items ∙ length-append c.loop-at.rows.items ((c.loop-at.at - 1) ∷ []) in
-        omega arith);
+          omega arith);
       meeting = walk_meets_one_more _ _ _ _ _ _ k _ (1 + (c.loop-at.at - 1)) _ _ c.loop-at-test.true
-        (omega arith) p.items c.load-at-in-loop-at.ensures.2;
+          (omega arith) p.items c.load-at-in-loop-at.ensures.2;
     }
 
 pub returns-clause-seat : goal.returns-clause-seat
 returns-clause-seat c =
     let k = c.loop-at.invariant.meeting in
     subst (λ z. HasMet z (walks_of c.args.seat.now.me.0 ++ z ∷ []) c.loop-at.seat.me)
-      (sym (walk_met_all _ _ _ _ _ _ k c.loop-at-test.false)) k.met
+    (sym (walk_met_all _ _ _ _ _ _ k c.loop-at-test.false)) k.met
 
 pub returns-clause-made : goal.returns-clause-made
 returns-clause-made c = c.loop-at.invariant.meeting.made
@@ -91,7 +91,7 @@ pub returns-clause-low : goal.returns-clause-low
 returns-clause-low c =
     let k = c.loop-at.invariant.meeting in
     subst (λ z. (j : ℕ) → j < length z → slice_index z j < made_of c.args.seat.now.me.0)
-      (sym (walk_met_all _ _ _ _ _ _ k c.loop-at-test.false)) k.low
+    (sym (walk_met_all _ _ _ _ _ _ k c.loop-at-test.false)) k.low
 
 pub returns-clause-few : goal.returns-clause-few
 returns-clause-few c =

@@ -8,7 +8,7 @@ invariant-loop-at l = record {
   room : vec_capacity l.rows ≡ vec_capacity l.fn.rows;
   long : vec_len l.rows ≡ length l.rows.items;
   meeting : Meeting (left_of l.fn.seat.me.0) (walks_of l.fn.seat.me.0)
-    (made_of l.fn.seat.me.0) l.rows.items l.at l.seat.me;
+      (made_of l.fn.seat.me.0) l.rows.items l.at l.seat.me;
 }
 
 abbrev pub decreases-loop-at : goal.decreases-loop-at

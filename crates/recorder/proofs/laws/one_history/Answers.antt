@@ -7,4 +7,4 @@ use Rattle.recorder.proofs.laws.one_history.Goals as goal
 pub returns : goal.returns
 returns c journals es fs a b =
     same_by_parts (λ (e : Event). e.number) (λ (e : Event). e.process) es fs (pairs_from_all _ es a.rising)
-      (pairs_from_all _ fs b.rising) (λ p. a.each p ∙ sym (b.each p))
+    (pairs_from_all _ fs b.rising) (λ p. a.each p ∙ sym (b.each p))

@@ -16,7 +16,7 @@ loop-reason-init c =
     record {
       each = subst (AllZip (IsAnswer es) (take 0 c.args.reasons.now)) (sym c.new-answers.ensures.items) tt;
       refutations = subst (AreRefutations (IsLinearizable (kind_at es) (events (denoted es)) → ⊥))
-        (sym c.new-answers.ensures.items) (λ r i p. absurd i);
+          (sym c.new-answers.ensures.items) (λ r i p. absurd i);
     }
 
 pub loop-reason-preserved : goal.loop-reason-preserved
@@ -26,20 +26,20 @@ loop-reason-preserved c =
     let reason = c.reason-item.result in
     let r : Refutation = c.in_ok-answer.answer in
     let on = subst (λ (os : List ObjectCalls). r ≢ OtherObject
-      → (o : ObjectCalls) × Contains os o × (o.object ≡ reason.object)
+    → (o : ObjectCalls) × Contains os o × (o.object ≡ reason.object)
     × IsAnswerOn o.kind (calls_of o.ops) reason r) c.deref.ensures.value c.in_ok-answer.ensures.on in
     let other = subst (λ (os : List ObjectCalls). r ≡ OtherObject → All (λ o. o.object ≢ reason.object) os)
-      c.deref.ensures.value c.in_ok-answer.ensures.other_object in
+    c.deref.ensures.value c.in_ok-answer.ensures.other_object in
     let answer = answer_is es objects reason r c.in_ok-objects.ensures.kinds c.in_ok-objects.ensures.calls
-      c.in_ok-objects.ensures.named on other in
+    c.in_ok-objects.ensures.named on other in
     record {
       each = subst (AllZip (IsAnswer es) (take (c.loop-reason.reason-index + 1) c.args.reasons.now))
-        (sym c.in_ok-push.ensures.items)
+          (sym c.in_ok-push.ensures.items)
           (zip_more (IsAnswer es) c.args.reasons.now c.loop-reason.answers.items c.loop-reason.reason-index reason r
-            c.loop-reason-test.true c.reason-item.is c.loop-reason.invariant.each answer);
+          c.loop-reason-test.true c.reason-item.is c.loop-reason.invariant.each answer);
       refutations = one_more (IsLinearizable (kind_at es) (events (denoted es)) → ⊥) _ _ _ c.in_ok-push.ensures.items
           (λ p. none_among es objects c.in_ok-objects.ensures.kinds c.in_ok-objects.ensures.calls
-            c.linearizable_has_orders.ensures
+          c.linearizable_has_orders.ensures
           c.events.ensures.history (refuted_among objects reason r on p)) c.loop-reason.invariant.refutations;
     }
 

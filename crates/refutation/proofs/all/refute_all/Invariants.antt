@@ -11,5 +11,5 @@ abbrev pub invariant-loop-reason : goal.invariant-loop-reason
 invariant-loop-reason l = record {
   each : AllZip (IsAnswer l.fn.history) (take l.reason-index l.reasons) l.answers.items;
   refutations : AreRefutations
-    (IsLinearizable (kind_at l.fn.history) (events (denoted l.fn.history)) → ⊥) l.answers.items;
+      (IsLinearizable (kind_at l.fn.history) (events (denoted l.fn.history)) → ⊥) l.answers.items;
 }

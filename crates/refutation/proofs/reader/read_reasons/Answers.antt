@@ -5,7 +5,7 @@ use Rattle.refutation.proofs.reader.read_reasons.Goals as goal
 pub returns-in-Err-clause-fault : goal.returns-in-Err-clause-fault
 returns-in-Err-clause-fault c = λ other.
     first_fault c.args.forms.now c.loop-place.place c.index-forms-place.result c.loop-place.reasons.items
-      c.in-Err.kind c.loop-place-test.true
+    c.in-Err.kind c.loop-place-test.true
     c.index-forms-place.is c.loop-place.invariant (c.in-Err.ensures.fault other)
 
 pub returns-in-Err-clause-refused : goal.returns-in-Err-clause-refused
@@ -14,18 +14,18 @@ returns-in-Err-clause-refused c = λ other. not_denoted (views c.args.forms.now)
 pub returns-in-Err-clause-memory : goal.returns-in-Err-clause-memory
 returns-in-Err-clause-memory c = λ _.
     sound_before c.args.forms.now c.loop-place.place c.index-forms-place.result c.loop-place.reasons.items
-      c.loop-place-test.true c.index-forms-place.is
+    c.loop-place-test.true c.index-forms-place.is
     c.loop-place.invariant
 
 pub returns-in-Err-push-clause-memory : goal.returns-in-Err-push-clause-memory
 returns-in-Err-push-clause-memory c = λ _.
     sound_before c.args.forms.now c.loop-place.place c.index-forms-place.result c.loop-place.reasons.items
-      c.loop-place-test.true c.index-forms-place.is
+    c.loop-place-test.true c.index-forms-place.is
     c.loop-place.invariant
 
 pub loop-place-preserved : goal.loop-place-preserved
 loop-place-preserved c =
     rw c.in-Ok-push.ensures.items
     (one_more_read c.args.forms.now c.loop-place.place c.index-forms-place.result c.loop-place.reasons.items
-      c.in-Ok.reason
+    c.in-Ok.reason
     c.loop-place-test.true c.index-forms-place.is c.loop-place.invariant c.in-Ok.ensures.own)

@@ -9,7 +9,7 @@ pub loop-form-preserved : goal.loop-form-preserved
 loop-form-preserved c =
     let e : to_z w64 (of_z w64 c.in-Some.n) ≡ c.in-Some.n = omega (arith, ints) in
     one_more c.args.forms.now c.loop-form.form-index c.form-item.result _ _ c.in-Some.n _ c.loop-form-test.true
-      c.form-item.is
+    c.form-item.is
     (sym c.in-Some.is ∙ c.integer.ensures)
-      (c.in_ok-insert.ensures.keys ∙ ap (insert_key int_cmp c.loop-form.set.keys) e)
+    (c.in_ok-insert.ensures.keys ∙ ap (insert_key int_cmp c.loop-form.set.keys) e)
     c.loop-form.invariant

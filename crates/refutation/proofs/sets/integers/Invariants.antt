@@ -7,4 +7,4 @@ use Rattle.refutation.proofs.sets.integers.Given as goal
 abbrev pub invariant-loop-form : goal.invariant-loop-form
 invariant-loop-form l =
     integers_with l.set.keys (items_of (views (drop l.form-index l.forms)))
-      ≡ integers_with [] (items_of (views l.forms))
+    ≡ integers_with [] (items_of (views l.forms))

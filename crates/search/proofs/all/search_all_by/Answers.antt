@@ -7,13 +7,13 @@ use Rattle.search.proofs.all.search_all_by.Goals as goal
 pub loop-object-init : goal.loop-object-init
 loop-object-init c = no_answers _ _ _ _
     (are_objects _ _ _ c.deref-object-items.ensures.value c.in_ok-objects.ensures.rising c.in_ok-objects.ensures.named
-      c.in_ok-objects.ensures.kinds
+    c.in_ok-objects.ensures.kinds
     c.in_ok-objects.ensures.calls) c.new-answers.ensures.items
 
 pub loop-object-preserved : goal.loop-object-preserved
 loop-object-preserved c =
     one_more_answer _ (IsWithin c.args.limit) _ _ _ _ _ _ c.search_by-answer.result c.loop-object-test.true
-      c.object-item.is c.object.ensures
+    c.object-item.is c.object.ensures
     c.in_ok-push.ensures.items c.search_by-answer.ensures c.loop-object.invariant
 
 pub returns : goal.returns
@@ -25,7 +25,7 @@ returns c =
       named = all.named;
       answers = all.each;
       impossible = not_linearizable _ (IsWithin c.args.limit) _
-        (λ x kind calls s h. h.sound.impossible) c.linearizable_has_orders.ensures c.events.ensures.history all;
+          (λ x kind calls s h. h.sound.impossible) c.linearizable_has_orders.ensures c.events.ensures.history all;
       distinct = distinct (λ s. certificate_in s.found) _ (IsWithin c.args.limit) _ own all;
       valid = valid (λ s. certificate_in s.found) _ (IsWithin c.args.limit) _ own all;
     }

@@ -23,12 +23,12 @@ returns-clause-found c =
     let t = c.in_ok-trials.trials in
     let listed = listed_calls h.ops t.items.items c.ops.ensures.kept.rising c.in_ok-trials.ensures.items in
     let valid = λ (order : List ℤ) (p : IsOrderOf t order). subst
-      (λ kind. IsValidOrder kind (calls_of h.ops) order) c.in_ok-trials.ensures.kind
-      (found_valid t (calls_of h.ops) order listed p) in
+    (λ kind. IsValidOrder kind (calls_of h.ops) order) c.in_ok-trials.ensures.kind
+    (found_valid t (calls_of h.ops) order listed p) in
     IfOk-weaker c.search_from_start.result (λ o. IfFound o (IsOrderOf t))
-      (λ o. IfFound o (IsValidOrder h.kind (calls_of h.ops)))
+    (λ o. IfFound o (IsValidOrder h.kind (calls_of h.ops)))
     (λ o p. IfFound-weaker o (IsOrderOf t) (IsValidOrder h.kind (calls_of h.ops)) valid p)
-      c.search_from_start.ensures.found
+    c.search_from_start.ensures.found
 
 pub returns-clause-impossible : goal.returns-clause-impossible
 returns-clause-impossible c =
@@ -36,8 +36,8 @@ returns-clause-impossible c =
     let t = c.in_ok-trials.trials in
     let listed = listed_calls h.ops t.items.items c.ops.ensures.kept.rising c.in_ok-trials.ensures.items in
     IfOk-weaker c.search_from_start.result
-      (λ o. o ≡ Impossible → IsDead (length t.items.items) (call_at t.items.items) [] (empty t.kind))
-      (λ o. o ≡ Impossible → IsNoneValid h.kind (calls_of h.ops))
+    (λ o. o ≡ Impossible → IsDead (length t.items.items) (call_at t.items.items) [] (empty t.kind))
+    (λ o. o ≡ Impossible → IsNoneValid h.kind (calls_of h.ops))
     (λ o dead e. subst (λ kind. IsNoneValid kind (calls_of h.ops)) c.in_ok-trials.ensures.kind
     (none_valid t.kind (calls_of h.ops) (length t.items.items) (call_at t.items.items) listed (dead e)))
-      c.search_from_start.ensures.impossible
+    c.search_from_start.ensures.impossible

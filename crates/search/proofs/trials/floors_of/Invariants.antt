@@ -6,7 +6,7 @@ abbrev pub invariant-loop-k : goal.invariant-loop-k
 invariant-loop-k l = record {
   long : length l.floors.items ≡ length l.items;
   below : (i j : ℕ) → l.k ≤ i → i ≤ j → j < length l.items → (l.of_all ≡ true) ⊎ IsSome (call_at l.items j).returned
-    → get_or l.floors.items i 0 ≤ (call_at l.items j).number;
+      → get_or l.floors.items i 0 ≤ (call_at l.items j).number;
   least : (j : ℕ) → l.k ≤ j → j < length l.items → (l.of_all ≡ true) ⊎ IsSome (call_at l.items j).returned
-    → l.least ≤ (call_at l.items j).number;
+      → l.least ≤ (call_at l.items j).number;
 }

@@ -9,7 +9,7 @@ loop-at-init c = λ done link.
     let nx = c.args.undone.now.next.items in
     let long = link.long_next in
     least_first c.args.trials.now.items.items done nx c.args.undone.now.before.items c.index.result.now link
-      (c.index.ensures ∙ get_or_default nx 0 _ 0 (omega arith))
+    (c.index.ensures ∙ get_or_default nx 0 _ 0 (omega arith))
 
 pub loop-at-smaller : goal.loop-at-smaller
 loop-at-smaller c =
@@ -19,7 +19,7 @@ loop-at-smaller c =
     let t = c.loop-at-test.true in
     let at = c.loop-at.at in
     let s = next_stop (length c.args.trials.now.items.items) h.0 nx c.args.undone.now.before.items at h.1 m.1
-      (omega arith) in
+    (omega arith) in
     let up = s.0.rises in
     let e = c.index-in-loop-at-3.ensures ∙ get_or_default nx (at + 1) _ 0 s.1 ∙ ap (λ x. get_or nx x 0) (add-one at) in
     omega arith
@@ -31,13 +31,13 @@ loop-at-preserved c = λ done link.
     let t = c.loop-at-test.true in
     let at = c.loop-at.at in
     let s = next_stop (length c.args.trials.now.items.items) done nx c.args.undone.now.before.items at link m.1
-      (omega arith) in
+    (omega arith) in
     least_step c.args.trials.now.items.items c.index-in-loop-at-2.result.now done nx c.args.undone.now.before.items at
-      c.index-in-loop-at-3.result.now
+    c.index-in-loop-at-3.result.now
     c.loop-at.least c.earlier-least.result link m (omega arith)
     (ap as_call c.index-in-loop-at-2.ensures ∙ call_read c.args.trials.now.items.items at _ (omega arith))
     (c.index-in-loop-at-3.ensures ∙ get_or_default nx (at + 1) _ 0 s.1) c.earlier-least.ensures.below
-      c.earlier-least.ensures.own c.earlier-least.ensures.either
+    c.earlier-least.ensures.own c.earlier-least.ensures.either
 
 pub returns-else-index-least : goal.returns-else-index-least
 returns-else-index-least c = λ done link.
@@ -50,12 +50,12 @@ returns-else-index-least c = λ done link.
     let e = c.index-in-loop-at.ensures ∙ get_or_default floors at _ 0 inside in
     let f = c.if-index-least.false in
     least_last c.args.trials.now.kind c.args.trials.now.items.items c.args.trials.now.floors.items floors done
-      c.args.trials.now.pending at c.loop-at.least t (c.loop-at.invariant done link).0 (inr (omega arith))
+    c.args.trials.now.pending at c.loop-at.least t (c.loop-at.invariant done link).0 (inr (omega arith))
 
 pub returns-after-loop-at : goal.returns-after-loop-at
 returns-after-loop-at c = λ done link.
     let t = c.requires.trials in
     let l = c.loop-at-test.false in
     least_last c.args.trials.now.kind c.args.trials.now.items.items c.args.trials.now.floors.items
-      c.args.trials.now.return_floors.items done c.args.trials.now.pending c.loop-at.at c.loop-at.least t
-      (c.loop-at.invariant done link).0 (inl (omega arith))
+    c.args.trials.now.return_floors.items done c.args.trials.now.pending c.loop-at.at c.loop-at.least t
+    (c.loop-at.invariant done link).0 (inl (omega arith))

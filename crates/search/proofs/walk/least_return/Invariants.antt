@@ -8,7 +8,7 @@ abbrev pub invariant-loop-at : goal.invariant-loop-at
 invariant-loop-at l = (done : List ℕ)
     → Linked (length l.trials.items.items) done l.undone.next.items l.undone.before.items
     → IsLeastBelow (length l.trials.items.items) (call_at l.trials.items.items) done l.at l.least
-      × IsStop (length l.trials.items.items) done l.at
+    × IsStop (length l.trials.items.items) done l.at
 
 abbrev pub decreases-loop-at : goal.decreases-loop-at
 decreases-loop-at l = length l.trials.items.items - l.at

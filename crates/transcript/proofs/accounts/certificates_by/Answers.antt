@@ -19,9 +19,9 @@ log-requires-after_bounds g c κs within =
     let v = c.named-item.result in
     let x = c.object-object.result in
     let among = name_of_item
-      (λ (o : ObjectCalls). o.object) vs c.loop-named.named-index v c.loop-named-test.true c.named-item.is in
+    (λ (o : ObjectCalls). o.object) vs c.loop-named.named-index v c.loop-named-test.true c.named-item.is in
     let there = subst (λ (os : List ObjectCalls). Contains (map (λ (o : ObjectCalls). o.object) os) v.object)
-      c.deref-named-items.ensures.value among in
+    c.deref-named-items.ensures.value among in
     let named = (c.in_ok-objects.ensures.named v.object).0 there in
     has_log _ (journals_in op_in reply_in r) _ c.requires.kept _ c.requires.history x
     (subst (λ (y : ℕ). IsNamed c.args.history.now y) (sym c.object-object.ensures) named)
@@ -40,15 +40,15 @@ loop-named-preserved g c =
     let more : c.push.new.self.items ≡ c.loop-named.certificates.items ++ one ∷ [] = c.in_ok-push.ensures.items in
     record {
       objects = objects_more (λ (o : ObjectCalls). o.object) c.deref-named-items.result.now c.loop-named.named-index
-        c.named-item.result
+          c.named-item.result
           c.loop-named.certificates.items c.push.new.self.items one c.loop-named-test.true c.named-item.is
-            c.loop-named.invariant.objects c.object-object.ensures more;
+          c.loop-named.invariant.objects c.object-object.ensures more;
       orders = subst (All (λ (d : Certificate). d.order.items ≡ order_of (logs_in op_in reply_in r d.object)))
-        (sym more)
+          (sym more)
           (All-push (λ (d : Certificate). d.order.items ≡ order_of (logs_in op_in reply_in r d.object))
-            c.loop-named.certificates.items one
+          c.loop-named.certificates.items one
           c.loop-named.invariant.orders
-            (c.in_ok-order.ensures ∙ ap (λ log. order_of (map (entry_in op_in reply_in) log)) c.log.ensures));
+          (c.in_ok-order.ensures ∙ ap (λ log. order_of (map (entry_in op_in reply_in) log)) c.log.ensures));
     }
 
 pub returns : goal.returns
@@ -58,11 +58,11 @@ returns g c =
     let r = c.args.account.now in
     let os = c.in_ok-objects.objects.items in
     let all : map (λ (d : Certificate). d.object) c.loop-named.certificates.items
-      ≡ map (λ (o : ObjectCalls). o.object) os =
+    ≡ map (λ (o : ObjectCalls). o.object) os =
     c.loop-named.invariant.objects ∙ ap (map (λ (o : ObjectCalls). o.object))
     (take_all c.loop-named.named-index c.deref-named-items.result.now c.loop-named-test.false
-      ∙ c.deref-named-items.ensures.value) in
+    ∙ c.deref-named-items.ensures.value) in
     are_certificates (journals_in op_in reply_in r) (logs_in op_in reply_in r) _ c.requires.history
     (map (λ (o : ObjectCalls). o.object) os)
-      (names_rise os c.in_ok-objects.ensures.rising) c.in_ok-objects.ensures.named c.loop-named.certificates.items all
-      c.loop-named.invariant.orders
+    (names_rise os c.in_ok-objects.ensures.rising) c.in_ok-objects.ensures.named c.loop-named.certificates.items all
+    c.loop-named.invariant.orders

@@ -16,10 +16,10 @@ lines_are g c =
     let kept = c.gather.ensures.kept in
     let ls = c.sort_unstable_by_key.new.self.items in
     gathered.are_lines (journals_in op_in reply_in r) kept.events kept.are_events kept.proper
-      (map (map (event_in op_in reply_in)) r.journals) (journal_is op_in reply_in r) ls
+    (map (map (event_in op_in reply_in)) r.journals) (journal_is op_in reply_in r) ls
     (subst (λ xs. IsPermutation xs ls) c.in_ok-lines.ensures.lines c.sort_unstable_by_key.ensures.permutation)
     (IsNonDecreasingBy-from_sort_by_key (λ l. l.event.number) _ c.sort_unstable_by_key.ensures.sorted
-      (λ a r q k. search rules))
+    (λ a r q k. search rules))
 
 pub returns-clause-lines : goal.returns-clause-lines
 returns-clause-lines g c = lines_are g c
@@ -28,13 +28,13 @@ pub returns-clause-events : goal.returns-clause-events
 returns-clause-events g c =
     let kept = c.gather.ensures.kept in
     gathered.are_events (journals_in g.S.SeqObject.op_in g.S.SeqObject.reply_in c.args.account.now) kept.events
-      kept.are_events kept.proper c.sort_unstable_by_key.new.self.items (lines_are g c)
+    kept.are_events kept.proper c.sort_unstable_by_key.new.self.items (lines_are g c)
 
 pub returns-clause-proper : goal.returns-clause-proper
 returns-clause-proper g c =
     let kept = c.gather.ensures.kept in
     gathered.is_proper (journals_in g.S.SeqObject.op_in g.S.SeqObject.reply_in c.args.account.now) kept.events
-      kept.are_events kept.proper c.sort_unstable_by_key.new.self.items (lines_are g c)
+    kept.are_events kept.proper c.sort_unstable_by_key.new.self.items (lines_are g c)
 
 pub returns-clause-low : goal.returns-clause-low
 returns-clause-low g c =

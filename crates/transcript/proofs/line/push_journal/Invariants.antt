@@ -7,5 +7,5 @@ use Rattle.transcript.proofs.line.push_journal.Given as goal
 abbrev pub invariant-loop-event : goal.invariant-loop-event
 invariant-loop-event g l =
     l.lines.items ++ lines_from l.client l.last
-      (map (event_in g.S.SeqObject.op_in g.S.SeqObject.reply_in) (drop l.event-index l.journal))
+    (map (event_in g.S.SeqObject.op_in g.S.SeqObject.reply_in) (drop l.event-index l.journal))
     ≡ l.initial.lines.items ++ lines_of l.client (map (event_in g.S.SeqObject.op_in g.S.SeqObject.reply_in) l.journal)

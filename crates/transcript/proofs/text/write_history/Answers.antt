@@ -9,11 +9,15 @@ pub returns-in-Ok-write_bytes-clause-ok : goal.returns-in-Ok-write_bytes-clause-
 returns-in-Ok-write_bytes-clause-ok g c =
     let ls = c.in-Ok.lines.items in
     let profile : All (λ (l : Line). InProfile (form_of l)) ls =
-      subst (All (λ (l : Line). InProfile (form_of l))) c.deref.ensures.value c.in-Ok-history_text.ensures.in_profile in
+    subst (All (λ (l : Line). InProfile (form_of l))) c.deref.ensures.value c.in-Ok-history_text.ensures.in_profile in
     record {
       text = c.in-Ok-history_text.text.items;
-      of_journals = record { lines = ls; are_lines = c.in-Ok.ensures.lines; text_is = search rules;
-        in_profile = profile };
+      of_journals = record {
+        lines = ls;
+        are_lines = c.in-Ok.ensures.lines;
+        text_is = search rules;
+        in_profile = profile;
+      };
       sent = search rules;
     }
 
@@ -21,12 +25,16 @@ pub returns-clause-front : goal.returns-clause-front
 returns-clause-front g c e =
     let ls = c.in-Ok.lines.items in
     let profile : All (λ (l : Line). InProfile (form_of l)) ls =
-      subst (All (λ (l : Line). InProfile (form_of l))) c.deref.ensures.value c.in-Ok-history_text.ensures.in_profile in
+    subst (All (λ (l : Line). InProfile (form_of l))) c.deref.ensures.value c.in-Ok-history_text.ensures.in_profile in
     let sent : WritesPrefix (g.K.Sink.sent c.args.sink.now)
-      (g.K.Sink.sent c.write_bytes.new.sink) c.in-Ok-history_text.text.items = search rules in
+    (g.K.Sink.sent c.write_bytes.new.sink) c.in-Ok-history_text.text.items = search rules in
     record {
       text = c.in-Ok-history_text.text.items;
-      of_journals = record { lines = ls; are_lines = c.in-Ok.ensures.lines; text_is = search rules;
-        in_profile = profile };
+      of_journals = record {
+        lines = ls;
+        are_lines = c.in-Ok.ensures.lines;
+        text_is = search rules;
+        in_profile = profile;
+      };
       sent = sent;
     }

@@ -10,10 +10,10 @@ loop-line-preserved g c =
     let xs = c.args.lines.now in
     let left = lines_left xs l.line-index _ c.loop-line-test.true in
     let f = further _ _ _ (lines_text xs) l.invariant.done _ _ _ l.invariant.parts left l.invariant.sent
-      c.in_ok-write_line.ensures.ok in
+    c.in_ok-write_line.ensures.ok in
     record {
       in_profile = profiles_more xs l.line-index _ c.loop-line-test.true l.invariant.in_profile
-        c.in_ok-write_line.ensures.in_profile;
+          c.in_ok-write_line.ensures.in_profile;
       usable =
           c.in_ok-write_line.ensures.usable;
       done = f.0;

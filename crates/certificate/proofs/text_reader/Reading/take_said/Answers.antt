@@ -21,19 +21,19 @@ returns-after-push c = λ ds d q h.
     elim c.match-push.branch [
       | in-Ok-push w ↦ (
           let all = one_more_read ds old.certificates.items
-            (has old.objects) after d made a own c.in-Ok.ensures.new c.in-Ok.ensures.among in
+          (has old.objects) after d made a own c.in-Ok.ensures.new c.in-Ok.ensures.among in
           let kept = subst (λ (cs : List Certificate). AreRead (ds ++ d ∷ []) cs after)
-            (sym w.in-Ok-push.ensures.items) all in
+          (sym w.in-Ok-push.ensures.items) all in
           subst (λ (r : Reading). IsReading r (ds ++ d ∷ [])) (sym w.self-is)
-            (subst (λ (o : Option CertFault). IsReadOrFaulty o (ds ++ d ∷ []) c.push.new.self.items after)
-            (sym c.requires) kept)
+          (subst (λ (o : Option CertFault). IsReadOrFaulty o (ds ++ d ∷ []) c.push.new.self.items after)
+          (sym c.requires) kept)
           )
       | in-Err-push w ↦ (
           let none = found ds old.certificates.items (has old.objects) d NoMemory a
-            (reading_of made, own, c.in-Ok.ensures.new) in
+          (reading_of made, own, c.in-Ok.ensures.new) in
           subst (λ (r : Reading). IsReading r (ds ++ d ∷ [])) (sym w.self-is)
           (subst (λ (n : ℕ). IsFoundIn (ds ++ d ∷ []) (record { kind = NoMemory; form = n }))
-            (sym (c.len-form.ensures ∙ old.certificates.ok.0)) none)
+          (sym (c.len-form.ensures ∙ old.certificates.ok.0)) none)
           )
     ]
 
@@ -43,4 +43,4 @@ returns-in-Err c = λ ds d q h.
     let a = are_read old ds c.requires h in
     let here = found ds old.certificates.items (has old.objects) d c.in-Err.kind a (c.in-Err.ensures.fault d q) in
     subst (λ (n : ℕ). IsFoundIn (ds ++ d ∷ []) (record { kind = c.in-Err.kind; form = n }))
-      (sym (c.len-form.ensures ∙ old.certificates.ok.0)) here
+    (sym (c.len-form.ensures ∙ old.certificates.ok.0)) here

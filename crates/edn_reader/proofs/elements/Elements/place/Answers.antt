@@ -5,8 +5,13 @@ use Rattle.edn_reader.proofs.elements.Elements.place.Goals as goal
 
 pub overflow_sub-result : goal.overflow_sub-result
 overflow_sub-result c =
-    omega (arith, skip_within c.as_bytes.result.now, ap length c.skip.ensures, ap length c.as_bytes.ensures.value,
-    c.args.self.now.within)
+    omega (
+      arith,
+      skip_within c.as_bytes.result.now,
+      ap length c.skip.ensures,
+      ap length c.as_bytes.ensures.value,
+      c.args.self.now.within,
+    )
 
 pub returns : goal.returns
 returns c =

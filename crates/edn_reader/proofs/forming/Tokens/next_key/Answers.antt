@@ -9,6 +9,6 @@ pub returns-in_default : goal.returns-in_default
 returns-in_default c = record {
   next =
       map_end c.next.result (left_on c.args.self.now)
-        (left_on c.next.new.self) c.in_default.not-Keyword c.next.ensures.token c.requires;
+      (left_on c.next.new.self) c.in_default.not-Keyword c.next.ensures.token c.requires;
   shorter = c.next.ensures.shorter;
 }

@@ -10,5 +10,5 @@ invariant_of-self-2 c =
       known = λ s e k. ap (λ t. contains_name t.value k) (sym (some_is _ s e))
           ∙ names_with c.deref_mut.result.now c.insert.new.self _ _ _ c.in_ok-insert.ensures.updates
           (λ l. ap (λ z. contains_name z l) c.deref_mut.ensures.value ∙ c.requires l)
-            (views_with _ _ _ c.in_ok-push.ensures.items) k;
+          (views_with _ _ _ c.in_ok-push.ensures.items) k;
     }

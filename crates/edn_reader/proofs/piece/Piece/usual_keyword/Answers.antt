@@ -12,20 +12,20 @@ pub from_utf8_unchecked-name-requires : goal.from_utf8_unchecked-name-requires
 from_utf8_unchecked-name-requires c =
     let h : is_letter (get_or c.args.text.now 0 0) ≡ true = search rules in
     let l : length (take (length c.args.text.now - 1) (drop 1 c.args.text.now)) - length c.after_name-rest.result.now
-      ≤ 63 = omega arith in
+    ≤ 63 = omega arith in
     let w : EndsToken c.after_name-rest.result.now = c.ends_token.ensures c.if-not-ends_token.false in
     (usual_keyword c.args.text.now
-      (take (length c.args.text.now - 1) (drop 1 c.args.text.now)) c.after_name-rest.result.now
-      (omega arith) refl c.after_name-rest.ensures h l w).utf8
+    (take (length c.args.text.now - 1) (drop 1 c.args.text.now)) c.after_name-rest.result.now
+    (omega arith) refl c.after_name-rest.ensures h l w).utf8
 
 pub returns : goal.returns
 returns c =
     let h : is_letter (get_or c.args.text.now 0 0) ≡ true = search rules in
     let l : length (take (length c.args.text.now - 1) (drop 1 c.args.text.now)) - length c.after_name-rest.result.now
-      ≤ 63 = omega arith in
+    ≤ 63 = omega arith in
     let w : EndsToken c.after_name-rest.result.now = c.ends_token.ensures c.if-not-ends_token.false in
     let k = usual_keyword c.args.text.now
-      (take (length c.args.text.now - 1) (drop 1 c.args.text.now)) c.after_name-rest.result.now
-      (omega arith) refl c.after_name-rest.ensures h l w in
+    (take (length c.args.text.now - 1) (drop 1 c.args.text.now)) c.after_name-rest.result.now
+    (omega arith) refl c.after_name-rest.ensures h l w in
     k.read ∙ ap (λ (x : List ℕ). got (leaf (atom (keyword x))) c.after_name-rest.result.now)
-      (sym c.from_utf8_unchecked-name.ensures)
+    (sym c.from_utf8_unchecked-name.ensures)

@@ -20,20 +20,20 @@ returns-in_err-take-clause-none c =
     let p = err_from_is_err_and c.from_residual.result c.from_residual.ensures.1 in
     let here : 0 < length c.skip-here.result.now = grind arith in
     rw (p.1, p.2) (λ m. loop_none_first c.args.text.now c.skip-here.result.now
-      (open_on c.args.self.now) c.requires.utf8 c.skip-here.ensures here c.requires.fresh
-      (c.in_err-take.ensures.taken.0 m))
+    (open_on c.args.self.now) c.requires.utf8 c.skip-here.ensures here c.requires.fresh
+    (c.in_err-take.ensures.taken.0 m))
 
 pub tokens-init : goal.tokens-init
 tokens-init c = (
   loop_init (keeping_of c.args.keeping) c.args.text.now c.skip-here.result.now c.take.new.self.remains.now
-    (open_on c.args.self.now)
+      (open_on c.args.self.now)
       (open_on c.take.new.self)
-        (record { kept = kept_in c.clear.new.self; integer_vector = noted_in c.clear-2.new.self })
-        (held_on c.take.new.self)
+      (record { kept = kept_in c.clear.new.self; integer_vector = noted_in c.clear-2.new.self })
+      (held_on c.take.new.self)
       c.requires.utf8 c.skip-here.ensures c.requires.fresh
       (held_both (kept_in c.clear.new.self) (nothing_kept c.args.keeping.cuts) (noted_in c.clear-2.new.self)
       (nothing_noted (keeping_of c.args.keeping).integer_vector_key) c.clear.ensures c.clear-2.ensures)
-        c.in_ok-take.ensures.taken c.in_ok-take.ensures.kept,
+      c.in_ok-take.ensures.taken c.in_ok-take.ensures.kept,
   (let a = skip_within c.args.text.now in
       let b = after_piece_shorter c.skip-here.result.now _ _ _ c.in_ok-take.ensures.taken in
       omega (arith, a, b, ap length c.skip-here.ensures)),
@@ -42,28 +42,28 @@ tokens-init c = (
 pub returns-then-is_empty-2-clause-none : goal.returns-then-is_empty-2-clause-none
 returns-then-is_empty-2-clause-none c =
     λ _. loop_none_at_end (keeping_of c.args.keeping) c.args.text.now c.tokens.self.remains.now
-      c.skip-here-in-tokens.result.now
+    c.skip-here-in-tokens.result.now
     (open_on c.tokens.self)
-      (held_on c.tokens.self) c.skip-here-in-tokens.ensures c.if-is_empty-2.ensures c.tokens-test.ensures
-      c.tokens.invariant.0
+    (held_on c.tokens.self) c.skip-here-in-tokens.ensures c.if-is_empty-2.ensures c.tokens-test.ensures
+    c.tokens.invariant.0
 
 pub returns-in_err-take-2-clause-none : goal.returns-in_err-take-2-clause-none
 returns-in_err-take-2-clause-none c =
     let p = err_from_is_err_and c.from_residual-in_err-take-2.result c.from_residual-in_err-take-2.ensures.1 in
     let here : 0 < length c.skip-here-in-tokens.result.now = grind arith in
     rw (p.1, p.2) (λ m. none_next
-      (keeping_of c.args.keeping) c.args.text.now c.tokens.self.remains.now c.skip-here-in-tokens.result.now
+    (keeping_of c.args.keeping) c.args.text.now c.tokens.self.remains.now c.skip-here-in-tokens.result.now
     (open_on c.tokens.self) (held_on c.tokens.self) c.skip-here-in-tokens.ensures here
-      (c.in_err-take-2.ensures.taken.0 m) c.tokens.invariant.0)
+    (c.in_err-take-2.ensures.taken.0 m) c.tokens.invariant.0)
 
 pub tokens-preserved : goal.tokens-preserved
 tokens-preserved c = (
   loop_turn (keeping_of c.args.keeping) c.args.text.now c.tokens.self.remains.now c.skip-here-in-tokens.result.now
-    c.take-in-tokens.new.self.remains.now
+      c.take-in-tokens.new.self.remains.now
       (open_on c.tokens.self) (open_on c.take-in-tokens.new.self) (held_on c.tokens.self)
-        (held_on c.take-in-tokens.new.self)
+      (held_on c.take-in-tokens.new.self)
       c.skip-here-in-tokens.ensures c.tokens-test.ensures c.in_ok-take-2.ensures.taken c.in_ok-take-2.ensures.kept
-        c.tokens.invariant.0,
+      c.tokens.invariant.0,
   (let a = skip_within c.tokens.self.remains.now in
       let b = after_piece_shorter c.skip-here-in-tokens.result.now _ _ _ c.in_ok-take-2.ensures.taken in
       omega (arith, a, b, ap length c.skip-here-in-tokens.ensures, c.tokens.invariant.1)),
@@ -84,13 +84,13 @@ returns-in_err-take-clause-memory c =
     let p = err_from_is_err_and c.from_residual.result c.from_residual.ensures.1 in
     rw (p.1, p.2) (λ m. rw (c.in_err-take.ensures.place m)
     (sound_first c.args.text.now c.skip-here.result.now
-      (open_on c.args.self.now) c.requires.utf8 c.skip-here.ensures c.requires.fresh (c.in_err-take.ensures.taken.1 m)))
+    (open_on c.args.self.now) c.requires.utf8 c.skip-here.ensures c.requires.fresh (c.in_err-take.ensures.taken.1 m)))
 
 pub returns-in_err-take-2-clause-memory : goal.returns-in_err-take-2-clause-memory
 returns-in_err-take-2-clause-memory c =
     let p = err_from_is_err_and c.from_residual-in_err-take-2.result c.from_residual-in_err-take-2.ensures.1 in
     rw (p.1, p.2) (λ m. rw (c.in_err-take-2.ensures.place m)
     (sound_next (keeping_of c.args.keeping) c.args.text.now c.tokens.self.remains.now c.skip-here-in-tokens.result.now
-      (open_on c.tokens.self)
+    (open_on c.tokens.self)
     (held_on c.tokens.self) c.requires.utf8 c.skip-here-in-tokens.ensures
-      (c.in_err-take-2.ensures.taken.1 m) c.tokens.invariant.0))
+    (c.in_err-take-2.ensures.taken.1 m) c.tokens.invariant.0))

@@ -14,9 +14,9 @@ returns-in-Ok c = λ ds d says h.
     c.args.self.now.events.items r.0 a c.in-Ok.ensures.few
     (c.in-Ok.ensures.small d says) r.1 in
     let all = subst (λ (es : List Event). AreRead c.read_next.new.seen (c.args.self.now.map + 1) (ds ++ d ∷ []) es)
-      (sym r.2) more in
+    (sym r.2) more in
     subst (λ (o : Option HistoryFault). IsReadOrFaulty o c.read_next.new.seen (c.args.self.now.map + 1)
-      (ds ++ d ∷ []) c.read_next.new.events.items) (sym c.requires) all
+    (ds ++ d ∷ []) c.read_next.new.events.items) (sym c.requires) all
 
 pub returns-in-Err : goal.returns-in-Err
 returns-in-Err c = λ ds d says h.

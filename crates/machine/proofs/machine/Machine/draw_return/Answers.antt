@@ -25,25 +25,25 @@ invariant_of-self-2 g c =
     (c.next_ticket-next.ensures ∙ ap (λ (s : State). s.clock + 1) (sym c.self.view_is)) c.requires
     (subst (λ (s : State). (world_of s).stage c.args.client
     ≡ stage_of (stage_in g.S.SeqObject.op_in g.S.SeqObject.reply_in (Taken c.in-Taken._request c.in-Taken.answer)))
-      c.self.view_is
+    c.self.view_is
     (stage_found g.S.SeqObject.content g.S.SeqObject.op_in g.S.SeqObject.reply_in c.self.inside c.args.client
-      c.index.result.now
+    c.index.result.now
     (Taken c.in-Taken._request c.in-Taken.answer)
-      (going_of _ _ c.args.client c.self.view_is c.requires).0 c.index.ensures c.in-Taken.is))).0
+    (going_of _ _ c.args.client c.self.view_is c.requires).0 c.index.ensures c.in-Taken.is))).0
 
 pub returns : goal.returns
 returns g c = (
   (return_done g.S.SeqObject.content g.S.SeqObject.op_in g.S.SeqObject.reply_in c.self.inside c.self.invariant _
-    c.self.view_is
+      c.self.view_is
       c.args.client c.in-Taken._request c.in-Taken.answer _ _ c.in_ok-note.ensures.ok
       (c.next_ticket-next.ensures ∙ ap (λ (s : State). s.clock + 1) (sym c.self.view_is)) c.requires
       (subst (λ (s : State). (world_of s).stage c.args.client
       ≡ stage_of (stage_in g.S.SeqObject.op_in g.S.SeqObject.reply_in (Taken c.in-Taken._request c.in-Taken.answer)))
-        c.self.view_is
+      c.self.view_is
       (stage_found g.S.SeqObject.content g.S.SeqObject.op_in g.S.SeqObject.reply_in c.self.inside c.args.client
-        c.index.result.now
+      c.index.result.now
       (Taken c.in-Taken._request c.in-Taken.answer)
-        (going_of _ _ c.args.client c.self.view_is c.requires).0 c.index.ensures c.in-Taken.is))).1,
+      (going_of _ _ c.args.client c.self.view_is c.requires).0 c.index.ensures c.in-Taken.is))).1,
   ap (λ (s : State). s.clock) c.self.view_is,
 )
 
@@ -52,21 +52,21 @@ returns-in_err-note g c =
     no_memory g.S.SeqObject.reply_in _ _ c.args.client _ c.from_residual.result c.in_err-note.field-0.0
     c.from_residual.ensures.1 c.in_err-note.ensures.err.0
     (unticked g.S.SeqObject.content g.S.SeqObject.op_in g.S.SeqObject.reply_in c.self.inside c.self.invariant _
-      c.self.view_is c.args.client
+    c.self.view_is c.args.client
     (items_of c.note.new.journals.items) c.in_err-note.ensures.err.1) tt (
       _,
       (return_done g.S.SeqObject.content g.S.SeqObject.op_in g.S.SeqObject.reply_in c.self.inside c.self.invariant _
-        c.self.view_is c.args.client
+          c.self.view_is c.args.client
           c.in-Taken._request c.in-Taken.answer
           (set (items_of c.self.inside.journals.items) c.args.client
           (get_or (items_of c.self.inside.journals.items) c.args.client []
-            ++ (Returned c.self.inside.clock c.in-Taken.answer) ∷ []))
+          ++ (Returned c.self.inside.clock c.in-Taken.answer) ∷ []))
           (c.self.inside.clock + 1) refl refl c.requires
           (subst (λ (s : State). (world_of s).stage c.args.client
           ≡ stage_of (stage_in g.S.SeqObject.op_in g.S.SeqObject.reply_in
-            (Taken c.in-Taken._request c.in-Taken.answer))) c.self.view_is
+          (Taken c.in-Taken._request c.in-Taken.answer))) c.self.view_is
           (stage_found g.S.SeqObject.content g.S.SeqObject.op_in g.S.SeqObject.reply_in c.self.inside c.args.client
-            c.index.result.now
+          c.index.result.now
           (Taken c.in-Taken._request c.in-Taken.answer)
-            (going_of _ _ c.args.client c.self.view_is c.requires).0 c.index.ensures c.in-Taken.is))).1.moves,
+          (going_of _ _ c.args.client c.self.view_is c.requires).0 c.index.ensures c.in-Taken.is))).1.moves,
     )

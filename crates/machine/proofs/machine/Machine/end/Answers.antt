@@ -11,7 +11,7 @@ invariant_of-self g c =
 pub returns : goal.returns
 returns g c = (
   (end_done g.S.SeqObject.content g.S.SeqObject.op_in g.S.SeqObject.reply_in c.self.inside c.self.invariant _
-    c.self.view_is
+      c.self.view_is
       c.args.client c.requires (c.if-not-may_end.ensures.0 refl) (c.if-not-holds_nothing.ensures.0 refl)).1,
   tt,
 )

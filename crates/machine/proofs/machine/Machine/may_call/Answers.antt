@@ -9,10 +9,10 @@ pub returns-in-Idle : goal.returns-in-Idle
 returns-in-Idle g c =
     let is : (world_of c.args.self.now).stage c.args.client ≡ idle = c.in-Idle.ensures in
     let half : length (get_or c.args.self.now.journals c.args.client [])
-      ≡ 2 * calls_made ((world_of c.args.self.now).done c.args.client) None =
+    ≡ 2 * calls_made ((world_of c.args.self.now).done c.args.client) None =
     subst (λ (s : State). (world_of s).stage c.args.client ≡ idle
-      → length (get_or s.journals c.args.client []) ≡ 2 * calls_made ((world_of s).done c.args.client) None)
-      c.self.view_is
+    → length (get_or s.journals c.args.client []) ≡ 2 * calls_made ((world_of s).done c.args.client) None)
+    c.self.view_is
     (λ e. calls_half _ _ c.self.invariant c.args.client e) is in
     let quota = ap (λ (s : State). s.quota) c.self.view_is in
     let events = c.events_of.ensures in

@@ -14,18 +14,18 @@ invariant_of-result g c =
     let few = c.requires.objects.1 in
     subst (IsMachine contents) (sym
     (made_start g.S.SeqObject.content g.S.SeqObject.op_in g.S.SeqObject.reply_in c.args.objects.items
-      c.len-count.result c.args.clients c.args.quota
+    c.len-count.result c.args.clients c.args.quota
     _ _ _ _ _ _ c.in_ok-logs.ensures c.in_ok-holders.ensures c.in_ok-hands.ensures c.in_ok-stages.ensures
-      c.in_ok-journals.ensures c.in_ok-ended.ensures))
+    c.in_ok-journals.ensures c.in_ok-ended.ensures))
     (subst (λ (n : ℕ). IsMachine contents (start_state (map kind_with contents) n c.args.clients c.args.quota)) long
     (machine_start contents c.args.clients c.args.quota (omega arith) c.requires.clients.1 c.requires.quota
-      (empties_at g.S.SeqObject.content c.args.objects.items c.requires.objects.2)))
+    (empties_at g.S.SeqObject.content c.args.objects.items c.requires.objects.2)))
 
 pub returns-clause-start : goal.returns-clause-start
 returns-clause-start g c = ap world_of
     (made_start g.S.SeqObject.content g.S.SeqObject.op_in g.S.SeqObject.reply_in c.args.objects.items
-      c.len-count.result c.args.clients c.args.quota _
+    c.len-count.result c.args.clients c.args.quota _
     _ _ _ _ _ c.in_ok-logs.ensures c.in_ok-holders.ensures c.in_ok-hands.ensures c.in_ok-stages.ensures
-      c.in_ok-journals.ensures
+    c.in_ok-journals.ensures
     c.in_ok-ended.ensures) ∙ world-start
-      (map kind_with (map g.S.SeqObject.content c.args.objects.items)) c.len-count.result c.args.clients c.args.quota
+    (map kind_with (map g.S.SeqObject.content c.args.objects.items)) c.len-count.result c.args.clients c.args.quota

@@ -17,14 +17,14 @@ invariant_of-self g c =
     (post_taken g.S.SeqObject.content g.S.SeqObject.op_in g.S.SeqObject.reply_in c.self.inside c.self.invariant
     c.args.client
     (going_of _ _ c.args.client c.self.view_is c.requires) c.index.result.now c.index.ensures c.in-Drawn.request
-      c.in-Drawn.is).0
+    c.in-Drawn.is).0
 
 pub returns : goal.returns
 returns g c = (
   taken_of _ _ _ c.args.client post c.self.view_is
       (post_taken g.S.SeqObject.content g.S.SeqObject.op_in g.S.SeqObject.reply_in c.self.inside c.self.invariant
-        c.args.client
+      c.args.client
       (going_of _ _ c.args.client c.self.view_is c.requires) c.index.result.now c.index.ensures c.in-Drawn.request
-        c.in-Drawn.is).1,
+      c.in-Drawn.is).1,
   tt,
 )

@@ -8,7 +8,7 @@ returns-then-not-is_hand_free g c = (
   λ after h.
       let same : h.3.object ≡ c.in-Some.object = c.in-Some.ensures.only h.3.object h.3.held in
       let e : false ≡ true = c.if-not-is_hand_free.ensures.1
-        (ap (λ k. get_or c.args.self.now.hands k None) (sym same) ∙ h.3.free) in
+      (ap (λ k. get_or c.args.self.now.hands k None) (sym same) ∙ h.3.free) in
       absurd (cc),
 )
 
@@ -17,13 +17,13 @@ invariant_of-self g c =
     (release_done g.S.SeqObject.content g.S.SeqObject.op_in g.S.SeqObject.reply_in c.self.inside c.self.invariant _
     c.self.view_is
     c.args.client c.in-Some.object c.requires c.in-Some.ensures.held.0 c.in-Some.ensures.held.1
-      (c.if-not-is_hand_free.ensures.0 refl)).0
+    (c.if-not-is_hand_free.ensures.0 refl)).0
 
 pub returns : goal.returns
 returns g c = (
   (release_done g.S.SeqObject.content g.S.SeqObject.op_in g.S.SeqObject.reply_in c.self.inside c.self.invariant _
-    c.self.view_is
+      c.self.view_is
       c.args.client c.in-Some.object c.requires c.in-Some.ensures.held.0 c.in-Some.ensures.held.1
-        (c.if-not-is_hand_free.ensures.0 refl)).1,
+      (c.if-not-is_hand_free.ensures.0 refl)).1,
   tt,
 )

@@ -14,17 +14,17 @@ loop-at-preserved g c =
     let now = c.args.self.now in
     let v = c.index-steps-at.result in
     let one = subst (λ (ks : List Kind). TakesPossible ks now.quota (world_of c.loop-at.self)
-      ((v.0, step_in g.S.SeqObject.op_in v.1) ∷ []) c.in-Ok.passed (world_of c.turn.new.self)) like.kinds
+    ((v.0, step_in g.S.SeqObject.op_in v.1) ∷ []) c.in-Ok.passed (world_of c.turn.new.self)) like.kinds
     (subst (λ (q : ℕ). TakesPossible c.loop-at.self.kinds q (world_of c.loop-at.self)
-      ((v.0, step_in g.S.SeqObject.op_in v.1) ∷ []) c.in-Ok.passed
+    ((v.0, step_in g.S.SeqObject.op_in v.1) ∷ []) c.in-Ok.passed
     (world_of c.turn.new.self)) like.quota c.in-Ok.ensures.ok) in
     record {
       ran = subst (λ (ms : List (ℕ × Step)). TakesPossible now.kinds now.quota (world_of now) ms
-        (c.loop-at.refused + c.in-Ok.passed) (world_of c.turn.new.self))
+          (c.loop-at.refused + c.in-Ok.passed) (world_of c.turn.new.self))
           (taken_more (λ m. (m.0, step_in g.S.SeqObject.op_in m.1)) c.args.steps.now c.loop-at.at v
-            c.loop-at-test.true c.index-steps-at.is)
+          c.loop-at-test.true c.index-steps-at.is)
           (more now.kinds now.quota (world_of now) _ c.loop-at.refused (world_of c.loop-at.self) _ c.in-Ok.passed
-            (world_of c.turn.new.self) c.loop-at.invariant.ran one);
+          (world_of c.turn.new.self) c.loop-at.invariant.ran one);
       like = like_both _ _ _ like c.in-Ok.ensures.like;
       run = c.in-Ok.ensures.run;
       few = let a = c.loop-at.invariant.few in let b = c.in-Ok.ensures.few in omega arith;

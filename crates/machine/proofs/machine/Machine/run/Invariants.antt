@@ -8,7 +8,7 @@ use Rattle.machine.proofs.machine.Machine.run.Given as goal
 abbrev pub invariant-loop-at : goal.invariant-loop-at
 invariant-loop-at g l = record {
   ran : TakesPossible l.initial.self.kinds l.initial.self.quota (world_of l.initial.self)
-    (steps_in g.S.SeqObject.op_in (take l.at l.steps)) l.refused (world_of l.self);
+      (steps_in g.S.SeqObject.op_in (take l.at l.steps)) l.refused (world_of l.self);
   like : IsLike l.initial.self l.self;
   few : l.refused ≤ l.at;
   run : HasRun l.self;

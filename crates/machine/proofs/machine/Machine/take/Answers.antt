@@ -10,7 +10,7 @@ returns-in_default g c = (
   not_of _ _ c.args.client take c.self.view_is
       (take_not g.S.SeqObject.content g.S.SeqObject.op_in g.S.SeqObject.reply_in c.self.inside c.args.client
       (going_of _ _ c.args.client c.self.view_is c.requires) c.index.result.now c.index.ensures
-        c.in_default.not-Answered),
+      c.in_default.not-Answered),
 )
 
 pub invariant_of-self : goal.invariant_of-self
@@ -18,14 +18,14 @@ invariant_of-self g c =
     (take_taken g.S.SeqObject.content g.S.SeqObject.op_in g.S.SeqObject.reply_in c.self.inside c.self.invariant
     c.args.client
     (going_of _ _ c.args.client c.self.view_is c.requires) c.index.result.now c.index.ensures c.in-Answered.request
-      c.in-Answered.answer c.in-Answered.is).0
+    c.in-Answered.answer c.in-Answered.is).0
 
 pub returns : goal.returns
 returns g c = (
   taken_of _ _ _ c.args.client take c.self.view_is
       (take_taken g.S.SeqObject.content g.S.SeqObject.op_in g.S.SeqObject.reply_in c.self.inside c.self.invariant
-        c.args.client
+      c.args.client
       (going_of _ _ c.args.client c.self.view_is c.requires) c.index.result.now c.index.ensures c.in-Answered.request
-        c.in-Answered.answer c.in-Answered.is).1,
+      c.in-Answered.answer c.in-Answered.is).1,
   tt,
 )

@@ -18,7 +18,7 @@ store-requires g c =
     let h = c.self.invariant.0 in let low = h.row_low in let wide = c.desk.invariant.0.0 in
     let e = c.serve-answer.ensures in
     let r = answer_ready g.S.SeqObject.content g.S.SeqObject.op_in g.S.SeqObject.reply_in _ _ _ _ _ _
-      c.self.inside.core c.serve-answer.new.core _
+    c.self.inside.core c.serve-answer.new.core _
     c.self.inside.request c.serve-answer.result _ _ h c.exchange.ensures.3 e.log e.content in (
       search rules,
       omega arith,
@@ -28,13 +28,13 @@ store-requires g c =
 pub invariant_of-result : goal.invariant_of-result
 invariant_of-result g c = let h = c.self.invariant.0 in let e = c.serve-answer.ensures in
     let r = answer_ready g.S.SeqObject.content g.S.SeqObject.op_in g.S.SeqObject.reply_in _ _ _ _ _ _
-      c.self.inside.core c.serve-answer.new.core _
+    c.self.inside.core c.serve-answer.new.core _
     c.self.inside.request c.serve-answer.result _ _ h c.exchange.ensures.3 e.log e.content in
     let t = c.store.ensures.2 _ _ _ _ _ _ _ r.1 r.2 in (
       answered_ok g.S.SeqObject.content g.S.SeqObject.op_in g.S.SeqObject.reply_in _ _ _ _ _ _ _ c.self.inside.core
-        c.serve-answer.new.core c.self.inside.request c.serve-answer.result _ _ _ h
+          c.serve-answer.new.core c.self.inside.request c.serve-answer.result _ _ _ h
           (core_grows g.S.SeqObject.content g.S.SeqObject.op_in g.S.SeqObject.reply_in _ _ _ c.self.inside.core
-            c.serve-answer.new.core
+          c.serve-answer.new.core
           c.self.inside.request c.serve-answer.result e.state.1 h.fits e.log e.content) e.log c.exchange.ensures.3 t,
       own_still _ _ _ _ (ap (λ m. m.0.lists) t ∙ ap (λ m. m.0.lists) c.exchange.ensures.3) c.self.invariant.1,
     )
@@ -42,21 +42,21 @@ invariant_of-result g c = let h = c.self.invariant.0 in let e = c.serve-answer.e
 pub returns-clause-answered : goal.returns-clause-answered
 returns-clause-answered g c = let h = c.self.invariant.0 in let e = c.serve-answer.ensures in
     let r = answer_ready g.S.SeqObject.content g.S.SeqObject.op_in g.S.SeqObject.reply_in _ _ _ _ _ _
-      c.self.inside.core c.serve-answer.new.core _
+    c.self.inside.core c.serve-answer.new.core _
     c.self.inside.request c.serve-answer.result _ _ h c.exchange.ensures.3 e.log e.content in
     let fits = core_grows g.S.SeqObject.content g.S.SeqObject.op_in g.S.SeqObject.reply_in _ _ _ c.self.inside.core
-      c.serve-answer.new.core
+    c.serve-answer.new.core
     c.self.inside.request c.serve-answer.result e.state.1 h.fits e.log e.content in
     answered c.args.self _ _ _ _ _ _ _ _ _ _ (sym c.self.view_is) c.exchange.ensures.3
-      (c.store.ensures.2 _ _ _ _ _ _ _ r.1 r.2) e.log (_, fits.1)
+    (c.store.ensures.2 _ _ _ _ _ _ _ r.1 r.2) e.log (_, fits.1)
 
 pub returns-clause-desk : goal.returns-clause-desk
 returns-clause-desk g c = let h = c.self.invariant.0 in let e = c.serve-answer.ensures in
     let r = answer_ready g.S.SeqObject.content g.S.SeqObject.op_in g.S.SeqObject.reply_in _ _ _ _ _ _
-      c.self.inside.core c.serve-answer.new.core _
+    c.self.inside.core c.serve-answer.new.core _
     c.self.inside.request c.serve-answer.result _ _ h c.exchange.ensures.3 e.log e.content in
     let kinds : c.store.new.seat.me.0.kinds ≡ c.self.inside.seat.me.0.kinds =
-      ap (λ m. m.0.kinds) (c.store.ensures.2 _ _ _ _ _ _ _ r.1 r.2) ∙ ap (λ m. m.0.kinds) c.exchange.ensures.3 in
+    ap (λ m. m.0.kinds) (c.store.ensures.2 _ _ _ _ _ _ _ r.1 r.2) ∙ ap (λ m. m.0.kinds) c.exchange.ensures.3 in
     (λ i. record {
       table = (c.store.ensures.0 ∙ c.exchange.ensures.0) i;
       quota = c.self.inside.member.quota;
@@ -68,7 +68,7 @@ returns-clause-desk g c = let h = c.self.invariant.0 in let e = c.serve-answer.e
 pub returns-clause-room : goal.returns-clause-room
 returns-clause-room g c = let e = c.serve-answer.ensures in
     subst (λ (h : Handling). 0 < h.state.room
-      → (vec_capacity c.serve-answer.new.core.log - vec_len c.serve-answer.new.core.log)
+    → (vec_capacity c.serve-answer.new.core.log - vec_len c.serve-answer.new.core.log)
     + length (logged h.row h.request (answer_in g.S.SeqObject.reply_in c.serve-answer.result)) ≡ h.state.room)
-      c.self.view_is
+    c.self.view_is
     (room_taken g.S.SeqObject.op_in g.S.SeqObject.reply_in c.self.inside.core c.serve-answer.new.core _ e.log e.room)

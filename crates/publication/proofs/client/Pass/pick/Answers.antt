@@ -23,14 +23,16 @@ look_and_exchange-found-requires-clause-found g c = λ m told. (told _ c.args.ro
 pub look_and_exchange-found-requires-clause-missed : goal.look_and_exchange-found-requires-clause-missed
 look_and_exchange-found-requires-clause-missed g c = let held = c.self.invariant.0.holds in
     λ n m miss told x r l pass at.
-      ((λ hit. absurd (miss (hit ∙ ap (λ z. 1 + z) (ap held_object (sym pass ∙ held))))), (told x r l pass at).1)
+    ((λ hit. absurd (miss (hit ∙ ap (λ z. 1 + z) (ap held_object (sym pass ∙ held))))), (told x r l pass at).1)
 
 pub invariant_of-result : goal.invariant_of-result
 invariant_of-result g c =
     let t = ((c.look_and_exchange-found.ensures.tried _ c.args.row _ c.self.invariant.0.holds refl).1
-      (search rules)).0 in
-    (noted_ok g.S.SeqObject.content g.S.SeqObject.op_in g.S.SeqObject.reply_in _ _ _ _ _ _ _ _ _ _ c.self.invariant.0
-      t, own_still _ _ _ _ (ap (λ m. m.0.lists) t) c.self.invariant.1)
+    (search rules)).0 in (
+      noted_ok g.S.SeqObject.content g.S.SeqObject.op_in g.S.SeqObject.reply_in _ _ _ _ _ _ _ _ _ _ c.self.invariant.0
+          t,
+      own_still _ _ _ _ (ap (λ m. m.0.lists) t) c.self.invariant.1,
+    )
 
 pub returns-then-found-posted-clause-missed : goal.returns-then-found-posted-clause-missed
 returns-then-found-posted-clause-missed g c =
@@ -45,12 +47,13 @@ exchange-requires g c =
 pub invariant_of-result-in-Request : goal.invariant_of-result-in-Request
 invariant_of-result-in-Request g c =
     let t = (c.look_and_exchange-found.ensures.tried _ c.args.row _ c.self.invariant.0.holds refl).0 (search rules) in (
-  hand_ok g.S.SeqObject.content g.S.SeqObject.op_in g.S.SeqObject.reply_in _ _ _ _ _ _ _ _ t.0 _ _ _ _
-    c.self.invariant.0 t.3 c.exchange.ensures.3
-      (same_request _ _ (sym (came_out _ _ _ _ _ (ap (λ m. m.1) t.3) c.exchange.ensures.2) ∙ c.in-Request.is)) t.1 t.2
-        c.requires.row,
-  own_still _ _ _ _ (ap (λ m. m.0.lists) c.exchange.ensures.3 ∙ ap (λ m. m.0.lists) t.3) c.self.invariant.1,
-)
+      hand_ok g.S.SeqObject.content g.S.SeqObject.op_in g.S.SeqObject.reply_in _ _ _ _ _ _ _ _ t.0 _ _ _ _
+          c.self.invariant.0 t.3 c.exchange.ensures.3
+          (same_request _ _ (sym (came_out _ _ _ _ _ (ap (λ m. m.1) t.3) c.exchange.ensures.2)
+          ∙ c.in-Request.is)) t.1 t.2
+          c.requires.row,
+      own_still _ _ _ _ (ap (λ m. m.0.lists) c.exchange.ensures.3 ∙ ap (λ m. m.0.lists) t.3) c.self.invariant.1,
+    )
 
 pub unreachable-requires : goal.unreachable-requires
 unreachable-requires g c =
@@ -61,15 +64,15 @@ pub returns-clause-got : goal.returns-clause-got
 returns-clause-got g c =
     let t = (c.look_and_exchange-found.ensures.tried _ c.args.row _ c.self.invariant.0.holds refl).0 (search rules) in
     got g.S.SeqObject.op_in c.args.self _ _ c.args.row t.0 c.in-Request.request _ _ _ _
-      (sym c.self.view_is) t.3 c.exchange.ensures.3
+    (sym c.self.view_is) t.3 c.exchange.ensures.3
     (same_request _ _ (sym (came_out _ _ _ _ _ (ap (λ m. m.1) t.3) c.exchange.ensures.2) ∙ c.in-Request.is)) t.1
-      t.2 t.4 t.5
+    t.2 t.4 t.5
 
 pub returns-then-found-posted-clause-desk : goal.returns-then-found-posted-clause-desk
 returns-then-found-posted-clause-desk g c =
     let t = (c.look_and_exchange-found.ensures.tried _ c.args.row _ c.self.invariant.0.holds refl).1 (search rules) in
     let kinds : c.look_and_exchange-found.new.seat.me.0.kinds ≡ c.self.inside.seat.me.0.kinds =
-      ap (λ m. m.0.kinds) t.0 in
+    ap (λ m. m.0.kinds) t.0 in
     (λ i. record {
       table = (c.look_and_exchange-found.ensures.table.0) i;
       quota = c.self.inside.member.quota;
@@ -82,7 +85,7 @@ pub returns-clause-desk : goal.returns-clause-desk
 returns-clause-desk g c =
     let t = (c.look_and_exchange-found.ensures.tried _ c.args.row _ c.self.invariant.0.holds refl).0 (search rules) in
     let kinds : c.exchange.new.seat.me.0.kinds ≡ c.self.inside.seat.me.0.kinds =
-      ap (λ m. m.0.kinds) c.exchange.ensures.3 ∙ ap (λ m. m.0.kinds) t.3 in
+    ap (λ m. m.0.kinds) c.exchange.ensures.3 ∙ ap (λ m. m.0.kinds) t.3 in
     (λ i. record {
       table = (c.exchange.ensures.0 ∙ c.look_and_exchange-found.ensures.table.0) i;
       quota = c.self.inside.member.quota;

@@ -12,14 +12,14 @@ enlist-requires g c =
 pub invariant_of-client : goal.invariant_of-client
 invariant_of-client g c = let k = c.client.invariant in
     subst (λ z. IsClient g.S.SeqObject.op_in g.S.SeqObject.reply_in c.client.inside.number z.calls z.quota
-      z.outstanding z.journal c.client.inside.seat.me
+    z.outstanding z.journal c.client.inside.seat.me
     × ArePlacesOf c.client.inside.number c.client.inside.seat.me.0.lists z.places) (sym c.enlist.ensures)
-      (k.0, still_own _ c.args.object c.enlist.result _ _ k.1)
+    (k.0, still_own _ c.args.object c.enlist.result _ _ k.1)
 
 pub returns-clause-tried : goal.returns-clause-tried
 returns-clause-tried g c = let m = c.client.inside in let e = c.enlist.ensures in
     let lists = ap (λ z. map (λ (p : PlaceSeen). p.roster) z.places) e
-      ∙ same_rosters c.args.object c.enlist.result m.member.places in
+    ∙ same_rosters c.args.object c.enlist.result m.member.places in
     (λ i. record {
       desk = record { table = m.seat.table_id; quota = (e i).quota; kinds = m.seat.me.0.kinds; lists = lists i };
       knows = m.seat.me.0;

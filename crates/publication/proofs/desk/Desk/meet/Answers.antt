@@ -14,18 +14,24 @@ split_seat-message-requires g c =
 
 pub join_seat-requires : goal.join_seat-requires
 join_seat-requires g c =
-    let wide = c.self.invariant.0.0 in
-    (search rules, search rules, ap (λ z. z.1) c.split_seat-message.ensures.4, omega arith,
-    message_keeps_rule _ _ _ _ _ _ _ _ _ _)
+    let wide = c.self.invariant.0.0 in (
+      search rules,
+      search rules,
+      ap (λ z. z.1) c.split_seat-message.ensures.4,
+      omega arith,
+      message_keeps_rule _ _ _ _ _ _ _ _ _ _,
+    )
 
 pub load-requires : goal.load-requires
 load-requires g c =
     let d = c.self.invariant.0 in let wide = d.0 in let few = d.5 in
     let low : c.args.object < length c.self.inside.kinds.items = search rules in
-    let e = c.join_seat.ensures.2 in let k = c.one.invariant.0.agrees in
-    (search rules, omega arith,
+    let e = c.join_seat.ensures.2 in let k = c.one.invariant.0.agrees in (
+      search rules,
+      omega arith,
       learn_keeps_rule _ _ _ _ _ _ _ _ _ _ (ap (λ z. z.0.role) e ∙ k.client_is) (omega arith)
-      (subst (λ (v : DeskView). IsAtRest v.own) (sym (ap (λ z. z.0) e)) k.at_rest))
+          (subst (λ (v : DeskView). IsAtRest v.own) (sym (ap (λ z. z.0) e)) k.at_rest),
+    )
 
 pub split_seat-message-requires-2 : goal.split_seat-message-requires-2
 split_seat-message-requires-2 g c =
@@ -33,9 +39,13 @@ split_seat-message-requires-2 g c =
 
 pub join_seat-requires-2 : goal.join_seat-requires-2
 join_seat-requires-2 g c =
-    let wide = c.self.invariant.0.0 in
-    (search rules, search rules, ap (λ z. z.1) c.split_seat-message-2.ensures.4, omega arith,
-    message_keeps_rule _ _ _ _ _ _ _ _ _ _)
+    let wide = c.self.invariant.0.0 in (
+      search rules,
+      search rules,
+      ap (λ z. z.1) c.split_seat-message-2.ensures.4,
+      omega arith,
+      message_keeps_rule _ _ _ _ _ _ _ _ _ _,
+    )
 
 pub load-requires-2 : goal.load-requires-2
 load-requires-2 g c =
@@ -44,18 +54,18 @@ load-requires-2 g c =
     search rules in let low' : c.args.object < 16 = omega arith in
     let t = c.load.ensures.2 in let k = c.other.invariant.0.agrees in
     let received = ap (λ z. z.0) c.join_seat.ensures.2
-      ∙ ap (λ z. after_message c.one.inside.seat.me.0 z.0) c.split_seat-message.ensures.4 in
+    ∙ ap (λ z. after_message c.one.inside.seat.me.0 z.0) c.split_seat-message.ensures.4 in
     let back = ap (λ z. z.0) c.join_seat-2.ensures.2
-      ∙ ((λ i. after_message (c.split_seat-message.ensures.2 i).0 (c.split_seat-message-2.ensures.4 i).0)) in
+    ∙ ((λ i. after_message (c.split_seat-message.ensures.2 i).0 (c.split_seat-message-2.ensures.4 i).0)) in
     let is = told_back c.args.object c.one.inside.seat.me.0 c.other.inside.seat.me.0 c.join_seat.new.seat.me.0
-      c.load.new.seat.me.0
+    c.load.new.seat.me.0
     c.join_seat-2.new.seat.me.0 t.0 low' received (ap (λ z. z.0) t.1) t.5 back in (
       search rules,
       omega arith,
       adopt_keeps_rule _ _ _ _ _ _ _ _ _ _ (ap (λ z. z.role) back ∙ k.client_is) low'
           (subst (λ l. StartsWith l (seen_of c.join_seat-2.new.seat.me.0 c.args.object)) (sym is)
           (begins_there c.args.object c.one.inside.seat.me.0 c.other.inside.seat.me.0 c.join_seat.new.seat.me.0
-            c.join_seat-2.new.seat.me.0 t.0 received (ap (λ z. z.seen) back) t.4))
+          c.join_seat-2.new.seat.me.0 t.0 received (ap (λ z. z.seen) back) t.4))
           (subst (λ (v : DeskView). IsAtRest v.own) (sym back) k.at_rest),
     )
 
@@ -66,9 +76,9 @@ invariant_of-result g c =
     let low' : c.args.object < 16 = omega arith in
     let x : ℕ = c.args.object in let t = c.load.ensures.2 in
     let first = c.split_seat-message-2.ensures.2
-      ∙ (t.1 ∙ ap (λ z. (after_meet x t.0 z.0, z.1)) c.join_seat.ensures.2) in (
+    ∙ (t.1 ∙ ap (λ z. (after_meet x t.0 z.0, z.1)) c.join_seat.ensures.2) in (
       met_ok g.S.SeqObject.op_in g.S.SeqObject.reply_in _ _ _ _ _ x t.0 c.split_seat-message.result.me.0.seen
-        c.one.inside.seat.me _ c.one.invariant.0 low'
+          c.one.inside.seat.me _ c.one.invariant.0 low'
           (subst (λ (v : DeskView). IsLegal (kind_at v.kinds x) t.0) (ap (λ z. z.0) c.join_seat.ensures.2) t.2)
           (subst (λ (v : DeskView). IsAccount x v t.0) (ap (λ z. z.0) c.join_seat.ensures.2) t.6) first,
       own_still _ _ _ _ (ap (λ m. m.0.lists) first) c.one.invariant.1,
@@ -81,22 +91,22 @@ invariant_of-result-2 g c =
     let low' : c.args.object < 16 = omega arith in
     let x : ℕ = c.args.object in let t = c.load.ensures.2 in
     let received = ap (λ z. z.0) c.join_seat.ensures.2
-      ∙ ap (λ z. after_message c.one.inside.seat.me.0 z.0) c.split_seat-message.ensures.4 in
+    ∙ ap (λ z. after_message c.one.inside.seat.me.0 z.0) c.split_seat-message.ensures.4 in
     let back = ap (λ z. z.0) c.join_seat-2.ensures.2
-      ∙ ((λ i. after_message (c.split_seat-message.ensures.2 i).0 (c.split_seat-message-2.ensures.4 i).0)) in
+    ∙ ((λ i. after_message (c.split_seat-message.ensures.2 i).0 (c.split_seat-message-2.ensures.4 i).0)) in
     let is = told_back x c.one.inside.seat.me.0 c.other.inside.seat.me.0 c.join_seat.new.seat.me.0 c.load.new.seat.me.0
     c.join_seat-2.new.seat.me.0 t.0 low' received (ap (λ z. z.0) t.1) t.5 back in
     let whole = c.join_seat-2.ensures.2
-      ∙ ap (λ z. (after_message z.0 c.split_seat-message-2.result.me.0, z.1)) c.split_seat-message.ensures.2 in
+    ∙ ap (λ z. (after_message z.0 c.split_seat-message-2.result.me.0, z.1)) c.split_seat-message.ensures.2 in
     let u = c.load-2.ensures.2 in let second = u.0 ∙ (λ i. (after_meet x (is i) (whole i).0, (whole i).1)) in (
       met_ok g.S.SeqObject.op_in g.S.SeqObject.reply_in _ _ _ _ _ x t.0 c.split_seat-message-2.result.me.0.seen
-        c.other.inside.seat.me _ c.other.invariant.0 low'
+          c.other.inside.seat.me _ c.other.invariant.0 low'
           (subst (λ l. IsLegal (kind_at c.other.inside.seat.me.0.kinds x) l)
           is (subst (λ (v : DeskView). IsLegal (kind_at v.kinds x) (received_of c.join_seat-2.new.seat.me.0 x))
-            (ap (λ z. z.0) whole) u.1))
+          (ap (λ z. z.0) whole) u.1))
           (subst (λ l. IsAccount x (after_message c.other.inside.seat.me.0 c.split_seat-message-2.result.me.0) l)
           is (subst (λ (v : DeskView). IsAccount x v (received_of c.join_seat-2.new.seat.me.0 x))
-            (ap (λ z. z.0) whole) u.2)) second,
+          (ap (λ z. z.0) whole) u.2)) second,
       own_still _ _ _ _ (ap (λ m. m.0.lists) second) c.other.invariant.1,
     )
 
@@ -108,22 +118,22 @@ returns-clause-met g c =
     let low' : c.args.object < 16 = omega arith in
     let x : ℕ = c.args.object in let t = c.load.ensures.2 in
     let first = c.split_seat-message-2.ensures.2
-      ∙ (t.1 ∙ ap (λ z. (after_meet x t.0 z.0, z.1)) c.join_seat.ensures.2) in
+    ∙ (t.1 ∙ ap (λ z. (after_meet x t.0 z.0, z.1)) c.join_seat.ensures.2) in
     let received = ap (λ z. z.0) c.join_seat.ensures.2
-      ∙ ap (λ z. after_message c.one.inside.seat.me.0 z.0) c.split_seat-message.ensures.4 in
+    ∙ ap (λ z. after_message c.one.inside.seat.me.0 z.0) c.split_seat-message.ensures.4 in
     let back = ap (λ z. z.0) c.join_seat-2.ensures.2
-      ∙ ((λ i. after_message (c.split_seat-message.ensures.2 i).0 (c.split_seat-message-2.ensures.4 i).0)) in
+    ∙ ((λ i. after_message (c.split_seat-message.ensures.2 i).0 (c.split_seat-message-2.ensures.4 i).0)) in
     let is = told_back x c.one.inside.seat.me.0 c.other.inside.seat.me.0 c.join_seat.new.seat.me.0 c.load.new.seat.me.0
     c.join_seat-2.new.seat.me.0 t.0 low' received (ap (λ z. z.0) t.1) t.5 back in
     let whole = c.join_seat-2.ensures.2
-      ∙ ap (λ z. (after_message z.0 c.split_seat-message-2.result.me.0, z.1)) c.split_seat-message.ensures.2 in
+    ∙ ap (λ z. (after_message z.0 c.split_seat-message-2.result.me.0, z.1)) c.split_seat-message.ensures.2 in
     let u = c.load-2.ensures.2 in let second = u.0 ∙ (λ i. (after_meet x (is i) (whole i).0, (whole i).1)) in
     let there = begins_there x c.one.inside.seat.me.0 c.other.inside.seat.me.0 c.join_seat.new.seat.me.0
-      c.join_seat-2.new.seat.me.0 t.0 received (ap (λ z. z.seen) back) t.4 in
+    c.join_seat-2.new.seat.me.0 t.0 received (ap (λ z. z.seen) back) t.4 in
     met x c.args.one c.args.other _ _ _ _ c.one.inside.seat.me.0 c.other.inside.seat.me.0 _ _ t.0
-      c.split_seat-message.result.me.0.seen c.split_seat-message-2.result.me.0.seen
+    c.split_seat-message.result.me.0.seen c.split_seat-message-2.result.me.0.seen
     (sym (ap (λ k. k.desk.kinds) c.one.view_is)) (sym (ap (λ k. k.knows) c.one.view_is))
-      (sym (ap (λ k. k.knows) c.other.view_is))
+    (sym (ap (λ k. k.knows) c.other.view_is))
     (ap (λ z. z.0) first) (ap (λ z. z.0) second) (omega arith) (omega arith)
     (subst (λ (v : DeskView). IsLegal (kind_at v.kinds x) t.0) (ap (λ z. z.0) c.join_seat.ensures.2) t.2)
     (subst (λ (v : DeskView). StartsWith t.0 (seen_of v x)) (ap (λ z. z.0) c.join_seat.ensures.2) t.3)

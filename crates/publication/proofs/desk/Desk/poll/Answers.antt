@@ -22,14 +22,14 @@ pub look_and_exchange-found-requires-clause-exchange : goal.look_and_exchange-fo
 look_and_exchange-found-requires-clause-exchange g c =
     let k = c.client.invariant.0 in let low = k.agrees.number_low in let o =
     own_waiting _ k.agrees.at_rest
-      (sym k.agrees.outstanding_is ∙ (sym c.is_outstanding.ensures ∙ c.if-not-is_outstanding.false)) in
+    (sym k.agrees.outstanding_is ∙ (sym c.is_outstanding.ensures ∙ c.if-not-is_outstanding.false)) in
     take_keeps_rule _ _ _ _ _ _ _ _ _ _ o.0 k.agrees.client_is k.agrees.number_is o.1 k.free o.2 low
 
 pub look_and_exchange-found-requires-clause-found : goal.look_and_exchange-found-requires-clause-found
 look_and_exchange-found-requires-clause-found g c =
     let k = c.client.invariant.0 in
     let o = own_waiting _ k.agrees.at_rest
-      (sym k.agrees.outstanding_is ∙ (sym c.is_outstanding.ensures ∙ c.if-not-is_outstanding.false)) in
+    (sym k.agrees.outstanding_is ∙ (sym c.is_outstanding.ensures ∙ c.if-not-is_outstanding.false)) in
     λ m told. (told c.client.inside.number o.0 k.agrees.number_is refl o.1).0 refl
 
 pub look_and_exchange-found-requires-clause-missed : goal.look_and_exchange-found-requires-clause-missed
@@ -40,42 +40,46 @@ pub invariant_of-client : goal.invariant_of-client
 invariant_of-client g c =
     let k = c.client.invariant.0 in
     let o = own_waiting _ k.agrees.at_rest
-      (sym k.agrees.outstanding_is ∙ (sym c.is_outstanding.ensures ∙ c.if-not-is_outstanding.false)) in
+    (sym k.agrees.outstanding_is ∙ (sym c.is_outstanding.ensures ∙ c.if-not-is_outstanding.false)) in
     let t = ((c.look_and_exchange-found.ensures.tried c.client.inside.number o.0 k.agrees.number_is refl o.1).1
-      (search rules)).0 in
-    (missed_ok g.S.SeqObject.content _ _ _ _ _ _ _ _ _ _ k t,
-      own_still _ _ _ _ (ap (λ m. m.0.lists) t) c.client.invariant.1)
+    (search rules)).0 in (
+      missed_ok g.S.SeqObject.content _ _ _ _ _ _ _ _ _ _ k t,
+      own_still _ _ _ _ (ap (λ m. m.0.lists) t) c.client.invariant.1,
+    )
 
 pub returns-then-found-ne-ANSWERED-clause-missed : goal.returns-then-found-ne-ANSWERED-clause-missed
 returns-then-found-ne-ANSWERED-clause-missed g c =
     let k = c.client.invariant.0 in
     let o = own_waiting _ k.agrees.at_rest
-      (sym k.agrees.outstanding_is ∙ (sym c.is_outstanding.ensures ∙ c.if-not-is_outstanding.false)) in
+    (sym k.agrees.outstanding_is ∙ (sym c.is_outstanding.ensures ∙ c.if-not-is_outstanding.false)) in
     let t = (c.look_and_exchange-found.ensures.tried c.client.inside.number o.0 k.agrees.number_is refl o.1).1
-      (search rules) in
+    (search rules) in
     subst (λ (v : DeskView). NotPolled v c.look_and_exchange-found.new.seat.me.0) (ap (λ v. v.knows) c.client.view_is)
-    (inr (ap (λ z. z.0) t.0
-      ∙ ap (λ (n : ℕ). after_miss (row_place n) c.client.inside.seat.me.0) (sym k.agrees.number_is), t.1))
+    (inr (
+      ap (λ z. z.0) t.0
+          ∙ ap (λ (n : ℕ). after_miss (row_place n) c.client.inside.seat.me.0) (sym k.agrees.number_is),
+      t.1,
+    ))
 
 pub exchange-requires : goal.exchange-requires
 exchange-requires g c =
     let k = c.client.invariant.0 in
     let o = own_waiting _ k.agrees.at_rest
-      (sym k.agrees.outstanding_is ∙ (sym c.is_outstanding.ensures ∙ c.if-not-is_outstanding.false)) in
+    (sym k.agrees.outstanding_is ∙ (sym c.is_outstanding.ensures ∙ c.if-not-is_outstanding.false)) in
     let t = (c.look_and_exchange-found.ensures.tried c.client.inside.number o.0 k.agrees.number_is refl o.1).0
-      (search rules) in (search rules, can_exchange _ _ _ _ (ap (λ z. z.1) t.2))
+    (search rules) in (search rules, can_exchange _ _ _ _ (ap (λ z. z.1) t.2))
 
 pub fetch_add-ticket-requires : goal.fetch_add-ticket-requires
 fetch_add-ticket-requires g c =
     let k = outstanding_is (sym c.is_outstanding.ensures ∙ c.if-not-is_outstanding.false) c.client.invariant.0 in
     let o = own_waiting _ k.agrees.at_rest (sym k.agrees.outstanding_is) in let t =
     (c.look_and_exchange-found.ensures.tried c.client.inside.number o.0 k.agrees.number_is refl o.1).0
-      c.if-found-ne-ANSWERED.false in
+    c.if-found-ne-ANSWERED.false in
     let wide = c.self.invariant.0.0 in let took = ap (λ z. z.0) c.exchange.ensures.3 ∙ ap (λ z. z.0) t.2 in (
       search rules,
       omega arith,
       return_keeps_rule _ _ _ _ _ _ _ _ _ _ _ (ap (λ z. z.role) took ∙ k.agrees.client_is) (ap (λ z. z.own) took)
-        (ap (λ z. z.held) took ∙ k.free) (ap (λ z. z.ended) took ∙ k.agrees.going),
+          (ap (λ z. z.held) took ∙ k.free) (ap (λ z. z.ended) took ∙ k.agrees.going),
     )
 
 pub note_returned-requires : goal.note_returned-requires
@@ -83,44 +87,46 @@ note_returned-requires g c =
     let k = outstanding_is (sym c.is_outstanding.ensures ∙ c.if-not-is_outstanding.false) c.client.invariant.0 in
     let o = own_waiting _ k.agrees.at_rest (sym k.agrees.outstanding_is) in let t =
     (c.look_and_exchange-found.ensures.tried c.client.inside.number o.0 k.agrees.number_is refl o.1).0
-      c.if-found-ne-ANSWERED.false in
-    record { room = room_to_return g.S.SeqObject.op_in g.S.SeqObject.reply_in _ _ _ c.client.inside.member.journal _
-        o.0 k.agrees o.1 }
+    c.if-found-ne-ANSWERED.false in
+    record {
+      room = room_to_return g.S.SeqObject.op_in g.S.SeqObject.reply_in _ _ _ c.client.inside.member.journal _
+          o.0 k.agrees o.1;
+    }
 
 pub invariant_of-client-in-Answer : goal.invariant_of-client-in-Answer
 invariant_of-client-in-Answer g c =
     let k = outstanding_is (sym c.is_outstanding.ensures ∙ c.if-not-is_outstanding.false) c.client.invariant.0 in
     let o = own_waiting _ k.agrees.at_rest (sym k.agrees.outstanding_is) in let t =
     (c.look_and_exchange-found.ensures.tried c.client.inside.number o.0 k.agrees.number_is refl o.1).0
-      c.if-found-ne-ANSWERED.false in
+    c.if-found-ne-ANSWERED.false in
     let f = (c.fetch_add-ticket.ensures.2 _ _ (ap (λ z. z.0.own) c.exchange.ensures.3 ∙ ap (λ z. z.0.own) t.2)).0 in
     let p = c.note_returned.ensures in
     let same = same_answer _ _ (sym (came_out _ _ _ _ _ (ap (λ m. m.1) t.2) c.exchange.ensures.2) ∙ c.in-Answer.is) in
     let turn = poll_turn g.S.SeqObject.op_in g.S.SeqObject.reply_in _ _ _ _ _ o.0 t.0 t.1 _ _ _ _ k o.1 t.2
-      c.exchange.ensures.3 f in
+    c.exchange.ensures.3 f in
     let ok = poll_ok g.S.SeqObject.op_in g.S.SeqObject.reply_in _ _ _ _ c.client.inside.member.journal _ o.0 t.0
-      t.1 _ _ k o.1 o.2 t.3 t.5 turn
+    t.1 _ _ k o.1 o.2 t.3 t.5 turn
     (p.events ∙ ap (λ a. c.client.inside.member.journal.events.items ++ Returned c.fetch_add-ticket.result a ∷ [])
-      (sym same)) p.capacity in
+    (sym same)) p.capacity in
     subst (λ z. IsClient g.S.SeqObject.op_in g.S.SeqObject.reply_in c.client.inside.number z.calls z.quota
-      z.outstanding z.journal c.fetch_add-ticket.new.seat.me
+    z.outstanding z.journal c.fetch_add-ticket.new.seat.me
     × ArePlacesOf c.client.inside.number c.fetch_add-ticket.new.seat.me.0.lists z.places) (sym p.same)
-      (ok, own_still _ _ _ _ (ap (λ m. m.0.lists) turn) c.client.invariant.1)
+    (ok, own_still _ _ _ _ (ap (λ m. m.0.lists) turn) c.client.invariant.1)
 
 pub returns-clause-polled : goal.returns-clause-polled
 returns-clause-polled g c =
     let k = outstanding_is (sym c.is_outstanding.ensures ∙ c.if-not-is_outstanding.false) c.client.invariant.0 in
     let o = own_waiting _ k.agrees.at_rest (sym k.agrees.outstanding_is) in let t =
     (c.look_and_exchange-found.ensures.tried c.client.inside.number o.0 k.agrees.number_is refl o.1).0
-      c.if-found-ne-ANSWERED.false in
+    c.if-found-ne-ANSWERED.false in
     let f = c.fetch_add-ticket.ensures.2 _ _ (ap (λ z. z.0.own) c.exchange.ensures.3 ∙ ap (λ z. z.0.own) t.2) in
     let same = same_answer _ _ (sym (came_out _ _ _ _ _ (ap (λ m. m.1) t.2) c.exchange.ensures.2) ∙ c.in-Answer.is) in
     let turn = poll_turn g.S.SeqObject.op_in g.S.SeqObject.reply_in _ _ _ _ _ o.0 t.0 t.1 _ _ _ _ k o.1 t.2
-      c.exchange.ensures.3 f.0 in
+    c.exchange.ensures.3 f.0 in
     subst (λ a. Polled c.args.client.now.knows
-      (answer_in g.S.SeqObject.reply_in a) c.fetch_add-ticket.new.seat.me.0) same
+    (answer_in g.S.SeqObject.reply_in a) c.fetch_add-ticket.new.seat.me.0) same
     (polled g.S.SeqObject.op_in g.S.SeqObject.reply_in _ _ _ _ _ o.0 t.0 t.1 _ _ _ _ k
-      (sym (ap (λ v. v.knows) c.client.view_is)) o.1 o.2 t.3 t.4 t.5
+    (sym (ap (λ v. v.knows) c.client.view_is)) o.1 o.2 t.3 t.4 t.5
     (ap (λ z. z.0) c.exchange.ensures.3 ∙ ap (λ z. z.0) t.2) f.1 turn)
 
 pub returns-clause-desk : goal.returns-clause-desk
@@ -128,10 +134,10 @@ returns-clause-desk g c =
     let k = outstanding_is (sym c.is_outstanding.ensures ∙ c.if-not-is_outstanding.false) c.client.invariant.0 in
     let o = own_waiting _ k.agrees.at_rest (sym k.agrees.outstanding_is) in let t =
     (c.look_and_exchange-found.ensures.tried c.client.inside.number o.0 k.agrees.number_is refl o.1).0
-      c.if-found-ne-ANSWERED.false in
+    c.if-found-ne-ANSWERED.false in
     let f = c.fetch_add-ticket.ensures.2 _ _ (ap (λ z. z.0.own) c.exchange.ensures.3 ∙ ap (λ z. z.0.own) t.2) in
     let kinds : c.fetch_add-ticket.new.seat.me.0.kinds ≡ c.client.inside.seat.me.0.kinds =
-      ap (λ m. m.0.kinds) f.0 ∙ (ap (λ m. m.0.kinds) c.exchange.ensures.3 ∙ ap (λ m. m.0.kinds) t.2) in
+    ap (λ m. m.0.kinds) f.0 ∙ (ap (λ m. m.0.kinds) c.exchange.ensures.3 ∙ ap (λ m. m.0.kinds) t.2) in
     (λ i. record {
       table = (c.fetch_add-ticket.ensures.0 ∙ (c.exchange.ensures.0 ∙ c.look_and_exchange-found.ensures.table.0)) i;
       quota = (c.note_returned.ensures.same i).quota;
@@ -143,11 +149,11 @@ pub returns-then-found-ne-ANSWERED-clause-desk : goal.returns-then-found-ne-ANSW
 returns-then-found-ne-ANSWERED-clause-desk g c =
     let k = c.client.invariant.0 in
     let o = own_waiting _ k.agrees.at_rest
-      (sym k.agrees.outstanding_is ∙ (sym c.is_outstanding.ensures ∙ c.if-not-is_outstanding.false)) in
+    (sym k.agrees.outstanding_is ∙ (sym c.is_outstanding.ensures ∙ c.if-not-is_outstanding.false)) in
     let t = (c.look_and_exchange-found.ensures.tried c.client.inside.number o.0 k.agrees.number_is refl o.1).1
-      (search rules) in
+    (search rules) in
     let kinds : c.look_and_exchange-found.new.seat.me.0.kinds ≡ c.client.inside.seat.me.0.kinds =
-      ap (λ m. m.0.kinds) t.0 in
+    ap (λ m. m.0.kinds) t.0 in
     (λ i. record {
       table = (c.look_and_exchange-found.ensures.table.0) i;
       quota = c.client.inside.member.quota;
@@ -160,7 +166,7 @@ pub unreachable-requires : goal.unreachable-requires
 unreachable-requires g c =
     let k = c.client.invariant.0 in
     let o = own_waiting _ k.agrees.at_rest
-      (sym k.agrees.outstanding_is ∙ (sym c.is_outstanding.ensures ∙ c.if-not-is_outstanding.false)) in
+    (sym k.agrees.outstanding_is ∙ (sym c.is_outstanding.ensures ∙ c.if-not-is_outstanding.false)) in
     let t = (c.look_and_exchange-found.ensures.tried c.client.inside.number o.0 k.agrees.number_is refl o.1).0
-      (search rules) in
+    (search rules) in
     c.in_default.not-Answer t.0 (came_out _ _ _ _ _ (ap (λ z. z.1) t.2) c.exchange.ensures.2)

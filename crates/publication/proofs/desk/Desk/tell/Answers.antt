@@ -17,7 +17,7 @@ join_seat-requires g c = let wide = c.self.invariant.0.0 in let table = sym (ap 
 pub invariant_of-client : goal.invariant_of-client
 invariant_of-client g c = let k = c.client.invariant.0 in (
   subst (IsClient g.S.SeqObject.op_in g.S.SeqObject.reply_in _ _ _ _ c.client.inside.member.journal)
-    (sym c.join_seat.ensures.2)
+      (sym c.join_seat.ensures.2)
       record { agrees = agrees_light k.agrees; free = k.free; in_hand = k.in_hand },
   own_still _ _ _ _ (ap (λ m. m.0.lists) c.join_seat.ensures.2) c.client.invariant.1,
 )

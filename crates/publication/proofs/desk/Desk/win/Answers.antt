@@ -13,7 +13,7 @@ look_and_exchange-found-requires-clause-look g c =
 pub look_and_exchange-found-requires-clause-found : goal.look_and_exchange-found-requires-clause-found
 look_and_exchange-found-requires-clause-found g c = let there =
     subst (λ z. c.args.object < length z)
-      (sym (ap (λ k. k.desk.kinds) c.client.view_is ∙ ap (λ d. d.kinds) c.requires.desk)) c.requires.object in
+    (sym (ap (λ k. k.desk.kinds) c.client.view_is ∙ ap (λ d. d.kinds) c.requires.desk)) c.requires.object in
     λ m told. (told there).0 refl
 
 pub look_and_exchange-found-requires-clause-missed : goal.look_and_exchange-found-requires-clause-missed
@@ -23,35 +23,36 @@ pub look_and_exchange-found-requires-clause-exchange : goal.look_and_exchange-fo
 look_and_exchange-found-requires-clause-exchange g c = let d = c.self.invariant in let m = c.client.invariant.0 in
     let inside : c.args.object < length c.self.inside.kinds.items = search rules in
     let inside' : c.args.object < length c.self.inside.table.shared.key.kinds.items =
-      subst (λ (z : ℕ). c.args.object < z) (ap length (sym d.0.2)) inside in
+    subst (λ (z : ℕ). c.args.object < z) (ap length (sym d.0.2)) inside in
     let is : 1 + c.client.inside.number ≡ 1 + c.client.inside.seat.me.0.number =
-      ap (λ (z : ℕ). 1 + z) (sym m.agrees.number_is) in
+    ap (λ (z : ℕ). 1 + z) (sym m.agrees.number_is) in
     win_keeps_rule _ _ _ _ _ _ _ _ _ _ _ m.agrees.client_is inside' is m.free m.agrees.going
 
 pub invariant_of-result : goal.invariant_of-result
 invariant_of-result g c =
     let there = subst (λ z. c.args.object < length z)
-      (sym (ap (λ k. k.desk.kinds) c.client.view_is ∙ ap (λ d. d.kinds) c.requires.desk)) c.requires.object in
-    let t = (c.look_and_exchange-found.ensures.tried there).1 c.if-found-ne0.true in
-    (missed_ok g.S.SeqObject.content _ _ _ _ _ _ _ _ _ _ c.client.invariant.0 t,
-      own_still _ _ _ _ (ap (λ m. m.0.lists) t) c.client.invariant.1)
+    (sym (ap (λ k. k.desk.kinds) c.client.view_is ∙ ap (λ d. d.kinds) c.requires.desk)) c.requires.object in
+    let t = (c.look_and_exchange-found.ensures.tried there).1 c.if-found-ne0.true in (
+      missed_ok g.S.SeqObject.content _ _ _ _ _ _ _ _ _ _ c.client.invariant.0 t,
+      own_still _ _ _ _ (ap (λ m. m.0.lists) t) c.client.invariant.1,
+    )
 
 pub exchange-requires : goal.exchange-requires
 exchange-requires g c =
     let there = subst (λ z. c.args.object < length z)
-      (sym (ap (λ k. k.desk.kinds) c.client.view_is ∙ ap (λ d. d.kinds) c.requires.desk)) c.requires.object in
+    (sym (ap (λ k. k.desk.kinds) c.client.view_is ∙ ap (λ d. d.kinds) c.requires.desk)) c.requires.object in
     let t = (c.look_and_exchange-found.ensures.tried there).0 (search rules) in
     (search rules, can_exchange _ _ _ _ (ap (λ m. m.1) t.2))
 
 pub invariant_of-result-in-Core : goal.invariant_of-result-in-Core
 invariant_of-result-in-Core g c =
     let there = subst (λ z. c.args.object < length z)
-      (sym (ap (λ k. k.desk.kinds) c.client.view_is ∙ ap (λ d. d.kinds) c.requires.desk)) c.requires.object in
+    (sym (ap (λ k. k.desk.kinds) c.client.view_is ∙ ap (λ d. d.kinds) c.requires.desk)) c.requires.object in
     let t = (c.look_and_exchange-found.ensures.tried there).0 c.if-found-ne0.false in let e = c.exchange.ensures in
     let few = c.self.invariant.0.5 in
     let low : c.args.object < length c.self.inside.kinds.items = search rules in (
       pass_ok g.S.SeqObject.content g.S.SeqObject.op_in g.S.SeqObject.reply_in _ _ _ _ _ _ t.0 _ _ _ _ _
-        c.client.invariant.0 t.2 e.3
+          c.client.invariant.0 t.2 e.3
           (same_core _ _ (sym c.in-Core.is ∙ came_out _ _ _ _ _ (ap (λ m. m.1) t.2) e.2)) t.3 (omega arith),
       own_still _ _ _ _ (ap (λ m. m.0.lists) e.3 ∙ ap (λ m. m.0.lists) t.2) c.client.invariant.1,
     )
@@ -59,17 +60,17 @@ invariant_of-result-in-Core g c =
 pub unreachable-requires : goal.unreachable-requires
 unreachable-requires g c =
     let there = subst (λ z. c.args.object < length z)
-      (sym (ap (λ k. k.desk.kinds) c.client.view_is ∙ ap (λ d. d.kinds) c.requires.desk)) c.requires.object in
+    (sym (ap (λ k. k.desk.kinds) c.client.view_is ∙ ap (λ d. d.kinds) c.requires.desk)) c.requires.object in
     let t = (c.look_and_exchange-found.ensures.tried there).0 c.if-found-ne0.false in
     c.in_default.not-Core t.0 (came_out _ _ _ _ _ (ap (λ m. m.1) t.2) c.exchange.ensures.2)
 
 pub returns-clause-won : goal.returns-clause-won
 returns-clause-won g c =
     let there = subst (λ z. c.args.object < length z)
-      (sym (ap (λ k. k.desk.kinds) c.client.view_is ∙ ap (λ d. d.kinds) c.requires.desk)) c.requires.object in
+    (sym (ap (λ k. k.desk.kinds) c.client.view_is ∙ ap (λ d. d.kinds) c.requires.desk)) c.requires.object in
     let t = (c.look_and_exchange-found.ensures.tried there).0 c.if-found-ne0.false in let e = c.exchange.ensures in
     let same = same_core _ _ (sym c.in-Core.is ∙ came_out _ _ _ _ _ (ap (λ m. m.1) t.2) e.2) in
     opened g.S.SeqObject.content g.S.SeqObject.op_in g.S.SeqObject.reply_in c.args.client c.args.object t.0
-      c.in-Core.core t.1
+    c.in-Core.core t.1
     c.client.inside.seat.me c.look_and_exchange-found.new.seat.me c.exchange.new.seat.me _ _
     (sym (ap (λ k. k.desk.kinds) c.client.view_is)) (sym (ap (λ k. k.knows) c.client.view_is)) t.2 e.3 same t.3 t.4

@@ -20,7 +20,7 @@ pub index_mut-requires : goal.index_mut-requires
 index_mut-requires c =
     let i = c.loop-place.invariant in let p = popped _ _ _ _ _ i.0 c.in-Some.ensures.items in let n = p.2 in let at =
     c.len-in-Some.ensures in let a = long c.pop.new.self in let b = long c.loop-place.owners in let few = i.1 in
-        let same = i.2.0 in omega arith
+    let same = i.2.0 in omega arith
 
 pub push_reserved-requires : goal.push_reserved-requires
 push_reserved-requires c =
@@ -45,7 +45,7 @@ returns-clause-grown c =
     let a = long c.loop-place.places in
     let id = ap (λ r. r.id) (sym c.in_ok-try_clone.ensures) in
     subst (λ z. AreGrown z c.args.owners.now.items c.loop-place.owners.items) id
-      (all_grown _ (length c.loop-place.places.items) _ _ (omega arith) c.loop-place.invariant.2)
+    (all_grown _ (length c.loop-place.places.items) _ _ (omega arith) c.loop-place.invariant.2)
 
 pub invariant_of-push_reserved : goal.invariant_of-push_reserved
 invariant_of-push_reserved c =

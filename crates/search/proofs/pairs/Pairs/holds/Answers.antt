@@ -16,6 +16,6 @@ returns-then-is_pair c = λ u.
       l,
       λ d. subst (λ (p : Pair). (p.high ≡ c.args.high) × Lists c.args.undone.now.next.items 0 p.undone.items c.args.high
           × (content_kept p.content ≡ content_of c.args.object.now))
-            (c.index.ensures ∙ get_or_default c.args.self.now.pairs.items (r - 1) _ d l)
+          (c.index.ensures ∙ get_or_default c.args.self.now.pairs.items (r - 1) _ d l)
           (c.is_pair.ensures.high yes, c.is_pair.ensures.undone yes, c.is_pair.ensures.same yes),
     )

@@ -28,7 +28,7 @@ returns-clause-arranged c =
     (subst (λ (xs : List Invocation). IsPermutation xs items) e c.arrange.ensures)
     (subst (λ (xs : List Invocation). AreFloors true xs floors) c.deref.ensures.value c.in_ok-floors.ensures)
     (subst (λ (xs : List Invocation). AreFloors false xs return_floors) c.deref-2.ensures.value
-      c.in_ok-return_floors.ensures)
+    c.in_ok-return_floors.ensures)
     (let w = c.first_pending-pending.ensures.within in let d = ap length c.deref-3.ensures.value in omega arith)
     (subst (λ (xs : List Invocation). (k : ℕ) → k < pending → IsSome (call_at xs k).returned) c.deref-3.ensures.value
-      c.first_pending-pending.ensures.returned))
+    c.first_pending-pending.ensures.returned))

@@ -31,7 +31,7 @@ loop-places-preserved c =
     let w = i.within in
     let l : c.loop-places.slot < length nx = omega arith in
     let s = below_step i.n i.done nx c.args.self.now.before.items c.loop-places.places.items c.push.new.self.items
-      c.loop-places.slot
+    c.loop-places.slot
     c.index-place.result.now c.args.high i.linked i.within i.slot i.front
-      (c.index-place.ensures ∙ get_or_default nx c.loop-places.slot _ 0 l) (omega arith) c.in_ok-push.ensures.items in
+    (c.index-place.ensures ∙ get_or_default nx c.loop-places.slot _ 0 l) (omega arith) c.in_ok-push.ensures.items in
     record { n = i.n; done = i.done; linked = i.linked; within = s.0; slot = s.1; front = s.2 }

@@ -11,7 +11,7 @@ invariant-loop-places l = record {
   within : l.slot ≤ n;
   slot : IsSlot n done l.slot;
   front : (rest : List ℕ) → Lists l.self.next.items l.slot rest l.high
-    → Lists l.self.next.items 0 (l.places.items ++ rest) l.high;
+      → Lists l.self.next.items 0 (l.places.items ++ rest) l.high;
 }
 
 abbrev pub decreases-loop-places : goal.decreases-loop-places

@@ -7,7 +7,7 @@ pub returns-then-high-place : goal.returns-then-high-place
 returns-then-high-place c =
     λ u. below_end c.args.self.now.next.items c.deref-2.result.now c.args.places.now c.loop-place.place-index
     c.loop-place.slot c.args.high c.in-Some.place.now c.deref-2.ensures.value c.loop-place.invariant
-      c.loop-place-test.false c.in-Some.ensures.lookup.3 (inl c.if-high-place.true)
+    c.loop-place-test.false c.in-Some.ensures.lookup.3 (inl c.if-high-place.true)
 
 pub returns-else-high-place : goal.returns-else-high-place
 returns-else-high-place c = λ u.
@@ -15,6 +15,6 @@ returns-else-high-place c = λ u.
     let q = ap length c.deref-2.ensures.value in
     let w = c.len.ensures in
     below_end c.args.self.now.next.items c.deref-2.result.now c.args.places.now c.loop-place.place-index
-      c.loop-place.slot c.args.high
+    c.loop-place.slot c.args.high
     c.in-Some.place.now c.deref-2.ensures.value c.loop-place.invariant c.loop-place-test.false
-      c.in-Some.ensures.lookup.3 (inr (omega arith))
+    c.in-Some.ensures.lookup.3 (inr (omega arith))

@@ -17,18 +17,18 @@ returns-clause-search c =
     let link = subst (λ n. Linked n [] u.next.items u.before.items) len c.in_ok-undone.ensures in
     let long = link.long_next in
     let window : IsWindow (length items) (call_at items) []
-      (record { least = c.least_return-least.result; pending = t.pending }) = record {
+    (record { least = c.least_return-least.result; pending = t.pending }) = record {
       is_least = c.least_return-least.ensures [] link;
       returned = λ k b i. c.requires.trials.returned k b;
       stop = record { within = c.requires.trials.within; left = λ m i. absurd i };
     } in
     record {
       walk = begun (length items) (call_at items)
-        (empty t.kind) _ c.new-2.result.items u.next.items u.before.items c.index-at.result.now
+          (empty t.kind) _ c.new-2.result.items u.next.items u.before.items c.index-at.result.now
           (record { least = c.least_return-least.result; pending = t.pending }) c.args.left c.new-2.ensures.items
-            c.empty-object.ensures link
+          c.empty-object.ensures link
           (c.index-at.ensures ∙ get_or_default u.next.items 0 _ 0 (omega arith)) window c.requires.counts
-            c.requires.owed;
+          c.requires.owed;
       dead = record {
         older = none_dead t c.in_ok-dead.dead.older.pairs.items c.in_ok-dead.ensures.older;
         younger = none_dead t c.in_ok-dead.dead.younger.pairs.items c.in_ok-dead.ensures.younger;

@@ -23,12 +23,12 @@ index-requires-2 c =
     let level = c.in-Some.level in
     let before = undone level.undo (content_of a.object) in
     let befores_are = befores_more c.pop.new.self.items a.levels.items level before
-      (content_of a.object) c.in-Some.ensures.items refl in
+    (content_of a.object) c.in-Some.ensures.items refl in
     let p = popped_within (length t.items.items) (call_at t.items.items)
-      (empty t.kind) a.levels.items c.pop.new.self.items level _
+    (empty t.kind) a.levels.items c.pop.new.self.items level _
     (befores (reverse c.pop.new.self.items) before) before
-      (content_of a.object) a.undone.next.items a.undone.before.items a.high c.in-Some.ensures.items befores_are
-      c.requires.search.walk.stack in
+    (content_of a.object) a.undone.next.items a.undone.before.items a.high c.in-Some.ensures.items befores_are
+    c.requires.search.walk.stack in
     let e = ap length c.put_back.ensures.next ∙ length-set a.undone.next.items _ _ in
     let w = p.0.here_next in
     omega arith
@@ -40,30 +40,30 @@ returns-clause-search c = λ e.
     let level = c.in-Some.level in
     let before = undone level.undo (content_of a.object) in
     let befores_are = befores_more c.pop.new.self.items a.levels.items level before
-      (content_of a.object) c.in-Some.ensures.items refl in
+    (content_of a.object) c.in-Some.ensures.items refl in
     let p = popped_within (length t.items.items) (call_at t.items.items)
-      (empty t.kind) a.levels.items c.pop.new.self.items level _
+    (empty t.kind) a.levels.items c.pop.new.self.items level _
     (befores (reverse c.pop.new.self.items) before) before
-      (content_of a.object) a.undone.next.items a.undone.before.items a.high c.in-Some.ensures.items befores_are
-      c.requires.search.walk.stack in
+    (content_of a.object) a.undone.next.items a.undone.before.items a.high c.in-Some.ensures.items befores_are
+    c.requires.search.walk.stack in
     let ln = ap length c.put_back.ensures.next ∙ length-set a.undone.next.items _ _ in
     let w = p.0.here_next in
     let inside : level.place + 1 < length c.put_back.new.self.next.items = omega arith in
     let walk = back_walk t.items.items c.index.result.now (empty t.kind) a.levels.items c.pop.new.self.items level _
     (befores (reverse c.pop.new.self.items) before) before before
-      (content_of a.object) a.undone.next.items a.undone.before.items
+    (content_of a.object) a.undone.next.items a.undone.before.items
     c.put_back.new.self.next.items c.put_back.new.self.before.items a.high a.at a.window a.left c.index-2.result.now
-      c.owed_before-self.result
+    c.owed_before-self.result
     c.in-Some.ensures.items befores_are c.requires.search.walk c.requires.dead_here
     refl c.put_back.ensures.next c.put_back.ensures.before
-      (c.index-2.ensures ∙ get_or_default c.put_back.new.self.next.items (level.place + 1) _ 0 inside)
+    (c.index-2.ensures ∙ get_or_default c.put_back.new.self.next.items (level.place + 1) _ 0 inside)
     (ap as_call c.index.ensures ∙ call_read t.items.items level.place _ p.1) c.owed_before-self.ensures in
     record {
       walk = subst (λ x. IsWalk (length t.items.items) (call_at t.items.items) (empty t.kind)
-        (reverse c.pop.new.self.items)
+          (reverse c.pop.new.self.items)
           (befores (reverse c.pop.new.self.items) x)
-            (position x c.put_back.new.self.next.items c.put_back.new.self.before.items level.high)
-            (turn c.index-2.result.now
+          (position x c.put_back.new.self.next.items c.put_back.new.self.before.items level.high)
+          (turn c.index-2.result.now
           level.window c.owed_before-self.result)) (sym c.in_ok-undo.ensures) walk;
       dead = remembered_some t a.dead _ _ c.requires.search.dead c.in_ok-pair.ensures c.in_ok-remember_if_some.ensures;
     }

@@ -16,7 +16,7 @@ below-requires c =
       places (reverse a.levels.items),
       walk_linked (length t.items.items) (call_at t.items.items) (empty t.kind) (reverse a.levels.items)
           (befores (reverse a.levels.items) (content_of a.object))
-            (content_of a.object) a.undone.next.items a.undone.before.items a.high a.at
+          (content_of a.object) a.undone.next.items a.undone.before.items a.high a.at
           a.window a.left c.requires.search.walk,
     )
 
@@ -26,7 +26,7 @@ returns c =
     let t = c.args.trials.now in
     let d = dead_pair (length t.items.items) (call_at t.items.items) (empty t.kind) (reverse a.levels.items)
     (befores (reverse a.levels.items) (content_of a.object))
-      (content_of a.object) a.undone.next.items a.undone.before.items a.high a.at a.window
+    (content_of a.object) a.undone.next.items a.undone.before.items a.high a.at a.window
     a.left c.in_ok-below.field-0.items c.requires.search.walk c.requires.dead_here c.in_ok-below.ensures in
     subst (λ o. IsDeadPair (length t.items.items) (call_at t.items.items) a.high c.in_ok-below.field-0.items o)
-      (sym c.in_ok-of.ensures) d
+    (sym c.in_ok-of.ensures) d

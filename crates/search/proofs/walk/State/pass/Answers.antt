@@ -13,8 +13,8 @@ index-requires c =
     let items = c.args.trials.now.items.items in
     let r = (pass_rises (length items) (call_at items) (empty c.args.trials.now.kind) (reverse a.levels.items)
     (befores (reverse a.levels.items) (content_of a.object))
-      (content_of a.object) a.undone.next.items a.undone.before.items a.high a.at a.window a.left
-      c.requires.search.walk c.requires.at).1 in
+    (content_of a.object) a.undone.next.items a.undone.before.items a.high a.at a.window a.left
+    c.requires.search.walk c.requires.at).1 in
     omega arith
 
 pub returns-clause-search : goal.returns-clause-search
@@ -24,13 +24,13 @@ returns-clause-search c =
     record {
       walk = pass_walk (length items) (call_at items) (empty c.args.trials.now.kind) (reverse a.levels.items)
           (befores (reverse a.levels.items) (content_of a.object))
-            (content_of a.object) a.undone.next.items a.undone.before.items a.high a.at a.window
+          (content_of a.object) a.undone.next.items a.undone.before.items a.high a.at a.window
           a.left c.index.result.now c.requires.search.walk c.requires.at c.requires.dead_at
           (c.index.ensures ∙ get_or_default a.undone.next.items (a.at + 1) _ 0
           (pass_rises (length items) (call_at items) (empty c.args.trials.now.kind) (reverse a.levels.items)
           (befores (reverse a.levels.items) (content_of a.object))
-            (content_of a.object) a.undone.next.items a.undone.before.items a.high a.at a.window a.left
-            c.requires.search.walk c.requires.at).1);
+          (content_of a.object) a.undone.next.items a.undone.before.items a.high a.at a.window a.left
+          c.requires.search.walk c.requires.at).1);
       dead = c.requires.search.dead;
     }
 
@@ -40,8 +40,8 @@ returns-clause-rises c =
     let items = c.args.trials.now.items.items in
     let r = (pass_rises (length items) (call_at items) (empty c.args.trials.now.kind) (reverse a.levels.items)
     (befores (reverse a.levels.items) (content_of a.object))
-      (content_of a.object) a.undone.next.items a.undone.before.items a.high a.at a.window a.left
-      c.requires.search.walk c.requires.at) in
+    (content_of a.object) a.undone.next.items a.undone.before.items a.high a.at a.window a.left
+    c.requires.search.walk c.requires.at) in
     let t = c.index.ensures ∙ get_or_default a.undone.next.items (a.at + 1) _ 0 r.1 in
     let u = r.0 in
     omega arith

@@ -16,14 +16,14 @@ come_back-requires-clause-dead_here c =
     let s = c.loop-self.self in
     let t = c.args.trials.now in
     dead_here t.kind t.items.items t.floors.items t.return_floors.items t.pending (empty t.kind)
-      (reverse s.levels.items) (befores (reverse s.levels.items) (content_of s.object))
+    (reverse s.levels.items) (befores (reverse s.levels.items) (content_of s.object))
     (content_of s.object) s.undone.next.items s.undone.before.items s.high s.at s.window s.left c.requires.trials
-      c.loop-self.invariant.search.walk
+    c.loop-self.invariant.search.walk
     (elim c.then-at-len.branch [
       | then-at-len-via-then-at-len w ↦ inl (omega (arith, w.if-at-len.true))
       | then-at-len-via-else-at-len+then-index-self w ↦
           let inside : s.at < length t.floors.items =
-            omega (arith, w.if-at-len.false, c.requires.trials.floors_right.long) in
+          omega (arith, w.if-at-len.false, c.requires.trials.floors_right.long) in
           let e = w.index.ensures ∙ get_or_default t.floors.items s.at _ 0 inside in
           inr (omega (arith, w.if-index-self.true), omega (arith, w.if-index-self.true, e))
     ])
@@ -39,12 +39,12 @@ pass-requires-clause-dead_at c =
           dead_too_late t.kind t.items.items t.floors.items t.return_floors.items t.pending c.index-item.result.now
           (empty t.kind)
           (reverse s.levels.items) (befores (reverse s.levels.items) (content_of s.object))
-            (content_of s.object) s.undone.next.items
+          (content_of s.object) s.undone.next.items
           s.undone.before.items s.high s.at s.window s.left c.requires.trials c.loop-self.invariant.search.walk l here
-            (omega (arith, w.if-item-self.true)) w.if-item-self.true
+          (omega (arith, w.if-item-self.true)) w.if-item-self.true
       | then-item-self-via-else-item-self+then-not-is_possible w ↦ dead_impossible t.items.items c.index-item.result.now
           (places (reverse s.levels.items)) (content_of s.object) s.at here
-            (λ h. let p = w.is_possible.ensures.1 h in let f = w.if-not-is_possible.true in absurd (cc (p, f)))
+          (λ h. let p = w.is_possible.ensures.1 h in let f = w.if-not-is_possible.true in absurd (cc (p, f)))
     ]
 
 pub loop-self-smaller : goal.loop-self-smaller
@@ -55,4 +55,4 @@ loop-self-smaller c =
     let st = c.loop-self.invariant.steps in
     let deep = c.attempt.ensures.deep in
     step_smaller c.args.limit c.loop-self.steps (length t.items.items) (length s.levels.items)
-      (length c.attempt.new.self.levels.items) s.at c.attempt.new.self.at (omega arith) deep
+    (length c.attempt.new.self.levels.items) s.at c.attempt.new.self.at (omega arith) deep

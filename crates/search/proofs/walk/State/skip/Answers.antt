@@ -11,9 +11,9 @@ returns-clause-search c =
     let t = c.args.trials.now in
     record {
       walk = skipped t.kind t.items.items t.floors.items t.return_floors.items t.pending (empty t.kind)
-        (reverse a.levels.items)
+          (reverse a.levels.items)
           (befores (reverse a.levels.items) (content_of a.object))
-            (content_of a.object) a.undone.next.items a.undone.before.items a.high a.at a.window
+          (content_of a.object) a.undone.next.items a.undone.before.items a.high a.at a.window
           a.left c.requires.trials c.requires.search.walk c.requires.small c.requires.late;
       dead = c.requires.search.dead;
     }

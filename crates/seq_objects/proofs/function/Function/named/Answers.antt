@@ -8,7 +8,7 @@ use Rattle.seq_objects.proofs.function.Function.named.Goals as goal
 pub loop-f-preserved : goal.loop-f-preserved
 loop-f-preserved c =
     below_more _ _ c.loop-f.invariant
-      (λ e. other_text _ _ c.if-eq.ensures (c.as_bytes.ensures.value ∙ c.name.ensures ∙ e))
+    (λ e. other_text _ _ c.if-eq.ensures (c.as_bytes.ensures.value ∙ c.name.ensures ∙ e))
 
 pub returns-clause-unknown : goal.returns-clause-unknown
 returns-clause-unknown c f e =
