@@ -1,3 +1,5 @@
+-- `parts_in`: the parts are the object and the order of the certificate, or the form is no certificate. It is the
+-- value of `:object`, then that of `:order`, and `both_keys` says what the two of them make.
 use Rattle.std.proofs.Common.{◌≡◌, Some, None, option_map, sym, ap, ◌∙◌}
 use Rattle.std.specs.Prelude.{codes}
 use Rattle.edn_reader.specs.Datum.{entries_of, items_of}

@@ -1,3 +1,5 @@
+-- `read_certificates`: the certificates are those that the forms denote, or the fault is that of the first faulty
+-- form. All forms before the one at hand were read, so its fault is the first.
 use Rattle.std.proofs.Common.{◌≡◌, ◌<◌, List, length, take, get_or, ap, subst, ◌∙◌, arith}
 use Rattle.std.specs.Ordering.{nat_cmp}
 use Rattle.std.specs.BTreeSet.{contains}

@@ -1,3 +1,5 @@
+-- `read_certificates_text`: the certificates are those that the text denotes, or the fault is one of the text. The
+-- reading is always that of the forms which the text spells up to the place that was reached.
 use Rattle.std.proofs.Common.{◌≡◌, ℕ, List, [], ◌∷◌, ap, sym, subst, ◌∙◌}
 use Rattle.edn_reader.specs.Truncation.{Keeping, kept_of, integer_vector_kept}
 use Rattle.edn_reader.specs.Token.{tokens_of}

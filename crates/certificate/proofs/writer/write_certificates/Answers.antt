@@ -1,3 +1,5 @@
+-- `write_certificates`: the lines go out, or a front of them if the sink fails, and read back as the certificates.
+-- The loop keeps that what was sent and the lines left are all lines, and that each order so far is in range.
 use Rattle.std.proofs.Common.{rules, arith, subst}
 use Rattle.std.proofs.lemmas.List.{take_all}
 use Rattle.edn_reader.specs.Text.{IsInt64}

@@ -1,3 +1,5 @@
+-- `write_line`: what is sent is the line of the certificate, or a prefix of it where the sink failed. The five
+-- writes send the parts of the line in order, and at a failure the parts before and a prefix were sent.
 use Rattle.std.proofs.Common.{true, rules}
 use Rattle.std.specs.Prelude.{codes, pos}
 use Rattle.std.specs.Fmt.{signed_decimal}

@@ -1,3 +1,5 @@
+-- `write_numbers`: what is sent is the text of the numbers, or a prefix of it where the sink failed. What was sent,
+-- then the text of the numbers that are left, is always the whole text.
 use Rattle.std.proofs.Common.{◌++◌, true, get_or, rules}
 use Rattle.std.specs.Prelude.{codes, pos}
 use Rattle.std.specs.Fmt.{signed_decimal}

@@ -1,3 +1,5 @@
+-- `check_all`: `Ok` means that the certificates are valid, and an error is the first refusal. All objects before
+-- the one at hand are fine, so its refusal is the first; after the loop only a strange object is left.
 use Rattle.std.proofs.Common.{◌≡◌, ◌++◌, ◌∷◌, [], take, sym, ap, ◌∙◌, subst, map}
 use Rattle.std.proofs.lemmas.Result.{err_from_is_err_and}
 use Rattle.std.proofs.lemmas.List.{take_more, take_all}

@@ -1,3 +1,5 @@
+-- `check_object_at`: the object's certificate is fine, or the refusal is right. The place that is found is that of
+-- the object's certificate (`here`), and where none is found there is no certificate (`no_certificate`).
 use Rattle.std.proofs.Common.{ap, sym, ◌∙◌, ◌≡◌, None}
 use Rattle.number_map.specs.Lookup.{value_of}
 use Rattle.events.specs.Operations.{calls_of}

@@ -1,3 +1,5 @@
+-- `strange_object`: the least object with a certificate that is none of these, or None where there is none. The
+-- places that are left are those of the certificates of other objects than the ones so far.
 use Rattle.std.proofs.Common.{rules, ◌++◌, ◌∷◌, [], take, sym, ap, ◌∙◌, subst}
 use Rattle.std.proofs.lemmas.List.{take_more, take_all}
 use Rattle.checker.proofs.Certificates.{AreLeft, all_left, one_taken, strange}

@@ -1,3 +1,5 @@
+-- `place_among`: the place is that of the call with this number, or there is no such call. The numbers rise, so the
+-- binary search finds it (`found_here`) or none has it (`none_here`). One that failed is no call (`failed_here`).
 use Rattle.std.proofs.Common.{rules, ◌≡◌, pos, to_z, of_z, w64, get_or, ap, sym, ◌∙◌, arith}
 use Rattle.std.proofs.lemmas.Int.{ints}
 use Rattle.std.proofs.lemmas.List.Sorted.{answers_always}

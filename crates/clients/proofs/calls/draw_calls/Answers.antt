@@ -1,3 +1,5 @@
+-- `draw_calls`: the calls are those that the generator's stream gives. The loop keeps that the calls so far, with
+-- those that the stream still gives, are all (`drawn_more`), and that each fits its object (`is_call`).
 use Rattle.std.proofs.Common.{◌≡◌, ◌-◌, ◌+◌, ◌∷◌, [], ◌++◌, All, length, ap, sym, ◌∙◌, subst, length-append, arith}
 use Rattle.std.proofs.lemmas.List.Elements.{All-push}
 use Rattle.seq_objects.specs.Kinds.{kind_in, kinds_of}

@@ -1,3 +1,5 @@
+-- `draw_pairs`: the calls are the pairs drawn from the stream, two for each, on objects of one kind. The calls so
+-- far, then the pairs from the stream that is left, are all pairs (`pair_more`).
 use Rattle.std.proofs.Common.{◌-◌, ◌+◌, ◌∷◌, [], ◌++◌, All, length, ap, sym, ◌∙◌, refl, subst, length-append, arith}
 use Rattle.std.proofs.lemmas.List.Elements.{All-push}
 use Rattle.model.specs.Objects.{kind_of}

@@ -1,3 +1,5 @@
+-- `workload`: the calls are those drawn for each client, at most 10,000 each, and fit the kinds. Each turn adds the
+-- calls of the next client, and the lengths of the lists are those of the ranges.
 use Rattle.std.proofs.Common.{◌<◌, ◌∷◌, [], ◌++◌, All, length, map, ap, sym, ◌∙◌, subst, arith}
 use Rattle.std.proofs.lemmas.List.{map_push}
 use Rattle.std.proofs.lemmas.List.Elements.{All-push}

@@ -1,3 +1,5 @@
+-- `run_workers`: the record is that of a run of the workload. The desk is made for the workload (`IsDeskFor`), and
+-- the last client has met all others, so it knows that they ended (`have_told`) and may close the desk.
 use Rattle.std.proofs.Common.{◌<◌, ◌≤◌, ◌∙◌, length, sym, subst}
 use Rattle.clients.specs.Workloads.{calls_at}
 use Rattle.clients.specs.Made.{IsDeskFor}

@@ -1,3 +1,5 @@
+-- `combine`: the client keeps its calls, and after a pass its own call on the object is settled. Each step of the
+-- pass goes on from the one before (`goes_on`), and what holds at its end holds of the client released.
 use Rattle.std.proofs.Common.{sym, ap, subst, ◌∙◌}
 use Rattle.desk_model.specs.World.{StartsWith}
 use Rattle.desk_invariant.specs.Views.{seen_of, after_win}

@@ -1,3 +1,5 @@
+-- `check_sources`: the exit status and the output are those of a check of the texts read, or of a failed
+-- allocation, before which nothing was written. If the sink fails a front of the verdict is out (`wrote_front_of`).
 use Rattle.std.proofs.Common.{◌≡◌, ◌≢◌, ◌∙◌, ap, inl, inr, sym, rules}
 use Rattle.judging.specs.declared.check.ToolFault.TheVariants as fault
 use Rattle.judging.specs.Checks.{IsVerdictOnRead}

@@ -1,3 +1,5 @@
+-- `merge_all`: the shards are read in their order and merged. Each shard before the one at hand was read as the
+-- folder holds it; each turn adds one.
 use Rattle.std.proofs.Common.{◌+◌, ◌++◌, ◌∷◌, ◌∙◌, [], ap, arith, length, refl, sym}
 use Rattle.std.proofs.lemmas.List.{length-append}
 use Rattle.history_commands.specs.Merged.{Shard}

@@ -1,3 +1,5 @@
+-- `perform`: the exit status and the output are those of the command, or the output failed. Each command is done by
+-- a function of its own, whose contract says that of its case (`made_as`, `leaves_as`).
 use Rattle.history_commands.specs.Refuted.{IsRefute}
 use Rattle.history_commands.specs.Searches.{IsSearch}
 use Rattle.history_commands.specs.Verified.{IsVerification}

@@ -1,3 +1,5 @@
+-- `perform_over`: the exit status and the output are those of the command on the texts that were read. A yes then
+-- means that the history is linearizable (`shows_yes`), and a no that it is not (`shows_no`).
 use Rattle.std.proofs.lemmas.Result.{IfOk-weaker}
 use Rattle.commands.proofs.StatusMeanings.{shows_no, shows_yes}
 use Rattle.commands.proofs.program.perform_over.Goals as goal

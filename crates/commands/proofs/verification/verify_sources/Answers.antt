@@ -1,3 +1,5 @@
+-- `verify_sources`: what is written is the output of a verification of the two texts that were read. The texts are
+-- those of the sources, and the verification of them is that of `verify_history`.
 use Rattle.std.proofs.Common.{ℕ, List, sym, subst, inl}
 use Rattle.edn.specs.Given.{WasRead}
 use Rattle.judging.specs.Reads.{read_limit}

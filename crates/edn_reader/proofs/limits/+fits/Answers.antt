@@ -1,3 +1,5 @@
+-- `fits` and the functions that it calls: true exactly where the form fits within the depth. Of the entries before
+-- the one at hand nothing is wrong; a key that comes again later shows that they do not fit.
 use Rattle.std.proofs.Common.{◌≡◌, ℕ, ◌+◌, ◌<◌, List, length, get_or, drop, refl, ap, ◌∙◌, arith}
 use Rattle.edn_reader.specs.Datum.{entries_of, EntriesFit}
 use Rattle.edn_reader.specs.Reading.{has_key}

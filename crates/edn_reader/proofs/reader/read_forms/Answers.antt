@@ -1,3 +1,5 @@
+-- `read_forms`: the text spells the forms, and memory runs out only where nothing is wrong yet. The loop keeps that
+-- the text is the forms so far and then what is left (`Along`), and what is left gets shorter.
 use Rattle.std.proofs.Common.{◌≡◌, ◌∷◌, ◌++◌, [], List, sym, ap, subst, ◌∙◌}
 use Rattle.std.proofs.lemmas.List.{append-nil}
 use Rattle.std.proofs.lemmas.Result.{err_from_is_err_and}

@@ -1,3 +1,5 @@
+-- `fcbench_check`: an answer 0 means that the history is linearizable, and the lines are those of a verdict that
+-- holds. It is what `judge_alone` ensures; only the status of `Yes` gives the number 0.
 use Rattle.std.proofs.lemmas.Result.{IfOk-weaker}
 use Rattle.judging.specs.Texts.{IsLinearizableText}
 use Rattle.history_commands.specs.Checked.{IsCheck}

@@ -1,3 +1,5 @@
+-- `fcbench_verify`: the output and its status are those of a verification, so 0 means linearizable and 1 not.
+-- `answered` says that of what `verify` made, and the number tells which status it is (`shows`).
 use Rattle.std.proofs.Common.{ℕ, subst}
 use Rattle.std.specs.Prelude.{IfOk}
 use Rattle.judging.specs.Texts.{IsLinearizableText}

@@ -1,3 +1,5 @@
+-- `join_pieces`: the history is the one that the pieces, joined by line feeds, denote. The seams hold the forms of
+-- the pieces so far, and those that are left make the rest of the text.
 use Rattle.std.proofs.Common.{◌∷◌, ap, sym, ◌∙◌, subst, arith}
 use Rattle.std.proofs.lemmas.List.{nil_from_length}
 use Rattle.history.specs.Pieces.{joined_by_feeds, AreReadFrom}

@@ -1,3 +1,5 @@
+-- `read_next`: the event of one form more is kept, or the fault is the first that it has. A great object, the
+-- checks and the number of maps are looked at in this order, so each exit has passed those before.
 use Rattle.std.proofs.Common.{◌≡◌, ◌∙◌, ◌<◌, ◌≤◌, ◌∷◌, [], false, sym, subst}
 use Rattle.std.specs.Prelude.{is_err}
 use Rattle.std.proofs.lemmas.List.{append-nil}

@@ -1,3 +1,5 @@
+-- `read_history_text`: the text spells maps that denote the history, or has the fault. The loop keeps that the text
+-- is the forms read so far and then what is left (`Along`), and what is left gets shorter.
 use Rattle.std.proofs.Common.{Option, subst}
 use Rattle.edn_reader.specs.Elements.{SpellsNothing}
 use Rattle.edn_reader.proofs.Following.{along_spells, sound_after, unreadable_after}

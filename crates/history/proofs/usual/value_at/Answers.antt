@@ -1,3 +1,5 @@
+-- `value_at`: the tokens of the value that is read begin the text, and what follows it is given. Each first byte
+-- has its own form: a word that ends its token, a pair, or else an integer.
 use Rattle.std.proofs.Common.{Bor, List, ℕ, ◌≡◌, ◌++◌, codes, subst, sym, to_z, of_z, w64, arith}
 use Rattle.std.proofs.lemmas.Int.{ints}
 use Rattle.std.specs.Prelude.{Option, Some, None, IfSome}

@@ -1,3 +1,5 @@
+-- `judge_alone`: the verdict holds of the two texts, and a yes means that the history is linearizable. Where both
+-- are read the check decides, by locality (`holds_checked`); else the stop does (`holds_stopped`).
 use Rattle.std.proofs.Common.{sym, subst}
 use Rattle.judging.specs.Texts.{DenoteOnly}
 use Rattle.judging.specs.Verdicts.{AreBothRead, Holds}

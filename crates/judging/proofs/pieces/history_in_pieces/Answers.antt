@@ -1,3 +1,5 @@
+-- `history_in_pieces`: a history that is given is the one that the text denotes. Each piece is read from its own
+-- lines, which joined by line feeds are the text, so the pieces join to that history.
 use Rattle.std.proofs.Common.{◌≡◌, ◌<◌, ◌∙◌, length, map, ap, sym, subst, arith}
 use Rattle.std.proofs.lemmas.List.{length-map}
 use Rattle.edn_reader.specs.Spells.{Spells}

@@ -1,3 +1,5 @@
+-- `put_node`: the value is in a tree of its own, apart from the heap, and the bag of values has one more of it. It
+-- goes into a free node (`IsApart-reuse`) or into a new one at the end (`IsApart-push`).
 use Rattle.std.proofs.Common.{◌≡◌, Some, slice_get, w64, ap, ◌∙◌}
 use Rattle.std.proofs.lemmas.Int.{to_z-of_z}
 use Rattle.pairing_heap.specs.declared.node.Node.TheVariants.{Free}

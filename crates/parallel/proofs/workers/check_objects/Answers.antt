@@ -1,3 +1,5 @@
+-- `check_objects`: the answer is that of a check of all objects, one after another. Each worker answers for its
+-- share, and the shares are all objects, so the least refusal is the first of all (`first_of_all`).
 use Rattle.std.proofs.Common.{◌<◌, List, get_or, refl, subst, sym, ◌∙◌}
 use Rattle.std.proofs.Math.Nat.{le-max_left}
 use Rattle.checker.proofs.Certificates.{AreObjects, are_objects, all_valid, least_strange, strange_is_not_valid}

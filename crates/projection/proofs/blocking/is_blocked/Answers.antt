@@ -1,3 +1,5 @@
+-- `is_blocked`: the answer is true exactly where the removal is blocked, and then no order is valid. `decided_of`
+-- says so of the counts; without a removal of this number nothing is blocked.
 use Rattle.std.proofs.Common.{nat_lt, ◌&&◌, Bool, MatchBool, List, refl, sym, ◌∙◌, subst}
 use Rattle.events.specs.declared.operations.Invocation.{Invocation}
 use Rattle.events.specs.Operations.{calls_of}

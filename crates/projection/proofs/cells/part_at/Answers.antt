@@ -1,3 +1,5 @@
+-- `part_at`: what is made is a part of the history, and its calls are those at the cell. It is the history that
+-- `operation_at` makes of the whole, of which `part_history`, `part_shows` and `part_calls_of` say this.
 use Rattle.std.proofs.Common.{ap, sym, ◌∙◌, subst}
 use Rattle.std.specs.List.{filter_map}
 use Rattle.events.specs.Operations.{ObjectCalls, IsObjectHistory, calls_of}

@@ -1,3 +1,5 @@
+-- `is_overdrawn`: the answer is whether the history's calls overdraw the count, and then no order is valid. The
+-- operations that are counted are as many as the calls that the count names (`decided`, `shown`).
 use Rattle.std.proofs.Common.{List, count_by, ap, ◌∙◌}
 use Rattle.events.specs.declared.operations.Invocation.{Invocation}
 use Rattle.model.specs.declared.Kind.{Kind}

@@ -1,3 +1,5 @@
+-- `calls_alone`: what is made is a part of the history, with the same calls. It is the history without the
+-- operations that failed, of which `alone_history`, `alone_shows` and `alone_calls` say this.
 use Rattle.std.proofs.Common.{ap, sym, ◌∙◌, subst, filter, not}
 use Rattle.events.specs.Operations.{ObjectCalls, IsObjectHistory, calls_of}
 use Rattle.projection.specs.Cuts.{IsPart}

@@ -1,3 +1,5 @@
+-- `part_by`: the cuts name the part, and where it has no valid order the whole has none. The loop keeps both for
+-- the cuts so far (`IsCutSoFar`): a part of a part is a part (`part_of_part`), and each cut names one part only.
 use Rattle.std.proofs.Common.{◌≡◌, List, Option, IfSome, get_or, ap, sym, ◌∙◌, subst}
 use Rattle.model.specs.Orders.{Call}
 use Rattle.events.specs.Operations.{ObjectCalls, calls_of}

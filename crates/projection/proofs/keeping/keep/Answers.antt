@@ -1,3 +1,5 @@
+-- `keep`: what is given are the calls with these numbers, a part of the history; None means that the part is not
+-- closed. The operations are filtered by number, and `kept_shows` says that closed ones are a part.
 use Rattle.std.proofs.Common.{◌<◌, List, AllPairs, ap, sym, ◌∙◌, subst, filter}
 use Rattle.events.specs.declared.operations.Invocation.{Invocation}
 use Rattle.events.specs.Operations.{ObjectCalls, IsObjectHistory, calls_of}

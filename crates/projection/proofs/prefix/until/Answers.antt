@@ -1,3 +1,5 @@
+-- `until`: what is made is a part of the history, and its calls are those before the number. It is the history that
+-- `operation_before` makes of the whole, of which `before_history`, `before_shows` and `before_calls` say this.
 use Rattle.std.proofs.Common.{ap, sym, ◌∙◌, subst}
 use Rattle.std.specs.List.{filter_map}
 use Rattle.events.specs.Operations.{ObjectCalls, IsObjectHistory, calls_of}

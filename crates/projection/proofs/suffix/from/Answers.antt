@@ -1,3 +1,5 @@
+-- `from`: what is given is the suffix from this call, a part of the history. None means that none begins there. The
+-- operations are cut by `operation_from`, and `from_shows` says that these calls are a part.
 use Rattle.std.proofs.Common.{refl, List, ap, sym, ◌∙◌, subst}
 use Rattle.std.specs.List.{filter_map}
 use Rattle.events.specs.declared.operations.Invocation.{Invocation}

@@ -1,3 +1,5 @@
+-- `first_unretired`: a client that is given is still there, and None means that all others have ended. The clients
+-- before the one at hand have ended, as the last one has learnt; its own number is passed over.
 use Rattle.std.proofs.Common.{arith, ◌≡◌, ◌+◌, Bool, if◌then◌else◌, sym, ap, subst, ◌∙◌}
 use Rattle.desk_invariant.specs.Views.{after_end_seen, after_end_unset}
 use Rattle.publication.specs.Closing.{HaveEnded, HasLearntEnds}

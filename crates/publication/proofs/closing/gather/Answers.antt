@@ -1,3 +1,5 @@
+-- `gather`: the record is that of the desk, which all others have left. What the last client knows tells that each
+-- core and each other journal is there to be taken (`left_by`), and `closed_ok` puts together what was taken.
 use Rattle.std.proofs.Common.{rules, arith, ◌≡◌, [], map, length, get_or, vec_len, sym, ap, subst, ◌∙◌}
 use Rattle.std.specs.Slots.{slots_items}
 use Rattle.desk_model.specs.Images.{event_in}

@@ -1,3 +1,5 @@
+-- `sees_end`: the last client knows of the end of the client that it found, or that it was not set. The look keeps
+-- the rule of the table (`look_at_end_keeps_rule`); the two outcomes are told apart by the word.
 use Rattle.std.proofs.Common.{map, ◌≡◌, ◌≢◌, All, arith, refl, sym, ap, subst, eq-eqb, ◌∙◌}
 use Rattle.publication.proofs.Dealing.{own_still}
 use Rattle.publication.specs.Handles.{Known}

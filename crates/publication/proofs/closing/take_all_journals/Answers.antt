@@ -1,3 +1,5 @@
+-- `take_all_journals`: each client has its journal in its place, the last one's own among them. The journals below
+-- its number, its own and those above are taken in turn, and each turn keeps the ones before.
 use Rattle.std.proofs.Common.{arith, ◌<◌, sym, subst, ◌∙◌}
 use mathlib.Core.Logic.{dite}
 use native.Mathlib.Decide.{dec_le}

@@ -1,3 +1,5 @@
+-- `take_journals`: each client of the range has its journal in its place, and the ones before are the same. The
+-- invariant says so of the clients up to the one at hand; each turn takes one slot and adds one row.
 use Rattle.std.proofs.Common.{rules, arith, ◌≡◌, sym, subst, ◌∙◌}
 use Rattle.recorder.specs.Records.{items_of}
 use Rattle.publication.specs.Closing.{values_of, HasJournal, IsJournalOf, AreJournals}

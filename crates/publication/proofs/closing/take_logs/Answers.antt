@@ -1,3 +1,5 @@
+-- `take_logs`: the logs are those of the objects, one by one. The loop keeps that the logs so far are those of the
+-- objects below `x`, that the slots below it were taken out, and that the values are as they were.
 use Rattle.std.proofs.Common.{rules, arith, ◌≡◌, sym, subst, ◌∙◌}
 use Rattle.recorder.specs.Records.{items_of}
 use Rattle.publication.specs.Closing.{values_of, HasCore, IsLogOf, AreLogs}

@@ -1,3 +1,5 @@
+-- `cores`: the slots hold the objects in order, each with an empty log and its own publication list. In each turn
+-- the first of the lists that are left is that of the next object.
 use Rattle.std.proofs.Common.{rules, arith, ◌≡◌, ◌+◌, ◌<◌, ◌∷◌, ◌++◌, [], length, length-append, append_assoc}
 use Rattle.std.proofs.Common.{vec_len, refl, sym, ap, subst, ◌∙◌}
 use mathlib.Core.Option.{some}

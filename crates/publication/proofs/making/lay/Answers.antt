@@ -1,3 +1,5 @@
+-- `lay`: the slots are the objects with their lists, and after them nothing. The slots so far have the objects in
+-- front; each turn adds one more that has nothing, up to the last.
 use Rattle.std.proofs.Common.{rules, arith, ◌≡◌, ◌+◌, ◌∷◌, [], length}
 use Rattle.desk_invariant.specs.declared.board.Slot.TheVariants as slot
 use Rattle.publication.specs.Making.{rosters_of}

@@ -1,3 +1,5 @@
+-- `make_all`: there is a client for each number, and each is at its beginning. The loop keeps that of the clients
+-- so far, and that each journal left has room and each owner left has its places. Each turn takes one journal.
 use Rattle.std.proofs.Common.{rules, arith, ◌≡◌, ◌+◌, ◌∷◌, [], length, length-append, vec_len, IfSome, sym, ap}
 use Rattle.std.proofs.Common.{subst, ◌∙◌}
 use Rattle.std.proofs.lemmas.List.Elements.{All-pop}

@@ -1,3 +1,5 @@
+-- `refute_all`: each answer is that to its reason, and an impossible one refutes the history. The loop keeps both
+-- of the answers so far. A linearizable history has a valid order for each object, which such an answer rules out.
 use Rattle.std.proofs.Common.{◌≡◌, ◌≢◌, ◌+◌, List, All, Contains, take, sym, subst}
 use Rattle.std.specs.List.{AllZip}
 use Rattle.model.specs.Linearizable.{IsLinearizable}

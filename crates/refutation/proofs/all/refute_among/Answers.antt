@@ -1,3 +1,5 @@
+-- `refute_among`: the answer is that on the object with the reason's number, or that no object has it. The objects
+-- before the one at hand have other numbers.
 use Rattle.std.proofs.Common.{◌≢◌, get_or, refl, ap, sym, ◌∙◌, below_more, arith}
 use Rattle.std.proofs.lemmas.List.{get_or_default}
 use Rattle.events.specs.Operations.{ObjectCalls}

@@ -1,3 +1,5 @@
+-- `write_cell`: what is sent is the cell's values and the rest, or a prefix of it where the sink failed. The two
+-- writes are put together, and both say that what they wrote has its type.
 use Rattle.std.proofs.Common.{rules}
 use Rattle.std.specs.Prelude.{OnOk}
 use Rattle.edn.specs.Sent.{Writes}

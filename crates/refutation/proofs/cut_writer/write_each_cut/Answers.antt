@@ -1,3 +1,5 @@
+-- `write_each_cut`: what is sent is the text of the cuts, or a prefix of it where the sink failed. What was sent,
+-- then the text of the cuts that are left, is always the whole text.
 use Rattle.std.proofs.Common.{true, rules}
 use Rattle.edn.proofs.Fronts.{within, further, fails}
 use Rattle.refutation.specs.Lines.{cuts_text}

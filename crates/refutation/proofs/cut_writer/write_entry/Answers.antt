@@ -1,3 +1,5 @@
+-- `write_entry`: what is sent is the cell's values, its key and the rest, or a prefix where the sink failed. The
+-- three parts are sent in order, and integers are of 64 bits by their type.
 use Rattle.std.proofs.Common.{◌++◌, rules}
 use Rattle.std.specs.Prelude.{codes, OnOk}
 use Rattle.std.specs.Fmt.{signed_decimal}

@@ -1,3 +1,5 @@
+-- `write_other`: what is sent is the text of the two pairs, or a prefix of it where the sink failed. The value and
+-- then the numbers are sent, and integers are of 64 bits by their type.
 use Rattle.std.proofs.Common.{◌++◌, rules}
 use Rattle.std.specs.Prelude.{codes}
 use Rattle.std.specs.Fmt.{signed_decimal}

@@ -1,3 +1,5 @@
+-- `read_reasons`: the forms denote the reasons, or the fault is their first. The loop keeps that the forms so far
+-- denote the reasons so far, so a fault at the next form is the first (`first_fault`).
 use Rattle.edn_reader.specs.View.{views}
 use Rattle.refutation.proofs.Reading.{first_fault, not_denoted, sound_before, one_more_read}
 use Rattle.refutation.proofs.reader.read_reasons.Goals as goal

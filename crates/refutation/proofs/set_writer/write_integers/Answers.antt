@@ -1,3 +1,5 @@
+-- `write_integers`: what is sent is the text of the integers, or a prefix of it where the sink failed. What was
+-- sent, then the text of the keys that are left, is always the whole text.
 use Rattle.std.proofs.Common.{◌≡◌, ◌++◌, [], List, true, false, ap, sym, ◌∙◌, subst, rules}
 use Rattle.std.specs.Prelude.{codes}
 use Rattle.std.specs.List.{AllByRecursion}

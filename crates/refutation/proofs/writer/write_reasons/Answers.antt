@@ -1,3 +1,5 @@
+-- `write_reasons`: the lines go out, or a front of them if the sink fails, and read back as the reasons. The loop
+-- keeps that what was sent and the lines left are all lines, and that each reason so far is typed.
 use Rattle.std.proofs.Common.{subst, rules, arith}
 use Rattle.std.specs.List.{AllByRecursion}
 use Rattle.edn.proofs.Fronts.{within, further, fails}

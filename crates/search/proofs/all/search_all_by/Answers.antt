@@ -1,3 +1,5 @@
+-- `search_all_by`: the answers are on the objects of the history in rising order, and if all were found their
+-- certificates are valid. Each turn adds the answer on the next object of the split.
 use Rattle.checker.proofs.Certificates.{are_objects}
 use Rattle.checker.proofs.Collected.{no_answers, one_more_answer, on_all, distinct, valid}
 use Rattle.search.specs.Answers.{certificate_in}

@@ -1,3 +1,5 @@
+-- `find_order_of_any_size`: the outcome is true of the history's calls. Where none returned the empty order is
+-- valid (`nothing_valid`). Else the search says it, which never answers that they are too many.
 use Rattle.std.proofs.Common.{List, length, count_by, ap, sym, ◌∙◌, subst, arith}
 use Rattle.model.specs.Orders.{IsValidOrder}
 use Rattle.events.specs.declared.operations.Invocation.{Invocation}

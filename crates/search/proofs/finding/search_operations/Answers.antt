@@ -1,3 +1,5 @@
+-- `search_operations`: an order that is found is valid, and an impossible search means that none is. The trials
+-- list the calls of the history, so an order of the trials is one of the calls (`found_valid`, `none_valid`).
 use Rattle.std.proofs.Common.{◌≡◌, ℤ, List, [], length, subst}
 use Rattle.std.proofs.lemmas.Result.{IfOk-weaker}
 use Rattle.model.specs.Objects.{empty}

@@ -1,3 +1,5 @@
+-- `least_return`: the result is the least return of the operations that are not in the order. The loop keeps that
+-- of the places below `at`, which rises. It ends where the floor of the returns is greater, or no place is left.
 use Rattle.std.proofs.Common.{◌<◌, ◌+◌, length, get_or, inl, inr, ap, ◌∙◌, add-one, arith}
 use Rattle.std.proofs.lemmas.List.{get_or_default}
 use Rattle.search.specs.Arranged.{as_call}

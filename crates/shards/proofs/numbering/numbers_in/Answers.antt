@@ -1,3 +1,5 @@
+-- `numbers_in`: of the text of a table, what is read are its numbers, and such a text is no misfit. The text that
+-- is left, after the digits so far, is that of the numbers that are left; each byte keeps this.
 use Rattle.std.proofs.Common.{◌+◌, [], drop, sym, subst}
 use Rattle.std.proofs.lemmas.Option.{same_Some}
 use Rattle.shards.proofs.ReadTables.{IsReadTo, digit_at, line_at, read_all, read_nothing}

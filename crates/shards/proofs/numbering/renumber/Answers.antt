@@ -1,3 +1,5 @@
+-- `renumber`: each event has the number in its place of the list, and these rise. A number that is not there or
+-- does not rise means a misfit; the least one that may come is one past the last.
 use Rattle.std.proofs.Common.{◌+◌, ◌<◌, [], ◌∷◌, ◌++◌, get_or, length, ap, sym, ◌∙◌, subst}
 use Rattle.std.proofs.lemmas.List.Elements.{All-more}
 use Rattle.events.specs.declared.event.Event.{Event}

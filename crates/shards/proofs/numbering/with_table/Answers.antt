@@ -1,3 +1,5 @@
+-- `with_table`: the events have the numbers of the table, which fits the history. There is one number for each
+-- event, and the events made of them rise in number (`fits`), so they are a history too (`proper_renumbered`).
 use Rattle.std.proofs.Common.{◌≡◌, length, ap, sym, ◌∙◌, subst, arith}
 use Rattle.shards.specs.Dividing.{table_text, with_numbers}
 use Rattle.shards.specs.Shards.{AreRenumbered}

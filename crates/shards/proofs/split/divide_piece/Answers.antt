@@ -1,3 +1,5 @@
+-- `divide_piece`: a piece is divided and what is under way stays so, or the fault is one in the text. A piece that
+-- ends inside a form asks for more text; any other fault of the piece is told at its place in the text.
 use Rattle.std.proofs.Common.{take, drop, sym, subst}
 use Rattle.std.proofs.lemmas.List.{take-append-drop}
 use Rattle.std.proofs.lemmas.Result.{on_ok_weaker}

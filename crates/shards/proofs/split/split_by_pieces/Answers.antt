@@ -1,3 +1,5 @@
+-- `split_by_pieces`: the shards are those of the whole history, or the fault is one of it. The text so far is
+-- divided or waits in the pieces (`more_so_far`); at the end of the source it is the whole text.
 use Rattle.std.proofs.Common.{sym, ◌∙◌}
 use Rattle.std.proofs.lemmas.Result.{IfOk-weaker, err_from_is_err_and}
 use Rattle.shards.proofs.OnOk.{if_err_weaker}

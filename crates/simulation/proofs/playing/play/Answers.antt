@@ -1,3 +1,5 @@
+-- `play`: the record is that of the schedule's steps, or a client has not ended. The machine starts as the header
+-- says, and `run` took the steps that were possible; `is_played` and `is_going_on` join these.
 use Rattle.std.proofs.Common.{List, ℕ, subst}
 use Rattle.simulation.specs.Schedules.{AnyStep}
 use Rattle.machine.specs.Machines.{world_of}

@@ -1,3 +1,5 @@
+-- `certificates_by`: the certificates are those of the record's journals and logs. Each object of the split is
+-- named in the history, so it has a log; in each turn its name and the order of that log are added.
 use Rattle.std.proofs.Common.{◌≡◌, ◌++◌, [], ◌∷◌, List, ℕ, map, All, Contains, ap, sym, ◌∙◌, subst}
 use Rattle.std.proofs.lemmas.List.{take_all}
 use Rattle.std.proofs.lemmas.List.Elements.{All-push}

@@ -1,3 +1,5 @@
+-- `check_record`: a refusal is the first of the record's history and certificates, and of a sound record there is
+-- none. What was gathered from a sound record is valid (`are_valid`), and `check_all` refuses nothing that is.
 use Rattle.std.proofs.Common.{◌≢◌, ℕ, List, Result, Ok, Err, IfErr, sym, subst}
 use Rattle.desk_model.specs.World.{AnyEntry, AnyEvent}
 use Rattle.events.specs.declared.event.Event.{Event}

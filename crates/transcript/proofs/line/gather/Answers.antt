@@ -1,3 +1,5 @@
+-- `gather`: the lines are those of the journals, client by client. The lines so far, then those of the journals
+-- that are left, are all; each turn adds the lines of one client.
 use Rattle.std.proofs.Common.{◌++◌, map, ap, ◌∙◌}
 use Rattle.desk_model.specs.Images.{event_in}
 use Rattle.transcript.specs.Lines.{lines_of}

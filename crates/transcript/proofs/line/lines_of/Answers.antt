@@ -1,3 +1,5 @@
+-- `lines_of`: the lines are those of the record's journals, in order of tickets. They are the lines of all
+-- journals, sorted by their tickets, which is what `Gathered` asks for.
 use Rattle.std.proofs.Common.{rules, ◌^◌, map, subst}
 use Rattle.std.specs.List.Sorted.{IsPermutation}
 use Rattle.std.proofs.lemmas.List.Sorted.{IsNonDecreasingBy-from_sort_by_key}

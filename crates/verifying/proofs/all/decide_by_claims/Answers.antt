@@ -1,3 +1,5 @@
+-- `decide_by_claims`: the answers are the decisions on the objects by all claims. After each claim, the answers are
+-- those by the claims so far; at the start all objects are open.
 use Rattle.std.proofs.Common.{rules, arith, ◌≡◌, ◌∙◌, ◌∷◌, ◌++◌, [], List, append_assoc, length, refl, ap, sym, subst}
 use Rattle.std.proofs.lemmas.List.{append-nil}
 use Rattle.std.proofs.lemmas.List.{nil_from_length}

@@ -1,3 +1,5 @@
+-- `take_claim`: the decision on the claim's object is the next one by the claim, and no other changes. The numbers
+-- rise, so the binary search finds the object's place (`is_own`), or no object has the number (`not_there`).
 use Rattle.std.proofs.Common.{rules, ◌≡◌, ◌∙◌, ◌<◌, ℕ, length, get_or, ap, sym, subst, arith}
 use Rattle.std.proofs.Math.ListN.{set}
 use Rattle.std.proofs.lemmas.List.{get_or_default, length-set}

@@ -1,3 +1,5 @@
+-- `decide_by_reason`: the decision is an answer to the claim on this object. A part that was shown to have no valid
+-- order makes it impossible (`is_shown_by`), and what a doubt leads to is said by `decide_by_doubt`.
 use Rattle.std.proofs.Common.{ℕ, ap, sym, subst}
 use Rattle.events.specs.Operations.{calls_of}
 use Rattle.refutation.specs.declared.refuting.Refutation.{Refutation}

@@ -1,3 +1,5 @@
+-- `read_claims`: the forms denote the claims, or the fault is their first. The loop keeps that the forms so far
+-- denote the claims so far, so a fault at the next form is the first (`first_fault`).
 use Rattle.edn_reader.specs.View.{views}
 use Rattle.verifying.proofs.Reading.{first_fault, not_denoted, sound_before, one_more_read}
 use Rattle.verifying.proofs.reader.read_claims.Goals as goal

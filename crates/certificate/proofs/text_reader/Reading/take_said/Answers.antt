@@ -1,3 +1,5 @@
+-- `take_said`: with the next form, the reading is still that of the forms. Where the element was fit, one
+-- certificate more is kept; else the fault is recorded as the one that is found at this form.
 use Rattle.std.proofs.Common.{ℕ, Option, List, [], ◌∷◌, ◌++◌, sym, subst, ◌∙◌}
 use Rattle.certificate.specs.declared.Certificate.{Certificate}
 use Rattle.certificate.specs.declared.fault.CertFault.{CertFault}

@@ -1,3 +1,5 @@
+-- `form`, `vector` and `map`: the tokens that were taken are those of the form that is made. In the loops the
+-- tokens of the items so far, then those that are left, are all; the text that is left gets shorter.
 use Rattle.std.proofs.Common.{◌≡◌, ◌∷◌, ◌++◌, List, ℕ, refl, sym, ap, ◌∙◌, subst, arith}
 use Rattle.edn_reader.specs.Bytes.{is_name}
 use Rattle.edn_reader.specs.Datum.{Datum, keyword, atom}

@@ -1,3 +1,5 @@
+-- `usual_keyword`: with the colon in front, the first token of the text is the keyword of this name. The name
+-- begins with a letter, has at most 64 bytes and ends its token, which is what the lemma needs.
 use Rattle.std.proofs.Common.{◌≡◌, ◌-◌, ◌≤◌, true, rules, length, take, drop, get_or, refl, sym, ap, ◌∙◌, arith}
 use Rattle.edn_reader.specs.Bytes.{is_letter}
 use Rattle.edn_reader.specs.Spells.{EndsToken}

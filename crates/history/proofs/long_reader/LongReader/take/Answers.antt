@@ -1,3 +1,5 @@
+-- `take`: the reader has read one map more and gives its event, or the fault is the first of all maps. The maps
+-- before have no fault (`first_of_all`, `faultless_push`), and what `check` and `note` say of one map carries over.
 use Rattle.std.proofs.Common.{◌+◌, [], ◌∷◌, inl, refl, subst}
 use Rattle.history.specs.declared.long_reader.LongReader.{LongReader}
 use Rattle.history.specs.Faults.{IsMapFault}

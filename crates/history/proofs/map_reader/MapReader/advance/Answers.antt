@@ -1,3 +1,5 @@
+-- `advance`: what is given is what the next form says, or there is none. Of a usual map `usual_map` says that. Of
+-- any other form the pieces that are kept say as much as the whole form does (`says_as_much`).
 use Rattle.std.proofs.Common.{◌≡◌, ℕ, List, ap, sym, subst, ◌∙◌}
 use Rattle.edn_reader.specs.Left.{left_of, keeping_in, tokens_in, integer_vector_in}
 use Rattle.edn_reader.specs.Token.{tokens_of}

@@ -1,3 +1,5 @@
+-- `read_lines`: the piece has then the forms that the lines spell after its own. The piece is always of its forms
+-- and of the forms of the lines up to the place that was reached.
 use Rattle.std.proofs.Common.{Option, [], ◌∷◌, ◌++◌, sym, subst, append_assoc}
 use Rattle.std.proofs.lemmas.List.{append-nil}
 use Rattle.edn_reader.specs.Elements.{SpellsNothing}

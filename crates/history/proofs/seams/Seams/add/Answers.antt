@@ -1,3 +1,5 @@
+-- `add`: what is given joins this piece to those before it. Its first events are allowed after theirs, its objects
+-- have one kind with theirs, and the maps are not too many: `joined_more` needs no more than that.
 use Rattle.std.proofs.Common.{◌+◌, ◌≤◌, map, All, refl, sym, subst, arith}
 use Rattle.number_map.specs.Lookup.{value_of}
 use Rattle.events.specs.Operations.{IsListed}

@@ -1,3 +1,5 @@
+-- `check_client`: the map fits what was seen, or the fault is the first of the map. The checks are made in the
+-- order of the faults, so at each exit the map has passed all checks before.
 use Rattle.std.proofs.Common.{◌≡◌, sym, subst}
 use Rattle.number_map.specs.Lookup.{value_of}
 use Rattle.history.specs.Maps.{clients}

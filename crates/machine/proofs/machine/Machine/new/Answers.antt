@@ -1,3 +1,5 @@
+-- `new`: the machine is one at its start, whose objects are empty and whose clients are idle. Its parts are lists
+-- of equal values, and `made_start` says that they make the state at the start.
 use Rattle.std.proofs.Common.{◌≡◌, ℕ, length, map, sym, ◌∙◌, ap, subst, arith, rules}
 use Rattle.std.proofs.lemmas.List.{length-map}
 use Rattle.model.specs.Objects.{kind_with}

@@ -1,3 +1,5 @@
+-- `pick`: the step is taken, or is impossible and nothing has changed. The client holds one object alone, so a hand
+-- that is not free, or a row that has nothing for it, shows that the step is impossible.
 use Rattle.std.proofs.Common.{◌≡◌, true, false, get_or, None, refl, sym, ◌∙◌, ap}
 use Rattle.machine.proofs.Rows.{pick_done}
 use Rattle.machine.proofs.machine.Machine.pick.Goals as goal

@@ -1,3 +1,5 @@
+-- `post`: the step is taken, or it is impossible and nothing has changed. The client's stage alone decides: it is
+-- Drawn, and becomes Posted, or the step is not possible.
 use Rattle.std.proofs.Common.{refl}
 use Rattle.desk_model.specs.Transitions.{post}
 use Rattle.machine.proofs.Kept.{taken_of, not_of, going_of}

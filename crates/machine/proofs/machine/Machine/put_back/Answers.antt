@@ -1,3 +1,5 @@
+-- `put_back`: the request in hand is in its row again, or the step is not possible, as the object can do the
+-- operation (`put_back_not`). What is written is what the transition makes (`put_back_done`).
 use Rattle.std.proofs.Common.{◌≡◌, true, false, refl}
 use Rattle.machine.proofs.Hands.{put_back_not}
 use Rattle.machine.proofs.Rows.{put_back_done}

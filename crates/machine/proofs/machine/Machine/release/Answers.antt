@@ -1,3 +1,5 @@
+-- `release`: the step is taken, or it is impossible and nothing has changed. The client holds one object alone, so
+-- if its hand is not free the step is impossible; else `release_done` gives the next state.
 use Rattle.std.proofs.Common.{◌≡◌, true, false, get_or, None, refl, sym, ◌∙◌, ap}
 use Rattle.machine.proofs.Rows.{release_done}
 use Rattle.machine.proofs.machine.Machine.release.Goals as goal

@@ -1,3 +1,5 @@
+-- `run`: the steps so far were taken, or passed over where they were not possible, and these are counted. The loop
+-- keeps that, and one turn more adds one step to the run (`more`).
 use Rattle.std.proofs.Common.{◌+◌, ◌∷◌, [], subst, arith}
 use Rattle.model.specs.declared.Kind.{Kind}
 use Rattle.std.proofs.Common.{List, ℕ}

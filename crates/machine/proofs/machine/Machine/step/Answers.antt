@@ -1,3 +1,5 @@
+-- `step`: a refused step is one that is not possible now, and the world stays that of a run. Each kind of step has
+-- the contract of its own function, of which `not_now` and `tried_run` prove the two clauses.
 use Rattle.std.proofs.Common.{ap}
 use Rattle.desk_model.specs.Transitions as world
 use Rattle.machine.specs.Steps.{step_in}

@@ -1,3 +1,5 @@
+-- `answer`: the row has the answer, and the log is longer by the operation if that was done. `answer_ready` gives
+-- what the store needs to keep the rule of the row, and `core_grows` that the core still fits what the pass knows.
 use Rattle.std.proofs.Common.{map, ◌≡◌, ◌+◌, ◌-◌, ◌<◌, length, vec_len, vec_capacity, rules, arith, sym, ap, subst, ◌∙◌}
 use Rattle.desk_model.specs.World.{logged}
 use Rattle.desk_model.specs.Images.{answer_in}

@@ -1,3 +1,5 @@
+-- `put_back`: the row has its request again, and the pass knows that. `back_ready` gives what the store needs to
+-- keep the rule of the row (`put_back_keeps_rule`), and `back_ok` that the pass stays sound.
 use Rattle.std.proofs.Common.{map, ◌≡◌, rules, arith, refl, sym, ap, ◌∙◌}
 use Rattle.publication_list.specs.Calls.{PlaceSeen}
 use Rattle.desk_invariant.proofs.Rows.{put_back_keeps_rule}

@@ -1,3 +1,5 @@
+-- `pick`: what is got is the request that the row had posted for this object, and else there was none. The look and
+-- the exchange keep the rule of the row (`look_at_row_keeps_rule`, `pick_keeps_rule`), so the slot has a request.
 use Rattle.std.proofs.Common.{map, ◌≡◌, ◌+◌, rules, refl, sym, ap, ◌∙◌}
 use Rattle.publication_list.specs.Calls.{PlaceSeen}
 use Rattle.desk_invariant.proofs.Locks.{held_object}

@@ -1,3 +1,5 @@
+-- `release`: the object is back in its slot, and the client has seen the log. The core was put back by the
+-- exchange, so the release keeps the rules of the desk (`release_ready`).
 use Rattle.std.proofs.Common.{map, ◌≡◌, rules, arith, sym, ap, ◌∙◌}
 use Rattle.publication_list.specs.Calls.{PlaceSeen}
 use Rattle.desk_invariant.proofs.Locks.{release_keeps_rule}

@@ -1,3 +1,5 @@
+-- `enlist`: the client's places remember the try, and the place is of its own row in this object's list. The try
+-- changes no roster, so the places are still its own (`still_own`).
 use Rattle.std.proofs.Common.{rules, arith, ◌<◌, length, map, sym, ap, subst, ◌∙◌}
 use Rattle.publication_list.specs.Calls.{PlaceSeen}
 use Rattle.publication.specs.Handles.{Known, HasPlaceAt, IsClient, ArePlacesOf, trying}

@@ -1,3 +1,5 @@
+-- `meet`: both clients have then seen one legal log, which goes on from what each had seen. The first learns the
+-- log of the table, and its message back is that log (`told_back`), which the second adopts.
 use Rattle.std.proofs.Common.{rules, arith, ◌<◌, ℕ, length, sym, ap, ◌∙◌, subst}
 use Rattle.desk_model.specs.World.{kind_at, IsLegal, StartsWith}
 use Rattle.desk_invariant.specs.declared.board.DeskView.{DeskView}

@@ -1,3 +1,5 @@
+-- `poll`: the client takes an answer and draws the ticket of its return, or has missed, as `NotPolled` says. Its
+-- call is outstanding, so its own row waits; each step on the table keeps the rules of its play.
 use Rattle.std.proofs.Common.{map, ◌≡◌, rules, arith, refl, ℕ, ◌∷◌, ◌++◌, [], inr, sym, ap, ◌∙◌, subst}
 use Rattle.publication_list.specs.Calls.{PlaceSeen}
 use Rattle.desk_invariant.specs.declared.board.DeskView.{DeskView}

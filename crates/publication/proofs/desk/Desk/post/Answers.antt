@@ -1,3 +1,5 @@
+-- `post`: the call is posted with the ticket that was drawn, and its invocation is the last event of the journal.
+-- The client is idle, so each step keeps the rules of its play, and `post_turn` says what it then knows.
 use Rattle.std.proofs.Common.{map, rules, arith, ◌≡◌, ◌<◌, ◌+◌, ◌++◌, ◌∷◌, [], true, List, length, refl, sym, ap}
 use Rattle.std.proofs.Common.{◌∙◌, subst}
 use Rattle.atomic_table.specs.Table.{rest}

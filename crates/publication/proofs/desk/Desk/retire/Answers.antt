@@ -1,3 +1,5 @@
+-- `retire`: the client has ended, and its journal is told of in its notice. The client is at rest and its journal
+-- is the one that it knows, so the end and its message keep the rules of the desk.
 use Rattle.std.proofs.Common.{rules, arith, map, ◌∷◌, [], sym, ap, subst, ◌∙◌}
 use Rattle.desk_model.specs.Images.{event_in}
 use Rattle.desk_invariant.specs.declared.board.DeskView.{DeskView}

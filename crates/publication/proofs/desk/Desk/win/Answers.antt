@@ -1,3 +1,5 @@
+-- `win`: a pass that is won has the object's core, and a miss changes only what the client knows. The look and the
+-- exchange keep the rule of the lock (`look_at_lock_keeps_rule`, `win_keeps_rule`), so the slot has a core.
 use Rattle.std.proofs.Common.{rules, arith, ◌≡◌, ◌<◌, ℕ, ◌+◌, length, refl, sym, ap, ◌∙◌, subst}
 use Rattle.desk_invariant.proofs.Locks.{look_at_lock_keeps_rule, win_keeps_rule}
 use Rattle.publication.proofs.Dealing.{own_still}

@@ -1,3 +1,5 @@
+-- `unlink`: the row at this place is out of the list and inactive, and the walker knows its rows without it. The
+-- store goes to the link of the row before it, as the walker met it, and then its mark is cleared.
 use Rattle.std.proofs.Common.{arith, ℕ, ◌≡◌, ◌+◌, ◌-◌, ◌<◌, ◌≤◌, [], None, Some, length, get_or, remove, sym, ap}
 use Rattle.std.proofs.Common.{◌∙◌, subst}
 use Rattle.std.proofs.lemmas.Grind.{get_or_default_zero}

@@ -1,3 +1,5 @@
+-- `Trials::new`: the trials are the operations that did not fail, arranged. They are a permutation of these, so
+-- they are few (`items_few`), and the floors and `pending` are right of them (`arranged`).
 use Rattle.std.proofs.Common.{ℕ, ◌<◌, List, IsSome, filter, length, true, false, ap, sym, ◌∙◌, subst, arith}
 use Rattle.std.specs.List.Sorted.{IsPermutation}
 use Rattle.events.specs.declared.operations.Invocation.{Invocation}

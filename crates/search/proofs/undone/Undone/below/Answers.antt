@@ -1,3 +1,5 @@
+-- `below`: the places are those of the list below `high`. The loop keeps that they are in front of any that the
+-- list has from the slot on (`below_step`), so they are all once the list ends or reaches `high` (`listed_end`).
 use Rattle.std.proofs.Common.{◌<◌, length, inl, inr, sym, ◌∙◌, arith}
 use Rattle.std.proofs.lemmas.List.{get_or_default}
 use Rattle.search.proofs.Steps.{listed_end, below_step}

@@ -1,3 +1,5 @@
+-- `begin`: the search is at its start: no level, all places linked, and an empty object. No place is dead yet,
+-- because both sets of dead ones are new.
 use Rattle.std.proofs.Common.{◌≡◌, [], length, ◌∙◌, subst, arith}
 use Rattle.std.proofs.lemmas.List.{get_or_default}
 use Rattle.model.specs.Objects.{empty}

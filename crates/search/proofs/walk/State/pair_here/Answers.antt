@@ -1,3 +1,5 @@
+-- `pair_here`: the pair is dead. From where the search is nothing goes on, and the pair describes that place: its
+-- list is of the operations below `high` that are not done (`dead_pair`).
 use Rattle.std.proofs.Common.{length, reverse, sym, subst}
 use Rattle.model.specs.Objects.{empty}
 use Rattle.search.specs.Undoing.{content_of}

@@ -1,3 +1,5 @@
+-- `pass`: the walk goes on to the next place that is linked, which is later. The place that it leaves is dead, so
+-- the search is still complete (`pass_walk`).
 use Rattle.std.proofs.Common.{◌+◌, length, reverse, ◌∙◌, arith}
 use Rattle.std.proofs.lemmas.List.{get_or_default}
 use Rattle.model.specs.Objects.{empty}

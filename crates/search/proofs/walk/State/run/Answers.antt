@@ -1,3 +1,5 @@
+-- `run`: the walk ends with an order, with none possible, or out of steps. Each place that is passed is dead: it is
+-- invoked too late, or its operation is not possible. The measure falls at each turn.
 use Rattle.std.proofs.Common.{◌<◌, length, reverse, inl, inr, ap, ◌∙◌, arith}
 use Rattle.std.proofs.lemmas.List.{get_or_default}
 use Rattle.model.specs.Objects.{empty}

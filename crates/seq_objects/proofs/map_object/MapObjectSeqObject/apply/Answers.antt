@@ -1,3 +1,5 @@
+-- `apply`: the reply and the new table are those of the model's `next`. There is one law of `Tables` for each
+-- operation; integers of 64 bits stay the same when they are read back.
 use Rattle.std.specs.Option.{option_eq}
 use Rattle.std.proofs.Common.{ap, sym, refl, not, int_eq, Some, ◌∙◌, ◌≡◌, rules, to_z, of_z, w64}
 use Rattle.model.specs.Objects.{next, table, contains_value, has_value, is_absent}

@@ -1,3 +1,5 @@
+-- `flush`: what waits of each shard is given to the folder, and the maps taken stay taken. The shards before the
+-- one at hand were flushed; if the least number of bytes is 0, they have nothing that waits.
 use Rattle.std.proofs.Common.{◌<◌, [], length, refl, arith}
 use Rattle.shards.proofs.Flushing.{flushed_more, none_flushed}
 use Rattle.shards.proofs.WaitingLines.{none_more}

@@ -1,3 +1,5 @@
+-- `take`: the maps of the piece are taken in turn, or the fault is that of the piece. The loop keeps that the maps
+-- so far are taken (`AreTakenUpTo`), so a fault of the next one is the first of the piece (`piece_fault`).
 use Rattle.std.proofs.Common.{List, sym, subst}
 use Rattle.history.specs.MapTexts.{AreMapTexts}
 use Rattle.history.specs.declared.map_texts.MapText.{MapText}

@@ -1,3 +1,5 @@
+-- `take_map`: one map more is taken in, or the fault is found among the maps with this one as the last. The map has
+-- an event exactly where it is of a client (`event_is`, `no_client`); any other goes to no shard.
 use Rattle.std.proofs.lemmas.Bool.{cases_lt}
 use Rattle.std.proofs.Common.{◌≡◌, ◌≤◌, ◌/◌, inl, inr, ◌++◌, ◌∷◌, ◌∙◌, [], Option, arith, refl, sym, subst}
 use Rattle.std.proofs.Common.{option_to_list, rules}

@@ -1,3 +1,5 @@
+-- `read`: the text grows by what the source gives, until it is as long as wanted or the source ends. The loop keeps
+-- that the bytes added are those that the source has given (`IsMore`), and that it has not ended.
 use Rattle.std.proofs.Common.{◌<◌, drop, length, refl, sym, ◌∙◌, subst, arith}
 use Rattle.shards.proofs.ReadingOn.{no_more, some_more, came_to_end}
 use Rattle.shards.proofs.pieces.Pieces.read.Goals as goal

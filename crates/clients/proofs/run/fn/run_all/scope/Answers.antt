@@ -1,3 +1,5 @@
+-- The scope of `run_all`: client 0 has made its calls and met each other client. The first loop keeps which worker
+-- promises which client's work, and the second that client 0 has met those that were joined so far.
 use Rattle.std.proofs.Common.{rules, ◌≡◌, ◌∙◌, ◌<◌, ◌≤◌, ◌+◌, ◌∷◌, [], ℕ, length, length-append, ap, sym, subst, arith}
 use Rattle.publication.specs.Handles.{DeskSeen}
 use Rattle.clients.specs.Workloads.{Work}

@@ -1,3 +1,5 @@
+-- `run_all`: first, the workers are started for the clients from the last on, and the clients that are left are
+-- new. Then the own client has met all whose threads were joined.
 use Rattle.std.proofs.Common.{◌≡◌, ℕ, ◌+◌, ◌<◌, ◌≤◌, length, get_or, vec_capacity}
 use Rattle.clients.specs.Workloads.{Work}
 use Rattle.clients.specs.Made.{AreNew, HasMetBelow, IsDeskFor, Keeps}
