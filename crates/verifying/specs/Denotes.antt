@@ -42,6 +42,7 @@ begins_like_a_verdict s =
     starts_with nat_eq s (codes "yes:")
     || starts_with nat_eq s (codes "no:")
     || starts_with nat_eq s (codes "malformed ")
+    || starts_with nat_eq s (codes "not linearizable")
     || starts_with nat_eq s (codes "out of memory")
 
 -- whether a text begins as a line of an answer does, after the mark of a comment or without one
@@ -49,6 +50,7 @@ abbrev pub begins_like_a_line : List ℕ → Bool
 begins_like_a_line s =
     begins_like_a_verdict s
     || starts_with nat_eq s (codes "object ")
+    || starts_with nat_eq s (codes "shard ")
     || starts_with nat_eq s (codes "event")
     || starts_with nat_eq s (codes "{")
     || starts_with nat_eq s (codes " ")

@@ -28,6 +28,7 @@ fn begins_like_a_line(bytes: &[u8]) -> bool
 {
     begins_like_a_verdict(bytes)
         || bytes.starts_with(b"object ")
+        || bytes.starts_with(b"shard ")
         || bytes.starts_with(b"event")
         || bytes.starts_with(b"{")
         || bytes.starts_with(b" ")
@@ -40,6 +41,7 @@ fn begins_like_a_verdict(bytes: &[u8]) -> bool
     bytes.starts_with(b"yes:")
         || bytes.starts_with(b"no:")
         || bytes.starts_with(b"malformed ")
+        || bytes.starts_with(b"not linearizable")
         || bytes.starts_with(b"out of memory")
 }
 

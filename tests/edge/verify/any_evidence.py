@@ -243,6 +243,8 @@ FORGED = (
     "yes: 2 operations, 2 objects",
     "no: C7 object 0: 0 is left out",
     "malformed history: H8 at event 2",
+    "not linearizable: object 1: none of these operations' orders is valid",
+    "shard 1: undecided",
     "out of memory",
     " object 1: open",
     "value 7\nyes: 2 operations, 2 objects",
