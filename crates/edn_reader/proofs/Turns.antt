@@ -324,7 +324,7 @@ sound_next keeping text rest here now_open kept u h e m =
       within,
       sound text rest here m.state h u m.progress
           (taken_too m.state (first here)
-            (subst (λ (s : Shapes). IsSome (after_piece s (first here))) (sym m.shaped) e)),
+          (subst (λ (s : Shapes). IsSome (after_piece s (first here))) (sym m.shaped) e)),
     )
 
 pub sound_first : (text here : List ℕ) (old : Shapes) → IsUtf8 text → here ≡ skip text → old ≡ nothing_open

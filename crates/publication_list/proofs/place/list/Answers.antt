@@ -17,7 +17,7 @@ store-requires c =
       omega arith,
       link_allowed _ _ _ _ (tries_of c.args.seat.now.me.0) _
           (subst (IsPlace c.args.row true (tries_of c.args.seat.now.me.0))
-            (sym c.load-first.ensures.2) c.requires.seat),
+          (sym c.load-first.ensures.2) c.requires.seat),
     )
 
 pub compare_exchange-requires : goal.compare_exchange-requires
