@@ -1,5 +1,5 @@
 """Checks that documents agree with the code: tables of crates, contracts, counts of lines to believe, names that several crates define, links,
-words to avoid, and scripts. And that no code is there twice that was not accepted."""
+words to avoid, widths of lines, and scripts. And that no code is there twice that was not accepted."""
 import glob
 import io
 import os
@@ -214,6 +214,33 @@ def plain_words(program, report):
         report.equal(f"plain_words: '{word}' is in no name", [], found)
 
 
+# The most characters of a line of these files: of proofs, of definitions, and of prose.
+WIDTHS = {"crates/*/proofs/**/*.antt": 120, "crates/*/specs/**/*.antt": 100, "docs/*.md": 150, "README.md": 150, "CHANGELOG.md": 150}
+# A row of a table, or a line that is one link.
+NO_PROSE = re.compile(r"\|| *(?:[-*] )?\[[^\[\]]*\]\(\S+\)\W?$")
+
+
+def lines_with_numbers(path):
+    """The lines of a file, counted from 1: of a page those of prose."""
+    is_fenced, is_code, before = False, False, ""
+    for number, line in enumerate(read(path).split("\n"), 1):
+        is_fenced ^= line.startswith("```")
+        is_code = line.startswith("    ") and (is_code or not before)
+        before = line
+        if not path.endswith(".md") or not (is_fenced or is_code or NO_PROSE.match(line)):
+            yield number, line
+
+
+def widths(program, report):
+    """No line of a proof has more than 120 characters, of a definition more than 100, and of prose more than 150."""
+    for files, most in WIDTHS.items():
+        paths = sorted(glob.glob(f"{ROOT}/{files}", recursive=True))
+        report.holds(f"widths: there are files {files}", paths)
+        found = ((path, number, len(line)) for path in paths for number, line in lines_with_numbers(path))
+        wide = [f"{os.path.relpath(path, ROOT)}:{number}: {width}" for path, number, width in found if width > most]
+        report.equal(f"widths: lines of {files} with more than {most} characters", [], wide)
+
+
 def like_lines(program, report):
     """No two places of the code have 12 or more like lines, except for those that tests/like_lines.accepted has."""
     ran = subprocess.run([sys.executable, f"{ROOT}/tests/like_lines.py", "--check"], capture_output=True, text=True)
@@ -269,4 +296,4 @@ def usages(program, report):
         report.holds(f"usages: {os.path.relpath(script, ROOT)} --help", ran.returncode == 0 and "options:" in ran.stdout, ran)
 
 
-PARTS = (documents, links, names_of_several, named_clauses, plain_words, snippets, usages, like_lines)
+PARTS = (documents, links, names_of_several, named_clauses, plain_words, widths, snippets, usages, like_lines)

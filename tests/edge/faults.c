@@ -1,11 +1,12 @@
 /* Preloaded before a program, makes calls of the system fail. The environment says which:
 
-   REFUSE_AT=N       the Nth allocation is refused, counted from 1
-   FAIL_READ_AT=N    the Nth read fails, also one at a place of the file
-   READ_AT_MOST=N    a read takes at most N bytes
-   WRITE_AT_MOST=N   a write takes at most N bytes
-   WRITE_IN_ALL=N    standard output takes N bytes in all, and then each write fails
-   COUNT_TO=FILE     the number of allocations and of reads is written to FILE at the end */
+   REFUSE_AT=N            the Nth allocation is refused, counted from 1
+   FAIL_READ_AT=N         the Nth read fails, also one at a place of the file
+   FAIL_FILE_WRITE_AT=N   the Nth write to a file fails, of those to other files than standard output and standard error
+   READ_AT_MOST=N         a read takes at most N bytes
+   WRITE_AT_MOST=N        a write takes at most N bytes
+   WRITE_IN_ALL=N         standard output takes N bytes in all, and then each write fails
+   COUNT_TO=FILE          the number of allocations, of reads and of writes to such files is written to FILE at the end */
 #define _GNU_SOURCE
 #include <errno.h>
 #include <fcntl.h>
@@ -20,8 +21,8 @@ extern void *__libc_calloc(size_t, size_t);
 extern void *__libc_realloc(void *, size_t);
 extern void *__libc_memalign(size_t, size_t);
 
-static atomic_long allocations, reads, written;
-static long refuse_at, fail_read_at, read_at_most, write_at_most, write_in_all;
+static atomic_long allocations, reads, file_writes, written;
+static long refuse_at, fail_read_at, fail_file_write_at, read_at_most, write_at_most, write_in_all;
 static int is_ready;
 
 static long number(const char *name) {
@@ -32,6 +33,7 @@ static long number(const char *name) {
 __attribute__((constructor)) static void begin(void) {
     refuse_at = number("REFUSE_AT");
     fail_read_at = number("FAIL_READ_AT");
+    fail_file_write_at = number("FAIL_FILE_WRITE_AT");
     read_at_most = number("READ_AT_MOST");
     write_at_most = number("WRITE_AT_MOST");
     write_in_all = getenv("WRITE_IN_ALL") ? number("WRITE_IN_ALL") : -1;
@@ -41,8 +43,8 @@ __attribute__((constructor)) static void begin(void) {
 static void say_counts(void) {
     const char *name = getenv("COUNT_TO");
     if (!name) return;
-    char text[64];
-    int n = snprintf(text, sizeof text, "%ld %ld\n", atomic_load(&allocations), atomic_load(&reads));
+    char text[96];
+    int n = snprintf(text, sizeof text, "%ld %ld %ld\n", atomic_load(&allocations), atomic_load(&reads), atomic_load(&file_writes));
     int fd = open(name, O_WRONLY | O_CREAT | O_TRUNC, 0600);
     if (fd >= 0) {
         if (syscall(SYS_write, fd, text, n) != n) abort();
@@ -100,7 +102,14 @@ ssize_t pread(int fd, void *to, size_t n, off_t place) {
 
 ssize_t pread64(int fd, void *to, size_t n, off_t place) { return pread(fd, to, n, place); }
 
+static int fails_to_write(int fd) {
+    if (fd <= STDERR_FILENO || atomic_fetch_add(&file_writes, 1) + 1 != fail_file_write_at) return 0;
+    errno = ENOSPC;
+    return 1;
+}
+
 ssize_t write(int fd, const void *from, size_t n) {
+    if (fails_to_write(fd)) return -1;
     n = at_most(n, write_at_most);
     if (fd != STDOUT_FILENO || write_in_all < 0) return syscall(SYS_write, fd, from, n);
     long room = write_in_all - atomic_load(&written);

@@ -79,13 +79,21 @@ class Program:
             return Ran(-1, b"", f"not ended after {SECONDS} seconds".encode(), SECONDS)
         return Ran(ran.returncode, without_explanation(words, ran), without_warnings(words, ran), time.monotonic() - begun)
 
-    def counts(self, *words):
-        """Runs the program of these words, and returns also how many allocations and reads it made: of several processes, the last to end."""
+    def counted(self, *words):
+        """Runs the program of these words, and returns also what faults.c counts of it: of several processes, of the last to end."""
         name = f"{self.room}/counts.{os.getpid()}"
         ran = self.run(*words, faults={"COUNT_TO": name})
         with open(name) as file:
-            allocations, reads = file.read().split()
-        return ran, int(allocations), int(reads)
+            return ran, [int(it) for it in file.read().split()]
+
+    def counts(self, *words):
+        """Runs the program of these words, and returns also how many allocations and reads it made."""
+        ran, (allocations, reads, _) = self.counted(*words)
+        return ran, allocations, reads
+
+    def file_writes(self, *words):
+        """How many writes to files a run of these words makes."""
+        return self.counted(*words)[1][2]
 
     def instructions(self, *words):
         """How many instructions a run takes, as valgrind counts them in each of its processes."""

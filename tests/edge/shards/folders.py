@@ -45,6 +45,18 @@ def folders_that_are_there(program, report):
     report.equal("split: some of the files, as they were", before, made.files())
 
 
+def files_that_are_there(program, report):
+    """A folder that has one of the files is refused: that file stays as it is, and no other one is left."""
+    whole = program.write("whole.edn", TWO_QUEUES)
+    for name in ("0.edn", "0.places", "5.edn", "5.places", "shards"):
+        folder = Folder(program, f"with.{name}", 8)
+        os.makedirs(folder.path())
+        folder.write(name, b"of before\n")
+        ran = folder.split(whole)
+        report.holds(f"split: a folder that has {name}", is_named(ran, folder.name), ran)
+        report.equal(f"split: a folder that has {name}: the files", {name: b"of before\n"}, folder.files())
+
+
 def folders_that_cannot_be_written(program, report):
     """A folder that cannot be made or written is named, and so is a history that cannot be read."""
     whole = program.write("whole.edn", TWO_QUEUES)
@@ -104,6 +116,21 @@ def failing_reads_of_shards(program, report):
     for at in range(1, reads + 1):
         ran = program.run("merge", "merged", faults={"FAIL_READ_AT": at})
         report.holds(f"merge: read {at} fails", (ran.status, ran.out) == (4, b"") and ran.err.startswith(b"fcbench: cannot read merged/"), ran)
+
+
+def failing_writes_of_shards(program, report):
+    """Where any one write to a file fails, split ends with 4, names the folder, and leaves no files."""
+    for name, whole in (("narrow", TWO_QUEUES), ("wide", WIDE_QUEUES)):
+        program.write("whole.edn", whole)
+        writes = program.file_writes("split", "whole.edn", f"counted.{name}", "--shards", "2")
+        report.holds(f"split: {name}: its writes are counted", writes > 1, writes)
+        for at in range(1, writes + 1):
+            folder = Folder(program, f"unwritten.{name}.{at}", 2)
+            ran = folder.split("whole.edn", faults={"FAIL_FILE_WRITE_AT": at})
+            # The last write is that of the file `shards`, after the line.
+            line = TWO_SHARDS if at == writes else ""
+            report.answers(f"split: {name}: write {at} fails", ran, line, 4, f"fcbench: cannot write {folder.name}\n")
+            report.equal(f"split: {name}: write {at} fails: the files", {}, folder.files())
 
 
 def refused_memory_of_shards(program, report):
@@ -197,10 +224,12 @@ def shards_that_were_changed(program, report):
 
 PARTS = (
     folders_that_are_there,
+    files_that_are_there,
     folders_that_cannot_be_written,
     full_output_of_shards,
     wholes_through_pipes,
     failing_reads_of_shards,
+    failing_writes_of_shards,
     refused_memory_of_shards,
     refused_memory_of_what_does_not_fit,
     shards_that_were_changed,
