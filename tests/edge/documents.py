@@ -216,6 +216,8 @@ def plain_words(program, report):
 
 # The most characters of a line of these files: of proofs, of definitions, and of prose.
 WIDTHS = {"crates/*/proofs/**/*.antt": 120, "crates/*/specs/**/*.antt": 100, "docs/*.md": 150, "README.md": 150, "CHANGELOG.md": 150}
+# A name that the kit made, which cannot be divided.
+ONE_NAME = re.compile(r"use \S+\{\S+\}$")
 # A row of a table, or a line that is one link.
 NO_PROSE = re.compile(r"\|| *(?:[-*] )?\[[^\[\]]*\]\(\S+\)\W?$")
 
@@ -227,7 +229,7 @@ def lines_with_numbers(path):
         is_fenced ^= line.startswith("```")
         is_code = line.startswith("    ") and (is_code or not before)
         before = line
-        if not path.endswith(".md") or not (is_fenced or is_code or NO_PROSE.match(line)):
+        if not (is_fenced or is_code or NO_PROSE.match(line) if path.endswith(".md") else ONE_NAME.match(line)):
             yield number, line
 
 

@@ -20,6 +20,8 @@ mod mutex;
 mod queue;
 mod register;
 mod set;
+#[cfg(test)]
+mod slot;
 mod stack;
 
 pub use cells::{Access, Cells, Effect, Need};
@@ -44,6 +46,8 @@ pub static KINDS: &[Kind] = &[
     &set::SET,
     &counter::COUNTER,
     &lock::LOCK,
+    #[cfg(test)]
+    &slot::SLOT,
 ];
 
 /// How many functions all kinds have together, in words.
