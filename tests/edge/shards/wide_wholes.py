@@ -1,10 +1,12 @@
-"""Small histories whose objects get other numbers, past 65,535 too: what merge says of their shards is what verify says of the small one."""
+"""Small histories whose objects get other numbers, past 65,535 too: what merge says of their shards is what verify says of the small one. And
+a Jepsen store with more keys than a text may have objects."""
 import random
 import re
 from dataclasses import dataclass, replace
 
 from .dividing import MAP, NAMES, OBJECT, Folder, evidence_in_shards, judged, object_of
 from .small_wholes import faults_of_answer, faults_of_split, on_all, whole
+from ..text_writers import lines
 
 # How many shards a wide whole has.
 SHARDS = (2, 3, 5, 64)
@@ -83,4 +85,31 @@ def wide_wholes(program, report):
     return on_all(report, "shards of wide whole", lambda it: look(program, it))
 
 
-PARTS = (wide_wholes,)
+# How many keys a store has, and the one that is read as nil after it was written.
+KEYS, STALE = 70_000, 68_123
+
+
+def calls_on(key):
+    """A write of a key, and a read of it."""
+    for f, replied in (("write", 1), ("read", "nil" if key == STALE else 1)):
+        for kind, value in (("invoke", 1 if f == "write" else "nil"), ("ok", replied)):
+            yield f'{{:process 0, :type :{kind}, :f :{f}, :value ["k{key}" {value}]}}'
+
+
+def imported_wholes(program, report):
+    """A store of 70,000 keys is imported with a warning, and divided; merge names the one object that is wrong, and the event that shows it."""
+    store = program.write("store.edn", lines(*(text for key in range(KEYS) for text in calls_on(key))))
+    ran = program.run("import", store)
+    said = b"fcbench: warning: there are %d objects, more than judge takes: use split\n" % KEYS
+    report.equal("import: more keys than a text may have objects", (0, said), (ran.status, ran.err))
+    folder = Folder(program, "imported", 2)
+    whole_text = program.write("imported.edn", ran.out)
+    report.answers("split: an imported store", folder.split(whole_text), f"{4 * KEYS} maps in 2 shards\n", 0)
+    folder.find_all()
+    ran = folder.merge()
+    is_named = re.search(rb"^; object %d: impossible$" % STALE, ran.out, re.M) and b"event %d is the first" % (4 * STALE + 3) in ran.out
+    report.holds("merge: an imported store: the object and the event", ran.status == 1 and is_named, ran)
+    report.equal("merge: an imported store: one object", 1, ran.out.count(b"impossible"), ran)
+
+
+PARTS = (wide_wholes, imported_wholes)

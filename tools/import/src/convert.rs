@@ -581,6 +581,7 @@ fn refuse_strange_replies(events: &[Entry]) -> Result<(), Refused> {
     }
 }
 
+/// The most objects of a text that is judged as one. A history with more is for `split`.
 const MOST_OBJECTS: usize = 65_536;
 
 fn own_object(object: &Form) -> Option<i64> {
@@ -678,8 +679,9 @@ pub fn import(text: &str, options: &Options) -> Result<Imported, Refused> {
         processes: Numbers::new(clients.clone().map(|it| &it.process), own_integer),
         values: Numbers::new(clients.flat_map(|it| it.value.values()), own_integer),
     };
-    if numbers.objects.len() > MOST_OBJECTS {
-        return Err(Refused { line: 1, why: "there are more than 65,536 objects".to_owned() });
+    let objects = numbers.objects.len();
+    if objects > MOST_OBJECTS {
+        warnings.push(format!("there are {objects} objects, more than judge takes: use split"));
     }
     let mut made = String::new();
     for event in &before {

@@ -263,6 +263,20 @@ fn an_initial_value_of_no_register_is_warned_of() {
 }
 
 #[test]
+fn more_objects_than_a_judgement_takes_are_warned_of() {
+    let of = |count: u32| -> String {
+        let put = |it| format!("{{:process 0, :type :invoke, :f :read, :value [:k{it} nil]}}\n");
+        let got = |it| format!("{{:process 0, :type :ok, :f :read, :value [:k{it} nil]}}\n");
+        (0..count).map(|it| put(it) + &got(it)).collect()
+    };
+    let most = import(&of(65_536), &Options::default()).expect("a history");
+    assert_eq!(most.warnings, [""; 0]);
+    let more = import(&of(65_537), &Options::default()).expect("a history");
+    assert_eq!(more.warnings, ["there are 65537 objects, more than judge takes: use split"]);
+    assert!(more.text.ends_with(":value nil, :object 65536}\n"));
+}
+
+#[test]
 fn options() {
     let text = "{:process 0, :type :invoke, :f :read} {:process 0, :type :ok, :f :read, :value 0}";
     let initial = Options { initial: Some(Form::Int(0)), ..Options::default() };
