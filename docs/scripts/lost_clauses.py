@@ -1,0 +1,47 @@
+#!/usr/bin/env python3
+"""Prints the clauses of public functions that a commit has and this tree does not have, word for word. Each was lost, renamed, or is said
+otherwise now: a reader has to say which.
+
+    docs/scripts/lost_clauses.py COMMIT [FUNCTION..]     of the functions of these names, or of all"""
+import os
+import subprocess
+import sys
+import tempfile
+
+import contract_list
+
+
+def contracts(root):
+    """The clauses of each public function of the crates in a folder, by its name without its type."""
+    contract_list.ROOT, found = root, {}
+    for crate in sorted(os.listdir(f"{root}/crates")):
+        if not crate.endswith("_tests") and os.path.isfile(f"{root}/crates/{crate}/src/lib.rt"):
+            for name, _, said in contract_list.functions(crate):
+                found.setdefault(name.split("::")[-1], []).extend((crate, kind, label, text) for kind, label, _, text in said)
+    return found
+
+
+def main(words):
+    if not words:
+        print(__doc__, file=sys.stderr)
+        return 64
+    (commit, *names), here = words, contract_list.ROOT
+    now = contracts(here)
+    with tempfile.TemporaryDirectory(prefix="lost-clauses-") as room:
+        made = subprocess.run(["git", "-C", here, "archive", commit, "crates"], stdout=subprocess.PIPE)
+        if made.returncode or subprocess.run(["tar", "-x", "-C", room], input=made.stdout).returncode:
+            return 4
+        before = contracts(room)
+    count, lost = 0, 0
+    for name, said in sorted(before.items()):
+        for crate, kind, label, text in said if not names or name in names else ():
+            count += 1
+            if (kind, text) not in ((kind, text) for _, kind, _, text in now.get(name, ())):
+                lost += 1
+                print(f"{crate}::{name}: {kind} {label or ''} {{ {text} }}")
+    print(f"{count} clauses of {commit}, {lost} of which are not here word for word")
+    return 0
+
+
+if __name__ == "__main__":
+    sys.exit(main(sys.argv[1:]))
