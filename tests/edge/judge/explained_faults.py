@@ -21,6 +21,8 @@ OF_EVENTS = (
     (":f :unlock", ":value nil: :unlock takes an integer"),
     (":f :drain", ":f :drain: it is none of :enqueue, "),
     (":f :read, :object :x", ":object :x: expected is an integer from 0 to 65535"),
+    (":f :read, :object 4294967295", ":object 4294967295: expected is an integer from 0 to 65535; fcbench split takes greater ones"),
+    (":f :read, :object 4294967296", ":object 4294967296: expected is an integer from 0 to 65535"),
 )
 # A whole text, and what is said of it.
 OF_TEXTS = (
@@ -71,7 +73,7 @@ OF_CODES = (
         f"{READ}\n{{:process 0, :type :info, :f :read}}\n{READ}",
         "; event 2, line 3: event 1 is the :info of process 0, which has no events after it: its thread goes on as another process",
     ),
-    ("H9 at map 1000000", "{:process :x}\n" * 1_000_001, "; event 1000000, line 1000001: a history has at most 1,000,000 events"),
+    ("H9 at map 1000000", "{:process :x}\n" * 1_000_001, "; event 1000000, line 1000001: a history has at most 1,000,000 events; fcbench split divides a longer one"),
     ("E1 at byte 7", b"; first\xff", "; line 1: \\xff: the text is not UTF-8"),
     ("E1 at byte 1", b"\x1f\x8b\x08\x00", "; line 1: this is gzip: zcat it first"),
     ("E9 at byte 0", "\ufeff{:process 0}", "; line 1: a byte order mark: remove it"),

@@ -27,6 +27,9 @@ fn is_natural(value: &[u8]) -> bool {
     number_in(Some(value)).is_some()
 }
 
+/// The greatest object of a history that is divided.
+const LAST_OBJECT_OF_SPLIT: u64 = 4_294_967_295;
+
 /// The first key of a map that has not what it must have, what is there, and what is expected.
 fn wrong_key(map: &[u8]) -> (&'static str, Option<&[u8]>, &'static str) {
     let is_keyword = |value: &[u8]| value.starts_with(b":");
@@ -45,7 +48,12 @@ fn wrong_key(map: &[u8]) -> (&'static str, Option<&[u8]>, &'static str) {
         return (":f", function, "a keyword");
     }
     let object = value_in(map, b":object").filter(|value| !is_object(value));
-    (":object", object, "an integer from 0 to 65535")
+    let is_for_split = number_in(object).is_some_and(|it| it <= LAST_OBJECT_OF_SPLIT);
+    let expected = match is_for_split {
+        true => "an integer from 0 to 65535; fcbench split takes greater ones",
+        false => "an integer from 0 to 65535",
+    };
+    (":object", object, expected)
 }
 
 /// A key with what is there.
@@ -135,7 +143,9 @@ fn of_event(text: &[u8], number: usize, map: &[u8], kind: MapFaultKind) -> Strin
             format!(":value {}: {} {does} {expected}", shown(value), shown(named))
         }
         MapFaultKind::MixedKinds => format!(":f {}: {}", shown(named), of_object(text, map)),
-        MapFaultKind::TooMany => "a history has at most 1,000,000 events".to_owned(),
+        MapFaultKind::TooMany => {
+            "a history has at most 1,000,000 events; fcbench split divides a longer one".to_owned()
+        }
         _ => of_process(text, number, map, kind),
     }
 }
@@ -260,6 +270,11 @@ mod tests {
             (":f :acquire, :value \"me\"", "H3", ":value \"me\": :acquire takes nil"),
             (":f :read, :value [1 nil]", "H3", ":value [1 nil]: :read takes nil"),
             (":f :read, :object :x", "H1", ":object :x: expected is an integer from 0 to 65535"),
+            (
+                ":f :read, :object 65536",
+                "H1",
+                ":object 65536: expected is an integer from 0 to 65535; fcbench split takes greater ones",
+            ),
             (":f \"read\"", "H1", ":f \"read\": expected is a keyword"),
             (":value 1", "H1", "no :f: expected is a keyword"),
         ] {
