@@ -246,6 +246,14 @@ def widths(program, report):
         report.equal(f"widths: lines of {files} with more than {most} characters", [], wide)
 
 
+def heads_of_proofs(program, report):
+    """Each file of proofs with 40 lines or more begins with a comment, which says what is proved and how."""
+    texts = {os.path.relpath(path, ROOT): read(path) for path in glob.glob(f"{ROOT}/crates/*/proofs/**/*.antt", recursive=True)}
+    report.holds("heads_of_proofs: there are files", texts)
+    silent = [path for path, text in sorted(texts.items()) if text.count("\n") >= 40 and not text.startswith("-- ") and not path.endswith("/Lib.antt")]
+    report.equal("heads_of_proofs: files without a comment at the head", [], silent)
+
+
 def like_lines(program, report):
     """No two places of the code have 12 or more like lines, except for those that tests/like_lines.accepted has."""
     ran = subprocess.run([sys.executable, f"{ROOT}/tests/like_lines.py", "--check"], capture_output=True, text=True)
@@ -301,4 +309,4 @@ def usages(program, report):
         report.holds(f"usages: {os.path.relpath(script, ROOT)} --help", ran.returncode == 0 and "options:" in ran.stdout, ran)
 
 
-PARTS = (documents, links, names_of_several, named_clauses, plain_words, widths, snippets, usages, like_lines)
+PARTS = (documents, links, names_of_several, named_clauses, plain_words, widths, heads_of_proofs, snippets, usages, like_lines)
