@@ -193,8 +193,9 @@ impl Matching {
         true
     }
 
-    /// Pairs the removals that wait at the end: they are pending. False where one is not.
-    fn end(&mut self) -> bool {
+    /// Pairs the removals that wait at the end: they are pending. One that no put is left for did
+    /// not happen. False where one is not pending.
+    fn pair_the_rest(&mut self) -> bool {
         while let Some((end, take)) = self.waiting.pop_first() {
             if end != PENDING {
                 return false;
@@ -242,6 +243,7 @@ pub fn residences_of(
         waiting: BTreeSet::new(),
         pairs: Vec::new(),
     };
-    let all = events.into_iter().all(|event| matching.happen(event, removals)) && matching.end();
+    let all = events.into_iter().all(|event| matching.happen(event, removals))
+        && matching.pair_the_rest();
     all.then(|| matching.residences())
 }
