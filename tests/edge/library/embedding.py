@@ -117,11 +117,16 @@ def without_the_kit(program, report):
     if shutil.which("rt", path=bare["PATH"]):
         return
     advice = "fcbench: rt, the command of the Rattle kit, is not on the PATH\n"
-    for words in (("--version",), ("--quick", "--version")):
+    no_shards = "fcbench: split takes no --quick: an unproved build writes no folder of shards\n"
+    for words, status, says in (
+        (("--version",), 127, advice),
+        (("--quick", "--version"), 127, advice),
+        (("--quick", "split", "/not/there.edn", "shards"), 64, no_shards),
+    ):
         ran = run("bash", f"{top}/fcbench", *words)
         report.equal(
-            f"embedding: ./fcbench {words[0]} that is not built, without the kit",
-            (127, "", advice),
+            f"embedding: ./fcbench {' '.join(words)} that is not built, without the kit",
+            (status, "", says),
             (ran.returncode, ran.stdout, ran.stderr),
         )
     history = program.write("of_help.edn", "")
