@@ -25,7 +25,7 @@ all_commands() {
   echo
   "$FCBENCH" --help
 }
-# The command of the tools that an unknown word may stand for. The verifier looks for its own.
+# The command of the tools for which a mistyped word may stand. The verifier has hints for its own commands.
 case ${1:-} in
   ju[dg]*e | jduge | jugd*) near=judge ;;
   fi[nd]* | fnid) near=find ;;

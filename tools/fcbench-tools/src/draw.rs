@@ -100,6 +100,7 @@ impl<'a> Drawing<'a> {
         })
     }
 
+    /// The page of a malformed text. `None`: the fault is in certificates, and none were given.
     fn page_of_fault(&self, fault: Fault, lines: &str) -> Option<String> {
         let text = match fault.which() {
             Which::History => &self.history,

@@ -144,8 +144,8 @@ impl Ordering {
         self.stuck.iter().map(Vec::len).sum()
     }
 
-    /// Plans the values between the calls that find nothing, and these calls. `None`: one has no
-    /// gap.
+    /// Cuts the values at the calls that find nothing, and plans each stretch and each such call.
+    /// `None`: one of these calls has no gap.
     fn plan(&mut self, empties: &[Interval]) -> Option<()> {
         let gap = |call: &Interval| {
             let gap = self.values.cover.first_free(call.begin as usize, call.end as usize)?;
