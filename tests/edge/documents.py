@@ -114,6 +114,33 @@ def clauses_by_function():
     return found
 
 
+def crates_below():
+    """The crates of each crate's own and of those that it uses, by its name."""
+    uses = {row.split(":")[0].split()[0]: row.split(":")[1].split() for row in read(f"{ROOT}/crates.txt").split("\n") if re.match(r"\w", row)}
+
+    def below(name):
+        return {name}.union(*(below(it) for it in uses[name] if it in uses))
+
+    return {name: below(name) for name in uses}
+
+
+def definitions_of_clauses(program, report):
+    """Each definition in specs/ whose name begins with a capital, and that is in a clause of a public function, is on docs/definitions.md."""
+    sys.path.insert(0, f"{ROOT}/docs/scripts")
+    import contract_list
+    import lines_to_believe
+
+    defined, page = lines_to_believe.crates_of_names(), read(f"{ROOT}/docs/definitions.md")
+    explained = {name for quoted in re.findall(r"`([^`\n]+)`", page) for name in re.findall(r"\w+", quoted)}
+    used = set()
+    for crate, below in crates_below().items():
+        if not crate.endswith("_tests") and os.path.exists(f"{ROOT}/crates/{crate}/src/lib.rt"):
+            words = {word for _, _, clauses in contract_list.functions(crate) for clause in clauses for word in re.findall(r"\b[A-Z]\w*", clause[3])}
+            used |= {word for word in words if defined.get(word, set()) & below}
+    report.holds("definitions_of_clauses: there are some", len(used) >= 200, len(used))
+    report.equal("definitions_of_clauses: not on docs/definitions.md", [], sorted(used - explained))
+
+
 def is_part_of(record, part):
     """Whether a definition in specs/ has a part of this name."""
     for path in glob.glob(f"{ROOT}/crates/*/specs/**/*.antt", recursive=True):
@@ -309,4 +336,4 @@ def usages(program, report):
         report.holds(f"usages: {os.path.relpath(script, ROOT)} --help", ran.returncode == 0 and "options:" in ran.stdout, ran)
 
 
-PARTS = (documents, links, names_of_several, named_clauses, plain_words, widths, heads_of_proofs, snippets, usages, like_lines)
+PARTS = (documents, links, names_of_several, named_clauses, definitions_of_clauses, plain_words, widths, heads_of_proofs, snippets, usages, like_lines)
