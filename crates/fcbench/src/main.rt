@@ -83,7 +83,7 @@ fn files_of(line: &Line) -> (&str, &str) {
 }
 
 /// Does the command on its files.
-fn run_line<R: Host>(rt: &R, line: &Line) -> io::Result<u8> {
+fn do_on_files<R: Host>(rt: &R, line: &Line) -> io::Result<u8> {
     let (first_name, second_name) = files_of(line);
     let mut first = In::new(NamedFile::new(rt, first_name));
     let mut second = In::new(NamedFile::new(rt, second_name));
@@ -110,7 +110,7 @@ fn is_divided(status: u8) -> bool {
 
 /// Divides a history into shards in a folder that has none. Where it is not divided, nothing of it
 /// is left there.
-fn run_split<R: Host>(rt: &R, history: &str, name: &str, shards: u32) -> io::Result<u8> {
+fn split<R: Host>(rt: &R, history: &str, name: &str, shards: u32) -> io::Result<u8> {
     let shards = match u16::try_from(shards) {
         Ok(shards) if shards > 0 => shards,
         // The command line lets no such number pass.
@@ -122,15 +122,15 @@ fn run_split<R: Host>(rt: &R, history: &str, name: &str, shards: u32) -> io::Res
     }
     let mut source = In::new(NamedFile::new(rt, history));
     let mut output = Out::new(io::writer(rt));
-    let split = split_history(rt.alloc(), &mut source, &mut folder, shards, &mut output);
-    let is_whole = match split {
+    let done = split_history(rt.alloc(), &mut source, &mut folder, shards, &mut output);
+    let is_whole = match done {
         Ok(status) => is_divided(status) && folder.complete(shards).is_ok(),
         Err(_) => false,
     };
     if !is_whole {
         folder.remove(shards);
     }
-    match split {
+    match done {
         // Its lines are printed already, so nothing is said of memory.
         Ok(status) if is_divided(status) && !is_whole => report_unwritten(rt, name, false),
         Ok(status) => Ok(status),
@@ -144,7 +144,7 @@ fn run_split<R: Host>(rt: &R, history: &str, name: &str, shards: u32) -> io::Res
 }
 
 /// Verifies the shards in a folder, or believes the exit status of each.
-fn run_merge<R: Host>(rt: &R, name: &str, steps: u32, trust_statuses: bool) -> io::Result<u8> {
+fn merge<R: Host>(rt: &R, name: &str, steps: u32, trust_statuses: bool) -> io::Result<u8> {
     let folder = ShardFolder::new(rt, rt.alloc(), name);
     let shards = match folder.count() {
         Ok(shards) => shards,
@@ -173,37 +173,37 @@ fn run_merge<R: Host>(rt: &R, name: &str, steps: u32, trust_statuses: bool) -> i
 }
 
 /// Does the command.
-fn run_command<R: Host>(rt: &R, line: &Line) -> io::Result<u8> {
+fn do_command<R: Host>(rt: &R, line: &Line) -> io::Result<u8> {
     match line {
         Line::Split {
             history,
             folder,
             shards,
-        } => run_split(rt, history, folder, *shards),
+        } => split(rt, history, folder, *shards),
         Line::Merge {
             folder,
             steps,
             trust_statuses,
-        } => run_merge(rt, folder, *steps, *trust_statuses),
-        _ => run_line(rt, line),
+        } => merge(rt, folder, *steps, *trust_statuses),
+        _ => do_on_files(rt, line),
     }
 }
 
 /// Whether the word after the program's name asks for the version, and is the only one.
-fn ask_for_version(words: &[String]) -> bool {
+fn asks_for_version(words: &[String]) -> bool {
     match words {
         [_, word] => word.as_str() == "--version" || word.as_str() == "-V",
         _ => false,
     }
 }
 
-fn run_words<R: Host>(rt: &R, words: &[String]) -> io::Result<u8> {
-    if ask_for_version(words) {
+fn do_words<R: Host>(rt: &R, words: &[String]) -> io::Result<u8> {
+    if asks_for_version(words) {
         rt.println(VERSION)?;
         return Ok(Status::Yes.number());
     }
     match line(rt.alloc(), words) {
-        Ok(line) => run_command(rt, &line),
+        Ok(line) => do_command(rt, &line),
         Err(fault) => explain(rt, &fault),
     }
 }
@@ -223,9 +223,9 @@ fn words_of<R: AllocGlobal + Env>(rt: &R) -> io::Result<Vec<String>> {
     Ok(std::env::args(rt)?.collect(rt.alloc())?)
 }
 
-fn run<R: Host + Env>(rt: &R) -> io::Result<u8> {
+fn do_command_line<R: Host + Env>(rt: &R) -> io::Result<u8> {
     match words_of(rt) {
-        Ok(words) => run_words(rt, &words),
+        Ok(words) => do_words(rt, &words),
         Err(error) if error.kind() == io::ErrorKind::OutOfMemory => no_memory(rt),
         Err(_) => {
             rt.eprintln("fcbench: a word of the command line is not UTF-8")?;
@@ -249,7 +249,7 @@ fn watch<R: Eprint + Clock>(rt: &R, is_done: &AtomicBool) {
 
 /// Does the command. If standard error is a terminal, a second thread says after a second that it
 /// runs.
-fn run_watched<R: Host, F: FnOnce() -> u8 + Send>(rt: &R, may_watch: bool, work: F) -> u8
+fn watched<R: Host, F: FnOnce() -> u8 + Send>(rt: &R, may_watch: bool, work: F) -> u8
     requires { F.IsAlwaysCallable work }
 {
     if !may_watch {
@@ -268,5 +268,5 @@ fn run_watched<R: Host, F: FnOnce() -> u8 + Send>(rt: &R, may_watch: bool, work:
 fn main(rt: HostRuntime) -> ExitCode {
     let may_watch = rt.stderr().is_terminal();
     let rt = &rt;
-    ExitCode::from(run_watched(rt, may_watch, || run(rt).unwrap_or(Status::Failed.number())))
+    ExitCode::from(watched(rt, may_watch, || do_command_line(rt).unwrap_or(Status::Failed.number())))
 }
