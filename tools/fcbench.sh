@@ -25,17 +25,6 @@ all_commands() {
   echo
   "$FCBENCH" --help
 }
-# The command of the tools for which a mistyped word may stand. The verifier has hints for its own commands.
-case ${1:-} in
-  ju[dg]*e | jduge | jugd*) near=judge ;;
-  fi[nd]* | fnid) near=find ;;
-  dr[aw]* | darw) near=draw ;;
-  im[pot]* | ipmort) near=import ;;
-  *) near=${1:-} ;;
-esac
-if [ "$near" != "${1:-}" ]; then
-  echo "fcbench: did you mean $near?" >&2
-fi
 case $#-${1:-} in
   1-help | 1--h | 1---help)
     all_commands
@@ -44,5 +33,9 @@ case $#-${1:-} in
     echo 'error: a command is missing' >&2
     all_commands >&2
     exit 64 ;;
+esac
+case $1 in
+  check | verify | refute | search | split | merge | run | simulate | help | -*) ;;
+  *) echo 'fcbench: the commands of the tools are judge, find, draw and import' >&2 ;;
 esac
 exec "$FCBENCH" "$@"

@@ -399,7 +399,7 @@ def dispatched(program, report):
     env = {**os.environ, "FCBENCH": program.path, "FCBENCH_TOOLS": program.tools}
     script = lambda *words: subprocess.run([DISPATCH, *words], cwd=program.room, env=env, capture_output=True)  # noqa: E731
     lines = [("judge", HISTORY), ("find", HISTORY), ("draw", HISTORY), ("search", HISTORY), ("verify", HISTORY, CERTIFICATES)]
-    lines += [("check", HISTORY, CERTIFICATES), ("judge",), ("check",), ("--version",), ("jump",), ("judge", "--help"), ("check", "--help")]
+    lines += [("check", HISTORY, CERTIFICATES), ("judge",), ("check",), ("--version",), ("judge", "--help"), ("check", "--help")]
     for words in lines:
         direct, ran = program.run(*words), script(*words)
         report.equal(f"fcbench.sh {' '.join(words)}", (direct.status, direct.out, direct.err), (ran.returncode, ran.stdout, ran.stderr))
@@ -413,14 +413,9 @@ def dispatched(program, report):
     report.holds("fcbench.sh without a word names each command", is_refused, ran)
     shown = script("--help").stdout
     report.holds("fcbench.sh --help begins with judge", 0 < shown.find(b"\n  judge ") < shown.find(b"\n  check "), shown)
-    for word, near in (("jugde", "judge"), ("judgee", "judge"), ("improt", "import"), ("dwar", None), ("jump", None)):
-        ran = script(word)
-        said = f"fcbench: did you mean {near}?\n".encode() if near else b"error: "
-        report.holds(
-            f"fcbench.sh {word}: {near or 'no command'} is near",
-            (ran.returncode, ran.stdout) == (64, b"") and ran.stderr.startswith(said),
-            ran,
-        )
+    ran = script("jugde")
+    is_told = ran.stderr.startswith(b"fcbench: the commands of the tools are judge, find, draw and import\nerror: ")
+    report.holds("fcbench.sh jugde names the commands of the tools", (ran.returncode, ran.stdout) == (64, b"") and is_told, ran)
     for command in OF_TOOLS:
         report.equal(f"fcbench.sh help {command}", program.run(command, "--help").out, script("help", command).stdout)
 

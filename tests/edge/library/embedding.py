@@ -108,8 +108,8 @@ def without_the_kit(program, report):
     top, bare = f"{program.room}/built", {**os.environ, "PATH": "/usr/bin:/bin"}
     for it in ("out", "src", "specs", "proofs"):
         os.makedirs(f"{top}/crates/fcbench/{it}")
-    for it in ("fcbench", "verifier", "crates.txt"):
-        shutil.copy(f"{ROOT}/{it}", top)
+    for it in ("fcbench", "crates.txt", "crates/build", "crates/listed.py"):
+        shutil.copy(f"{ROOT}/{it}", f"{top}/{it}")
     shutil.copytree(f"{ROOT}/tools", f"{top}/tools", ignore=shutil.ignore_patterns("target"))
     os.makedirs(f"{top}/tools/target/release")
     shutil.copy(program.tools, f"{top}/tools/target/release/fcbench-tools")
@@ -130,7 +130,8 @@ def without_the_kit(program, report):
             (ran.returncode, ran.stdout, ran.stderr),
         )
     history = program.write("of_help.edn", "")
-    for words, status in ((("--help",), 0), ((), 64), (("judge", "--help"), 0), (("find", f"{program.room}/{history}"), 0)):
+    asked = [(("--help",), 0), (("check", "--help"), 0), (("help", "check"), 0), (("judge", "--help"), 0), (("help", "judge"), 0)]
+    for words, status in (*asked, ((), 64), (("find", f"{program.room}/{history}"), 0)):
         ran = run("bash", f"{top}/fcbench", *words)
         is_well = ran.returncode == status and (
             words[:1] == ("find",)
@@ -148,7 +149,8 @@ def without_the_kit(program, report):
 
 def nothing_to_prove(program, report, top):
     """Where the verifier is not proved, and the words are refused or a file cannot be read, ./fcbench says so and proves nothing. Otherwise it
-    begins to, which ends at once here, where the crates have no code."""
+    begins to, which ends at once here, where the crates have no code. It has no first answer where a pipe is read, and gives the version of
+    the unproved build."""
     folder, unproved = f"{program.room}/with_rt", f"{top}/crates/fcbench/out/unproved"
     os.mkdir(folder)
     with open(f"{folder}/rt", "w") as file:
@@ -157,11 +159,18 @@ def nothing_to_prove(program, report, top):
     shutil.copy(program.path, unproved)
     env = {**os.environ, "PATH": f"{folder}:/usr/bin:/bin"}
     history = f"{program.room}/{program.write('judged.of.help.edn', '')}"
+    run = lambda *words, **more: subprocess.run(["bash", f"{top}/fcbench", *words], env=env, capture_output=True, text=True, **more)  # noqa: E731
     for words, status in ((("judge",), 64), (("judge", "--json", history), 64), (("judge", "/not/there.edn"), 4), (("judge", history), 1)):
-        ran = subprocess.run(["bash", f"{top}/fcbench", *words], env=env, capture_output=True, text=True)
+        ran = run(*words)
         is_first = ran.stdout == "" and "NOT PROVED YET" in ran.stderr
         is_well = ran.returncode == status and is_first and ("proving and building" in ran.stderr) == (status == 1)
         report.holds(f"embedding: ./fcbench {' '.join(words)} where the verifier is not proved", is_well, ran)
+    ran = run("search", "/dev/stdin", input="")
+    is_well = (ran.returncode, ran.stdout) == (1, "") and "no first answer" in ran.stderr and "NOT PROVED YET" not in ran.stderr
+    report.holds("embedding: ./fcbench reads a pipe once", is_well and "proving and building" in ran.stderr, ran)
+    ran = run("--version")
+    is_well = (ran.returncode, ran.stderr) == (0, "") and ran.stdout.startswith("fcbench ")
+    report.holds("embedding: ./fcbench --version proves nothing", is_well, ran)
     os.remove(unproved)
 
 
