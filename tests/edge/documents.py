@@ -283,7 +283,7 @@ def heads_of_proofs(program, report):
 
 def like_lines(program, report):
     """No two places of the code have 12 or more like lines, except for those that tests/like_lines.accepted has."""
-    ran = subprocess.run([sys.executable, f"{ROOT}/tests/like_lines.py", "--check"], capture_output=True, text=True)
+    ran = subprocess.run([sys.executable, f"{ROOT}/tests/like_lines", "--check"], capture_output=True, text=True)
     report.equal("like_lines: pairs of places that are not accepted", (0, "", ""), (ran.returncode, ran.stdout, ran.stderr))
 
 
