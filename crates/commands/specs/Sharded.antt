@@ -14,8 +14,8 @@ use Rattle.shards.specs.Folders.{WasDivided}
 use Rattle.shards.specs.SplitFaults.{IsSplitFault}
 use Rattle.shards.specs.declared.division.Division.{Division}
 use Rattle.shards.specs.declared.fault.SplitFault.TheVariants as split
-use Rattle.commands.specs.declared.folders.FolderFault.{FolderFault}
-use Rattle.commands.specs.declared.folders.FolderFault.TheVariants as fault
+use Rattle.commands.specs.declared.folders.SplitFailure.{SplitFailure}
+use Rattle.commands.specs.declared.folders.SplitFailure.TheVariants as failure
 use Rattle.history_commands.specs.Merged.{IsMerge, Shard}
 use Rattle.history_commands.specs.Outputs.{IsExactly, IsOutOfMemory}
 use Rattle.history_commands.specs.declared.status.Status.{Status}
@@ -49,13 +49,12 @@ IsSplitOutput count left left_after files files_after status out =
 
 -- Where a split says that an object needs more shards, this is so: what was read of the source has
 -- a map on it.
-abbrev pub IsWhereFewShards : ℕ → FolderFault → Option (List ℕ) → Option (List ℕ) → Type 0
-IsWhereFewShards count (fault.FewShards x) left left_after =
+abbrev pub IsWhereFewShards : ℕ → SplitFailure → Option (List ℕ) → Option (List ℕ) → Type 0
+IsWhereFewShards count (failure.FewShards x) left left_after =
     IsSplitFault count (split.FewShards x) left left_after
-IsWhereFewShards count (fault.UnreadShard s file) left left_after = ⊤
-IsWhereFewShards count fault.UnreadHistory left left_after = ⊤
-IsWhereFewShards count fault.Unwritten left left_after = ⊤
-IsWhereFewShards count fault.NoMemory left left_after = ⊤
+IsWhereFewShards count failure.Unread left left_after = ⊤
+IsWhereFewShards count failure.Unwritten left left_after = ⊤
+IsWhereFewShards count failure.NoMemory left left_after = ⊤
 
 -- ---- a merge
 

@@ -14,7 +14,7 @@ ghost use Rattle.commands.specs.Sharded.{AreShardsOf};
 ghost use Rattle.shards.specs.Dividing.{Files};
 ghost use Rattle.shards.specs.ShardTexts.{IsLinearizableAtAnyLength};
 
-use crate::folders::{FolderFault, ShardFault};
+use crate::folders::{ShardFault, UnreadShard};
 use crate::write_output::write_output;
 use edn::{Sink, push_natural};
 use history_commands::{Finding, Output, Status, text_with_number};
@@ -147,7 +147,7 @@ fn believe_all<F: StatusFiles>(
     alloc: Global,
     files: &F,
     shards: u16,
-) -> Result<Option<Believed>, FolderFault>
+) -> Result<Option<Believed>, UnreadShard>
     ensures { IfOk result (λ made. IfSome made (λ b. (all : List (Option (List ℕ)))
         × (length all ≡ shards) × AreStatusesRead (F.holds files.now) all
         × AreBelieved b all)) }
@@ -156,7 +156,7 @@ fn believe_all<F: StatusFiles>(
     for shard in 0..shards {
         let read = match files.read_status(alloc, shard) {
             Ok(read) => read,
-            Err(ShardFault::Unread(file)) => return Err(FolderFault::UnreadShard(shard, file)),
+            Err(ShardFault::Unread(file)) => return Err(UnreadShard { shard, file }),
             Err(ShardFault::NoMemory) => return Ok(None),
         };
         let Ok(()) = believed.take(shard, &read) else {
@@ -171,7 +171,7 @@ fn believed_output<F: StatusFiles>(
     alloc: Global,
     files: &F,
     shards: u16,
-) -> Result<Result<Output, AllocError>, FolderFault>
+) -> Result<Result<Output, AllocError>, UnreadShard>
     ensures { IfOk result (λ made. IfOk made (λ o.
         IsBelievedOf (F.holds files.now) shards o.status o.text.items)) }
 {
@@ -190,7 +190,7 @@ pub fn merge_statuses<F: StatusFiles, S: Sink>(
     files: &F,
     shards: u16,
     sink: &mut S,
-) -> Result<u8, FolderFault>
+) -> Result<u8, UnreadShard>
     requires working { S.broken sink.old ≡ false }
     requires some { 0 < shards }
     ensures linearizable { IfOk result (λ number. number ≡ number_of Status.Yes →

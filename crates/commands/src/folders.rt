@@ -33,30 +33,34 @@ pub enum ShardFile {
     Status,
 }
 
-/// Why a command on a folder has no output.
+/// Why a history was not divided, where that is not its text.
 #[derive(Clone, Copy, Debug, PartialEq, Eq)]
-pub enum FolderFault {
+pub enum SplitFailure {
     /// The history could not be read.
-    UnreadHistory,
+    Unread,
     /// The files of the shards could not be written.
     Unwritten,
-    /// A file of this shard could not be read.
-    UnreadShard(u16, ShardFile),
     /// The history has a map on this object, which needs more shards.
     FewShards(u32),
-    /// An allocation failed while a history was divided. It has no status here, since after 3 the
-    /// folder has all maps.
+    /// An allocation failed. It has no status here, since after 3 the folder has all maps.
     NoMemory,
 }
 
-impl From<AllocError> for FolderFault {
-    ghost use Rattle.commands.specs.declared.folders.FolderFault.TheVariants.{NoMemory};
+impl From<AllocError> for SplitFailure {
+    ghost use Rattle.commands.specs.declared.folders.SplitFailure.TheVariants.{NoMemory};
 
     ghost from_gives = { λ _ e. e ≡ NoMemory };
 
-    fn from(_refused: AllocError) -> FolderFault {
-        FolderFault::NoMemory
+    fn from(_refused: AllocError) -> SplitFailure {
+        SplitFailure::NoMemory
     }
+}
+
+/// A file of a shard that could not be read.
+#[derive(Clone, Copy, Debug, PartialEq, Eq)]
+pub struct UnreadShard {
+    pub shard: u16,
+    pub file: ShardFile,
 }
 
 /// What the files of a shard hold: its text, its table of places in the whole, and the evidence
@@ -186,7 +190,7 @@ fn split_output<F: Source, D: Folder>(
     history: &mut F,
     folder: &mut D,
     shards: u16,
-) -> Result<Output, FolderFault>
+) -> Result<Output, SplitFailure>
     requires history { F.broken history.old ≡ false }
     requires folder { D.broken folder.old ≡ false }
     requires some { 0 < shards }
@@ -199,10 +203,10 @@ fn split_output<F: Source, D: Folder>(
     match split_over(alloc, history, folder, shards) {
         Ok(division) => Ok(division_output(alloc, &division)?),
         Err(SplitFault::Malformed(fault)) => Ok(malformed_output(alloc, fault)?),
-        Err(SplitFault::FewShards(object)) => Err(FolderFault::FewShards(object)),
-        Err(SplitFault::NoMemory) => Err(FolderFault::NoMemory),
-        Err(SplitFault::Read) => Err(FolderFault::UnreadHistory),
-        Err(SplitFault::Write) => Err(FolderFault::Unwritten),
+        Err(SplitFault::FewShards(object)) => Err(SplitFailure::FewShards(object)),
+        Err(SplitFault::NoMemory) => Err(SplitFailure::NoMemory),
+        Err(SplitFault::Read) => Err(SplitFailure::Unread),
+        Err(SplitFault::Write) => Err(SplitFailure::Unwritten),
     }
 }
 
@@ -216,7 +220,7 @@ pub fn split_history<F: Source, D: Folder, S: Sink>(
     folder: &mut D,
     shards: u16,
     sink: &mut S,
-) -> Result<u8, FolderFault>
+) -> Result<u8, SplitFailure>
     requires history { F.broken history.old ≡ false }
     requires folder { D.broken folder.old ≡ false }
     requires working { S.broken sink.old ≡ false }
@@ -244,7 +248,7 @@ fn merge_all<F: ShardFiles>(
     files: &F,
     shards: u16,
     steps: u32,
-) -> Result<Option<Merging>, FolderFault>
+) -> Result<Option<Merging>, UnreadShard>
     ensures { IfOk result (λ made. IfSome made (λ m. (all : List Shard)
         × (length all ≡ shards) × AreRead (F.holds files.now) shards steps all
         × AreMerged m all)) }
@@ -253,7 +257,7 @@ fn merge_all<F: ShardFiles>(
     for shard in 0..shards {
         let texts = match files.read(alloc, shard) {
             Ok(texts) => texts,
-            Err(ShardFault::Unread(file)) => return Err(FolderFault::UnreadShard(shard, file)),
+            Err(ShardFault::Unread(file)) => return Err(UnreadShard { shard, file }),
             Err(ShardFault::NoMemory) => return Ok(None),
         };
         let ShardFileTexts {
@@ -278,7 +282,7 @@ fn merge_output<F: ShardFiles>(
     files: &F,
     shards: u16,
     steps: u32,
-) -> Result<Result<Output, AllocError>, FolderFault>
+) -> Result<Result<Output, AllocError>, UnreadShard>
     ensures { IfOk result (λ made. IfOk made (λ o.
         IsMergeOf (F.holds files.now) shards steps o.status o.text.items)) }
 {
@@ -297,7 +301,7 @@ pub fn merge_shards<F: ShardFiles, S: Sink>(
     shards: u16,
     steps: u32,
     sink: &mut S,
-) -> Result<u8, FolderFault>
+) -> Result<u8, UnreadShard>
     requires working { S.broken sink.old ≡ false }
     requires some { 0 < shards }
     ensures linearizable { IfOk result (λ number. number ≡ number_of Status.Yes →

@@ -15,7 +15,8 @@ mod write_output;
 pub use believing::{StatusFiles, merge_statuses};
 pub use command_line::{Line, LineFault, RunOptions, line};
 pub use folders::{
-    FolderFault, ShardFault, ShardFile, ShardFileTexts, ShardFiles, merge_shards, split_history,
+    ShardFault, ShardFile, ShardFileTexts, ShardFiles, SplitFailure, UnreadShard, merge_shards,
+    split_history,
 };
 pub use history_commands::Status;
 pub use judging::{In, NamedFile, ReadFault, read_text};

@@ -5,8 +5,8 @@ mod shard_folder;
 
 use crate::shard_folder::{ShardFolder, ending_of};
 use commands::{
-    FolderFault, In, Line, LineFault, NamedFile, ReadFault, Status, Unread, line, merge_shards,
-    merge_statuses, perform_over, shards_needed, split_history, status_of_fault,
+    In, Line, LineFault, NamedFile, ReadFault, SplitFailure, Status, Unread, UnreadShard, line,
+    merge_shards, merge_statuses, perform_over, shards_needed, split_history, status_of_fault,
 };
 use edn::Out;
 use std::fs::File;
@@ -20,7 +20,7 @@ use std::thread::{Threads, join, sleep};
 use std::time::{Clock, Duration};
 
 /// The version of the program, and the logic that proves it.
-const VERSION: &str = "fcbench 6.0.0, proved by Rattle logic dac8208d650f15bf";
+const VERSION: &str = "fcbench 7.0.0, proved by Rattle logic dac8208d650f15bf";
 
 /// How many times `watch` checks whether the command is done.
 const LOOKS: u32 = 200;
@@ -103,7 +103,7 @@ fn report_few_shards<R: Print>(rt: &R, object: u32) -> io::Result<u8> {
 }
 
 /// Whether a split with this status has divided the whole. After 3 it has, and a shard is too large
-/// for one text: an allocation failure is `FolderFault::NoMemory`.
+/// for one text: an allocation failure is `SplitFailure::NoMemory`.
 fn is_divided(status: u8) -> bool {
     status == Status::Yes.number() || status == Status::Undecided.number()
 }
@@ -134,12 +134,10 @@ fn split<R: Host>(rt: &R, history: &str, name: &str, shards: u32) -> io::Result<
         // Its lines are printed already, so nothing is said of memory.
         Ok(status) if is_divided(status) && !is_whole => report_unwritten(rt, name, false),
         Ok(status) => Ok(status),
-        Err(FolderFault::UnreadHistory) => report_unreadable(rt, history, source.lacks_memory()),
-        Err(FolderFault::NoMemory) => no_memory(rt),
-        Err(FolderFault::FewShards(object)) => report_few_shards(rt, object),
-        Err(FolderFault::Unwritten | FolderFault::UnreadShard(..)) => {
-            report_unwritten(rt, name, folder.lacks_memory())
-        }
+        Err(SplitFailure::Unread) => report_unreadable(rt, history, source.lacks_memory()),
+        Err(SplitFailure::Unwritten) => report_unwritten(rt, name, folder.lacks_memory()),
+        Err(SplitFailure::FewShards(object)) => report_few_shards(rt, object),
+        Err(SplitFailure::NoMemory) => no_memory(rt),
     }
 }
 
@@ -162,13 +160,11 @@ fn merge<R: Host>(rt: &R, name: &str, steps: u32, trust_statuses: bool) -> io::R
     };
     match merged {
         Ok(status) => Ok(status),
-        Err(FolderFault::UnreadShard(shard, file)) => {
+        Err(UnreadShard { shard, file }) => {
             let ending = ending_of(file);
             rt.eprintln(format_args!("fcbench: cannot read {name}/{shard}.{ending}"))?;
             Ok(Status::Failed.number())
         }
-        // A merge fails in no other way.
-        Err(_) => no_memory(rt),
     }
 }
 
@@ -268,5 +264,9 @@ fn watched<R: Host, F: FnOnce() -> u8 + Send>(rt: &R, may_watch: bool, work: F) 
 fn main(rt: HostRuntime) -> ExitCode {
     let may_watch = rt.stderr().is_terminal();
     let rt = &rt;
-    ExitCode::from(watched(rt, may_watch, || do_command_line(rt).unwrap_or(Status::Failed.number())))
+    ExitCode::from(watched(
+        rt,
+        may_watch,
+        || do_command_line(rt).unwrap_or(Status::Failed.number()),
+    ))
 }
