@@ -1,4 +1,4 @@
-//! Tests of the public calls of `publication_list`, `workload`, `clients`, `machine` and
+//! Tests of the public calls of `publication_list`, `publication`, `clients`, `machine` and
 //! `simulation`. They are a crate of their own, so that each library is proved once, and not again
 //! for its tests.
 #![tactic(auto)]

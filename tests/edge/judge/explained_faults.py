@@ -228,7 +228,7 @@ def out_of_steps(program, report):
         said = [
             it
             for it in ran.stderr.decode().splitlines()
-            if it.startswith("fcbench: out of steps: --steps N lets the search take longer; docs/tutorial.md says ")
+            if it.startswith("fcbench: out of steps: --steps N lets the search take longer; distinct values and fewer :info ")
         ]
         report.equal(f"judge: --steps {steps}: what to do is said", (3 * wanted, wanted), (ran.returncode, len(said)), ran)
 

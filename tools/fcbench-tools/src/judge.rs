@@ -134,7 +134,7 @@ fn advise(lines: &[u8]) {
     };
     if lines.split(|it| *it == b'\n').any(is_out_of_steps) {
         say(format_args!(
-            "out of steps: --steps N lets the search take longer; docs/tutorial.md says what else helps, at \"If the status is 3\""
+            "out of steps: --steps N lets the search take longer; distinct values and fewer :info operations help too"
         ));
     }
 }
