@@ -170,7 +170,7 @@ fn write_line<S: Sink>(reason: &Reason, sink: &mut S) -> Result<(), Failed>
     write_bytes(b"}\n", sink)
 }
 
-/// Writes each reason as a line, without removal memory. `Device` is the only error.
+/// Writes each reason as a line, without allocating memory. `Device` is the only error.
 pub fn write_reasons<S: Sink>(reasons: &[Reason], sink: &mut S) -> Result<(), WriteFault>
     requires working { S.broken sink.old ≡ false }
     ensures sent { Writes result (S.sent sink.old) (S.sent sink.new) (S.broken sink.new)
