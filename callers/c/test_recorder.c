@@ -221,7 +221,7 @@ static void a_journal_that_is_lost(void) {
     journal_invoke(&copy, 0, "enqueue", fcbench_number(8));
     struct journal *kept = &recorder.journals[1];
     journal_return(kept, journal_invoke(kept, 0, "dequeue", fcbench_nil()), fcbench_number(7));
-    want(recorder_text(&recorder, &length) == NULL && length == 3, "3 events are missing: a journal was not handed in", "");
+    want(recorder_text(&recorder, &length) == NULL && length == 3, "3 events are missing: a journal is missing", "");
     free(copy.calls);
     recorder_close(&recorder);
 }

@@ -132,7 +132,7 @@
   (is (false? (:valid? (judged (concat (done 0 :acquire nil 1) (done 1 :acquire nil 2)))))))
 
 (deftest what-the-profile-lacks
-  (is (= {:valid? :unknown, :reason ["operation 0: :txn is none of the functions :enqueue, :dequeue, :push, :pop, :insert, :extract-min, :write, :read, :cas, :clear, :create, :put, :get, :del, :put-if-absent, :replace, :assoc, :dissoc, :acquire, :release, :add, :remove, :contains, :fetch-add, :get-count, :lock, :unlock"]}
+  (is (= {:valid? :unknown, :reason ["operation 0: :txn is not one of the functions :enqueue, :dequeue, :push, :pop, :insert, :extract-min, :write, :read, :cas, :clear, :create, :put, :get, :del, :put-if-absent, :replace, :assoc, :dissoc, :acquire, :release, :add, :remove, :contains, :fetch-add, :get-count, :lock, :unlock"]}
          (judged [{:process 0, :type :invoke, :f :txn, :value [[:r 1 nil]]}])))
   (is (= {:valid? :unknown, :reason ["operation 1: #{1} cannot be the reply of :read, which is an integer, string or keyword, or nil"]}
          (judged [{:process 0, :type :invoke, :f :read, :value nil} {:process 0, :type :ok, :f :read, :value #{1}}])))
@@ -199,11 +199,11 @@
     (is (= "operation 1: 2 is not the object of its invocation, operation 0: 1"
            (refused [(op 0 :invoke :read [1 nil]) (op 0 :ok :read [2 5])] independent)
            (refused [(op 0 :invoke :read (tuple 1 nil)) (op 0 :ok :read (tuple 2 5))])))
-    (is (= "operation 1: nil is no tuple [key value], as other values are"
+    (is (= "operation 1: nil is not a tuple [key value], unlike other values"
            (refused [(op 0 :invoke :read (tuple 1 nil)) (op 0 :ok :read nil)])))
-    (is (= "operation 2: 3 is no tuple [key value], as other values are"
+    (is (= "operation 2: 3 is not a tuple [key value], unlike other values"
            (refused (concat (done 0 :write (tuple 1 1) (tuple 1 1)) (done 0 :write 3 3)))))
-    (is (= "operation 0: it has a key, and an :object too" (refused [(op 0 :invoke :read [1 nil] 4)] independent)))
+    (is (= "operation 0: it has both a key and an :object" (refused [(op 0 :invoke :read [1 nil] 4)] independent)))
     (is (true? (:valid? (judged [(op 0 :invoke :read [1 nil]) (op 0 :fail :read nil) (op 0 :invoke :read [2 nil]) (op 0 :info :read nil)]
                                 independent))))))
 
@@ -239,7 +239,7 @@
   (let [history (concat (done 0 :enqueue 1 1) (done 0 :dequeue nil nil) (done 0 :dequeue nil 1))]
     (is (= "the queue was definitely not empty when event 2 (:index 12) found nothing: value 1 was in it (dequeued later, by event 4 (:index 14)); event 3 (:index 13) is the first that leaves no order"
            (second (:reason (judged (map #(assoc %1 :index %2) history (range 10 20))))))))
-  (is (= "operation 1 (:index 8): process 0 has an operation that is not complete"
+  (is (= "operation 1 (:index 8): process 0 already has an operation outstanding"
          (first (:reason (judged [(assoc (op 0 :invoke :read nil) :index 7) (assoc (op 0 :invoke :read nil) :index 8)]))))))
 
 (deftest a-page
@@ -289,7 +289,7 @@
   ;; The order of a heap counts.
   (is (= "operation 0: \"a\" cannot be the argument of :insert, which is an integer of 64 bits" (refused (done 0 :insert "a" nil))))
   ;; A message is no value, and the string of a value is not the value.
-  (let [odd "is the reply of :dequeue, and no operation puts it in: it may be a message, or another form of a value"]
+  (let [odd "is the reply of :dequeue, but no operation puts that value in: it may be an error message, or the same value spelled differently"]
     (is (= (str "operation 1: :empty " odd) (refused (done 0 :dequeue nil :empty))))
     (is (= (str "operation 3: \"3\" " odd) (refused (concat (done 0 :enqueue 3 3) (done 0 :dequeue nil "3")))))
     (is (= (str "operation 3: \"a\" " odd) (refused (concat (done 0 :enqueue :a :a) (done 0 :dequeue nil "a")))))
@@ -337,13 +337,13 @@
     (is (false? (:valid? (judged (read-of nil) {:initial 0}))))
     ;; Other objects have none, and numbers of maps are those of the history.
     (is (true? (:valid? (judged (concat (read-of 0 1) (done 0 :dequeue nil nil 2)) {:initial 0}))))
-    (is (= "operation 0: object 2 is no register, and has an initial value" (refused (done 0 :dequeue nil nil 2) {:initial {2 0}})))
+    (is (= "operation 0: object 2 has an initial value, but is not a register" (refused (done 0 :dequeue nil nil 2) {:initial {2 0}})))
     (is (= "operation 0: 1.5 cannot be an initial value, which is an integer, string or keyword" (refused (read-of 0) {:initial 1.5})))
     (is (= ["the following operations have no valid order; event 1 is the first that leaves no order"
             "the initial value: :write 9, :ok 9"
             "events 0 and 1: process 0, :cas [9 2], :ok false"]
            (rest (butlast (:reason (judged (done 0 :cas [9 2] false) {:initial 9}))))))
-    (is (= "operation 1: process 0 has an operation that is not complete" (first (:reason (judged [(op 0 :invoke :read nil) (op 0 :invoke :read nil)] {:initial 0})))))))
+    (is (= "operation 1: process 0 already has an operation outstanding" (first (:reason (judged [(op 0 :invoke :read nil) (op 0 :invoke :read nil)] {:initial 0})))))))
 
 (defn of-key
   "What jepsen.independent/checker hands to the checker of a key, after its document: the operations on the key and those without

@@ -92,7 +92,7 @@ def written(value):
 def check_call(function, argument):
     """Raises ValueError for a function or an argument that no history can have."""
     if function not in ARGUMENTS:
-        raise ValueError(f"{function!r} is none of the functions {', '.join(ARGUMENTS)}")
+        raise ValueError(f"{function!r} is not one of the functions {', '.join(ARGUMENTS)}")
     numbers = () if argument is None else argument if isinstance(argument, (tuple, list)) else (argument,)
     if any(isinstance(it, (str, bytes)) for it in numbers):
         raise ValueError(f"{argument!r} cannot be the argument of {function}: a history has integers, so number your strings")
@@ -227,7 +227,7 @@ class Recorder:
         events = sorted((event for journal in journals for event in journal.events), key=lambda event: event[0])
         missing = self._drawn() - len(events)
         if missing:
-            raise ValueError(f"{missing} events are missing: a journal was not handed in, or this recorder already made a history")
+            raise ValueError(f"{missing} events are missing: a journal is missing, or this recorder was already used")
         return "".join(
             f"{{:process {process}, :type :{kind}, :f :{function}, :value {written(value)}, :object {number}}}\n"
             for _, process, kind, function, value, number in events

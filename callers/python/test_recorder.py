@@ -166,7 +166,7 @@ class Queues(unittest.TestCase):
         lost.invoke("enqueue", 8)
         kept.call("dequeue", None, lambda: 7)
         for _ in range(2):
-            with self.assertRaisesRegex(ValueError, "^3 events are missing: a journal was not handed in, or this recorder already made a history$"):
+            with self.assertRaisesRegex(ValueError, "^3 events are missing: a journal is missing, or this recorder was already used$"):
                 recorder.history([kept])
         with self.assertRaisesRegex(ValueError, "^a journal was handed in twice$"):
             recorder.history([kept, lost, kept])
@@ -212,7 +212,7 @@ class Queues(unittest.TestCase):
         recorder = Recorder()
         journal = recorder.journal()
         for function, argument, said in (
-            ("insert_min", 1, "'insert_min' is none of the functions enqueue, dequeue, "),
+            ("insert_min", 1, "'insert_min' is not one of the functions enqueue, dequeue, "),
             ("put", 1, "1 cannot be the argument of put, which is a pair of integers$"),
             ("put", (1, 2, 3), r"\(1, 2, 3\) cannot be the argument of put, which is a pair of integers$"),
             ("write", True, "True cannot be the argument of write, which is an integer$"),

@@ -17,7 +17,7 @@ pub enum Verb {
     Merge,
 }
 
-/// The numbers that an option takes, and the one where it is absent.
+/// The numbers that an option takes, and its default.
 #[derive(Clone, Copy)]
 pub struct Bounds {
     pub least: u64,
@@ -99,7 +99,7 @@ pub const SHARDS: Bounds = Bounds {
 
 const HISTORY: FileRow = (
     "HISTORY",
-    "a file of operation maps as Jepsen writes them; docs/tutorial.md says how to make one from a Jepsen store",
+    "a history, one map for each event, as Jepsen writes it; import makes one from a Jepsen store",
 );
 
 /// The commands, as help lists them.
@@ -107,7 +107,7 @@ pub const COMMANDS: [CommandRow; 8] = [
     (
         Verb::Check,
         "check",
-        "checks a history by certificates, one order of operations for each object",
+        "checks a history against certificates, one order of operations for each object",
         &[
             HISTORY,
             (
@@ -134,7 +134,7 @@ pub const COMMANDS: [CommandRow; 8] = [
             ),
             (
                 "first",
-                "which operation is tried first: that of the least number, or of the least return (default number)",
+                "try operations by their number or by their return: number, return (default number)",
                 Takes::First,
             ),
         ],
@@ -170,7 +170,7 @@ pub const COMMANDS: [CommandRow; 8] = [
         &[
             (
                 "steps",
-                "the most steps of a search where the evidence names none, 0 to 1000000000 (default 1000000)",
+                "limit of a search if the evidence names none, 0 to 1000000000 (default 1000000)",
                 Takes::Number(STEPS),
             ),
             (
@@ -208,7 +208,7 @@ pub const COMMANDS: [CommandRow; 8] = [
             ),
             (
                 "seed",
-                "what the calls are drawn from (default 0)",
+                "seed of the calls (default 0)",
                 Takes::Number(SEED),
             ),
         ],
@@ -217,7 +217,7 @@ pub const COMMANDS: [CommandRow; 8] = [
         Verb::Simulate,
         "simulate",
         "plays a schedule and judges its record",
-        &[("SCHEDULE", "a file of steps of clients")],
+        &[("SCHEDULE", "a file with the steps of the clients")],
         &[],
     ),
     (
@@ -228,7 +228,7 @@ pub const COMMANDS: [CommandRow; 8] = [
             HISTORY,
             (
                 "FOLDER",
-                "the folder where the shards are written; it is made if it is not there",
+                "the folder for the shards; created if missing",
             ),
         ],
         &[(
@@ -240,7 +240,7 @@ pub const COMMANDS: [CommandRow; 8] = [
     (
         Verb::Merge,
         "merge",
-        "verifies each shard of a history by its evidence, and judges the whole",
+        "verifies each shard of a history by its evidence, and judges the full history",
         &[(
             "FOLDER",
             "the folder with the shards, and the evidence of each",
@@ -248,12 +248,12 @@ pub const COMMANDS: [CommandRow; 8] = [
         &[
             (
                 "steps",
-                "the most steps of a search where the evidence names none, 0 to 1000000000 (default 1000000)",
+                "limit of a search if the evidence names none, 0 to 1000000000 (default 1000000)",
                 Takes::Number(STEPS),
             ),
             (
                 "trust-statuses",
-                "believes the exit statuses of judge in the files N.status, and checks nothing; --steps has no effect then",
+                "checks nothing: trusts the exit statuses of judge in the files N.status; ignores --steps",
                 Takes::Nothing,
             ),
         ],

@@ -189,7 +189,7 @@ def in_pieces(program, report):
     # Two programs read the history of judge and draw, so it is no pipe.
     os.mkfifo(f"{program.room}/pipe.edn")
     for words in (("judge", "pipe.edn"), ("draw", "pipe.edn"), ("judge", "-"), ("draw", "-")):
-        said = f"fcbench: cannot read {words[1]}: it is read twice, so write it to a file\n"
+        said = f"fcbench: cannot read {words[1]}: it is read twice, so it must be a file and not a pipe\n"
         report.answers(f"{' '.join(words)}: a pipe", program.run(*words), "", 4, said)
     os.remove(f"{program.room}/pipe.edn")
 

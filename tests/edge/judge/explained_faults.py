@@ -75,7 +75,7 @@ OF_CODES = (
     ),
     ("H9 at map 1000000", "{:process :x}\n" * 1_000_001, "; event 1000000, line 1000001: a history has at most 1,000,000 events; fcbench split divides a longer one"),
     ("E1 at byte 7", b"; first\xff", "; line 1: \\xff: the text is not UTF-8"),
-    ("E1 at byte 1", b"\x1f\x8b\x08\x00", "; line 1: this is gzip: zcat it first"),
+    ("E1 at byte 1", b"\x1f\x8b\x08\x00", "; line 1: the file is compressed: decompress it with zcat first"),
     ("E9 at byte 0", "\ufeff{:process 0}", "; line 1: a byte order mark: remove it"),
     ("E2 at byte 13", "\n{:process 0\n", "; line 3: the end of the text: the text ends inside the map of line 2"),
     ("E2 at byte 12", '{:process "0', "; line 1: the end of the text: the text ends inside the string of line 1"),
@@ -200,7 +200,7 @@ SUMMARIES = (
         MIXED_UP,
         1,
         b"; 0 % of 1 operation overlap another one, at most 1 at once; 0 pending, 0 failed\n",
-        [b"fcbench: warning: the reply of event 1 is not its argument: probably the recorder is wrong"],
+        [b"fcbench: warning: the reply of event 1 is not its argument: the recorder is probably wrong"],
     ),
 )
 

@@ -67,9 +67,9 @@ REFUSED = (
         "{:process 0, :type :invoke, :f :write, :value 1.5}",
         "line 1: operation 0: 1.5 cannot be the argument of :write, which is an integer, string or keyword",
     ),
-    ("\n\n{:process 0, :type :invoke, :f :drain}", "line 3: operation 0: :drain is none of the functions :enqueue, :dequeue, "),
+    ("\n\n{:process 0, :type :invoke, :f :drain}", "line 3: operation 0: :drain is not one of the functions :enqueue, :dequeue, "),
     ("{:process 0", "line 1: the text ends before }; expected are maps"),
-    ("{:process 0, :type :invoke}", "line 1: operation 0: no :f, which is one of the functions :enqueue, "),
+    ("{:process 0, :type :invoke}", "line 1: operation 0: :f is missing; it must be one of :enqueue, "),
     ("{:process 0, :type :invoke, :f write}", "line 1: operation 0: the symbol write cannot be an :f: write the keyword :write"),
     ("\n{:process 0, :value 1,\n:value 2}", "line 3: the key :value is in the same map twice; "),
     ('{"process": 0, "value": 1,\n"value": 2}', "line 2: the key :value is in the same map twice"),
@@ -128,7 +128,7 @@ def standard_input(program, report):
     ran = subprocess.run(program.line(("import", "-")), input=STORE.encode(), capture_output=True, cwd=program.room, check=False)
     report.equal("import -: standard input", (0, TEXT, b""), (ran.returncode, ran.stdout, ran.stderr))
     path = program.write("store.edn.gz", gzip.compress(STORE.encode()))
-    report.answers("import: gzip", program.run("import", path), "", 4, f"fcbench: cannot read {path}: this is gzip: zcat it first\n")
+    report.answers("import: gzip", program.run("import", path), "", 4, f"fcbench: cannot read {path}: the file is compressed: decompress it with zcat first\n")
     path = program.write("queue.edn", WRONGLY_EMPTY.format(":error :gone"))
     ran = program.run("import", "--initial", "0", path)
     report.equal(

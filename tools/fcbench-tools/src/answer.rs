@@ -1,33 +1,33 @@
-//! The answer of the verifier. Its lines are handed on only if it ended by itself, with the status that belongs to
-//! them: so what is printed never says other than the exit status.
+//! The answer of the verifier. Its lines are passed on only if it ended by itself, with the status that belongs to
+//! them: so the printed lines always agree with the exit status.
 
 use crate::program::say;
 use crate::status::Status;
 use std::io::{self, Read};
 use std::process::{Child, ChildStdout, ExitStatus};
 
-/// How the verifier ended, and its lines. Where it did not end with an answer there are none.
+/// How the verifier ended, and its lines. There are none if it did not end with an answer.
 pub struct Answer {
     pub status: Status,
     pub lines: Vec<u8>,
 }
 
-/// The status of the verifier, as it ended. One that a signal ended answers nothing.
+/// Returns the status of the verifier. One that was killed by a signal has no answer.
 fn status_of(ended: io::Result<ExitStatus>) -> Result<Status, Status> {
     match ended.map(|ended| (ended, Status::of(ended))) {
         Ok((_, Some(status))) => Ok(status),
         Ok((ended, None)) => {
-            say(format_args!("the verifier did not end by itself: {ended}"));
+            say(format_args!("the verifier was killed: {ended}"));
             Err(Status::UNDECIDED)
         }
         Err(error) => {
-            say(format_args!("the verifier was lost: {error}"));
+            say(format_args!("cannot wait for the verifier: {error}"));
             Err(Status::UNDECIDED)
         }
     }
 }
 
-/// What a program printed, to its end.
+/// Reads what a program prints, to its end.
 fn read_whole(mut printed: ChildStdout) -> Result<Vec<u8>, Status> {
     let mut lines = Vec::new();
     match printed.read_to_end(&mut lines) {
@@ -39,7 +39,7 @@ fn read_whole(mut printed: ChildStdout) -> Result<Vec<u8>, Status> {
     }
 }
 
-/// Reads what the verifier prints, and waits for its end. The error is the status where it has no answer.
+/// Reads what the verifier prints, and waits for its end. The error is the status if it has no answer.
 pub fn answer_of(program: &mut Child) -> Result<Answer, Status> {
     let lines = program.stdout.take().map_or(Ok(Vec::new()), read_whole);
     let status = status_of(program.wait())?;

@@ -165,7 +165,7 @@ fn drawn(command: &Draw) -> Result<Status, Status> {
         return Err(status);
     }
     let Some(page) = drawing.page(&lines) else {
-        say(format_args!("there is no page on this answer: {lines}"));
+        say(format_args!("cannot draw this answer: {lines}"));
         return Err(Status::BROKEN);
     };
     put_out(&page)?;

@@ -62,7 +62,7 @@ fn decisions_by(limit: Limit, history: History, command: &Find) -> Vec<Decision>
     decisions
 }
 
-/// The history, in which the number of each map is its place in a whole, as this table has it.
+/// Gives each map of the history its number in the full history, from this table.
 fn with_places(history: History, path: &str) -> Result<History, Status> {
     let table = read_with(path, bytes_of)?;
     let placed = Places::read(&table).and_then(|places| history.with_places(&places));
@@ -72,7 +72,7 @@ fn with_places(history: History, path: &str) -> Result<History, Status> {
     })
 }
 
-/// The history of which evidence is looked for.
+/// Reads the history to find evidence for.
 fn history_of(command: &Find) -> Result<History, Status> {
     let path = &command.history;
     let history = read_with(path, |file| read_history_from(file, command.workers))?;
@@ -112,7 +112,7 @@ pub fn say_failures(decisions: &[Decision]) -> bool {
     failures.map(|it| say(format_args!("the finder failed on object {}", it.object))).count() > 0
 }
 
-/// How a search of `all` objects ends, of which these are done.
+/// Returns how a search ended that decided these of `all` objects.
 fn status_of(decisions: &[Decision], all: usize) -> Status {
     let is_order = |it: &Decision| matches!(it.evidence, Evidence::Order(_));
     if say_failures(decisions) {

@@ -24,8 +24,8 @@ const LAST_WORDS: Duration = Duration::from_secs(5);
 /// The longest summary that is read.
 const LONGEST_SUMMARY: u64 = 1 << 20;
 
-/// The finder of evidence: the program that the environment variable FCBENCH_FINDER names, or else
-/// this one. What it finds is checked, so any program may be named. It is started with the words
+/// The finder of evidence: the program that the environment variable FCBENCH_FINDER names, otherwise
+/// this one. What it finds is checked, so any program may be named. It is started with the arguments
 /// `find HISTORY --workers N [--steps N]`, and writes evidence to its standard output. It is waited
 /// for until it closes that. At the limit it gets SIGTERM, and after five more seconds it is killed.
 pub fn finder(command: &Find) -> io::Result<Command> {
@@ -36,7 +36,7 @@ pub fn finder(command: &Find) -> io::Result<Command> {
     if let Some(steps) = command.steps {
         finder.args(["--steps", &steps.to_string()]);
     }
-    // What is wrong with a history, the verifier says. Of another finder nothing else is known.
+    // The verifier says what is wrong with a history. Nothing else is known about another finder.
     if is_own {
         finder.arg("--summary");
         if io::stderr().is_terminal() {
@@ -47,13 +47,13 @@ pub fn finder(command: &Find) -> io::Result<Command> {
     Ok(finder)
 }
 
-/// Whether a finder ended as one that wrote all it found.
+/// Whether a finder ended with a status of one that wrote all it found.
 fn has_found(ended: ExitStatus) -> bool {
     let statuses = [Status::YES, Status::MALFORMED, Status::UNDECIDED, Status::FAILED];
     Status::of(ended).is_some_and(|status| statuses.contains(&status))
 }
 
-/// How a finder ended, where it did so by itself: its output may be closed a moment before it ends.
+/// Returns how a finder ended, if it did so by itself: its output may be closed a moment before it ends.
 fn end_of(finder: &mut Child) -> Option<ExitStatus> {
     (0..EXIT_CHECKS).find_map(|look| {
         if look > 0 {
@@ -68,7 +68,7 @@ fn end(finder: &mut Child, was_stopped: bool) {
     match end_of(finder) {
         Some(ended) if was_stopped || has_found(ended) => {}
         Some(ended) => {
-            say(format_args!("the finder failed, so the evidence is not complete: {ended}"));
+            say(format_args!("the finder failed ({ended}); judging by what it found"));
         }
         None => {
             let _ = finder.kill();
@@ -98,7 +98,7 @@ fn stop_at_limit(finder: &mut Child, is_heard: bool, limit: Limit, answer: &Rece
     end(finder, stopped.is_some());
 }
 
-/// Prints how far the finder is, and gives what it says of the history.
+/// Prints how far the finder is, and returns what it says about the history.
 fn forward_messages(said: ChildStderr) -> String {
     let mut summary = String::new();
     for line in BufReader::new(said.take(LONGEST_SUMMARY)).lines().map_while(Result::ok) {
@@ -132,7 +132,7 @@ impl Finder {
         Ok(Finder { answer, keeper, hearer })
     }
 
-    /// Ends it, since the answer is there. Gives what it said of the history.
+    /// Ends it, since the answer is there. Returns what it said about the history.
     pub fn end(self) -> String {
         drop(self.answer);
         let _ = self.keeper.join();

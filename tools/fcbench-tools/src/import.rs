@@ -1,4 +1,4 @@
-//! The command that imports, and names that are told in an answer.
+//! The command that imports, and the names that are used in an answer.
 
 use crate::command_line::Import;
 use crate::find::read_with;
@@ -11,17 +11,17 @@ use std::io::{self, Read};
 /// What a text that gzip has made begins with.
 pub const GZIP: [u8; 2] = [0x1f, 0x8b];
 
-/// The whole text of a file.
+/// Reads the text of a file.
 fn read_text(mut file: File) -> io::Result<String> {
     let mut bytes = Vec::new();
     file.read_to_end(&mut bytes)?;
     if bytes.starts_with(&GZIP) {
-        return Err(io::Error::other("this is gzip: zcat it first"));
+        return Err(io::Error::other("the file is compressed: decompress it with zcat first"));
     }
     String::from_utf8(bytes).map_err(|_| io::Error::other("it is not UTF-8"))
 }
 
-/// The text of a file, or why there is none.
+/// Reads the text of a file, or reports why it cannot.
 fn text_of(path: &str) -> Result<String, Status> {
     read_with(path, read_text)
 }
@@ -50,7 +50,7 @@ pub fn import(command: &Import) -> Status {
     put_out(&text).map_or_else(|status| status, |()| Status::YES)
 }
 
-/// The table of names in a file.
+/// Reads the table of names in a file.
 pub fn names_in(path: &str) -> Result<Names, Status> {
     Names::read(&text_of(path)?).map_err(|refused| {
         say(format_args!("{path}, {refused}"));

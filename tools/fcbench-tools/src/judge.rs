@@ -1,5 +1,5 @@
 //! The command that judges. The finder and the verifier are two processes, joined by a pipe.
-//! The verifier reads the history while the finder works, and gives the answer and the
+//! The verifier reads the history while the finder works, and decides the answer and the
 //! status. If the finder dies, the verifier judges by the evidence written so far.
 
 use crate::answer::{Answer, answer_of};
@@ -72,7 +72,7 @@ fn run(mut verifier: Command, finder: io::Result<Command>, limit: Limit) -> Judg
 }
 
 /// Whether a warning is printed. Little overlap matters only with a yes; puts without replies only
-/// without one, since a right store may then get a no.
+/// without one, since a correct store may then get a no.
 fn warns(warning: &str, is_yes: bool) -> bool {
     !warning.contains(if is_yes { SILENT_PUTS } else { OVERLAP })
 }
@@ -95,7 +95,7 @@ fn summarize(summary: &str, is_yes: bool, is_printed: bool) -> Result<(), Status
 /// Longer malformed texts are not tried with `import`.
 const LONGEST_IMPORTED: usize = 1 << 24;
 
-/// The options by which a text that is malformed can be imported and judged, if it can.
+/// Returns the `import` options that would make this text judgeable, if any.
 fn options_of_import(text: &[u8]) -> Option<&'static str> {
     let text = std::str::from_utf8(text).ok().filter(|text| text.len() <= LONGEST_IMPORTED)?;
     let is_judged = |is_independent| {
@@ -126,7 +126,7 @@ fn try_to_read(history: &str) -> Result<(), Status> {
     read_with(history, |mut file| file.read(&mut [0])).map(drop)
 }
 
-/// Says what to do where the steps of a search did not suffice.
+/// Says what to do if a search was out of steps.
 fn advise(lines: &[u8]) {
     let is_out_of_steps = |line: &[u8]| {
         line.starts_with(b"; object ")
@@ -158,7 +158,7 @@ fn explanation(history: &str, fault: Fault) -> Option<String> {
     Some(lines)
 }
 
-/// Explains a malformed history, of which these are the lines of the verifier.
+/// Explains a malformed history. `lines` are the verifier's.
 fn explain(history: &str, lines: &[u8]) -> Result<(), Status> {
     let first = String::from_utf8_lossy(lines.split(|it| *it == b'\n').next().unwrap_or_default());
     let Some(Verdict::Malformed(fault)) = Verdict::read(&first) else {
@@ -167,7 +167,7 @@ fn explain(history: &str, lines: &[u8]) -> Result<(), Status> {
     explanation(history, fault).map_or(Ok(()), |lines| put_out(&lines))
 }
 
-/// The judgement, with the status of the verifier, or that of what went wrong.
+/// Judges, and returns the status of the verifier, or that of what went wrong.
 fn try_judge(command: &Judge) -> Result<Status, Status> {
     let limit = Limit::begin(command.find.seconds);
     let history = path_for_both(&command.find.history)?;
@@ -185,7 +185,7 @@ fn try_judge(command: &Judge) -> Result<Status, Status> {
     Ok(status)
 }
 
-/// Judges a history: looks for evidence, and answers what the verifier makes of it.
+/// Judges a history: looks for evidence, and prints what the verifier decides by it.
 pub fn judge(command: &Judge) -> Status {
     try_judge(command).unwrap_or_else(|status| status)
 }
@@ -264,7 +264,7 @@ mod tests {
             format!("trap \"{order}; exit 3\" TERM; {goes_on}"),
             format!("{order}; trap '' TERM; {goes_on}"),
         ] {
-            // Where the machine is busy, the first limits may be over before the shell has begun.
+            // If the machine is busy, the first limits may be over before the shell has begun.
             let is_yes = |limit| run_of(verifier(), Ok(shell(&script)), Some(limit)) == Status::YES;
             assert!([1, 4, 16].into_iter().any(is_yes), "{script}");
         }

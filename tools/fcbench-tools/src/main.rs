@@ -2,11 +2,11 @@
 //!
 //! - `find HISTORY` writes evidence for a history: for each object an order of its operations, a
 //!   reason why there is none, or the search that is to decide.
-//! - `judge HISTORY` hands this evidence to `fcbench verify`, and answers what that answers. The
+//! - `judge HISTORY` passes this evidence to `fcbench verify`, and prints its answer. The
 //!   environment variable FCBENCH_FINDER can name another finder.
 //! - `draw HISTORY` puts the answer on a page of HTML; `draw HISTORY CERTIFICATES` that of
 //!   `fcbench check`.
-//! - `import HISTORY` makes a text that these commands read of a history that another tool wrote.
+//! - `import HISTORY` makes a text that these commands read from a history that another tool wrote.
 
 mod answer;
 mod command_line;

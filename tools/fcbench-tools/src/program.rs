@@ -10,8 +10,8 @@ use std::process::Command;
 
 const NAME: &str = "fcbench";
 
-/// Where the verifier is: what the environment variable FCBENCH says, or else beside this
-/// program, or else on the path.
+/// Where the verifier is: what the environment variable FCBENCH says, otherwise next to this
+/// program, otherwise on the path.
 fn path() -> OsString {
     if let Some(path) = env::var_os("FCBENCH") {
         return path;
@@ -20,7 +20,7 @@ fn path() -> OsString {
     beside.filter(|path| path.is_file()).map_or_else(|| NAME.into(), OsString::from)
 }
 
-/// The verifier with these words, and with a limit of steps where one is given.
+/// The verifier with these arguments, and with a limit of steps if one is given.
 pub fn proved(words: &[&str], steps: Option<u64>) -> Command {
     let mut command = Command::new(path());
     command.args(words);
@@ -36,16 +36,18 @@ pub fn verifier(history: &str, steps: Option<u64>, workers: usize) -> Command {
     proved(&["verify", history, "/dev/stdin", "--workers", &workers], steps)
 }
 
-/// The path by which both programs can read a history: that of its file, where it is named by a
-/// number of an open file, as /dev/stdin is. A pipe, and - for standard input, are refused, since only one could read it.
+/// Returns a path by which both programs can read a history: that of its file, if it is named by the
+/// number of an open file, as with /dev/stdin. Refuses a pipe, and - for standard input, since only one could read it.
 pub fn path_for_both(history: &str) -> Result<String, Status> {
     let kind = fs::metadata(history).map(|it| it.file_type());
     if history == "-" || kind.is_ok_and(|kind| kind.is_fifo() || kind.is_socket()) {
-        say(format_args!("cannot read {history}: it is read twice, so write it to a file"));
+        say(format_args!(
+            "cannot read {history}: it is read twice, so it must be a file and not a pipe"
+        ));
         return Err(Status::FAILED);
     }
     if history.starts_with('-') {
-        // Else the verifier takes it for an option.
+        // Otherwise the verifier takes it for an option.
         return Ok(format!("./{history}"));
     }
     let is_open_file = history.starts_with("/dev/") || history.starts_with("/proc/");
@@ -59,7 +61,7 @@ pub fn output_failed(error: io::Error) -> Status {
     Status::FAILED
 }
 
-/// Writes a text to standard output, or says why not.
+/// Writes a text to standard output, or reports why it cannot.
 pub fn put_out(text: &str) -> Result<(), Status> {
     let mut out = io::stdout().lock();
     out.write_all(text.as_bytes()).and_then(|()| out.flush()).map_err(output_failed)
@@ -70,7 +72,7 @@ pub fn note(line: std::fmt::Arguments<'_>) {
     let _ = writeln!(io::stderr(), "{line}");
 }
 
-/// Says on standard error what went wrong.
+/// Reports on standard error what went wrong.
 pub fn say(what: std::fmt::Arguments<'_>) {
     note(format_args!("fcbench: {what}"));
 }

@@ -1,5 +1,5 @@
-//! What of an answer is shown on a terminal: of a part of many operations the first ones, and how
-//! many follow; of a long reason the beginning, and how long it is.
+//! Shortens an answer for a terminal: shows the first operations of a long part, and the beginning of
+//! a long reason, and says how much is left out.
 
 use std::io::{self, BufRead, Write};
 
@@ -9,7 +9,7 @@ const MOST_OPERATIONS: usize = 200;
 /// How many bytes of a line are shown.
 const LONGEST_LINE: usize = 2_000;
 
-/// Whether a line says an operation of a part.
+/// Whether a line is that of an operation of a part.
 fn is_operation(line: &[u8]) -> bool {
     line.starts_with(b"; event ") || line.starts_with(b"; events ")
 }
@@ -18,8 +18,8 @@ fn is_operation(line: &[u8]) -> bool {
 fn say_left_out(count: usize, out: &mut impl Write) -> io::Result<()> {
     match count.saturating_sub(MOST_OPERATIONS) {
         0 => Ok(()),
-        1 => writeln!(out, "; and 1 more operation, which --all shows"),
-        left_out => writeln!(out, "; and {left_out} more operations, which --all shows"),
+        1 => writeln!(out, "; 1 more operation: --all shows it"),
+        left_out => writeln!(out, "; {left_out} more operations: --all shows them"),
     }
 }
 
@@ -30,7 +30,7 @@ fn copy_line(line: &[u8], out: &mut impl Write) -> io::Result<()> {
     }
     // A reason has characters of ASCII alone.
     out.write_all(&line[..LONGEST_LINE])?;
-    writeln!(out, " ..\n; a reason of {} characters, which --all shows", line.len() - 1)
+    writeln!(out, " ..\n; the reason has {} characters: --all shows them", line.len() - 1)
 }
 
 /// Copies the lines of an answer, without the operations of an object that are too many.
@@ -79,7 +79,7 @@ mod tests {
         assert_eq!(shortened(&short), short);
         let long = format!("; {{{}}}\n", "1".repeat(75_000));
         let wanted =
-            format!("{} ..\n; a reason of 75004 characters, which --all shows\n", &long[..2_000]);
+            format!("{} ..\n; the reason has 75004 characters: --all shows them\n", &long[..2_000]);
         assert_eq!(shortened(&long), wanted);
         let sentence = format!("; {}\n", "a".repeat(3_000));
         assert_eq!(shortened(&sentence), sentence);
@@ -89,11 +89,11 @@ mod tests {
     fn of_a_large_part_the_first_operations_are_shown() {
         let text = format!("; a\n{}; b\n; events 1 and 2: x\n", part(203));
         let wanted = format!(
-            "; a\n{}; and 3 more operations, which --all shows\n; b\n; events 1 and 2: x\n",
+            "; a\n{}; 3 more operations: --all shows them\n; b\n; events 1 and 2: x\n",
             part(200)
         );
         assert_eq!(shortened(&text), wanted);
-        let wanted = format!("{}; and 1 more operation, which --all shows\n", part(200));
+        let wanted = format!("{}; 1 more operation: --all shows it\n", part(200));
         assert_eq!(shortened(&part(201)), wanted);
     }
 }

@@ -99,7 +99,7 @@ fn a_proved_program_that_is_killed_is_status_3() {
     for word in ["judge", "draw"] {
         let (status, lines, errors) = said(&run(&program, &[word, &example("queue.history.edn")]));
         assert_eq!((status, lines.as_str()), (3, ""), "{word}");
-        assert!(errors.contains("did not end by itself"), "{errors}");
+        assert!(errors.contains("the verifier was killed"), "{errors}");
     }
 }
 
@@ -169,7 +169,10 @@ fn a_history_that_is_a_pipe_is_status_4() {
         drop(child.stdin.take());
         let (status, _, errors) = said(&child.wait_with_output().expect("an output"));
         assert_eq!(status, 4, "{word}");
-        assert!(errors.contains("it is read twice, so write it to a file"), "{errors}");
+        assert!(
+            errors.contains("it is read twice, so it must be a file and not a pipe"),
+            "{errors}"
+        );
     }
 }
 

@@ -180,11 +180,11 @@ pub fn warnings(history: &History) -> Vec<String> {
     let statistics = Statistics::of(history);
     let mut all = Vec::new();
     if statistics.operations == 0 {
-        all.push("the history has no operations, so a yes says nothing".to_owned());
+        all.push("the history has no operations, so a yes means nothing".to_owned());
     }
     if let Some((failed, f)) = failed_removals(history) {
         all.push(format!(
-            "all {failed} calls of :{f} failed, so none is judged: a call that found nothing is :ok with :value nil"
+            "all {failed} calls of :{f} failed, so none is judged. If they found nothing, record :ok with :value nil"
         ));
     }
     if statistics.is_sequential() {
@@ -201,7 +201,7 @@ pub fn warnings(history: &History) -> Vec<String> {
     }
     if let Some(event) = named("event", &strange_replies(history)) {
         all.push(format!(
-            "the reply of {event} is not its argument: probably the recorder is wrong, and not the store"
+            "the reply of {event} is not its argument: the recorder is probably wrong, not the store"
         ));
     }
     if let Some((value, objects)) = first_values(history)
@@ -215,8 +215,8 @@ pub fn warnings(history: &History) -> Vec<String> {
     let silent: Vec<u32> = silent.map(|it| it.object).collect();
     if let Some(objects) = named("object", &silent) {
         all.push(format!(
-            "{objects}: {SILENT_PUTS}, which says that the key had no value, also where it was put before. If your store \
-             does not tell the earlier value, record :assoc; of a put if absent, record :put-if-absent"
+            "{objects}: {SILENT_PUTS}, which means that the key had no value, even after an earlier put. If your store \
+             does not report the earlier value, record :assoc; for a put if absent, record :put-if-absent"
         ));
     }
     all
@@ -341,7 +341,7 @@ mod tests {
 
     #[test]
     fn replies_that_are_not_the_argument() {
-        let told = |text: &str| warned(text, "is not its argument: probably the recorder is wrong");
+        let told = |text: &str| warned(text, "is not its argument: the recorder is probably wrong");
         for f in ["write", "enqueue", "push", "insert"] {
             let call = |reply: &str| answered(0, &format!(":f :{f}, :value 1"), reply, 0);
             assert_eq!(told(&call("1")), "");

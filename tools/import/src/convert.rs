@@ -178,14 +178,14 @@ fn is_readable(name: &str) -> bool {
         && name.chars().all(is_part)
 }
 
-/// What is said of an `:f` that is none of the functions.
+/// What is said of an `:f` that is not one of the functions.
 fn no_function(f: &Form) -> String {
     match f {
-        Form::Nil => format!("no :f, which is one of the functions {}", function_names()),
+        Form::Nil => format!(":f is missing; it must be one of {}", function_names()),
         Form::Symbol(word) if function(word, false).is_some() => {
             format!("the symbol {word} cannot be an :f: write the keyword :{word}")
         }
-        other => format!("{other} is none of the functions {}", function_names()),
+        other => format!("{other} is not one of the functions {}", function_names()),
     }
 }
 
@@ -269,7 +269,7 @@ impl State<'_> {
             return Ok(((*object != Form::Nil).then(|| object.clone()), value));
         }
         if *object != Form::Nil {
-            return Err("it has a key, and an :object too".to_owned());
+            return Err("it has both a key and an :object".to_owned());
         }
         Ok(value.as_pair().map_or((None, value), |(key, value)| (Some(key.clone()), value)))
     }
@@ -303,7 +303,7 @@ impl State<'_> {
             }
             Does::Releases => match self.owners.get(process) {
                 Some(acquired) if acquired != owner => {
-                    Err(format!("it releases {owner}, and acquired {acquired}"))
+                    Err(format!("it releases owner {owner}, but acquired owner {acquired}"))
                 }
                 _ => Ok(()),
             },
@@ -322,7 +322,7 @@ impl State<'_> {
         let object = match object {
             Some(object) => object,
             None if self.is_keyed => {
-                return Err(format!("{value} is no tuple [key value], as other values are"));
+                return Err(format!("{value} is not a tuple [key value], unlike other values"));
             }
             None => Form::Int(0),
         };
@@ -330,7 +330,7 @@ impl State<'_> {
             .ok_or_else(|| self.refuse_value(value, function, function.argument, "argument"))?;
         self.note_owner(process, function, value)?;
         if self.open.contains_key(process) {
-            return Err(format!("process {process} has an operation that is not complete"));
+            return Err(format!("process {process} already has an operation outstanding"));
         }
         self.open.insert(
             process.clone(),
@@ -366,7 +366,7 @@ impl State<'_> {
     ) -> Result<(), String> {
         match object {
             None if self.is_keyed && kind == Kind::Ok => {
-                Err(format!("{value} is no tuple [key value], as other values are"))
+                Err(format!("{value} is not a tuple [key value], unlike other values"))
             }
             Some(object) if object != call.object && (kind == Kind::Ok || !self.is_keyed) => {
                 Err(format!(
@@ -494,7 +494,7 @@ fn initial_values<'a>(
     let firsts = events.iter().filter_map(Entry::client).filter(|it| seen.insert(&it.object));
     let firsts: Vec<&Event> = firsts.collect();
     if let Some(unknown) = unknown_object(initial, &firsts) {
-        let why = format!("--initial names {unknown}, which is no object of the history");
+        let why = format!("--initial names {unknown}, and the history has no such object");
         return Err(Refused { line: 1, why });
     }
     let refused = |(line, place): (usize, usize), why: String| Refused {
@@ -507,7 +507,7 @@ fn initial_values<'a>(
         Some(if !event.function.kind.is_lone_cell() {
             Err(refused(
                 event.at,
-                format!("object {object} is no register, and has an initial value"),
+                format!("object {object} has an initial value, but is not a register"),
             ))
         } else if is_value(value) {
             Ok((object, value))
@@ -554,8 +554,8 @@ fn put_in(event: &Event) -> Option<&Form> {
     }
 }
 
-/// Where values are no integers, a reply that nothing has put in may be a message, as `:empty`, or another form of a value, as the string
-/// of a keyword. So it is refused. In a history of integers alone it is for `fcbench` to judge.
+/// Refuses a reply that nothing has put in, if values are not integers: it may be a message, such as `:empty`, or another form of a value,
+/// such as the string of a keyword. In a history of integers alone it is for `fcbench` to judge.
 fn refuse_strange_replies(events: &[Entry]) -> Result<(), Refused> {
     let all = || events.iter().filter_map(Entry::client);
     let put: HashSet<&Form> =
@@ -567,8 +567,7 @@ fn refuse_strange_replies(events: &[Entry]) -> Result<(), Refused> {
     let strange = replies().find(|it| it.value.values().any(|value| !put.contains(value)));
     match strange.filter(|_| has_names) {
         Some(Event { value: Said::One(value), function, at: (line, place), .. }) => {
-            let why =
-                "and no operation puts it in: it may be a message, or another form of a value";
+            let why = "but no operation puts that value in: it may be an error message, or the same value spelled differently";
             Err(Refused {
                 line: *line,
                 why: format!(

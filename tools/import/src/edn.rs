@@ -92,7 +92,7 @@ impl<'a> Reader<'a> {
 
     fn form_within(&mut self, open: usize) -> Result<Option<Form>, Malformed> {
         if open > MOST_OPEN {
-            return self.malformed("forms are too deep in each other");
+            return self.malformed("forms are nested too deeply");
         }
         self.pass();
         let Some(character) = self.peek() else {
@@ -211,7 +211,7 @@ impl<'a> Reader<'a> {
                     .map_or_else(|| self.malformed("\\u without a character"), Ok)
             }
             Some(other @ ('"' | '\\' | '/')) => Ok(other),
-            _ => self.malformed("a backslash without a character that it stands for"),
+            _ => self.malformed("unknown escape after a backslash"),
         }
     }
 

@@ -158,15 +158,15 @@ impl Failures {
                 Form::Nil => write!(said, "without :error"),
                 error => write!(said, "with {error}"),
             };
-            let _ = write!(said, " (the first in line {line})");
+            let _ = write!(said, " (first in line {line})");
         }
         if self.0.len() > MOST_NAMED {
             let _ = write!(said, ", and others");
         }
         (!said.is_empty()).then(|| {
             format!(
-                "left out: {said}. If the store answered so, use {}: then each is a reply of nil, or of a :cas of false, and a wrong \
-                 one can be found",
+                "left out: {said}. If this was the store's answer, use {}: it makes each a reply of nil (of a :cas: false), so that \
+                 wrong ones are found",
                 self.option(replies)
             )
         })

@@ -190,18 +190,18 @@ fn what_says_that_nothing_was_there_and_is_left_out_is_counted() {
     let empty = failed(":dequeue", "nil", ":error :empty");
     let text = format!("{}{empty}{empty}", failed(":pop", "nil", ":error [:empty 1]"))
         .replace(":f :pop", ":object 1, :f :pop");
-    let then = "then each is a reply of nil, or of a :cas of false, and a wrong one can be found";
-    let said = "left out: 2 failed :dequeue with :empty (the first in line 2), 1 failed :pop with [:empty 1] (the first in line 1)";
-    let wanted = format!("{said}. If the store answered so, use --fail-is-reply: {then}");
+    let then = "it makes each a reply of nil (of a :cas: false), so that wrong ones are found";
+    let said = "left out: 2 failed :dequeue with :empty (first in line 2), 1 failed :pop with [:empty 1] (first in line 1)";
+    let wanted = format!("{said}. If this was the store's answer, use --fail-is-reply: {then}");
     assert_eq!(warned(&text, Replies::default()), wanted);
     assert_eq!(warned(&text, Replies::usual()), "");
     let reply = failed(":dequeue", "nil", ":error \"Empty reply from server\"");
-    let said = "left out: 1 failed :dequeue with \"Empty reply from server\" (the first in line 1)";
+    let said = "left out: 1 failed :dequeue with \"Empty reply from server\" (first in line 1)";
     for (replies, option) in [
         (Replies::default(), "--fail-is-reply='\"Empty reply from server\"'"),
         (Replies::usual(), "--fail-is-reply='#{:empty :not-found \"Empty reply from server\"}'"),
     ] {
-        let wanted = format!("{said}. If the store answered so, use {option}: {then}");
+        let wanted = format!("{said}. If this was the store's answer, use {option}: {then}");
         assert_eq!(warned(&reply, replies), wanted);
     }
     let exhausted = failed(":dequeue", ":exhausted", ":other 1").replacen(":exhausted", "nil", 1);
@@ -209,7 +209,7 @@ fn what_says_that_nothing_was_there_and_is_left_out_is_counted() {
     assert!(said.contains("1 failed :dequeue with :exhausted"), "{said}");
     let many: String =
         (0..7).map(|it| failed(":read", "nil", &format!(":error \"no-such {it}\""))).collect();
-    assert!(warned(&many, Replies::default()).contains("(the first in line 5), and others. If "));
+    assert!(warned(&many, Replies::default()).contains("(first in line 5), and others. If "));
 }
 
 /// A store that refuses each swap, or one of every value, gets a yes where these are left out.
@@ -221,16 +221,16 @@ fn failed_swaps_that_are_left_out_are_counted() {
     };
     let (with, without) =
         (failed(":cas", "[1 2]", ":error :did-not-match"), failed(":cas", "[1 2]", ":other 1"));
-    let then = "then each is a reply of nil, or of a :cas of false, and a wrong one can be found";
+    let then = "it makes each a reply of nil (of a :cas: false), so that wrong ones are found";
     let text = format!("{with}{without}{without}");
-    let said = "left out: 2 failed :cas without :error (the first in line 2), 1 failed :cas with :did-not-match (the first in line 1)";
+    let said = "left out: 2 failed :cas without :error (first in line 2), 1 failed :cas with :did-not-match (first in line 1)";
     let wanted = format!(
-        "{said}. If the store answered so, use --fail-is-reply='#{{nil :did-not-match}}': {then}"
+        "{said}. If this was the store's answer, use --fail-is-reply='#{{nil :did-not-match}}': {then}"
     );
     assert_eq!(warned(&text, Replies::default()), wanted);
     assert_eq!(warned(&text, set("#{nil :did-not-match}")), "");
     let wanted = format!(
-        "left out: 1 failed :cas with :did-not-match (the first in line 1). If the store answered so, use --fail-is-reply=':did-not-match': {then}"
+        "left out: 1 failed :cas with :did-not-match (first in line 1). If this was the store's answer, use --fail-is-reply=':did-not-match': {then}"
     );
     assert_eq!(warned(&with, Replies::default()), wanted);
     let wanted = wanted.replace("':did-not-match'", "'#{:empty :not-found :did-not-match}'");
@@ -240,7 +240,7 @@ fn failed_swaps_that_are_left_out_are_counted() {
         (0..300).map(|it| failed(":cas", "[1 2]", &format!(":error [:found {it}]"))).collect();
     let said = warned(&each, Replies::default());
     assert!(
-        said.starts_with("left out: 300 failed :cas with [:found 0] (the first in line 1). If "),
+        said.starts_with("left out: 300 failed :cas with [:found 0] (first in line 1). If "),
         "{said}"
     );
     assert!(said.contains("use --fail-is-reply=':found': "), "{said}");
@@ -295,9 +295,9 @@ fn options() {
         made.text
     );
     assert_eq!(made.names.before, 2);
-    let said = "line 2: operation 2: object :y is no register, and has an initial value";
+    let said = "line 2: operation 2: object :y has an initial value, but is not a register";
     assert_eq!(refused(text, &initial_of("{:y 5}")), said);
-    let said = "line 1: --initial names \"x\", which is no object of the history";
+    let said = "line 1: --initial names \"x\", and the history has no such object";
     assert_eq!(refused(text, &initial_of("{\"x\" 5}")), said);
     let said = "line 1: operation 0: 1.5 cannot be an initial value, which is an integer, string or keyword";
     assert_eq!(refused(text, &initial_of("1.5")), said);
@@ -316,7 +316,7 @@ fn options() {
     let owners = Options { checks_owners: true, ..Options::default() };
     assert_eq!(
         refused(text, &owners),
-        "line 2: operation 2: it releases \"b\", and acquired \"a\""
+        "line 2: operation 2: it releases owner \"b\", but acquired owner \"a\""
     );
     assert!(import(text, &Options::default()).is_ok());
 }
@@ -340,7 +340,7 @@ fn what_cannot_be_mapped_is_named_with_its_line() {
         ),
         (
             "{:process 0, :type :invoke, :f :drain}",
-            "line 1: operation 0: :drain is none of the functions :enqueue, :dequeue, :push, :pop, :insert, :extract-min, :write, :read, :cas, :clear, :create, :put, :get, :del, :put-if-absent, :replace, :assoc, :dissoc, :acquire, :release, :add, :remove, :contains, :fetch-add, :get-count, :lock, :unlock",
+            "line 1: operation 0: :drain is not one of the functions :enqueue, :dequeue, :push, :pop, :insert, :extract-min, :write, :read, :cas, :clear, :create, :put, :get, :del, :put-if-absent, :replace, :assoc, :dissoc, :acquire, :release, :add, :remove, :contains, :fetch-add, :get-count, :lock, :unlock",
         ),
         (
             "{:process -1, :type :invoke, :f :read}",
@@ -364,7 +364,7 @@ fn what_cannot_be_mapped_is_named_with_its_line() {
         ),
         (
             "{:process 0, :type :invoke}",
-            "line 1: operation 0: no :f, which is one of the functions :enqueue, :dequeue, :push, :pop, :insert, :extract-min, :write, :read, :cas, :clear, :create, :put, :get, :del, :put-if-absent, :replace, :assoc, :dissoc, :acquire, :release, :add, :remove, :contains, :fetch-add, :get-count, :lock, :unlock",
+            "line 1: operation 0: :f is missing; it must be one of :enqueue, :dequeue, :push, :pop, :insert, :extract-min, :write, :read, :cas, :clear, :create, :put, :get, :del, :put-if-absent, :replace, :assoc, :dissoc, :acquire, :release, :add, :remove, :contains, :fetch-add, :get-count, :lock, :unlock",
         ),
         (
             "{:process 0, :type :invoke, :f write, :value 1}",
@@ -395,7 +395,7 @@ fn what_cannot_be_mapped_is_named_with_its_line() {
         ),
         (
             "{:process 0, :type :invoke, :f :read}",
-            "line 2: operation 1: process 0 has an operation that is not complete",
+            "line 2: operation 1: process 0 already has an operation outstanding",
         ),
         ("7", "line 2: no map: 7; "),
         ("\n{:process", "line 3: "),
@@ -417,7 +417,7 @@ fn what_cannot_be_mapped_is_named_with_its_line() {
     let said = refused(&strange, &Options::default());
     assert!(
         said.starts_with(
-            "line 4: operation 3: :empty is the reply of :read, and no operation puts it in"
+            "line 4: operation 3: :empty is the reply of :read, but no operation puts that value in"
         ),
         "{said}"
     );

@@ -9,17 +9,22 @@ use syntax::{COMMANDS, Commands, Syntax};
 pub use words::Refused;
 use words::{Fault, Words};
 
-/// Which history evidence is looked for, the file that has the places of its maps in a whole, if it is a
-/// shard, by how many threads, the most steps of the last search for each object and the most seconds, if
-/// they are given, whether progress is told, and whether the history is summarized.
+/// A search for evidence.
 #[derive(Clone, Debug, PartialEq, Eq)]
 pub struct Find {
+    /// The path of the history.
     pub history: String,
+    /// The file with the numbers of the maps in the full history, if the history is a shard.
     pub places: Option<String>,
+    /// How many threads search.
     pub workers: usize,
+    /// The limit of the last search for each object, if it is given.
     pub steps: Option<u64>,
+    /// After how many seconds the search stops, if that is given.
     pub seconds: Option<u64>,
+    /// Whether progress is printed.
     pub shows_progress: bool,
+    /// Whether the history is summarized.
     pub summarizes: bool,
 }
 
@@ -33,19 +38,21 @@ pub struct Draw {
     pub options: pages::Options,
 }
 
-/// Which history is judged, whether all operations of a part are shown, on a terminal too, and the file
-/// of a table of names, if the answer is told in names.
+/// A judgement.
 #[derive(Clone, Debug, PartialEq, Eq)]
 pub struct Judge {
     pub find: Find,
+    /// Whether all operations of a part are shown, on a terminal too.
     pub shows_all: bool,
+    /// The table of names to use in the answer, if there is one.
     pub names: Option<String>,
 }
 
-/// What is imported, and the file to which the table of names is written, if one is asked for.
+/// What is imported.
 #[derive(Clone, Debug, PartialEq, Eq)]
 pub struct Import {
     pub history: String,
+    /// The file to write the table of names to, if one is asked for.
     pub names: Option<String>,
     pub options: import::Options,
 }
@@ -57,7 +64,7 @@ pub enum Command {
     Judge(Judge),
     Draw(Draw),
     Import(Import),
-    /// What the words mean.
+    /// This help is to be printed.
     Help(String),
 }
 
@@ -125,7 +132,7 @@ fn draw_of(mut words: Words) -> Result<Draw, Fault> {
     Ok(Draw { history, certificates, names, steps, options })
 }
 
-/// What a command asks for with these words.
+/// Reads the words after a command's name.
 fn command_of(command: &'static Syntax, words: &[String]) -> Result<Command, Fault> {
     let mut options = words.iter().take_while(|word| *word != "--");
     if options.any(|word| word == "--help" || word == "-h") {
@@ -234,7 +241,7 @@ mod tests {
             Some(Command::Help(text)) => text.starts_with(first),
             _ => false,
         };
-        assert!(is_help("--help", "the commands judge, find, draw and import"));
+        assert!(is_help("--help", "fcbench: judge, find, draw and import"));
         assert!(is_help("judge --help", "decides whether a history is linearizable"));
         assert!(is_help("find -h", "writes evidence"));
         assert!(is_help("draw h.edn --help", "judges a history, or checks it"));
@@ -244,72 +251,69 @@ mod tests {
     /// Command lines, and what is said of them.
     const REFUSED: [(&str, &str); 44] = [
         ("", "a command is missing"),
-        ("other h.edn", "'other' is no command"),
-        ("-- judge h.edn", "'--' is no command"),
+        ("other h.edn", "no such command: 'other'"),
+        ("-- judge h.edn", "no such command: '--'"),
         ("find", "<HISTORY> is missing"),
         ("find --workers 2", "<HISTORY> is missing"),
-        ("find a b", "'b' is one word too many: find takes <HISTORY>"),
-        ("find -- a --steps", "'--steps' is one word too many: find takes <HISTORY>"),
+        ("find a b", "unexpected argument 'b': find takes <HISTORY>"),
+        ("find -- a --steps", "unexpected argument '--steps': find takes <HISTORY>"),
         ("find a --workers", "--workers needs a value, <N>"),
-        ("find a --workers 0", "--workers takes a number from 1 to 16, and not '0'"),
-        ("find a --workers 17", "--workers takes a number from 1 to 16, and not '17'"),
-        ("find a --workers=", "--workers takes a number from 1 to 16, and not ''"),
-        ("find a --steps x", "--steps takes a number from 0 to 1000000000, and not 'x'"),
-        ("find a --steps -1", "--steps takes a number from 0 to 1000000000, and not '-1'"),
+        ("find a --workers 0", "--workers takes a number from 1 to 16, not '0'"),
+        ("find a --workers 17", "--workers takes a number from 1 to 16, not '17'"),
+        ("find a --workers=", "--workers takes a number from 1 to 16, not ''"),
+        ("find a --steps x", "--steps takes a number from 0 to 1000000000, not 'x'"),
+        ("find a --steps -1", "--steps takes a number from 0 to 1000000000, not '-1'"),
         (
             "find a --steps 1000000001",
-            "--steps takes a number from 0 to 1000000000, and not '1000000001'",
+            "--steps takes a number from 0 to 1000000000, not '1000000001'",
         ),
         ("find a --steps 1 --steps 2", "--steps is given twice"),
-        ("find a --other 1", "find has no option '--other'; a file of this name comes after --"),
-        ("find -e.edn", "find has no option '-e.edn'; a file of this name comes after --"),
-        ("find a --all", "find has no option '--all'; a file of this name comes after --"),
-        ("judge --json h", "judge has no option '--json'; a file of this name comes after --"),
-        ("judge --json=1 h", "judge has no option '--json'; a file of this name comes after --"),
+        ("find a --other 1", "find has no option '--other'; to name such a file, put -- before it"),
+        ("find -e.edn", "find has no option '-e.edn'; to name such a file, put -- before it"),
+        ("find a --all", "find has no option '--all'; to name such a file, put -- before it"),
+        ("judge --json h", "judge has no option '--json'; to name such a file, put -- before it"),
+        ("judge --json=1 h", "judge has no option '--json'; to name such a file, put -- before it"),
         ("judge a --all --all", "--all is given twice"),
         ("judge a --all=yes", "--all takes no value"),
-        ("draw a --all", "draw has no option '--all'; a file of this name comes after --"),
+        ("draw a --all", "draw has no option '--all'; to name such a file, put -- before it"),
         (
             "judge a --object 1",
-            "judge has no option '--object'; a file of this name comes after --",
+            "judge has no option '--object'; to name such a file, put -- before it",
         ),
         ("draw", "<HISTORY> is missing"),
-        ("draw a b c", "'c' is one word too many: draw takes <HISTORY> [CERTIFICATES]"),
+        ("draw a b c", "unexpected argument 'c': draw takes <HISTORY> [CERTIFICATES]"),
         (
             "draw a --workers 2",
-            "draw has no option '--workers'; a file of this name comes after --",
+            "draw has no option '--workers'; to name such a file, put -- before it",
         ),
         (
             "draw a --from 4294967296",
-            "--from takes a number from 0 to 4294967295, and not '4294967296'",
+            "--from takes a number from 0 to 4294967295, not '4294967296'",
         ),
         ("draw a --to 2 --from 5", "--from 5 is after --to 2, so no event is drawn"),
         ("import", "<HISTORY> is missing"),
-        ("import a b", "'b' is one word too many: import takes <HISTORY>"),
-        ("import a --all", "import has no option '--all'; a file of this name comes after --"),
-        ("import a --initial [", "--initial takes one form of EDN, and not '['"),
-        ("import a --initial=", "--initial takes one form of EDN, and not ''"),
-        ("import a --fail-is-reply=#{", "--fail-is-reply takes one form of EDN, and not '#{'"),
+        ("import a b", "unexpected argument 'b': import takes <HISTORY>"),
+        ("import a --all", "import has no option '--all'; to name such a file, put -- before it"),
+        ("import a --initial [", "--initial takes one form of EDN, not '['"),
+        ("import a --initial=", "--initial takes one form of EDN, not ''"),
+        ("import a --fail-is-reply=#{", "--fail-is-reply takes one form of EDN, not '#{'"),
         ("import a --independent --independent", "--independent is given twice"),
         ("judge a --names", "--names needs a value, <FILE>"),
-        ("find a --names b", "find has no option '--names'; a file of this name comes after --"),
-        ("judge a --seconds 0", "--seconds takes a number from 1 to 1000000, and not '0'"),
-        (
-            "find a --seconds 1000001",
-            "--seconds takes a number from 1 to 1000000, and not '1000001'",
-        ),
+        ("find a --names b", "find has no option '--names'; to name such a file, put -- before it"),
+        ("judge a --seconds 0", "--seconds takes a number from 1 to 1000000, not '0'"),
+        ("find a --seconds 1000001", "--seconds takes a number from 1 to 1000000, not '1000001'"),
         (
             "draw a --seconds 1",
-            "draw has no option '--seconds'; a file of this name comes after --",
+            "draw has no option '--seconds'; to name such a file, put -- before it",
         ),
         ("find a --places", "--places needs a value, <FILE>"),
         (
             "judge a --places b",
-            "judge has no option '--places'; a file of this name comes after --",
+            "judge has no option '--places'; to name such a file, put -- before it",
         ),
         (
             "judge a --progress",
-            "judge has no option '--progress'; a file of this name comes after --",
+            "judge has no option '--progress'; to name such a file, put -- before it",
         ),
     ];
 

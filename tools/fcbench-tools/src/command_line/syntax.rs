@@ -87,7 +87,7 @@ impl Display for Syntax {
 const STEPS: OptionSpec = OptionSpec::valued(
     "--steps",
     "N",
-    "the most steps of the last search of an object, 0 to 1000000000 (default 1000000, or 100 for each operation if that is more)",
+    "limit of the last search for each object, 0 to 1000000000 (default 1000000, or 100 for each operation if that is more)",
 );
 const WORKERS: OptionSpec = OptionSpec::valued(
     "--workers",
@@ -106,24 +106,21 @@ pub const JUDGE: Syntax = Syntax {
     file: "HISTORY",
     other_file: None,
     options: &[
-        &OptionSpec::flag(
-            "--all",
-            "show all operations of a part on a terminal, and not 200 at most",
-        ),
+        &OptionSpec::flag("--all", "show all operations on a terminal, instead of at most 200"),
         &OptionSpec::valued(
             "--names",
             "FILE",
-            "print the answer with the names of this table, which import wrote",
+            "use the names in this table, written by import, in the answer",
         ),
         &OptionSpec::valued(
             "--seconds",
             "N",
-            "stop looking for evidence after N seconds, 1 to 1000000, and answer what was found by then, as at SIGTERM.\n\
-             The answer comes when the verifier has read the history and checked that: mostly a second later",
+            "stop searching after N seconds, 1 to 1000000 (or at SIGTERM), and judge by what was found.\n\
+             The answer usually follows within a second",
         ),
         &OptionSpec::flag(
             "--summary",
-            "print how much the operations overlap, and what is suspicious in the history",
+            "print how much the operations overlap, and what looks suspicious in the history",
         ),
         &STEPS,
         &WORKERS_OF_BOTH,
@@ -139,8 +136,8 @@ pub const FIND: Syntax = Syntax {
         &OptionSpec::valued(
             "--places",
             "FILE",
-            "the history is a shard, and this table has the place of each of its maps in the whole, as split writes it:\n\
-             the evidence is in these numbers",
+            "the history is a shard; this table from split gives each map its number in the full history,\n\
+             and the evidence uses these numbers",
         ),
         &OptionSpec::flag(
             "--progress",
@@ -149,11 +146,11 @@ pub const FIND: Syntax = Syntax {
         &OptionSpec::valued(
             "--seconds",
             "N",
-            "stop after N seconds, 1 to 1000000, and write what was found by then, as at SIGTERM",
+            "stop after N seconds, 1 to 1000000 (or at SIGTERM), and write what was found",
         ),
         &OptionSpec::flag(
             "--summary",
-            "print on standard error how much the operations overlap, and what is suspicious in the history",
+            "print on standard error how much the operations overlap, and what looks suspicious in the history",
         ),
         &STEPS,
         &WORKERS,
@@ -172,10 +169,10 @@ pub const DRAW: Syntax = Syntax {
         &OptionSpec::valued(
             "--names",
             "FILE",
-            "draw the page with the names of this table, which import wrote: then --from and --to\n\
+            "use the names in this table, written by import, on the page: then --from and --to\n\
              count the events as the page does",
         ),
-        &OptionSpec::valued("--steps", "N", "as for judge"),
+        &STEPS,
     ],
 };
 
@@ -188,17 +185,17 @@ pub const IMPORT: Syntax = Syntax {
         &OptionSpec::valued(
             "--names",
             "FILE",
-            "write a table of the names that became numbers to this file",
+            "write the table of names and their numbers to this file",
         ),
         &OptionSpec::flag(
             "--independent",
-            "values are tuples [key value] of jepsen.independent (default: where they cannot be anything else)",
+            "values are tuples [key value] of jepsen.independent (default: if they cannot be anything else)",
         ),
         &OptionSpec {
             name: "--fail-is-reply",
             value: Value::AfterEquals("ERRORS"),
-            about: "a :fail whose :error is one of these is a reply of nil, and of a :cas one of false:\n\
-                    one error, as :drained, or a set, as '#{:drained \"no job\"}' (default: :empty and :not-found).\n\
+            about: "a :fail with one of these as its :error is a reply of nil (of a :cas: false):\n\
+                    one error, such as :drained, or a set, such as '#{:drained \"no job\"}' (default: :empty and :not-found).\n\
                     nil stands for no :error, except of :read and :get",
         },
         &OptionSpec::flag(
@@ -230,11 +227,7 @@ impl Commands {
 
 impl Display for Commands {
     fn fmt(&self, f: &mut Formatter<'_>) -> fmt::Result {
-        writeln!(
-            f,
-            "the commands judge, find, draw and import of fcbench\n\n{}\n",
-            Commands::USAGE
-        )?;
+        writeln!(f, "fcbench: judge, find, draw and import\n\n{}\n", Commands::USAGE)?;
         writeln!(f, "Commands:")?;
         COMMANDS.iter().try_for_each(|it| writeln!(f, "  {:6} {}", it.name, it.about))
     }

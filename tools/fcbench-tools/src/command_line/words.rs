@@ -53,30 +53,28 @@ impl Refused {
         let name = self.command.map_or("fcbench", |it| it.name);
         match &self.fault {
             Fault::NoCommand => f.write_str("a command is missing"),
-            Fault::NoSuchCommand(word) => write!(f, "{} is no command", Quoted(word)),
+            Fault::NoSuchCommand(word) => write!(f, "no such command: {}", Quoted(word)),
             Fault::NoSuchOption(word) => write!(
                 f,
-                "{name} has no option {}; a file of this name comes after --",
+                "{name} has no option {}; to name such a file, put -- before it",
                 Quoted(word)
             ),
             Fault::GivenTwice(option) => write!(f, "{option} is given twice"),
             Fault::NoValue(option, value) => write!(f, "{option} needs a value, <{value}>"),
             Fault::TakesNoValue(option) => write!(f, "{option} takes no value"),
-            Fault::NotInRange { option, value, least, most } => write!(
-                f,
-                "{option} takes a number from {least} to {most}, and not {}",
-                Quoted(value)
-            ),
+            Fault::NotInRange { option, value, least, most } => {
+                write!(f, "{option} takes a number from {least} to {most}, not {}", Quoted(value))
+            }
             Fault::NoEvents { from, to } => {
                 write!(f, "--from {from} is after --to {to}, so no event is drawn")
             }
             Fault::NoForm(option, value) => {
-                write!(f, "{option} takes one form of EDN, and not {}", Quoted(value))
+                write!(f, "{option} takes one form of EDN, not {}", Quoted(value))
             }
             Fault::NoFile(file) => write!(f, "<{file}> is missing"),
             Fault::TooMany(word) => {
                 let files = self.command.map(Syntax::files).unwrap_or_default();
-                write!(f, "{} is one word too many: {name} takes {files}", Quoted(word))
+                write!(f, "unexpected argument {}: {name} takes {files}", Quoted(word))
             }
         }
     }
@@ -93,7 +91,7 @@ impl Display for Refused {
     }
 }
 
-/// The words after a command: those that are no options, and the options with their values.
+/// The words after a command: files, and options with their values.
 pub struct Words {
     command: &'static Syntax,
     files: Vec<String>,
@@ -101,7 +99,7 @@ pub struct Words {
 }
 
 impl Words {
-    /// Sorts the words. Those after `--` are no options.
+    /// Sorts the words. Those after `--` are files.
     pub fn sort(
         command: &'static Syntax,
         words: impl IntoIterator<Item = String>,
@@ -124,7 +122,7 @@ impl Words {
         }
     }
 
-    /// Takes in an option, which this word begins.
+    /// Adds the option that begins with this word.
     fn push_option(
         &mut self,
         word: &str,

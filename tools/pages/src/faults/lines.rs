@@ -171,7 +171,7 @@ fn of_end(text: &[u8]) -> String {
 /// What a text that is no EDN begins with, and what is said of it.
 const BEGINNINGS: [(&[u8], &str); 2] = [
     (b"\xef\xbb\xbf", "a byte order mark: remove it"),
-    (b"\x1f\x8b", "this is gzip: zcat it first"),
+    (b"\x1f\x8b", "the file is compressed: decompress it with zcat first"),
 ];
 
 /// What is said of a text with a fault at its beginning, if the text is of a sort that is known.

@@ -67,7 +67,7 @@ pub fn memory_page(name: &str, lines: &str) -> String {
         answer: PageKind::NoMemory,
         title: &format!("out of memory: {name}"),
         facts: name,
-        sentences: &[spans!["Memory was refused. This says nothing of the texts."]],
+        sentences: &[spans!["An allocation failed, so the texts were not judged."]],
         lines,
         objects: &[],
         drawings: &[],
