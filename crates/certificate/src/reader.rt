@@ -31,7 +31,7 @@ fn are_integers(forms: &[Form]) -> bool
     true
 }
 
-/// The integers that the forms are, of which each is one.
+/// Returns the forms as integers; each must be one.
 fn integers_of(alloc: Global, forms: &[Form]) -> Result<Vec<i64>, AllocError>
     requires { is_some (integers_in (items_of (views forms.now))) ≡ true }
     ensures { IfOk result (λ v. integers_in (items_of (views forms.now)) ≡ Some v.items) }
@@ -93,8 +93,8 @@ pub fn certificate_in(alloc: Global, form: &Form) -> Result<Option<Certificate>,
     Ok(Some(Certificate { object, order }))
 }
 
-/// The certificate that a form is, whose object is then among the objects. What is wrong with it is
-/// found without memory.
+/// Reads a form as a certificate, and adds its object to the objects. Faults are found before any
+/// allocation.
 fn next_certificate(
     alloc: Global,
     form: &Form,

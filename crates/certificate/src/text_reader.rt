@@ -21,7 +21,7 @@ use edn::{Elements, Piece};
 use number_map::NumberMap;
 use std::alloc::Global;
 
-/// The object of a certificate, of whose values these are the beginnings.
+/// Returns the object of a certificate, given the beginnings of its values.
 fn object_on(pieces: &[Piece]) -> Option<u32>
     ensures { (d : Datum) → token_buffer_tokens pieces.now ≡ tokens_of (truncated d)
         → result ≡ object_of d }

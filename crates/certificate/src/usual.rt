@@ -65,8 +65,8 @@ fn order_after(alloc: Global, text: &[u8]) -> Option<(Vec<i64>, &[u8])>
 }
 
 /// The certificate at the front, and what follows it. Its keys are the object and the order, with a
-/// comma and a space between them. One that is written in another way may be well formed, and is
-/// none here; and where an allocation fails for the order there is none.
+/// comma and a space between them. Returns None for any other spelling, even a correct one, and if
+/// an allocation fails for the order.
 pub(crate) fn usual_certificate(alloc: Global, text: &[u8]) -> Option<(Certificate, &[u8])>
     requires { IsUtf8 text.now }
     ensures { IfSome result (λ x. ReadsUsual text.entry.now x.0 x.1.now) }

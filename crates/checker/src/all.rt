@@ -70,7 +70,7 @@ fn least_placed(places: &NumberMap<usize>, certificates: &[Certificate]) -> Opti
     least
 }
 
-/// The least object that has a certificate and is none of these, if there is one.
+/// Returns the least object that has a certificate and is not in this list, if there is one.
 pub fn strange_object(
     objects: &[ObjectHistory],
     mut places: NumberMap<usize>,
@@ -87,9 +87,9 @@ pub fn strange_object(
     least_placed(&places, certificates)
 }
 
-/// Checks the certificates of a history's objects. `Ok` exactly where each named object has a valid
-/// order and no other object has a certificate, and else the first refusal, except for an
-/// allocation failure.
+/// Checks the certificates of a history's objects. Returns `Ok` exactly if each named object has a
+/// valid order and no other object has a certificate; otherwise the first refusal, or an allocation
+/// failure.
 pub fn check_all(
     alloc: Global,
     history: &History,

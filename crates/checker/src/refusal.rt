@@ -13,7 +13,7 @@ pub enum OrderFault {
     TooLate { op: i64, by: u32 },
     /// C9: the operation is not possible in its place.
     NotPossible { op: i64 },
-    /// C6: the operation returned another reply than this one, which it has in its place.
+    /// C6: in this place the operation gives this reply, and it returned another one.
     WrongReply { op: i64, gives: AnyReply },
     /// C7: the operation returned and is not in the order.
     Omitted { op: u32 },

@@ -23,12 +23,12 @@ fn kinds_for(alloc: Global, kinds: Kinds, objects: u32) -> Result<Vec<Kind>, All
     Ok(all)
 }
 
-/// The calls of this many clients on this many objects, each client's drawn from the seed and its
-/// number.
+/// Draws the calls of this many clients on this many objects, from the seed and the number of each
+/// client.
 ///
 /// For each call four numbers are drawn: the object, the choice of an operation, and two values
-/// below 100. Where all objects are of one kind whose operations take an object and free it, the
-/// calls come in such pairs, whose owner is the number of the client; an odd one at the end is left
+/// below 100. If all objects are of one kind whose operations take an object and free it, the calls
+/// come in such pairs, with the number of the client as the owner; an odd one at the end is left
 /// out.
 pub fn workload(
     alloc: Global,

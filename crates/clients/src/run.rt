@@ -59,10 +59,9 @@ impl<'a> Promise<Client<AnyObject>> for WorkerOf<'a> {
 /// Makes the calls of the workload on a new desk, and closes it. Before the first call it makes
 /// room in the log of each object for all calls on it, so that no pass allocates memory for a log;
 /// no clause says that the room is kept. Client 0 runs in the calling thread, and each other in a
-/// thread of its own; then client 0 meets each other on each object. A client in whose call an
-/// allocation fails makes no more, and that call is pending in the record. That an allocation
-/// failed there is in no clause: `Ran` lets a client stop at any call. The gate is called around
-/// each call.
+/// thread of its own; then client 0 meets each other on each object. If an allocation fails in a
+/// client's call, the client stops, and the call is pending in the record. `Ran` lets a client stop
+/// at any call. The gate is called around each call.
 pub fn run_workers<R: Threads + Wait + Sync, G: Gate>(
     rt: &R,
     alloc: Global,

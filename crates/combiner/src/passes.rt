@@ -16,7 +16,7 @@ pub enum Combined {
     Served { pass: u64, count: u64 },
     /// The object was held.
     Busy,
-    /// Memory for the log was refused, and nothing was served.
+    /// An allocation for the log failed, and nothing was served.
     NoMemory,
 }
 
@@ -43,8 +43,8 @@ const MAX_CLIENTS: usize = 32;
 /// the client's own row, then each other row of the publication list, and then the own one again if
 /// its request was put back. A request whose operation is not possible is put back. In each pass
 /// whose number is a multiple of 64 it takes rows out of the list that were of no use in the last
-/// 128 passes, but never the first. What the clauses say is about the client and its own row: which
-/// other rows are served or taken out, and the numbers in `Served`, are only tested.
+/// 128 passes, but never the first. The clauses cover the client and its own row. Tests cover which
+/// other rows are served or taken out, and the numbers in `Served`.
 pub fn combine<S: SeqObject>(
     desk: &Desk<S>,
     client: Client<S>,

@@ -34,7 +34,7 @@ pub(crate) struct Setup {
     pub(crate) quota: u32,
 }
 
-/// What closing a desk came to.
+/// The result of closing a desk.
 #[derive(Drop)]
 pub(crate) enum Closing {
     Closed(Record<Refusing>),

@@ -35,7 +35,7 @@ impl Got {
     }
 }
 
-/// What a call came to.
+/// The result of a call.
 fn got_of(called: Result<Answer<AnyReply>, CallFault>) -> Result<Got, CallFault> {
     match called {
         Ok(answer) => Ok(Got::of(Some(answer))),

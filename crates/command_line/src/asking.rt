@@ -51,8 +51,8 @@ pub enum Line {
         steps: u32,
     },
     /// To check the orders and reasons in another file, from any source, on the history in a file,
-    /// and to judge it by them, with at most this number of steps for a search of which that file
-    /// names no number, and with this number of workers, from 1 to 16.
+    /// and to judge it by them, with at most this number of steps for a search without a limit of
+    /// its own, and with this number of workers, from 1 to 16.
     Verify {
         history: String,
         evidence: String,
@@ -72,7 +72,7 @@ pub enum Line {
         shards: u32,
     },
     /// To verify the shards in a folder, each by its evidence, with at most this number of steps
-    /// for a search of which the evidence names no number; or to believe the exit status of each.
+    /// for a search without a limit of its own; or to trust the exit status of each.
     Merge {
         folder: String,
         steps: u32,

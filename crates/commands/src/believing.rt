@@ -181,10 +181,9 @@ fn believed_output<F: StatusFiles>(
     }
 }
 
-/// Judges the whole of which this many shards are a split by the exit status that `judge` gave for
-/// each of them, and believes it; writes what is said of each shard that is not a yes, and gives
-/// the exit status: 2, where a status is 2, or else 1, where one is 1, or else 3, where one is 3 or
-/// missing, or else 0.
+/// Judges the full history, of which this many shards are a split, by the exit status that `judge`
+/// returned for each shard, and trusts it. Writes a line for each shard that is not a yes. Returns
+/// 2 if a status is 2, otherwise 1 if one is 1, otherwise 3 if one is 3 or missing, otherwise 0.
 pub fn merge_statuses<F: StatusFiles, S: Sink>(
     alloc: Global,
     files: &F,

@@ -242,7 +242,8 @@ pub fn split_history<F: Source, D: Folder, S: Sink>(
     Ok(write_output(Ok(output), sink))
 }
 
-/// What the shards say, each of which is read, or which cannot be read. None: an allocation failed.
+/// Reads and answers all shards, or returns which one cannot be read. Returns None if an allocation
+/// fails.
 fn merge_all<F: ShardFiles>(
     alloc: Global,
     files: &F,
@@ -292,9 +293,9 @@ fn merge_output<F: ShardFiles>(
     }
 }
 
-/// Verifies each of this many shards by its evidence, judges by them the whole of which they are a
-/// split, writes the lines, and gives the exit status as `verify` of the whole does. A search for
-/// which the evidence names no number of steps has the limit `steps`.
+/// Verifies each of this many shards by its evidence, judges by them the full history, of which
+/// they are a split, writes the lines, and returns the exit status that `verify` of the full
+/// history would. `steps` is the step limit of searches for which the evidence names none.
 pub fn merge_shards<F: ShardFiles, S: Sink>(
     alloc: Global,
     files: &F,

@@ -101,10 +101,9 @@ fn perform_on_sources<R: Threads + Wait + Sync, F: Source, G: Source, S: Sink>(
     Ok(perform(rt, alloc, line, &one, &other, sink))
 }
 
-/// Does the command on its files, the first of which is read first, each to its end or to one byte
-/// more than the longest text that is judged; writes its output, and gives the exit status, as
-/// `perform` does. An error of a read is a failure, and is not tried again. Of a file that the
-/// command does not have nothing is read.
+/// Runs the command on its files, in order, writes its output and returns the exit status, as
+/// `perform` does. Reads each file to its end, or to one byte past the limit of a text. Does not
+/// retry a failed read. Ignores a file that the command does not use.
 ///
 /// A check and a verification free the history's text as soon as it is read.
 pub fn perform_over<R: Threads + Wait + Sync, F: Source, G: Source, S: Sink>(

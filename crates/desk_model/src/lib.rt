@@ -13,7 +13,7 @@ pub use laws::{
     transitions_keep_soundness,
 };
 
-/// What the log of an object says of one operation: whose it was, the ticket of its invocation, the
+/// What the log of an object says of one operation: its client, the ticket of its invocation, the
 /// operation, and its reply.
 #[derive(Clone, Copy, Debug, PartialEq, Eq)]
 pub struct LogEntry<O, R> {

@@ -16,8 +16,8 @@ fn hand_out(lines: &[u8], out: &mut [u8], needed: &mut usize)
     *needed = lines.len();
 }
 
-/// Hands out what was made, and gives the number of its status. Where an allocation failed, it says
-/// so.
+/// Copies the output into the buffer, and returns the number of its status; or reports a failed
+/// allocation.
 pub(crate) fn answer(made: Result<Output, AllocError>, out: &mut [u8], needed: &mut usize) -> u32
     ensures made { IfOk made (λ o. (result ≡ number_of o.status)
         × IsHandedOut o.text.items out.old out.new needed.new) }

@@ -3,8 +3,7 @@
 ghost use Rattle.std.specs.Prelude.{◌≡◌};
 ghost use Rattle.embedding.specs.Steps as spec;
 
-/// Stands for as many steps as the program takes where it is given none: `FCBENCH_STEPS` of the
-/// header.
+/// Means the program's default: `FCBENCH_STEPS` of the header.
 const PROGRAM_STEPS: u32 = u32::MAX;
 
 /// How many steps a search takes then.

@@ -15,11 +15,11 @@ use std::alloc::Global;
 
 /// Checks evidence, from any source and whatever it holds: orders, reasons and searches for the
 /// objects of the history. Judges the history by what is shown, and writes the lines of the
-/// verification. A search for which the evidence names no number of steps has a limit of `steps`
-/// steps. 4,294,967,295 stands for the program's own number: 1,000,000.
+/// verification. `steps` is the limit of a search if the evidence names none; 4,294,967,295 means
+/// the program's default, 1,000,000.
 ///
-/// 0: the history is linearizable. 1: it is not. 2: it is malformed. 3: that is open, the evidence
-/// is malformed, or an allocation failed.
+/// 0: the history is linearizable. 1: it is not. 2: it is malformed. 3: undecided, malformed
+/// evidence, or a failed allocation.
 #[unsafe(no_mangle)]
 pub extern "C" fn fcbench_verify(
     alloc: Global,

@@ -11,7 +11,7 @@ pub enum Action {
     Ok(AnyReply),
     /// Its operation did not happen.
     Fail,
-    /// Nothing is known of its operation, and the process does nothing more.
+    /// Its operation may have happened. The process does nothing more.
     Info,
 }
 

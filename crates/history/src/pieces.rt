@@ -74,9 +74,9 @@ pub fn pieces_of(alloc: Global, text: &[u8], count: usize) -> Option<Vec<&[u8]>>
     Some(pieces)
 }
 
-/// The history of a text of which these pieces were read. None says nothing of the text: a piece
-/// was not read, a map has a fault after those of the pieces before, the maps are too many, or an
-/// allocation failed.
+/// Joins pieces of a text into its history. Returns None, which means nothing about the text, if a
+/// piece was not read, a map has a fault after those of the pieces before, the maps are too many,
+/// or an allocation fails.
 pub fn join_pieces(alloc: Global, reads: Vec<Option<ReadPiece>>) -> Option<History>
     requires { (pieces : List (List ℕ)) × AreReadFrom pieces reads.items }
     ensures { IfSome result (λ h. (pieces : List (List ℕ)) → AreReadFrom pieces reads.items →

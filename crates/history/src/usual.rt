@@ -216,8 +216,8 @@ fn word_at<'a, const N: usize>(
     Some((value, rest))
 }
 
-/// An argument or a reply, and what follows it. A vector of three integers is none here: a map that
-/// has one is read by its tokens.
+/// Reads an argument or a reply, and returns what follows it. A vector of three integers is not
+/// read here: a map that has one is read by its tokens.
 #[inline(always)]
 pub(crate) fn value_at(text: &[u8]) -> Option<(Value, &[u8])>
     ensures { IfSome result (λ x. ReadsValue text.entry.now x.0 x.1.now) }

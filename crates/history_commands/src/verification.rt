@@ -108,8 +108,8 @@ fn push_note(text: &mut Vec<u8>, note: &Option<Vec<u8>>) -> Result<(), AllocErro
     text.extend_from_slice(b"\n")
 }
 
-/// The lines on an object of which no order is valid: that it is so, the sentence, the operations
-/// of the part of which no order is valid, and the reason that names this part.
+/// Writes the lines for an impossible object: that it is impossible, the sentence, the operations
+/// of the part, and the reason that names it.
 fn push_impossible(
     alloc: Global,
     text: &mut Vec<u8>,

@@ -42,7 +42,7 @@ pub enum ToolFault {
     NoMemory,
 }
 
-/// Why there is no verdict where this text was not read.
+/// The fault if this text could not be read.
 fn fault_of_reading(text: Text, fault: ReadFault) -> ToolFault
     ensures failed { fault ≡ ReadFault.Failed → result ≡ ToolFault.Read text }
     ensures memory { fault ≡ ReadFault.NoMemory → result ≡ ToolFault.NoMemory }
@@ -85,8 +85,8 @@ fn judge_and_write<R: Threads + Sync, W: Sink>(
 /// write is a failure, and is not tried again. The history's text is freed before the certificates
 /// are read.
 ///
-/// `Ok` gives the verdict of `judge` on the bytes that were read. Memory that is refused inside
-/// `judge` is its verdict `NoMemory`, and is written as its line.
+/// `Ok` has the verdict of `judge` on the bytes that were read. If an allocation fails inside
+/// `judge`, the verdict is `NoMemory`, and is written as its line.
 pub fn check_over<R: Threads + Sync, H: Source, C: Source, W: Sink>(
     rt: &R,
     alloc: Global,

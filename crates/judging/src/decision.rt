@@ -59,10 +59,9 @@ pub(crate) fn judge_read<R: Threads + Sync>(
     }
 }
 
-/// Judges a history, as a text of Jepsen operation maps, by a text of certificates, an order of
-/// operations for each object. The work is shared by `workers` threads, at most 16: each reads a
-/// piece of a long history whose maps are in lines of their own, and checks some of the objects.
-/// With 0 or 1 it starts no thread.
+/// Checks a history against certificates, one order of operations for each object. Both are texts.
+/// The work is shared by `workers` threads, at most 16: each reads a piece of a long history whose
+/// maps are in lines of their own, and checks some of the objects. With 0 or 1 it starts no thread.
 ///
 /// Where it answers Yes, the history that the text denotes is linearizable: some completion of
 /// it is, process by process, equal to one sequential history over all objects that is legal for
@@ -70,8 +69,8 @@ pub(crate) fn judge_read<R: Threads + Sync>(
 /// fault that truly is in the certificates.
 ///
 /// The history's text comes first, then what its maps say, then the certificates' text, its forms,
-/// and the check; the first fault is the answer. `NoMemory` says that nothing was found to be wrong
-/// before. Linearizability is that of Herlihy and Wing, TOPLAS 1990, section 2.
+/// and the check; the first fault is the answer. `NoMemory`: an allocation failed, and no fault was
+/// found before. Linearizability is that of Herlihy and Wing, TOPLAS 1990, section 2.
 pub fn judge<R: Threads + Sync>(
     rt: &R,
     alloc: Global,

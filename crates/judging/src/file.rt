@@ -4,9 +4,8 @@ use std::io::Read;
 use std::rt::Files;
 use std::{fs, io};
 
-/// A file, by its name. It is opened when its first bytes are asked for: of two files that are read
-/// one after the other, the first that cannot be read is the first that fails. `In` makes a source
-/// of it.
+/// A file, by its name. It is opened at the first read: of two files that are read one after the
+/// other, the first that cannot be read is the first that fails. `In` makes a source of it.
 #[derive(Drop)]
 pub struct NamedFile<'a, R: Files> {
     files: &'a R,

@@ -17,9 +17,9 @@ pub(crate) const MAX_WORKERS: u32 = 16;
 /// A text that is shorter is not read in pieces.
 const LEAST_LENGTH: usize = 1_000_000;
 
-/// The history that the text denotes, read in pieces by this many workers. None says nothing of the
-/// text: there is one worker, the text is short or too long, its maps are not in lines of their
-/// own, one of them has a fault, or an allocation failed.
+/// Reads the history that the text denotes, in pieces by this many workers. Returns None, which
+/// means nothing about the text, if there is one worker, the text is too short or too long, maps
+/// share lines, a map has a fault, or an allocation fails.
 fn history_in_pieces<R: Threads + Sync>(
     rt: &R,
     alloc: Global,

@@ -98,8 +98,8 @@ fn certificates_in(alloc: Global, text: &[u8]) -> Result<Vec<Certificate>, TextF
     }
 }
 
-/// What both texts denote, or what stopped the reading of the first that was stopped, where the
-/// history's was read. The certificates are read only where that denotes a history.
+/// Returns what both texts denote, or why reading stopped. Reads the certificates only if the first
+/// text denotes a history.
 pub(crate) fn with_certificates(
     alloc: Global,
     history: Result<History, TextFailure>,

@@ -17,7 +17,7 @@ use recorder::Record;
 use seq_objects::SeqObject;
 use std::alloc::AllocError;
 
-/// What a list of steps came to: how many were not possible at their turn, and were passed over.
+/// The result of a list of steps: how many were not possible at their turn, and were skipped.
 #[derive(Clone, Copy, Debug, PartialEq, Eq)]
 pub struct Ran {
     pub refused: usize,

@@ -26,7 +26,7 @@ pub enum Step<O> {
     End,
 }
 
-/// What a step came to.
+/// The result of a step.
 #[derive(Clone, Copy, Debug, PartialEq, Eq)]
 pub enum Outcome<R> {
     /// The ticket that was drawn.

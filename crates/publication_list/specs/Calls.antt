@@ -14,7 +14,7 @@ pub record RosterSeen : Type 0 where
 pub record PlaceSeen : Type 0 where
   pub roster : TableId
   pub row : ℕ
-  -- what each try to enlist the row came to
+  -- the result of each try to enlist the row
   pub tries : List Enlist
 
 -- the walker

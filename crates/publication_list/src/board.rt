@@ -13,7 +13,7 @@ pub(crate) const NEXTS: usize = 1;
 /// The mark of row 0: 1 where it is active.
 pub(crate) const MARKS: usize = 33;
 
-/// What a try to enlist a row came to.
+/// The result of a try to enlist a row.
 #[derive(Clone, Copy, Debug, PartialEq, Eq)]
 pub enum Enlist {
     /// The row was active before.
@@ -42,7 +42,7 @@ pub enum ListView {
         taken_out: Option<u32>,
         walks: LinkedList<LinkedList<u32>>,
     },
-    /// The row, what its owner knows of it, and what each try to enlist it came to.
+    /// The row, what its owner knows of it, and the result of each try to enlist it.
     Place {
         row: u32,
         own: RowKnowledge,

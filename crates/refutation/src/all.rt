@@ -35,9 +35,8 @@ fn refute_among(
     Ok(Refutation::OtherObject)
 }
 
-/// The answers to reasons, one to each and in their order, each on the object with the reason's
-/// number, within this limit of steps of a search. A reason of an object that the history does not
-/// name is answered by `OtherObject`.
+/// Checks each reason against its object, in order. A search takes at most `limit` steps. The
+/// answer to a reason of an object that the history does not name is `OtherObject`.
 ///
 /// An error: an allocation failed.
 pub fn refute_all(

@@ -14,14 +14,13 @@ use projection::{Count, is_blocked, is_overdrawn, part_by};
 use search::{Attempt, Outcome, find_order_of_any_size};
 use std::alloc::{AllocError, Global};
 
-/// Why a part does not show that no order of the whole is valid.
+/// Why a reason does not hold.
 #[derive(Debug, Drop)]
 pub enum Doubt {
     /// The part has this valid order.
     Possible(Vec<i64>),
-    /// The count is not exceeded: in the part the content was not taken away more often than it can
-    /// have been there, or no more values definitely were ahead than can have been taken out
-    /// before.
+    /// The count is not exceeded: in the part the content was not removed more often than it can
+    /// have been there, or no more values definitely were ahead than can have been removed before.
     NotExceeded,
     /// The search reached its limit of steps.
     OutOfSteps,
@@ -42,7 +41,7 @@ pub enum Refutation {
     OtherObject,
 }
 
-/// What the search answers of a part; `None`: no order of it is valid.
+/// Searches a part. Returns None if no order of it is valid.
 fn doubt_of_search(alloc: Global, part: &ObjectHistory, trial: Trial, limit: u64) -> Option<Doubt>
     ensures shown { result ≡ None → IsNoneValid part.now.kind (calls_of part.now.ops) }
     ensures doubt { IfSome result (IsDoubt (Basis.Search trial) part.now) }

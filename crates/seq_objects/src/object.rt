@@ -9,8 +9,8 @@ ghost use Rattle.model.specs.Objects as model;
 use model::{AnyOp, AnyReply, Kind};
 use std::alloc::AllocError;
 
-/// An object that is used by one caller at a time. Its operations and replies may be types of its
-/// own, which stand for some of those of all kinds.
+/// A sequential object: one caller uses it at a time. It may have its own types of operations and
+/// replies, which stand for some of those of all kinds.
 pub trait SeqObject: Drop + Send {
     type Op: Copy + Eq + Drop + Send;
 
@@ -36,7 +36,7 @@ pub trait SeqObject: Drop + Send {
         requires { model.kind_of (op_in op.now) ≡ kind_with (content self.now) }
         ensures { IsTrue result ↔ IsSome (next (content self.now) (op_in op.now)) };
 
-    /// Does the operation, and answers its reply. Where an allocation fails nothing is done.
+    /// Applies the operation and returns its reply. If an allocation fails, nothing changes.
     fn apply(&mut self, op: &Self::Op) -> Result<Self::Reply, AllocError>
         requires { IsSome (next (content self.old) (op_in op.now)) }
         ensures ok { IfOk result (λ r.

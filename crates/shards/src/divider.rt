@@ -149,8 +149,8 @@ impl Divider {
         Ok(())
     }
 
-    /// Gives to the folder what waits of each shard of which the maps that wait have at least this
-    /// many bytes. After an error nothing is known of what waits.
+    /// Writes out every shard whose waiting maps have at least this many bytes. After an error
+    /// nothing is known about what waits.
     pub fn flush<D: Folder>(&mut self, folder: &mut D, least: usize) -> Result<(), Failed>
         requires { D.broken folder.old ≡ false }
         ensures taken { OnOk result

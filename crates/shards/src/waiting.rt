@@ -76,7 +76,7 @@ impl Waiting {
     }
 }
 
-/// This many shards, of which nothing waits.
+/// Returns this many shards, with nothing waiting.
 pub(crate) fn waiting_of(alloc: Global, shards: u16) -> Result<Vec<Waiting>, AllocError>
     ensures long { IfOk result (λ v. vec_len v ≡ shards) }
     ensures none_wait { IfOk result (λ v. NoneWait v.items) }

@@ -26,8 +26,7 @@ fn all_open(alloc: Global, objects: &[ObjectHistory]) -> Result<Vec<(u32, Decisi
     Ok(answers)
 }
 
-/// What is decided of an object by one more claim on it, where this was decided by those before.
-/// What was shown stays.
+/// Updates the decision on an object by one more claim. What was shown stays.
 ///
 /// An error: an allocation failed.
 fn decide_further(
@@ -76,11 +75,10 @@ fn take_claim(
     Ok(())
 }
 
-/// Decides on each object of a history by the claims on it, in their order, and answers in rising
-/// number of the objects. The first claim that is shown decides (no clause says that it is the
-/// first): an order that is valid, a reason by which no order is, or the search of the whole
-/// object, if a claim asks for it. A search for which a claim names no number of steps has the
-/// limit `limit`.
+/// Decides on each object of a history by the claims on it, in their order. The answers are in
+/// rising number of the objects. The first claim that is shown decides (no clause says that it is
+/// the first): an order that is valid, a reason by which no order is, or the search of the full
+/// object, if a claim asks for it. `limit` is the step limit of searches whose claim names none.
 ///
 /// An error: an allocation failed for the split, the list of answers, a part or the check of an
 /// order.

@@ -10,10 +10,9 @@ use refutation::Reason;
 pub enum Claim {
     /// This order is valid.
     Order(Certificate),
-    /// No order is valid, for this reason; and a sentence on it, of which nothing is checked, in
-    /// printed characters of ASCII that cannot be taken for a line that is proved (`is_sentence`).
-    /// A reason without cuts whose part is searched asks for the search of the whole object, which
-    /// may also find a valid order.
+    /// No order is valid, for this reason. The sentence is not checked; it is printable ASCII that
+    /// cannot be mistaken for a proved line (`is_sentence`). A reason without cuts that is a search
+    /// asks for a search of the full object, which may also find a valid order.
     Reason {
         reason: Reason,
         note: Option<Vec<u8>>,

@@ -6,8 +6,8 @@ use certificate::Certificate;
 use events::ObjectHistory;
 use refutation::Reason;
 
-/// A reason that shows that an object has no valid order, the part that it names, of which no order
-/// is valid, and the sentence that was claimed with it, of which nothing is checked.
+/// A reason that holds, the part that it names, which has no valid order, and its sentence, which
+/// is not checked.
 #[derive(Drop)]
 pub struct ShownReason {
     pub reason: Reason,
