@@ -20,7 +20,7 @@ has m x = is_some (value_of m x)
 abbrev pub Says : Option Certificate → Datum → Type 0
 Says said d = certificate_of d ≡ option_map reading_of said
 
--- what is wrong with a form, or that nothing is where an allocation failed, by whether an object is
+-- what is wrong with a form, or that nothing is if an allocation failed, by whether an object is
 -- that of an earlier form
 abbrev pub IsFaultAmong : (ℕ → Bool) → Datum → CertFaultKind → Type 0
 IsFaultAmong among d NotACertificate = certificate_of d ≡ None

@@ -45,7 +45,7 @@ fn integers_of(alloc: Global, forms: &[Form]) -> Result<Vec<i64>, AllocError>
     Ok(integers)
 }
 
-/// The elements of an order, where the value is a vector of integers.
+/// The elements of an order, if the value is a vector of integers.
 fn order_in(value: Option<&Form>) -> Option<&[Form]>
     ensures none { IfNone result (spec.order_in (option_map (λ f. view f.now) value.entry) ≡ None) }
     ensures some { IfSome result (λ fs. spec.order_in (option_map (λ f. view f.now) value.entry)
@@ -59,7 +59,7 @@ fn order_in(value: Option<&Form>) -> Option<&[Form]>
     }
 }
 
-/// The object and the elements of the order, where the form is a certificate.
+/// The object and the elements of the order, if the form is a certificate.
 fn parts_in(form: &Form) -> Option<(u32, &[Form])>
     ensures none { IfNone result (spec.certificate_of (view form.now) ≡ None) }
     ensures some { IfSome result (λ p. spec.certificate_of (view form.now)
@@ -132,7 +132,7 @@ pub fn read_certificates(alloc: Global, forms: Vec<Form>) -> Result<Vec<Certific
 
     ensures fault { IfErr result (λ e. e.kind ≢ CertFaultKind.NoMemory →
         IsFirstFault (views forms.items) e) }
-    // Memory ran out where nothing was wrong yet, up to this form and with it.
+    // Memory ran out when nothing was wrong yet, up to this form and with it.
     ensures memory { IfErr result (λ e. e.kind ≡ CertFaultKind.NoMemory →
         IsSoundAt (views forms.items) e.form) }
     // Such a fault means that the forms denote no certificates.

@@ -91,7 +91,7 @@ impl Reading {
         }
     }
 
-    /// Reads one more element from what it says, where none was faulty.
+    /// Reads one more element from what it says, if none was faulty.
     fn take_said(&mut self, said: Option<Certificate>)
         requires { self.old.fault ≡ None }
         ensures { (ds : List Datum) (d : Datum) → Says said d

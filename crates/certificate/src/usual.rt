@@ -10,7 +10,7 @@ use edn::{after, after_line_feed, integer_at, natural_at};
 use edn_fields::object;
 use std::alloc::{AllocError, Global};
 
-/// After a space, where the text begins with one.
+/// After a space, if the text begins with one.
 #[inline(always)]
 fn after_space(text: &[u8]) -> &[u8]
     ensures { (text.entry.now ≡ result.now) ⊎ (text.entry.now ≡ 32 ∷ result.now) }
@@ -45,7 +45,7 @@ fn push(numbers: &mut Vec<i64>, number: i64) -> Result<(), AllocError>
 }
 
 /// The integers of an order after its bracket, and what follows the bracket that closes it. There
-/// may be a space before each of them. Where an allocation fails there is none.
+/// may be a space before each of them. If an allocation fails there is none.
 fn order_after(alloc: Global, text: &[u8]) -> Option<(Vec<i64>, &[u8])>
     ensures { IfSome result (λ x. ReadsOrder text.entry.now x.0.items x.1.now) }
 {

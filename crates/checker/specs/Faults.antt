@@ -15,12 +15,12 @@ abbrev pub call_with_number : List Call → ℤ → Option Call
 call_with_number calls (pos n) = find (λ c. c.number == n) calls
 call_with_number calls (negsuc n) = None
 
--- the content after a call, where there is one and it is possible
+-- the content after a call, if there is one and it is possible
 abbrev pub after_call : Option Call → Content → Option Content
 after_call None c = None
 after_call (Some e) c = option_map (λ s. s.0) (next c e.op)
 
--- the content after the calls with these numbers, where each is possible in its turn
+-- the content after the calls with these numbers, if each is possible in its turn
 abbrev pub content_after : List Call → Option Content → List ℤ → Option Content
 content_after calls c [] = c
 content_after calls c (z ∷ zs) =

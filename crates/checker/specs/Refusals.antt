@@ -71,7 +71,7 @@ IsFirstRefusal es certificates (StrangeObject x) = IsLeastStrange es certificate
 IsFirstRefusal es certificates NoMemory = ⊤
 IsFirstRefusal es certificates r = IsLeastRefusal es certificates r
 
--- What a check of all certificates answers: Ok exactly where they are valid, and else the first
+-- What a check of all certificates answers: Ok exactly if they are valid, and else the first
 -- refusal. An allocation failure says nothing.
 pub record IsCheckAnswer (es : List Event) (certificates : List Certificate)
     (answer : Result Unit Refusal) : Type 0 where

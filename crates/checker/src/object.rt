@@ -13,7 +13,7 @@ use events::ObjectHistory;
 use seq_objects::AnyObject;
 use std::alloc::Global;
 
-/// Checks the certificate of an object. `Ok` exactly where its order is valid, and else the first
+/// Checks the certificate of an object. `Ok` exactly if its order is valid, and else the first
 /// fault, except for an allocation failure.
 pub fn check_object(
     alloc: Global,

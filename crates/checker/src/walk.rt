@@ -119,7 +119,7 @@ fn check_entries<S: SeqObject<Op = AnyOp, Reply = AnyReply>>(
 }
 
 /// Checks an order of the operations of the object with this number, from an object of its kind
-/// that is empty. `Ok` exactly where the order is valid, and else the first fault, except for an
+/// that is empty. `Ok` exactly if the order is valid, and else the first fault, except for an
 /// allocation failure.
 pub fn check_order<S: SeqObject<Op = AnyOp, Reply = AnyReply>>(
     alloc: Global,

@@ -77,7 +77,7 @@ pairs_from take free objects (suc n) s =
 abbrev pub stream_for : ℕ → ℕ → Stream
 stream_for seed client = stream_at (started 64 multiplier_64 seed (increment_of 64 client))
 
--- the operations in pairs, where these are a pair
+-- the operations in pairs, if these are a pair
 abbrev pub pair_in : Operations → Option (AnyOp × AnyOp)
 pair_in (Pair take free) = Some (take, free)
 pair_in operations = None
@@ -87,7 +87,7 @@ abbrev pub pair_for : Kinds → ℕ → Option (AnyOp × AnyOp)
 pair_for (One kind) client = pair_in (operations_of kind (pos client) (pos client))
 pair_for kinds client = None
 
--- this many calls from a stream, or whole pairs of calls where there is a pair
+-- this many calls from a stream, or whole pairs of calls if there is a pair
 abbrev pub calls_or_pairs : Option (AnyOp × AnyOp) → Kinds → ℕ → ℕ → Stream → List Call
 calls_or_pairs None kinds objects count s = calls_from kinds objects count s
 calls_or_pairs (Some pair) kinds objects count s = pairs_from pair.0 pair.1 objects (count / 2) s

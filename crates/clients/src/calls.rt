@@ -64,7 +64,7 @@ fn draw_pairs(
     Ok(calls)
 }
 
-/// The operations that the client calls in pairs, where all objects are of a kind that has a pair.
+/// The operations that the client calls in pairs, if all objects are of a kind that has a pair.
 fn pair_for(kinds: Kinds, client: u32) -> Option<(AnyOp, AnyOp)>
     ensures pair { result ≡ spec.pair_for kinds client }
     ensures kind { IfSome result (λ pair. (kinds ≡ Kinds.One (kind_of pair.0))

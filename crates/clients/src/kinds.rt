@@ -11,7 +11,7 @@ use model::{AnyOp, Kind};
 pub(crate) enum Operations {
     Two(AnyOp, AnyOp),
     Three(AnyOp, AnyOp, AnyOp),
-    /// The first one takes an object, and the second one frees it. Where all objects are of the
+    /// The first one takes an object, and the second one frees it. If all objects are of the
     /// kind, a client calls one after the other.
     Pair(AnyOp, AnyOp),
 }

@@ -30,7 +30,7 @@ fn calls_on(workload: &Workload, object: u32) -> usize
 }
 
 /// Makes room in the log of the object for each call of the workload on it, and for one more of
-/// each client, since a pass needs that room before it serves. Where another client holds the
+/// each client, since a pass needs that room before it serves. If another client holds the
 /// object it makes none.
 fn make_room(
     desk: &Desk<AnyObject>,

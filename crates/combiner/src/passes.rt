@@ -129,7 +129,7 @@ fn make_current<S: SeqObject>(pass: &mut Pass<S>, at: usize)
     pass.set_age(row);
 }
 
-/// Where it is this pass's turn, takes out the rows that were of no use for long, but not the
+/// If it is this pass's turn, takes out the rows that were of no use for long, but not the
 /// first.
 #[inline(always)]
 fn clean<S: SeqObject>(pass: &mut Pass<S>, number: u64)
@@ -145,7 +145,7 @@ fn clean<S: SeqObject>(pass: &mut Pass<S>, number: u64)
     }
 }
 
-/// Takes out the row at this place, where it was of no use for long.
+/// Takes out the row at this place, if it was of no use for long.
 #[inline(always)]
 fn clean_at<S: SeqObject>(pass: &mut Pass<S>, at: usize, number: u64)
     requires { (1 ≤ at) × (at < length pass.old.state.list.rows) }

@@ -38,7 +38,7 @@ queue: 1 objects, 6 operations
 ";
 
 /// The log has no room yet, so the first pass must reserve some. `rt try --test --fail-alloc N`
-/// refuses a test's Nth allocation: where it is the one of that reserve, the test prints that
+/// refuses a test's Nth allocation: if it is the one of that reserve, the test prints that
 /// nothing was served. Before it a part of the bench is refused, after it something that is made
 /// later.
 #[test]

@@ -144,7 +144,7 @@ fn serve_rows(desk: &Desk<Refusing>, pass: Pass<Refusing>, rows: &[u32]) -> (Pas
 
 // Each of these answers whether the step found what it is to find.
 impl Bench {
-    /// Why the call may not be posted; nothing where it is posted.
+    /// Why the call may not be posted; nothing if it is posted.
     fn post(&mut self, number: u64, object: u32, op: AnyOp) -> Result<Option<Post>, Fail> {
         let Some(mut client) = self.take(number) else {
             return Err(Fail::new("no client is left to post"));
@@ -187,7 +187,7 @@ impl Bench {
         Ok(true)
     }
 
-    /// How many requests it answers; None where another client holds the object.
+    /// How many requests it answers; None if another client holds the object.
     fn serve(&mut self, number: u64, object: u32, rows: &[u32]) -> Result<Option<usize>, Fail> {
         let Some(client) = self.take(number) else {
             return Err(Fail::new("no client is left to serve"));
@@ -315,7 +315,7 @@ impl Bench {
         Ok(true)
     }
 
-    /// Takes the step. True where it found what it is to find.
+    /// Takes the step. True if it found what it is to find.
     pub(crate) fn step<R: Wait>(&mut self, rt: &R, turn: &Turn) -> Result<bool, Fail> {
         let (number, step) = *turn;
         Ok(match step {

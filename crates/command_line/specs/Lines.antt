@@ -33,7 +33,7 @@ use Rattle.command_line.specs.declared.table.Verb.{Verb}
 use Rattle.command_line.specs.declared.table.Verb.TheVariants as is
 
 -- The number is what the option's value says, a decimal number within these bounds, before which a
--- plus is allowed. Where the option is not given, it is the default.
+-- plus is allowed. If the option is not given, it is the default.
 abbrev pub IsNumber : Bounds → Option Text → ℕ → Type 0
 IsNumber b None n = n ≡ b.default
 IsNumber b (Some t) n =
@@ -45,13 +45,13 @@ abbrev pub is_given : Option Text → Bool
 is_given None = false
 is_given (Some t) = bytes_eq t (codes "true")
 
--- which operation is tried first, by a name; where none is given, that with the least number
+-- which operation is tried first, by a name; if none is given, that with the least number
 abbrev pub IsFirst : Option Text → TryFirst → Type 0
 IsFirst None first = first ≡ LeastNumber
 IsFirst (Some t) first =
     ((t ≡ codes "number") × (first ≡ LeastNumber)) ⊎ ((t ≡ codes "return") × (first ≡ LeastReturn))
 
--- these kinds are named; where no name is given, they are the default
+-- these kinds are named; if no name is given, they are the default
 abbrev pub IsKinds : Option Text → Kinds → Type 0
 IsKinds None kinds = kinds ≡ default_kinds
 IsKinds (Some t) kinds = kinds_named t ≡ Some kinds
@@ -135,7 +135,7 @@ pub record AskFor (words : List Text) (line : Line) : Type 0 where
 abbrev pub IsHelp : ErrorKind → Type 0
 IsHelp k = (k ≡ DisplayHelp) ⊎ (k ≡ DisplayVersion)
 
--- what is answered for an error of this kind of clap, where no allocation fails
+-- what is answered for an error of this kind of clap, if no allocation fails
 abbrev pub IsClapFaultFor : ErrorKind → LineFault → Type 0
 IsClapFaultFor k (Help text) = IsHelp k
 IsClapFaultFor k (Refused text) = (k ≢ OutOfMemory) × (IsHelp k → ⊥)

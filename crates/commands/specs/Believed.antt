@@ -41,7 +41,7 @@ said_by text =
 abbrev pub said_of : Option (List ℕ) → Option Finding
 said_of read = option_and_then said_by read
 
--- what is found by it: where nothing is said, the shard is undecided
+-- what is found by it: if nothing is said, the shard is undecided
 abbrev pub finding_of : Option (List ℕ) → Finding
 finding_of read = unwrap_or (said_of read) Undecided
 
@@ -80,7 +80,7 @@ last_line count Undecided = []
 last_line count Refuted = []
 last_line count Malformed = []
 
--- what is printed where these were read of this many shards
+-- what is printed if these were read of this many shards
 abbrev pub believed_text : ℕ → List (Option (List ℕ)) → List ℕ
 believed_text count read =
     first_line count ++ (lines_from 0 read ++ last_line count (finding_by read))

@@ -111,7 +111,7 @@ abbrev pub IsPerformedOn : Line → Option (List ℕ) → Option (List ℕ) → 
 IsPerformedOn line = OnTexts (has_first line) (has_second line) (IsPerformed line)
 
 -- Which text of a command was not read, and what that leaves: its source failed, since it refused a
--- call. Where it is that of the first file, nothing was read of the second; where it is that of the
+-- call. If it is that of the first file, nothing was read of the second; if it is that of the
 -- second, the source of the first has not failed. Nothing was written. What a source has left,
 -- whether it is broken, and what it refuses are given for the first and for the second.
 pub record IsUnread {F G S : Type 0} (first_left : F → Option (List ℕ)) (first_broken : F → Bool)
@@ -123,7 +123,7 @@ pub record IsUnread {F G S : Type 0} (first_left : F → Option (List ℕ)) (fir
       → (first_broken first_after ≡ true) × (second_after ≡ second)
   pub unread_second : which ≡ Second
       → (first_broken first_after ≡ false) × (second_broken second_after ≡ true)
-  -- it is named only where its source refused a call
+  -- it is named only if its source refused a call
   pub first_refused : which ≡ First → WasRefused first_left first_refuses first first_after
   pub second_refused : which ≡ Second → WasRefused second_left second_refuses second second_after
   pub nothing_written : sink_after ≡ sink

@@ -61,7 +61,7 @@ pub record IsTextOf (journals : ℕ → List AnyEvent) (logs : ℕ → List AnyE
   pub are_certificates : AreCertificatesOf journals logs certificates
   pub text_is : text ≡ history ++ (between ++ comment_lines certificates)
 
--- The same, and the verdict on the record as comments. That of a sound record is yes, except where
+-- The same, and the verdict on the record as comments. That of a sound record is yes, except if
 -- an allocation fails.
 pub record IsReported (journals : ℕ → List AnyEvent) (logs : ℕ → List AnyEntry) (between : List ℕ)
     (status : Status) (text : List ℕ) : Type 0 where

@@ -30,7 +30,7 @@ fault_of (Maps f) = HistoryMaps f
 abbrev pub fault_line : TextFault → List ℕ
 fault_line f = verdict_text false (verdict.Malformed (fault_of f))
 
--- how a split ends into shards with these numbers of maps: undecided, where one has more than a
+-- how a split ends into shards with these numbers of maps: undecided, if one has more than a
 -- text may have
 abbrev pub status_by_counts : List ℕ → Status
 status_by_counts counts =
@@ -47,7 +47,7 @@ IsSplitOutput count left left_after files files_after status out =
     ⊎ ((f : TextFault) × IsSplitFault count (split.Malformed f) left left_after
     × IsExactly ends.Malformed (fault_line f) status out)
 
--- Where a split says that an object needs more shards, this is so: what was read of the source has
+-- If a split says that an object needs more shards, this is so: what was read of the source has
 -- a map on it.
 abbrev pub IsWhereFewShards : ℕ → SplitFailure → Option (List ℕ) → Option (List ℕ) → Type 0
 IsWhereFewShards count (failure.FewShards x) left left_after =
@@ -62,7 +62,7 @@ IsWhereFewShards count failure.NoMemory left left_after = ⊤
 abbrev pub Holding : Type 1
 Holding = ℕ → List ℕ → List ℕ → List ℕ → Type 0
 
--- this was read as the shard with this number, of this many, where a search has this limit
+-- this was read as the shard with this number, of this many, if a search has this limit
 abbrev pub IsReadAs : Holding → ℕ → ℕ → ℕ → Shard → Type 0
 IsReadAs holds count limit number s =
     (s.number ≡ number) × (s.count ≡ count) × (s.limit ≡ limit)

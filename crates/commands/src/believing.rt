@@ -120,7 +120,7 @@ impl Believed {
         push_line(&mut self.lines, shard, said)
     }
 
-    /// The output where the statuses of this many shards were taken.
+    /// The output if the statuses of this many shards were taken.
     fn output(&self, alloc: Global, shards: u16) -> Result<Output, AllocError>
         ensures { (all : List (Option (List ℕ))) → AreBelieved self.now all → IfOk result (λ o.
             IsExactly (status_with (finding_by all)) (believed_text shards all)

@@ -64,7 +64,7 @@ pub struct UnreadShard {
 }
 
 /// What the files of a shard hold: its text, its table of places in the whole, and the evidence
-/// for it, which is empty where there is none.
+/// for it, which is empty if there is none.
 #[derive(Drop)]
 pub struct ShardFileTexts {
     pub text: Vec<u8>,
@@ -100,7 +100,7 @@ fn fault_of(fault: TextFault) -> Fault
     }
 }
 
-/// The output where the whole is malformed.
+/// The output if the whole is malformed.
 fn malformed_output(alloc: Global, fault: TextFault) -> Result<Output, AllocError>
     ensures { IfOk result (λ o.
         IsExactly Status.Malformed (fault_line fault) o.status o.text.items) }
@@ -173,7 +173,7 @@ fn push_large_objects(text: &mut Vec<u8>, objects: &[LargeObject]) -> Result<(),
     Ok(())
 }
 
-/// The output where the whole was divided so: yes, unless a shard is too large for a text.
+/// The output if the whole was divided so: yes, unless a shard is too large for a text.
 fn division_output(alloc: Global, division: &Division) -> Result<Output, AllocError>
     ensures { IfOk result (λ o. o.status ≡ spec.status_by_counts division.now.counts.items) }
 {
@@ -211,8 +211,8 @@ fn split_output<F: Source, D: Folder>(
 }
 
 /// Divides the history that a source gives among this many shards, writes how many maps they have,
-/// and gives the exit status: 0; 2 where the history is malformed; 3 where a shard has more maps
-/// than one text may have; 4 where the output failed. Only after 0 and 3 is it known that the
+/// and gives the exit status: 0; 2 if the history is malformed; 3 if a shard has more maps
+/// than one text may have; 4 if the output failed. Only after 0 and 3 is it known that the
 /// folder has all maps.
 pub fn split_history<F: Source, D: Folder, S: Sink>(
     alloc: Global,

@@ -30,12 +30,12 @@ fn no_output(alloc: Global) -> Output
     }
 }
 
-/// Does the command on the bytes of its first and second file (empty where it has none), writes its
-/// output, and gives the exit status: 0 for yes, or where each object has a certificate; 1 for no,
-/// or where an object is impossible; 2 where a text other than evidence is malformed or a client of
-/// a schedule has not ended; 3 where an allocation failed, a thread could not be started, some
+/// Does the command on the bytes of its first and second file (empty if it has none), writes its
+/// output, and gives the exit status: 0 for yes, or if each object has a certificate; 1 for no,
+/// or if an object is impossible; 2 if a text other than evidence is malformed or a client of
+/// a schedule has not ended; 3 if an allocation failed, a thread could not be started, some
 /// object stays open, no reason shows that the history is not linearizable, or evidence is
-/// malformed; 4 where the output failed; 64 where the command is one on a folder, which is not
+/// malformed; 4 if the output failed; 64 if the command is one on a folder, which is not
 /// done.
 pub fn perform<R: Threads + Wait + Sync, S: Sink>(
     rt: &R,

@@ -58,7 +58,7 @@ pub(crate) fn file_text<F: Source>(
     read_text(alloc, file)
 }
 
-/// How a command ends where one of its files was not read.
+/// How a command ends if one of its files was not read.
 pub(crate) fn end_unread<S: Sink>(
     fault: ReadFault,
     which: Unread,

@@ -1,4 +1,4 @@
-//! How the program ends where words give no command.
+//! How the program ends if words give no command.
 
 ghost use Rattle.std.specs.Prelude.{◌≡◌};
 ghost use Rattle.commands.specs.Statuses as spec;
@@ -6,7 +6,7 @@ ghost use Rattle.commands.specs.Statuses as spec;
 use command_line::LineFault;
 use history_commands::Status;
 
-/// The exit status where there is no command: `Yes` if help was asked for.
+/// The exit status if there is no command: `Yes` if help was asked for.
 pub fn status_of_fault(fault: &LineFault) -> Status
     ensures { result ≡ spec.status_of_fault fault.now }
 {

@@ -70,7 +70,7 @@ OwnOk (own.Taken q a) t = t ≡ taken q a
 abbrev pub HoldsOnly : World → ℕ → ℕ → Type 0
 HoldsOnly w c x = (y : ℕ) → w.holder y ≡ Some c → y ≡ x
 
--- what the client c holds, by its view, is what it holds in the world, where there are n objects:
+-- what the client c holds, by its view, is what it holds in the world, if there are n objects:
 -- nothing; an object with this log and a free hand; or also the request of a row in its hand
 abbrev pub HeldOk : ℕ → World → ℕ → Held → Type 0
 HeldOk n w c held.Free = (x : ℕ) → w.holder x ≢ Some c
@@ -87,7 +87,7 @@ pub record SeatOk (kinds : List Kind) (w : World) (c : ℕ) (v : DeskView) : Typ
   pub kinds_are : v.kinds ≡ kinds
   pub done : v.done ≡ w.done c
   pub own : OwnOk v.own (w.stage c)
-  -- where the client knows that its row is answered, it is
+  -- if the client knows that its row is answered, it is
   pub ready : v.ready ≡ true → (q : AnyRequest) × (a : AnyAnswer) × (w.stage c ≡ answered q a)
   -- what it has seen of an object is a beginning of its log, which has the client's calls that are
   -- over

@@ -1,4 +1,4 @@
--- The transitions of the world: one step of one client, where it is possible, and what it changes.
+-- The transitions of the world: one step of one client, if it is possible, and what it changes.
 -- Hendler, Incze, Shavit, Tzafrir, SPAA 2010, section 2, step by step; put back is this project's.
 use Rattle.std.specs.Prelude.{◌≡◌, ◌≢◌, ℕ, ◌+◌, ◌<◌, ◌==◌, true, false, List, [], ◌∷◌, ◌++◌, length}
 use Rattle.std.specs.Prelude.{Option, Some, None, IsSome, if◌then◌else◌}

@@ -155,7 +155,7 @@ Replays c [] after = c ≡ after
 Replays c (e ∷ es) after =
     (between : Content) × (next c e.op ≡ Some (between, e.reply)) × Replays between es after
 
--- A log is legal where it is replayed from the empty content.
+-- A log is legal if it is replayed from the empty content.
 abbrev pub IsLegal : Kind → List AnyEntry → Type 0
 IsLegal kind log = (after : Content) × Replays (empty kind) log after
 

@@ -83,7 +83,7 @@ fn any_step(numbers: &mut Numbers, objects: u32, clients: u32) -> Step<AnyOp> {
     }
 }
 
-/// Each client in turn comes to where it may end, and ends.
+/// Each client in turn goes on until it may end, and ends.
 fn end_all(steps: &mut Vec<(u32, Step<AnyOp>)>, clients: u32) -> Result<(), AllocError> {
     for client in 0..clients {
         steps.push((client, Step::Post))?;
@@ -115,7 +115,7 @@ fn serve(
 }
 
 /// 300 random steps, then all end. Every third client has ended before with this call outstanding,
-/// where there is one.
+/// if there is one.
 fn random_steps(
     alloc: Global,
     numbers: &mut Numbers,

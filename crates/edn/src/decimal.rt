@@ -17,7 +17,7 @@ pub fn push_natural(text: &mut Vec<u8>, n: u64) -> Result<(), AllocError>
     text.extend_from_slice(buffer.format(n).as_bytes())
 }
 
-/// Appends an integer in decimal, with a `-` where it is negative.
+/// Appends an integer in decimal, with a `-` if it is negative.
 pub fn push_integer(text: &mut Vec<u8>, n: i64) -> Result<(), AllocError>
     ensures { OnOk result (text.new.items ≡ text.old.items ++ signed_decimal n) }
 {
@@ -36,7 +36,7 @@ pub fn write_natural<S: Sink>(n: u64, sink: &mut S) -> Result<(), Failed>
     write_bytes(digits.as_bytes(), sink)
 }
 
-/// Writes an integer in decimal, with a `-` where it is negative.
+/// Writes an integer in decimal, with a `-` if it is negative.
 pub fn write_integer<S: Sink>(n: i64, sink: &mut S) -> Result<(), Failed>
     requires { S.broken sink.old ≡ false }
     ensures sent { Writes result (S.sent sink.old) (S.sent sink.new) (S.broken sink.new)

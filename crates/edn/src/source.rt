@@ -11,7 +11,7 @@ use std::io::{ErrorKind, Read};
 /// A device that gives bytes in pieces, until it ends or fails. Each call asks that it has not
 /// failed.
 pub trait Source {
-    /// The bytes that will be given from here on, where they are known.
+    /// The bytes that will be given from here on, if they are known.
     ghost remaining: { Self → Option (List ℕ) };
     /// Whether it failed.
     ghost broken: { Self → Bool };
@@ -36,7 +36,7 @@ pub trait Source {
 
 /// What gives bytes: each call gives some, or none, or fails. Each reader is one.
 pub trait Supply {
-    /// The bytes that will be given from here on, where they are known.
+    /// The bytes that will be given from here on, if they are known.
     ghost contents: { Self → Option (List ℕ) };
     /// What a call for a buffer of this length may answer, and what it leaves.
     ghost answers: { Self → ℕ → Result ℕ ErrorKind → Self → Type 0 };

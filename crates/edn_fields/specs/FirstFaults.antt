@@ -1,4 +1,4 @@
--- Which of a list of forms is the first with a fault, where a fault is one of a form after those
+-- Which of a list of forms is the first with a fault, when a fault is one of a form after those
 -- before it.
 use Rattle.std.specs.Prelude.{◌≡◌, ℕ, ◌≤◌, List, ◌∷◌, ◌++◌, length}
 use Rattle.edn_reader.specs.Datum.{Datum}

@@ -27,7 +27,7 @@ pub fn is_same(left: &[u8], right: &[u8]) -> bool
     left == right
 }
 
-/// The value of a key, where the map has it.
+/// The value of a key, if the map has it.
 pub fn value_at<'a>(entries: &'a [(Name, Form)], key: &[u8]) -> Option<&'a Form>
     ensures { option_map (λ f. view f.now) result
         ≡ spec.value_at key.now (entries_of (pair_views entries.now)) }

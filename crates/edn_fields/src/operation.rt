@@ -13,7 +13,7 @@ use crate::seek::{after_bracket, pair_at};
 use crate::values::after_value;
 use edn::Piece;
 
-/// The token buffer from each value on, which is empty where the map has no such key.
+/// The token buffer from each value on, which is empty if the map has no such key.
 #[derive(Clone, Copy)]
 pub struct OperationValues<'p, 'a> {
     pub process: &'p [Piece<'a>],
@@ -23,7 +23,7 @@ pub struct OperationValues<'p, 'a> {
     pub value: &'p [Piece<'a>],
 }
 
-/// The value that was found for the key, or this one, where it is the key's.
+/// The value that was found for the key, or this one, if it is the key's.
 #[inline]
 fn first_of<'p, 'a>(
     found: &'p [Piece<'a>],

@@ -54,8 +54,8 @@ fn value_after<'p, 'a>(inside: &'p [Piece<'a>], key: &[u8]) -> &'p [Piece<'a>]
     &rest[..0]
 }
 
-/// The token buffer from the value of a key on, which is empty where the map whose tokens these are
-/// has no such key. None where it is no map.
+/// The token buffer from the value of a key on, which is empty if the map whose tokens these are
+/// has no such key. None if it is no map.
 pub fn value_on<'p, 'a>(pieces: &'p [Piece<'a>], key: &[u8]) -> Option<&'p [Piece<'a>]>
     ensures value { IfSome result (λ v. (d : Datum)
         → token_buffer_tokens pieces.entry.now ≡ tokens_of d →

@@ -48,7 +48,7 @@ pub(crate) fn after_value<'p, 'a>(pieces: &'p [Piece<'a>]) -> &'p [Piece<'a>]
     }
 }
 
-/// The number, where it is not negative.
+/// The number, if it is not negative.
 pub fn natural_at(value: &[Piece]) -> Option<u64>
     ensures { result ≡ spec.natural_first (token_buffer_tokens value.now) }
 {

@@ -85,7 +85,7 @@ abbrev pub note_all : List Token → IntegerVector → IntegerVector
 note_all [] r = r
 note_all (t ∷ ts) r = note_all ts (note t r)
 
--- the numbers, where the vector is whole
+-- the numbers, if the vector is whole
 abbrev pub noted_at : Stage → List ℤ → Option (List ℤ)
 noted_at Start zs = None
 noted_at Key zs = None

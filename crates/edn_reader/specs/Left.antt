@@ -22,6 +22,6 @@ keeping_in e = keeping_of e.keeping
 abbrev pub tokens_in : Elements → List Token
 tokens_in e = tokens_on e.token_buffer
 
--- its integer vector, where one was kept and was not taken yet
+-- its integer vector, if one was kept and was not taken yet
 abbrev pub integer_vector_in : Elements → Option (List ℤ)
 integer_vector_in e = integer_vector_on e.token_buffer

@@ -32,7 +32,7 @@ pub record IsSoundAt (place : ℕ) (text : List ℕ) : Type 0 where
   pub stands : Begins here token rest
   pub stands_at : place + length here ≡ length text
 
--- The same of what is left of a text, where it begins at this byte of the text.
+-- The same of what is left of a text, if it begins at this byte of the text.
 abbrev pub IsSoundFrom : ℕ → ℕ → List ℕ → Type 0
 IsSoundFrom start place left = (n : ℕ) × (place ≡ start + n) × IsSoundAt n left
 

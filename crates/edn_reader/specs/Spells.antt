@@ -24,7 +24,7 @@ abbrev mutual
   EndsComment [] = ⊥
   EndsComment (b ∷ bs) = ((b ≡ 10) × IsGap bs) ⊎ ((b ≡ 10 → ⊥) × EndsComment bs)
 
--- What may be after the last token: the same, where the last comment needs no line feed.
+-- What may be after the last token: the same, but the last comment needs no line feed.
 abbrev mutual
   pub IsEnding : List ℕ → Type 0
   IsEnding [] = Unit {0}

@@ -50,7 +50,7 @@ abbrev pub integer_in : Datum → Option ℤ
 integer_in (atom (integer z)) = Some z
 integer_in other = None
 
--- the elements of a vector, where all are integers
+-- the elements of a vector, if all are integers
 abbrev pub integers_in : Items → Option (List ℤ)
 integers_in no_items = Some []
 integers_in (item d ds) =

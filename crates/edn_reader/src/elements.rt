@@ -17,7 +17,7 @@ use crate::token_buffer::{Keeping, TokenBuffer};
 use std::alloc::Global;
 
 /// What is left of a text, and the tokens that were kept of the element that was read last: all, or
-/// the beginning of each value; and its integer vector, where one is kept. The room of the tokens
+/// the beginning of each value; and its integer vector, if one is kept. The room of the tokens
 /// is used again for the next element.
 #[derive(Drop)]
 pub struct Elements<'a> {
@@ -103,9 +103,9 @@ impl<'a> Elements<'a> {
         Elements::over(alloc, true, None, text)
     }
 
-    /// The same, and beside it the integer vector of each element: where an element is a map, and
-    /// the first value that it has for the key is a vector of integers alone, the whole of these.
-    /// An integer vector takes eight bytes for each number.
+    /// The same, and in addition the integer vector of each element: if an element is a map, and
+    /// the first value that it has for the key is a vector of integers alone, all of these. An
+    /// integer vector takes eight bytes for each number.
     pub fn with_integer_vector(
         alloc: Global,
         text: &'a [u8],
@@ -146,7 +146,7 @@ impl<'a> Elements<'a> {
         self.rest = unsafe { std::str::from_utf8_unchecked(after) };
     }
 
-    /// The byte of the text at which the next token begins, or the text's length where there is
+    /// The byte of the text at which the next token begins, or the text's length if there is
     /// none.
     pub(crate) fn place(&self) -> usize
         ensures { result + length (skip (left_of self.now))
@@ -170,7 +170,7 @@ impl<'a> Elements<'a> {
         ensures same { IfErr result (λ _. left_of self.new ≡ left_of self.old) }
         ensures none { IfErr result (λ e. e.kind ≢ FaultKind.NoMemory
             → (ds : List Datum) → Spells ds (left_of self.old) → ⊥) }
-        // Memory ran out where nothing was wrong yet, as in `read_forms`.
+        // Memory ran out when nothing was wrong yet, as in `read_forms`.
         ensures memory { IfErr result (λ e. e.kind ≡ FaultKind.NoMemory
             → IsSoundFrom (start_of self.old) e.place (left_of self.old)) }
         ensures short { IfErr result (λ e. e.kind ≢ FaultKind.TooLong) }

@@ -9,7 +9,7 @@ ghost use Rattle.edn_reader.specs.Token.{leaf};
 
 use crate::piece::Piece;
 
-/// What follows these bytes, where the text begins with them.
+/// What follows these bytes, if the text begins with them.
 #[inline(always)]
 pub fn after<'a, const N: usize>(text: &'a [u8], bytes: &[u8; N]) -> Option<&'a [u8]>
     ensures { IfSome result (λ rest. text.entry.now ≡ bytes.now ++ rest.now) }
@@ -18,7 +18,7 @@ pub fn after<'a, const N: usize>(text: &'a [u8], bytes: &[u8; N]) -> Option<&'a 
     if front == bytes { Some(rest) } else { None }
 }
 
-/// After a line feed, where the text begins with one.
+/// After a line feed, if the text begins with one.
 #[inline(always)]
 pub fn after_line_feed(text: &[u8]) -> &[u8]
     ensures { (text.entry.now ≡ result.now) ⊎ (text.entry.now ≡ 10 ∷ result.now) }

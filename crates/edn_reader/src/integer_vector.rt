@@ -27,7 +27,7 @@ pub struct IntegerVector<'a> {
     numbers: Vec<i64>,
 }
 
-/// The stage after a token of another key's value, where this many brackets are open before it.
+/// The stage after a token of another key's value, if this many brackets are open before it.
 fn after_other(depth: usize, piece: &Piece) -> Result<Stage, AllocError>
     ensures { IfOk result (λ stage. stage ≡ spec.after_other depth (piece_token piece.now)) }
 {
@@ -146,12 +146,12 @@ impl<'a> IntegerVector<'a> {
         if let Stage::Over = self.stage {
             return Ok(());
         }
-        // A copy, so that the token need not be in memory where nothing is looked for.
+        // A copy, so that the token need not be in memory if nothing is looked for.
         let copy = *piece;
         self.note_next(&copy)
     }
 
-    /// The numbers, where the map has a vector of integers alone for the key. They are gone then.
+    /// The numbers, if the map has a vector of integers alone for the key. They are gone then.
     pub fn take(&mut self, alloc: Global) -> Option<Vec<i64>>
         ensures numbers { option_map (λ v. v.items) result ≡ spec.noted (noted_in self.old) }
         ensures gone { spec.noted (noted_in self.new) ≡ None }

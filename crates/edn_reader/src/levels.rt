@@ -104,7 +104,7 @@ impl<'a> Keys<'a> {
         }
     }
 
-    /// One more name, where there is no set, which may ask for room.
+    /// One more name, if there is no set, which may ask for room.
     #[cold]
     #[inline(never)]
     fn push_growing(&mut self, name: &'a str) -> Result<(), AllocError>
@@ -117,7 +117,7 @@ impl<'a> Keys<'a> {
         Ok(())
     }
 
-    /// One more name, where there is no set.
+    /// One more name, if there is no set.
     #[inline(always)]
     fn push(&mut self, alloc: Global, name: &'a str) -> Result<(), AllocError>
         requires { self.old.set ≡ None }
@@ -151,7 +151,7 @@ impl<'a> Keys<'a> {
         Ok(())
     }
 
-    /// A key, which then waits for its value, where there is no set.
+    /// A key, which then waits for its value, if there is no set.
     #[inline(always)]
     fn put_in_few(&mut self, alloc: Global, name: &'a str) -> Result<(), Cause>
         requires { self.old.set ≡ None }
@@ -167,7 +167,7 @@ impl<'a> Keys<'a> {
         Ok(())
     }
 
-    /// The same, where this is the set of the names.
+    /// The same, if this is the set of the names.
     fn put_in_many(&mut self, mut set: Box<HashSet<&'a str>>, name: &'a str) -> Result<(), Cause>
         requires { HasNames set.value (spec.name_views self.old.names.items) }
         ensures { Becomes result

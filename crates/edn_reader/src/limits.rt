@@ -29,7 +29,7 @@ pub fn fits(form: &Form) -> bool
     fits_within(form, MAX_OPEN)
 }
 
-/// Whether the form fits where this many vectors and maps may still be opened.
+/// Whether the form fits if this many vectors and maps may still be opened.
 #[cycle(fits)]
 fn fits_within(form: &Form, depth: usize) -> bool
     ensures { IsTrue result ↔ Fits depth (view form.now) }

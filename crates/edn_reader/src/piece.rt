@@ -79,7 +79,7 @@ fn ends_token(rest: &[u8]) -> bool
     }
 }
 
-/// The number that the digits at the front make, and what follows them; or none, where it may have
+/// The number that the digits at the front make, and what follows them; or none, if it may have
 /// more than 63 bits.
 #[inline(always)]
 fn number_at(text: &[u8]) -> Option<(u64, &[u8])>

@@ -31,10 +31,10 @@ pub fn read_forms(alloc: Global, text: &[u8]) -> Result<Vec<Form>, EdnFault>
         max_length < length text.now) }
     ensures long { max_length < length text.now →
         IsErrAnd result (λ e. e.kind ≡ FaultKind.TooLong) }
-    // Any other fault comes only where the text spells no forms.
+    // Any other fault comes only if the text spells no forms.
     ensures none { IfErr result (λ e. e.kind ≢ FaultKind.NoMemory → e.kind ≢ FaultKind.TooLong
         → (ds : List Datum) → Spells ds text.now → ⊥) }
-    // Memory ran out where nothing was wrong yet: the token at that place still is one of some
+    // Memory ran out when nothing was wrong yet: the token at that place still is one of some
     // forms.
     ensures memory { IfErr result (λ e. e.kind ≡ FaultKind.NoMemory → IsSoundAt e.place text.now) }
 {

@@ -27,7 +27,7 @@ pub struct Keeping<'a> {
 }
 
 /// The tokens of one element that are kept, its integer vector, what is open while they are read,
-/// and what follows the last of them; and, where reading fails, how much of the text was left
+/// and what follows the last of them; and, if reading fails, how much of the text was left
 /// there.
 #[derive(Drop)]
 pub struct TokenBuffer<'a> {
@@ -184,9 +184,9 @@ impl<'a> TokenBuffer<'a> {
         Ok(Some(self.remains))
     }
 
-    /// Reads the next element of a text, and gives what follows it, or none where there is no
-    /// element more. Of its tokens all are kept, or the beginning of each value where it is to be
-    /// cut, and its integer vector where there is a key for it. After an error nothing is open, as
+    /// Reads the next element of a text, and gives what follows it, or none if there is no
+    /// element more. Of its tokens all are kept, or the beginning of each value if it is to be
+    /// cut, and its integer vector if there is a key for it. After an error nothing is open, as
     /// before.
     pub fn read(
         &mut self,

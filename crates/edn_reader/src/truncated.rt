@@ -6,11 +6,11 @@ ghost use Rattle.edn_reader.specs.Pieces.{piece_token};
 use crate::piece::Piece;
 use std::alloc::{AllocError, Global};
 
-/// How many elements of a vector are kept, where it is cut.
+/// How many elements of a vector are kept, if it is cut.
 const MOST_ITEMS: usize = 4;
 
 /// The tokens so far that are kept: all, or the beginning of each value. How many brackets of a
-/// value are open is counted only where values are cut.
+/// value are open is counted only if values are cut.
 #[derive(Drop)]
 pub struct TruncatedTokens<'a> {
     pieces: Vec<Piece<'a>>,
@@ -69,7 +69,7 @@ impl<'a> TruncatedTokens<'a> {
         self.push_growing(piece)
     }
 
-    /// An element of a value, where it has room.
+    /// An element of a value, if it has room.
     fn keep_item(&mut self, piece: Piece<'a>) -> Result<(), AllocError>
         ensures { OnOk result
             (kept_in self.new ≡ spec.keep_item (piece_token piece.entry) (kept_in self.old)) }

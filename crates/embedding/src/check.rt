@@ -24,12 +24,12 @@ pub extern "C" fn fcbench_check(
     out: &mut [u8],
     needed: &mut usize,
 ) -> u32
-    // The headline: where it answers 0, the history that the bytes denote is linearizable.
+    // The headline: if it returns 0, the history that the bytes denote is linearizable.
     ensures linearizable { result ≡ number_of Status.Yes → IsLinearizableText history.now }
     // The lines are those of a verdict that holds, with its status, or memory for them was refused.
     ensures checked { IsAnswered (IsCheck history.now certificates.now)
         result out.old out.new needed.new }
-    // Valid certificates are accepted, except where an allocation fails.
+    // Valid certificates are accepted, unless an allocation fails.
     ensures accepts { AreValidTexts history.now certificates.now →
         (result ≡ number_of Status.Yes) ⊎ (result ≡ number_of Status.OutOfMemory) }
 {

@@ -27,7 +27,7 @@ pub extern "C" fn fcbench_refute(
     out: &mut [u8],
     needed: &mut usize,
 ) -> u32
-    // Where it answers 1, the history that the bytes denote is not linearizable.
+    // If it returns 1, the history that the bytes denote is not linearizable.
     ensures refuted { result ≡ number_of Status.No → IsNotLinearizableText history.now }
     // The lines are the answers to the reasons, with their status, or memory for them was refused.
     ensures answered { IsAnswered (IsRefute history.now reasons.now (spec.search_steps steps))

@@ -29,9 +29,9 @@ pub extern "C" fn fcbench_verify(
     out: &mut [u8],
     needed: &mut usize,
 ) -> u32
-    // The headline: where it answers 0, the history that the bytes denote is linearizable.
+    // The headline: if it returns 0, the history that the bytes denote is linearizable.
     ensures linearizable { result ≡ number_of Status.Yes → IsLinearizableText history.now }
-    // Where it answers 1, that history is not linearizable.
+    // If it returns 1, that history is not linearizable.
     ensures refuted { result ≡ number_of Status.No → IsNotLinearizableText history.now }
     // The lines are those of a verification with this status, or memory for them was refused.
     ensures verified { IsAnswered

@@ -23,7 +23,7 @@ last_event p earlier = find (λ e. e.process == p) (reverse earlier)
 
 -- ---- which lists of events are proper
 
--- A process may invoke where its last event, if there is one, completed an operation with Ok or
+-- A process may invoke if its last event, if there is one, completed an operation with Ok or
 -- Fail.
 abbrev pub IsIdleAfter : Action → Type 0
 IsIdleAfter (Invoke op) = ⊥
@@ -85,7 +85,7 @@ denoted_by number p x Fail failed = []
 denoted_by number p x Info failed = []
 
 -- The history that events denote: in their order, and with their numbers, the invocations, except
--- for those whose process next fails, and the responses. Where nothing is known of an operation its
+-- for those whose process next fails, and the responses. If nothing is known of an operation its
 -- invocation stays pending.
 abbrev pub denoted : List Event → List Numbered
 denoted [] = []

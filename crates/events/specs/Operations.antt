@@ -27,7 +27,7 @@ abbrev pub end_at : Option Event → End
 end_at None = Pending
 end_at (Some e) = end_by e.number e.action
 
--- how it ends where nothing is kept of it
+-- how it ends if nothing is kept of it
 abbrev pub end_in : Option End → End
 end_in kept = unwrap_or kept Pending
 
@@ -60,7 +60,7 @@ return_of Failed = None
 abbrev pub Differs : Option Return → AnyReply → Type 0
 Differs returned gives = (r : Return) × (returned ≡ Some r) × (r.reply ≢ gives)
 
--- where a call returned, it returned this reply
+-- if a call returned, it returned this reply
 abbrev pub Agrees : Option Return → AnyReply → Type 0
 Agrees returned gives = (r : Return) → returned ≡ Some r → r.reply ≡ gives
 
@@ -98,7 +98,7 @@ pub record IsObjectHistory (h : ObjectCalls) : Type 0 where
   pub of_kind : All (λ o. kind_of o.op ≡ h.kind) h.ops
   pub ends : All (λ o. EndsAfter o.number h.ops o.«end») h.ops
 
--- what is kept of an object's operations: them in reverse, or nothing where there are none
+-- what is kept of an object's operations: them in reverse, or nothing if there are none
 abbrev pub IsGathered : Option (List Invocation) → List Invocation → Type 0
 IsGathered None ops = ops ≡ []
 IsGathered (Some kept) ops = (kept ≡ reverse ops) × (ops ≢ [])

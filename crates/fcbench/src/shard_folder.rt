@@ -185,7 +185,7 @@ impl<'a, R: Files> ShardFolder<'a, R> {
         }
     }
 
-    /// The evidence of a shard, or nothing where there is no such file.
+    /// The evidence of a shard, or nothing if there is no such file.
     fn evidence(&self, alloc: Global, shard: u16) -> Result<Vec<u8>, ShardFault> {
         match self.text_if_there(alloc, shard, ShardFile::Evidence)? {
             Some(evidence) => Ok(evidence),

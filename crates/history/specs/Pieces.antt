@@ -15,7 +15,7 @@ joined_by_feeds (a ∷ b ∷ pieces) = a ++ 10 ∷ joined_by_feeds (b ∷ pieces
 abbrev pub IsReadFrom : List ℕ → ReadPiece → Type 0
 IsReadFrom piece read = (ds : List Datum) × Spells ds piece × IsOfForms read ds
 
--- this was read of each piece, where something was
+-- this was read of each piece, if something was
 abbrev pub AreReadFrom : List (List ℕ) → List (Option ReadPiece) → Type 0
 AreReadFrom [] [] = ⊤
 AreReadFrom (piece ∷ pieces) (read ∷ reads) =

@@ -16,7 +16,7 @@ use Rattle.history.specs.Denotes.{events_from}
 use Rattle.history.specs.Seen.{IsSeen}
 
 -- Nothing is wrong with the text of a history as far as it was looked at: up to a token and with
--- it, or, where it spells forms, up to one of them and with it.
+-- it, or, if it spells forms, up to one of them and with it.
 abbrev pub IsHistorySound : List ℕ → Type 0
 IsHistorySound h =
     IsShort h

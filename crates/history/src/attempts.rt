@@ -1,4 +1,4 @@
-//! When the usual reader is tried: where eight maps in a row are of another form than the usual
+//! When the usual reader is tried: if eight maps in a row are of another form than the usual
 //! ones, the next 64 are not tried, and after them one. No answer depends on it, only time does.
 
 /// The failures in a row before maps are passed over.

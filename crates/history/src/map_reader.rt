@@ -15,7 +15,7 @@ use edn::{EdnFault, Elements, FaultKind};
 use std::alloc::Global;
 
 /// What is left of a text in which each form is to be one operation map. The usual reader is tried
-/// first, and where it finds no map, the form is read token by token. Of each value only what can
+/// first, and if it finds no map, the form is read token by token. Of each value only what can
 /// be an argument or a reply is kept.
 #[derive(Drop)]
 pub(crate) struct MapReader<'a> {
@@ -63,7 +63,7 @@ impl<'a> MapReader<'a> {
         ensures same { IfErr result (λ _. left_in self.new ≡ left_in self.old) }
         ensures none { IfErr result (λ e. e.kind ≢ FaultKind.NoMemory
             → (ds : List Datum) → Spells ds (left_in self.old) → ⊥) }
-        // Memory ran out where nothing was wrong yet.
+        // Memory ran out when nothing was wrong yet.
         ensures memory { IfErr result (λ e. e.kind ≡ FaultKind.NoMemory
             → IsSoundFrom (start_in self.old) e.place (left_in self.old)) }
         ensures short { IfErr result (λ e. e.kind ≢ FaultKind.TooLong) }

@@ -40,7 +40,7 @@ fn are_allowed(processes: &NumberMap<Process>, firsts: &[FirstMap]) -> bool
     true
 }
 
-/// Whether each of the objects has one kind, where two are kept of it.
+/// Whether each of the objects has one kind, if two are kept of it.
 fn are_of_one_kind(kinds: &NumberMap<Kind>, own: &NumberMap<Kind>, objects: &[u32]) -> bool
     ensures { result ≡ true →
         All (λ x. IsOneKind (value_of kinds.now x) (value_of own.now x)) objects.now }
@@ -113,7 +113,7 @@ fn append(events: Vec<Event>, more: &[Event], earlier: u32) -> Option<Vec<Event>
     Some(joined)
 }
 
-/// The events of the pieces so far, which have this many maps, and those of one more piece. Where
+/// The events of the pieces so far, which have this many maps, and those of one more piece. If
 /// there are none so far, the piece's list is taken as it is.
 fn join_events(events: Vec<Event>, more: Vec<Event>, earlier: u32) -> Option<Vec<Event>>
     ensures { IfSome result (λ v. v.items ≡ events.items ++ map (shift_event earlier) more.items) }
@@ -170,7 +170,7 @@ impl Seams {
         Some(Seams { seen, events, maps })
     }
 
-    /// The history, where the pieces so far are all.
+    /// The history, if the pieces so far are all.
     pub fn into_history(self) -> History
         requires { (ds : List Datum) × AreJoined self ds }
         ensures { (ds : List Datum) → AreJoined self ds → Denotes ds result }

@@ -41,7 +41,7 @@ impl Reading {
         }
     }
 
-    /// Reads one more map from what it says, where none was faulty.
+    /// Reads one more map from what it says, if none was faulty.
     fn take_said(&mut self, said: OperationMap)
         requires { self.old.fault ≡ None }
         ensures { (ds : List Datum) (d : Datum) → Says said d

@@ -44,7 +44,7 @@ pub(crate) fn type_at(text: &[u8]) -> Option<(MapType, &[u8])>
     Some((map_type, rest))
 }
 
-/// This function, where the text goes on with these bytes.
+/// This function, if the text goes on with these bytes.
 #[inline(always)]
 fn function_with<'a, const N: usize>(
     text: &'a [u8],
@@ -199,7 +199,7 @@ fn pair_after(inside: &[u8]) -> Option<(Value, &[u8])>
     Some((Value::Pair(x, y), after(rest, b"]")?))
 }
 
-/// This value, where the text begins with these bytes.
+/// This value, if the text begins with these bytes.
 #[inline(always)]
 fn word_at<'a, const N: usize>(
     text: &'a [u8],

@@ -88,7 +88,7 @@ fn after_time(text: &[u8]) -> Option<&[u8]>
     after_index(rest)
 }
 
-/// The object of a map after its first four pairs, which is 0 where it has none, and what follows
+/// The object of a map after its first four pairs, which is 0 if it has none, and what follows
 /// the map.
 #[inline(always)]
 fn object_at(text: &[u8]) -> Option<(u32, &[u8])>
@@ -154,7 +154,7 @@ fn index_first(text: &[u8]) -> Option<(ClientMap, &[u8])>
 ///
 /// In the first order each key from `:object` on may be absent, and the last may be any key without
 /// a meaning. A map that is written in another way may be well formed, and is not found here. No
-/// clause says that a map is found: where none is, the slower reader is asked.
+/// clause says that a map is found: if none is, the slower reader is asked.
 #[inline(always)]
 pub(crate) fn usual_map(text: &[u8]) -> Option<(ClientMap, &[u8])>
     requires { IsUtf8 text.now }

@@ -118,7 +118,7 @@ finding_on decisions =
 abbrev pub shown_on : ℕ → ShownReason → ShownReason
 shown_on x f = record f { reason = record f.reason { object = x } }
 
--- the same of a decision, where a reason shows it
+-- the same of a decision, if a reason shows it
 abbrev pub decided_on : ℕ → Decision → Decision
 decided_on x (Order c) = Order c
 decided_on x (Impossible f) = Impossible (shown_on x f)
@@ -202,7 +202,7 @@ pub record AreInOrder (lines sorted : List (ℕ × List ℕ)) : Type 0 where
   pub same : IsPermutation lines sorted
   pub rising : IsNonDecreasingBy (λ l. l.0) sorted
 
--- The lines where this is the worst that is found: those of a yes with the counts of all shards, or
+-- The lines if this is the worst that is found: those of a yes with the counts of all shards, or
 -- what is said of shards; and then, unless one of these is malformed, what is said of objects.
 abbrev pub AreLinesWith : Finding → List Answer → List ℕ → Type 0
 AreLinesWith Certified answers out =

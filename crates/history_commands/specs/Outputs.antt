@@ -31,14 +31,14 @@ status_of (verdict.No r) = No
 status_of (verdict.Malformed f) = Malformed
 status_of verdict.NoMemory = OutOfMemory
 
--- how a command on the objects of a history ends: with no, where one is impossible, and with yes,
--- where each has an order
+-- how a command on the objects of a history ends: with no, if one is impossible, and with yes,
+-- if each has an order
 abbrev pub status_by : Bool → Bool → Status
 status_by is_any_impossible are_all_found =
     if is_any_impossible then No else if are_all_found then Yes else Undecided
 
--- How a command ends that answers this on the objects of a history: with no, where one is
--- impossible, and with yes, where each has an order.
+-- How a command ends that answers this on the objects of a history: with no, if one is
+-- impossible, and with yes, if each has an order.
 abbrev pub status_on : {A : Type 0} → (A → Bool) → (A → Bool) → List (ℕ × A) → Status
 status_on is_impossible is_found answers =
     status_by (list_any (λ a. is_impossible a.1) answers) (list_all (λ a. is_found a.1) answers)

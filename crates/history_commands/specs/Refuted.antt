@@ -80,7 +80,7 @@ doubt_text limit OutOfSteps =
     codes ": not shown: out of steps after " ++ (decimal limit ++ codes "\n")
 doubt_text limit doubt.NoMemory = codes ": not shown: out of memory\n"
 
--- the lines of an answer on an object of this many calls: where no order is valid, with the
+-- the lines of an answer on an object of this many calls: if no order is valid, with the
 -- operations of the part
 abbrev pub refutation_lines : List Event → ℕ → ℕ → Reason → Refutation → List ℕ
 refutation_lines es whole limit reason (Impossible part) =
@@ -102,7 +102,7 @@ refutations_text es limit (r ∷ rs) [] = []
 refutations_text es limit (r ∷ rs) (a ∷ answers) =
     refutation_lines es (call_count_on es r) limit r a ++ refutations_text es limit rs answers
 
--- no, where one reason shows it, else open
+-- no, if one reason shows it, else open
 abbrev pub refute_status : List Refutation → Status
 refute_status answers = status_by (list_any is_impossible answers) false
 
@@ -113,7 +113,7 @@ pub record AreAnswered (es : List Event) (reasons : List Reason) (limit : ℕ)
   pub each : AllZip (IsAnswer es) reasons answers
   pub status_is : status ≡ refute_status answers
   pub text_is : text ≡ refutations_text es limit reasons answers
-  -- where it is a no the history is not linearizable
+  -- if it is a no the history is not linearizable
   pub refuted : status ≡ ends.No → IsLinearizable (kind_at es) (events (denoted es)) → ⊥
 
 -- The same of the reasons that a text denotes, which is not too long to be read.

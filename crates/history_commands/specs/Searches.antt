@@ -51,7 +51,7 @@ is_found OutOfSteps = false
 is_found TooLarge = false
 is_found NoMemory = false
 
--- no, where some object is impossible; yes, where each has a certificate
+-- no, if some object is impossible; yes, if each has a certificate
 abbrev pub search_status : List (ℕ × Search) → Status
 search_status answers =
     status_on (λ s. is_impossible s.found) (λ s. is_found s.found) answers
@@ -65,7 +65,7 @@ pub record AreSearched (es : List Event) (limit : ℕ) (status : Status) (text :
   pub each : All (λ a. IsAnswerOn es limit a.0 a.1) answers
   pub status_is : status ≡ search_status answers
   pub text_is : text ≡ lines_on answer_line answers
-  -- a yes comes with valid certificates, one for each object, and where it is a no the history is
+  -- a yes comes with valid certificates, one for each object, and if it is a no the history is
   -- not linearizable
   pub certified : status ≡ ends.Yes
       → (cs : List Certificate) × AreValid es cs × AreDistinct cs × (text ≡ lines_of cs)

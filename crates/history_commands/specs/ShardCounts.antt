@@ -56,7 +56,7 @@ seen_counts c =
 
 -- ---- the sums
 
--- a number, or the greatest of 64 bits where that is less
+-- a number, or the greatest of 64 bits if that is less
 abbrev pub capped : ℕ → ℕ
 capped n = min n (2 ^ 64 - 1)
 

@@ -96,7 +96,7 @@ decision_lines es x (OutOfSteps n) =
 decision_lines es x NoMemory = (codes "; object " ++ decimal x) ++ codes ": out of memory\n"
 decision_lines es x Open = (codes "; object " ++ decimal x) ++ codes ": open\n"
 
--- no, where some object is impossible; yes, where each has an order
+-- no, if some object is impossible; yes, if each has an order
 abbrev pub verified_status : List (ℕ × Decision) → Status
 verified_status answers = status_on is_impossible is_order answers
 
@@ -122,7 +122,7 @@ pub record AreOpen (es : List Event) (claims : List Claim) (limit : ℕ) (status
   pub some_open : list_all (λ a. is_order a.1) answers ≡ false
   pub status_is : status ≡ verified_status answers
   pub text_is : text ≡ lines_on (decision_lines es) answers
-  -- where it is a no the history is not linearizable, and the text says why
+  -- if it is a no the history is not linearizable, and the text says why
   pub refuted : status ≡ ends.No → IsLinearizable (kind_at es) (events (denoted es)) → ⊥
   pub explained : status ≡ ends.No → IsExplained es text
 
@@ -136,7 +136,7 @@ pub record IsCertified (es : List Event) (claims : List Claim) (limit : ℕ) (s 
   pub linearizable : IsLinearizable (kind_at es) (events (denoted es))
   pub counts : AreCountsOf es s
 
--- The verdict where each object has an order, or an allocation failed.
+-- The verdict if each object has an order, or an allocation failed.
 abbrev pub IsVerdictBy : List Event → List Claim → ℕ → Verdict → Type 0
 IsVerdictBy es claims limit (verdict.Yes s) = IsCertified es claims limit s
 IsVerdictBy es claims limit (verdict.No r) = ⊥

@@ -80,8 +80,8 @@ impl Merging {
     }
 
     /// The answer on the shards that were taken, which is one on the whole if these are all its
-    /// shards. It is malformed where a shard is, or else no where an object is impossible, or else
-    /// yes where each object of each shard has an order.
+    /// shards. It is malformed if a shard is, or else no if an object is impossible, or else
+    /// yes if each object of each shard has an order.
     pub fn output(self, alloc: Global) -> Result<Output, AllocError>
         ensures { (shards : List Shard) → AreMerged self shards
             → IfOk result (λ o. IsMerge shards o.status o.text.items) }

@@ -39,7 +39,7 @@ pub(crate) struct ShardAnswer {
     pub(crate) note: Vec<u8>,
     /// The lines on its objects that have no order.
     pub(crate) lines: Vec<ObjectLines>,
-    /// What its history has, where it is decided.
+    /// What its history has, if it is decided.
     pub(crate) counts: Counts,
 }
 
@@ -52,7 +52,7 @@ fn shard_line(alloc: Global, shard: u16, said: &[u8]) -> Result<Vec<u8>, AllocEr
     Ok(line)
 }
 
-/// What is answered where nothing is decided, but this is said of the shard.
+/// What is answered if nothing is decided, but this is said of the shard.
 fn noted(
     alloc: Global,
     shard: u16,

@@ -56,8 +56,8 @@ pub fn status_of(verdict: &Verdict) -> Status
     }
 }
 
-/// How a command on the objects of a history ends: with no, where one is impossible, and with yes,
-/// where each has an order.
+/// How a command on the objects of a history ends: with no, if one is impossible, and with yes,
+/// if each has an order.
 pub(crate) fn status_by(is_any_impossible: bool, are_all_found: bool) -> Status
     ensures is { result ≡ spec.status_by is_any_impossible are_all_found }
     ensures not_failed { result ≢ Status.Failed }

@@ -144,7 +144,7 @@ impl Answer for Decision {
         matches!(self, Decision::Order(_))
     }
 
-    /// Appends the lines on the object, where it has no order.
+    /// Appends the lines on the object, if it has no order.
     fn push_lines(
         &self,
         alloc: Global,
@@ -164,7 +164,7 @@ impl Answer for Decision {
     }
 }
 
-/// The verdict where each object has an order.
+/// The verdict if each object has an order.
 fn verdict_of(alloc: Global, history: &History, answers: &[(u32, Decision)]) -> Verdict
     requires all { list_all (λ a. is_order a.1) answers.now ≡ true }
     requires valid { AreValid history.now (certificates_in answers.now) }
@@ -179,7 +179,7 @@ fn verdict_of(alloc: Global, history: &History, answers: &[(u32, Decision)]) -> 
     verdict_on_check(alloc, history, Ok(()))
 }
 
-/// The output of the decisions on all objects of the history: a verdict, where each has an
+/// The output of the decisions on all objects of the history: a verdict, if each has an
 /// order.
 fn judge_decisions(
     alloc: Global,
@@ -198,7 +198,7 @@ fn judge_decisions(
     output_of(alloc, history, answers)
 }
 
-/// Checks the claims on a history. Where they name no number of steps a search has the limit
+/// Checks the claims on a history. If they name no number of steps a search has the limit
 /// `steps`.
 fn verify_claims(
     alloc: Global,

@@ -76,7 +76,7 @@ const WIDE: &[u8] = b"{:process 0, :type :invoke, :f :dequeue, :object 3}
 {:process 2, :type :invoke, :f :read, :object 70000}
 ";
 
-/// What the first shards have of a whole where there are this many: numbers of maps, texts and
+/// What the first shards have of a whole if there are this many: numbers of maps, texts and
 /// tables.
 const PARTS: [(&[u8], u16, [u32; 2], [&[u8]; 2], [&[u8]; 2]); 4] = [
     (

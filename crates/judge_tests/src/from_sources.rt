@@ -121,7 +121,7 @@ impl Read for Broken {
     }
 }
 
-/// Why a check gives no verdict, where it writes nothing.
+/// Why a check gives no verdict, if it writes nothing.
 fn fault_of<R: AllocGlobal + Threads + Sync, H: Source, C: Source>(
     rt: &R,
     history: &mut H,

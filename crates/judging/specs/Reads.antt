@@ -14,7 +14,7 @@ abbrev pub SourceAfterFault : Bool → ReadFault → Type 0
 SourceAfterFault broken Failed = broken ≡ true
 SourceAfterFault broken NoMemory = broken ≡ false
 
--- Reading stopped where the source refused a call: some bytes were given before, and the call had
+-- Reading stopped if the source refused a call: some bytes were given before, and the call had
 -- room for at least one.
 pub record WasRefused {S : Type 0} (remaining : S → Option (List ℕ)) (refuses : S → ℕ → S → Type 0)
     (old new : S) : Type 0 where

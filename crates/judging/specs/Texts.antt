@@ -68,7 +68,7 @@ IsNoMemory (HistoryMaps f) = f.kind ≡ history_kind.NoMemory
 IsNoMemory (CertificateText e) = e.kind ≡ edn_kind.NoMemory
 IsNoMemory (CertificateForms f) = f.kind ≡ certificate_kind.NoMemory
 
--- Reading stops by an allocation failure where that is the fault, and nowhere else.
+-- Reading stops by an allocation failure if that is the fault, and not otherwise.
 abbrev pub IsFailureOf : Fault → TextFailure → Type 0
 IsFailureOf fault (Faulty f) = (f ≡ fault) × ¬ (IsNoMemory fault)
 IsFailureOf fault NoMemory = IsNoMemory fault
@@ -79,7 +79,7 @@ SpellsWithFault IsFirst text fault =
     IsShort text × (ds : List Datum) × Spells ds text × IsFirst ds fault
 
 -- Nothing is wrong with the text of certificates as far as it was looked at: up to a token and with
--- it, or, where it spells forms, up to one of them and with it.
+-- it, or, if it spells forms, up to one of them and with it.
 abbrev pub AreCertificatesSound : List ℕ → Type 0
 AreCertificatesSound c =
     IsShort c
@@ -103,7 +103,7 @@ IsCertificatesFault c (Faulty (CertificateForms f)) =
 IsCertificatesFault c NoMemory = AreCertificatesSound c
 
 -- What reading the text of a history gives: the client events that it denotes and no others, or
--- what stops it, which is an allocation failure where it denotes some and is not too long.
+-- what stops it, which is an allocation failure if it denotes some and is not too long.
 pub record IsHistoryRead (h : List ℕ) (r : Result (List Event) TextFailure) : Type 0 where
   pub denotes : IfOk r (DenotesHistory h)
   pub only : IfOk r (λ es. (fs : List Event) → DenotesHistory h fs → fs ≡ es)
@@ -121,7 +121,7 @@ IsFirstFault h c (CertificateForms f) =
     HasHistory h × SpellsWithFault certificate_fault.IsFirstFault c f
 
 -- Nothing is wrong with the texts as far as they were looked at, the history first: with the
--- history's, or, where it denotes a history, with the certificates'; or both denote.
+-- history's, or, if it denotes a history, with the certificates'; or both denote.
 abbrev pub AreSoundSoFar : List ℕ → List ℕ → Type 0
 AreSoundSoFar h c =
     IsHistorySound h
@@ -163,7 +163,7 @@ pub record IsFirstRefusalText (h c : List ℕ) (r : Refusal) : Type 0 where
   pub first : IsFirstRefusal client_events certificates r
   pub not_memory : r ≢ refusal.NoMemory
 
--- what is answered where a text could not be read
+-- what is answered if a text could not be read
 abbrev pub verdict_of : TextFailure → Verdict
 verdict_of (Faulty f) = Malformed f
 verdict_of NoMemory = verdict.NoMemory

@@ -30,7 +30,7 @@ Judges h c (No r) = IsFirstRefusalText h c r
 Judges h c (Malformed f) = IsFirstFault h c f
 Judges h c NoMemory = AreSoundSoFar h c
 
--- where it is Yes
+-- if it is Yes
 abbrev pub OnYes : Verdict → Type 0 → Type 0
 OnYes (Yes s) P = P
 OnYes (No r) P = ⊤

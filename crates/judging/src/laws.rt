@@ -27,7 +27,7 @@ pub fn one_list_of_orders()
     one_reading();
 }
 
-/// A history that a text denotes is linearizable where certificates are valid for it.
+/// A history that a text denotes is linearizable if certificates are valid for it.
 pub fn valid_certificates_suffice()
     ensures { (text : List ℕ) (es : List Event) (cs : List Certificate) → DenotesHistory text es →
         AreValid es cs →

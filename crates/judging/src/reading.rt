@@ -49,7 +49,7 @@ pub fn read_text<S: Source>(alloc: Global, source: &mut S) -> Result<Vec<u8>, Re
         WasRead read_limit (S.remaining source.old) (S.remaining source.new) v.items) }
     ensures usable { OnOk result (S.broken source.new ≡ false) }
     ensures fault { IfErr result (SourceAfterFault (S.broken source.new)) }
-    // The source failed only where it refused a call.
+    // The source failed only if it refused a call.
     ensures refused { IfErr result (λ e. e ≡ ReadFault.Failed →
         WasRefused S.remaining S.refuses source.old source.new) }
 {

@@ -24,7 +24,7 @@ pub enum TextFailure {
     NoMemory,
 }
 
-// The verdict where a text could not be read.
+// The verdict if a text could not be read.
 impl From<TextFailure> for Verdict {
     ghost use Rattle.judging.specs.Texts.{verdict_of};
 
@@ -50,7 +50,7 @@ fn is_no_memory(fault: &Fault) -> bool
     }
 }
 
-/// What stops the reading where this fault was found.
+/// What stops the reading if this fault was found.
 fn failure_of_fault(fault: Fault) -> TextFailure
     ensures { IsFailureOf fault result }
 {

@@ -1,4 +1,4 @@
--- Small histories that show what the definitions say, of object 0 where none is named.
+-- Small histories that show what the definitions say, of object 0 if none is named.
 use Rattle.std.specs.Prelude.{ℕ, ℤ, pos, List, [], ◌∷◌, Option, Some, None}
 use Rattle.model.specs.declared.AnyOp.{AnyOp}
 use Rattle.model.specs.declared.AnyOp.TheVariants.{Enqueue, Dequeue, Acquire, Release}

@@ -29,7 +29,7 @@ pub trait Objects {
     ghost objects: { ℕ → Specification };
 }
 
-/// Locality: a history is linearizable where the operations of each object alone have a valid
+/// Locality: a history is linearizable if the operations of each object alone have a valid
 /// order. The objects may have any `Specification`.
 pub fn locality_of<O: Objects>()
     ensures { (h : List Numbered)
@@ -38,7 +38,7 @@ pub fn locality_of<O: Objects>()
         → IsLinearizableFor O.objects (events h) }
 {}
 
-/// The converse: where a history is linearizable, the operations of each object have a valid order.
+/// The converse: if a history is linearizable, the operations of each object have a valid order.
 pub fn linearizable_has_orders_of<O: Objects>()
     ensures { (h : List Numbered)
         → IsHistory h
@@ -47,13 +47,13 @@ pub fn linearizable_has_orders_of<O: Objects>()
 {}
 
 /// An order of the operations of an object of one kind is valid for the kind's own specification
-/// exactly where it is valid in the contents of all kinds, by which programs keep objects.
+/// exactly if it is valid in the contents of all kinds, by which programs keep objects.
 pub fn one_kind_among_all()
     ensures { (kind : Kind) (calls : List Call) (order : List ℤ)
         → (IsValidOrderOf (specification kind) calls order ↔ IsValidOrder kind calls order) }
 {}
 
-/// Locality, where each object is of one of the kinds here.
+/// Locality, if each object is of one of the kinds here.
 pub fn locality()
     ensures { (kinds : ℕ → Kind) (h : List Numbered)
         → IsHistory h
@@ -69,7 +69,7 @@ pub fn named_objects()
         → IsLinearizable kinds (events h) }
 {}
 
-/// The converse of locality, where each object is of one of the kinds here.
+/// The converse of locality, if each object is of one of the kinds here.
 pub fn linearizable_has_orders()
     ensures { (kinds : ℕ → Kind) (h : List Numbered)
         → IsHistory h
@@ -86,7 +86,7 @@ pub fn linearizable_as_written()
 {}
 
 /// What a completion adds: a well-formed history goes on with responses into a well-formed history
-/// exactly where each of them matches a pending invocation, and no two are of one process.
+/// exactly if each of them matches a pending invocation, and no two are of one process.
 pub fn completion_in_words()
     ensures { (h added : List Event)
         → IsWellFormed h

@@ -39,7 +39,7 @@ pub fn overlapping_operations_may_change_places()
         (pos 0 ∷ pos 1 ∷ pos 4 ∷ []) }
 {}
 
-/// Where one enqueue returned before the next began, no order gives the second value first.
+/// If one enqueue returned before the next began, no order gives the second value first.
 pub fn operations_in_turn_keep_their_order()
     ensures history { IsHistory dequeued_out_of_turn }
     ensures not_linearizable { ¬ IsLinearizable (λ x. Kind.Queue) (events dequeued_out_of_turn) }

@@ -46,14 +46,14 @@ impl<S: SeqObject> Machine<S> {
     ghost use Rattle.machine.specs.Runs.{IsImpossible};
     ghost use Rattle.machine.specs.Steps.{IsTaken, IsOutcome, IsDraw, IsPossible, step_in};
 
-    /// Takes one step of a client. A step is not possible now too where there is no such client,
+    /// Takes one step of a client. A step is not possible now too if there is no such client,
     /// object or row, or the operation is of another kind than the object. If it is not taken
     /// nothing changes.
     pub fn step(&mut self, client: u32, step: Step<S::Op>) -> Result<Outcome<S::Reply>, StepFault>
         ensures taken { OnOk result (IsTaken self.old client (step_in S.op_in step) self.new) }
         ensures outcome { IfOk result
             (IsOutcome S.reply_in self.old client (step_in S.op_in step) self.new) }
-        // With `taken` and `memory`: it is refused as not possible now exactly where it is possible
+        // With `taken` and `memory`: it is refused as not possible now exactly if it is possible
         // in no way.
         ensures not_now { IfErr result (λ e. e ≡ StepFault.NotNow →
             IsImpossible self.old.kinds self.old.quota (world_of self.old)

@@ -108,7 +108,7 @@ impl<S: SeqObject> Machine<S> {
     }
 }
 
-/// One event more in a client's journal. Where an allocation fails the journal is as it was.
+/// One event more in a client's journal. If an allocation fails the journal is as it was.
 fn note<O: Drop, R: Drop>(
     journals: &mut Vec<Vec<JournalEvent<O, R>>>,
     client: usize,

@@ -39,7 +39,7 @@ abbrev pub matches : Event → Event → Bool
 matches (Inv p x op) (Res q y r) = (p == q) && (x == y)
 matches e f = false
 
--- an invocation is pending where no matching response is among the later events
+-- an invocation is pending if no matching response is among the later events
 abbrev pub is_pending : Event → List Event → Bool
 is_pending e later = is_invocation e && not (list_any (matches e) later)
 
@@ -48,7 +48,7 @@ abbrev pub complete : List Event → List Event
 complete [] = []
 complete (e ∷ later) = if is_pending e later then complete later else e ∷ complete later
 
--- A history is sequential where it is empty, or begins with an invocation, each invocation except
+-- A history is sequential if it is empty, or begins with an invocation, each invocation except
 -- perhaps the last is at once followed by a matching response, and each response is at once after
 -- an invocation that it matches.
 abbrev pub IsSequential : List Event → Type 0
@@ -56,7 +56,7 @@ IsSequential [] = ⊤
 IsSequential (e ∷ []) = IsTrue (is_invocation e)
 IsSequential (e ∷ f ∷ rest) = IsTrue (matches e f) × IsSequential rest
 
--- A history is well-formed where each process alone is sequential.
+-- A history is well-formed if each process alone is sequential.
 abbrev pub IsWellFormed : List Event → Type 0
 IsWellFormed h = (p : ℕ) → IsSequential (by_process p h)
 
@@ -70,7 +70,7 @@ pub record IsCompletion (h c : List Event) : Type 0 where
   pub well_formed : IsWellFormed (h ++ added)
   pub completed : c ≡ complete (h ++ added)
 
--- Two histories are equivalent where each process sees the same in both.
+-- Two histories are equivalent if each process sees the same in both.
 abbrev pub IsEquivalent : List Event → List Event → Type 0
 IsEquivalent c s = (p : ℕ) → by_process p c ≡ by_process p s
 
@@ -96,7 +96,7 @@ IsOperation h e = e.turn < length (filter (invokes e.process) h)
 abbrev pub IsTurn : (Event → Bool) → ℕ → List Event → Event → Type 0
 IsTurn test turn before event = IsTrue (test event) × (length (filter test before) ≡ turn)
 
--- One operation of a well-formed history precedes another where the response of the first is
+-- One operation of a well-formed history precedes another if the response of the first is
 -- before the invocation of the second. Herlihy and Wing, read literally, order operations that have
 -- both events; here, by this project's choice, the second may also be pending in H.
 pub record Precedes (h : List Event) (e f : Operation) : Type 0 where

@@ -20,11 +20,11 @@ RepliesFrom object c others = ⊥
 abbrev pub InSpecification : Specification → List Event → Type 0
 InSpecification object s = IsSequential s × RepliesFrom object object.empty s
 
--- A sequential history is legal where each object alone is in its specification.
+-- A sequential history is legal if each object alone is in its specification.
 abbrev pub IsLegal : (ℕ → Specification) → List Event → Type 0
 IsLegal objects s = (x : ℕ) → InSpecification (objects x) (by_object x s)
 
--- H is linearizable where some completion of it is equivalent to one legal sequential history S
+-- H is linearizable if some completion of it is equivalent to one legal sequential history S
 -- over all objects, and S keeps the order of H: what precedes in H precedes in S.
 pub record IsLinearizableFor (objects : ℕ → Specification) (h : List Event) : Type 0 where
   pub completion : List Event
@@ -36,6 +36,6 @@ pub record IsLinearizableFor (objects : ℕ → Specification) (h : List Event) 
   pub order : (e f : Operation) → IsOperation completion e → IsOperation completion f
       → Precedes h e f → Precedes sequence e f
 
--- H is linearizable where each object is of one of the kinds here.
+-- H is linearizable, each object being of one of the kinds here.
 abbrev pub IsLinearizable : (ℕ → Kind) → List Event → Type 0
 IsLinearizable kinds h = IsLinearizableFor (λ x. specification (kinds x)) h

@@ -110,7 +110,7 @@ abbrev pub RepliesAlong : Content → List Call → Type 0
 RepliesAlong c es = RepliesBy next c es
 
 -- A valid order of the operations of an object of this kind. It is valid for the kind's own
--- specification exactly where it is valid here, in the contents of all kinds: `one_kind_among_all`
+-- specification exactly if it is valid here, in the contents of all kinds: `one_kind_among_all`
 -- of the crate `locality`.
 abbrev pub IsValidOrder : Kind → List Call → List ℤ → Type 0
 IsValidOrder kind calls order = IsValidOrderOf (any kind) calls order

@@ -9,7 +9,7 @@ pub record Specification : Type 1 where
   pub Content : Type 0
   -- what it contains at first
   pub empty : Content
-  -- what an operation leaves, and its reply, where it is possible
+  -- what an operation leaves, and its reply, if it is possible
   pub next : Content → AnyOp → Option (Content × AnyReply)
   -- which operations the object has
   pub has : AnyOp → Type 0

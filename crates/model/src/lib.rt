@@ -38,9 +38,9 @@ pub enum AnyOp {
     Release,
     /// Leaves nothing in a register.
     Clear,
-    /// Writes the value where a register contains nothing.
+    /// Writes the value if a register contains nothing.
     Create(i64),
-    /// The key, and the value that it gets where it has none.
+    /// The key, and the value that it gets if it has none.
     PutIfAbsent(i64, i64),
     /// The key, the value that is expected, and the new one.
     Replace(i64, i64, i64),

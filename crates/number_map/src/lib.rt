@@ -33,7 +33,7 @@ impl<V> NumberMap<V> {
 }
 
 impl<V: Copy> NumberMap<V> {
-    /// The value of the key, where it has one.
+    /// The value of the key, if it has one.
     #[inline]
     pub fn get(&self, key: u64) -> Option<V>
         ensures { result ≡ value_of self.now key }
@@ -99,7 +99,7 @@ impl<V: Drop> NumberMap<V> {
 }
 
 impl<V: Drop> NumberMap<Vec<V>> {
-    /// Puts one more value at the end of the key's list, which is empty where the key has no value.
+    /// Puts one more value at the end of the key's list, which is empty if the key has no value.
     /// Says whether the key had no value before. After an error the list of the key may be lost.
     #[inline]
     pub fn push(&mut self, alloc: Global, key: u64, value: V) -> Result<bool, AllocError>

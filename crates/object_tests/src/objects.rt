@@ -11,7 +11,7 @@ use std::alloc::AllocError;
 use std::process::Abort;
 use std::test::Fail;
 
-/// Does the operation where it is possible, through the bound alone.
+/// Does the operation if it is possible, through the bound alone.
 fn step<S: SeqObject>(object: &mut S, op: S::Op) -> Result<Option<S::Reply>, AllocError>
     requires { kind_of (S.op_in op) ≡ kind_with (S.content object.old) }
     ensures { IfOk result (λ reply. MatchOption reply
@@ -35,7 +35,7 @@ fn step_any(object: &mut AnyObject, op: AnyOp) -> Result<Option<AnyReply>, Alloc
     step(object, op)
 }
 
-/// From the object on each operation is answered so, or is not possible where none is given, and a
+/// From the object on each operation is answered so, or is not possible if none is given, and a
 /// copy made then is the same.
 fn answers<S: SeqObject>(
     rt: &impl Abort,
@@ -72,7 +72,7 @@ const YES: Option<AnyReply> = Some(AnyReply::Flag(true));
 
 const NO: Option<AnyReply> = Some(AnyReply::Flag(false));
 
-/// Operations on an object of each kind, which is empty at first, and their replies; none where it
+/// Operations on an object of each kind, which is empty at first, and their replies; none if it
 /// is not possible.
 const ROWS: [(Kind, &[(AnyOp, Option<AnyReply>)]); 11] = [
     (

@@ -15,14 +15,14 @@ pub record IsGathered (es : List Event) (part parts : ℕ) (os : List ObjectCall
   pub operations : All (λ o. o.ops ≡ operations_on o.object es) os
   pub calls : All (λ o. calls_of o.ops ≡ calls_on o.object (denoted es)) os
 
--- the results of all parts, those where an allocation failed too
+-- the results of all parts, also those in which an allocation failed
 abbrev pub AreGathered : {V E : Type 0} → (V → List ObjectCalls) → List Event → List (Result V E)
     → Type 0
 AreGathered {V} {E} items es rs =
     (i : ℕ) (d : Result V E) → i < length rs
     → IfOk (get_or rs i d) (λ v. IsGathered es i (length rs) (items v))
 
--- what is kept of object x where these were put in: one of them, or what was kept before
+-- what is kept of object x if these were put in: one of them, or what was kept before
 abbrev pub IsPutIn : List ObjectCalls → ℕ → Option ObjectCalls → Option ObjectCalls → Type 0
 IsPutIn os x old new =
     ((o : ObjectCalls) × Contains os o × (o.object ≡ x) × (new ≡ Some o))

@@ -63,7 +63,7 @@ fn objects_of_shares(
 /// a failed one too, in rising object number.
 ///
 /// Worker `w` gathers the objects whose numbers leave the remainder `w` by the number of workers.
-/// So the work is shared where the objects' numbers are spread over the remainders; each worker
+/// So the work is shared if the objects' numbers are spread over the remainders; each worker
 /// also looks once at each event. A lone worker's part is the whole.
 pub(crate) fn split_by_workers<R: Threads + Sync>(
     rt: &R,

@@ -64,7 +64,7 @@ fn check_objects<R: Threads + Sync, G: Gate>(
 }
 
 /// Checks the certificates of a history's objects by this many workers. The answer is that of
-/// `check_all`: `Ok` exactly where each named object has a valid order and no other object has a
+/// `check_all`: `Ok` exactly if each named object has a valid order and no other object has a
 /// certificate, and else the first refusal, that of the least object and strange objects last,
 /// whichever was found first in time.
 ///

@@ -36,7 +36,7 @@ ahead_before None op number calls = number
 ahead_before (Some b) op number calls =
     if takes_first op then min number (first_put b calls) else number
 
--- Where a removal found a value in a stack, each put of this value returned before the number from
+-- If a removal found a value in a stack, each put of this value returned before the number from
 -- which on puts count.
 abbrev pub is_settled : Option ℤ → AnyOp → ℕ → List Call → Bool
 is_settled None op from calls = true

@@ -17,13 +17,13 @@ use Rattle.projection.specs.Kinds.{keeps_none, own_call, touch_at}
 use Rattle.projection.specs.Kinds.Register.{setting, replacing, finding}
 use Rattle.projection.specs.Recasts.{recast}
 
--- whether the part keeps this content, where `none` says it of no value
+-- whether the part keeps this content, if `none` says it of no value
 abbrev pub keeps_content : Bool → (ℤ → Bool) → Option ℤ → Bool
 keeps_content none keeps None = none
 keeps_content none keeps (Some v) = keeps v
 
 -- What a touch becomes that leaves this content in the part. What the call found stays known only
--- where it is kept. Where all that the call names is kept, and the call is one of a register, it
+-- if it is kept. If all that the call names is kept, and the call is one of a register, it
 -- stays as it is (`own`).
 abbrev pub change : (Option ℤ → Bool) → Option (AnyOp × AnyReply) → Need → Option ℤ
     → AnyOp × AnyReply
@@ -34,8 +34,8 @@ change keeps own need c = setting c
 
 -- What a touch becomes, as a call of a register. One that leaves a kept content stays. Of the
 -- others those stay that the part chooses (`kept`). One that leaves another content leaves the
--- other value. One that finds a content and leaves it stays as a read where the content is kept,
--- and becomes a write of the other value where it is not.
+-- other value. One that finds a content and leaves it stays as a read if the content is kept,
+-- and becomes a write of the other value if it is not.
 abbrev pub cut_touch : (Option ℤ → Bool) → ℤ → Bool → Option (AnyOp × AnyReply) → Need → Leave
     → Option (AnyOp × AnyReply)
 cut_touch keeps other kept own need (Content c) =
@@ -51,7 +51,7 @@ abbrev pub touched_call : (Option ℤ → Bool) → ℤ → Bool → Option (Any
 touched_call keeps other kept own None = None
 touched_call keeps other kept own (Some t) = cut_touch keeps other kept own t.need t.leave
 
--- what a pending operation becomes: it stays only where it can leave a kept content
+-- what a pending operation becomes: it stays only if it can leave a kept content
 abbrev pub touched_op : (Option ℤ → Bool) → ℤ → Option Touch → Option AnyOp
 touched_op keeps other t =
     option_map (λ (f : AnyOp × AnyReply). f.0) (touched_call keeps other false None t)

@@ -33,7 +33,7 @@ abbrev pub kind_of_part : Place → Kind → Kind
 kind_of_part OfRegister k = k
 kind_of_part (OfKey key) k = kind.Register
 
--- the call itself, where it is a call of a register
+-- the call itself, if it is a call of a register
 abbrev pub own_call : Place → AnyOp → AnyReply → Option (AnyOp × AnyReply)
 own_call OfRegister op reply = Some (op, reply)
 own_call (OfKey key) op reply = None

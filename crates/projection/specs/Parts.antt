@@ -1,4 +1,4 @@
--- Parts of the calls of an object. Where the calls have a valid order, the part has one.
+-- Parts of the calls of an object. If the calls have a valid order, the part has one.
 use Rattle.std.specs.Prelude.{◌≡◌, ◌==◌, ◌≤◌, ◌+◌, ℕ, ℤ, nat_lt, Bool, true, false}
 use Rattle.std.specs.Prelude.{not, ◌&&◌}
 use Rattle.std.specs.Prelude.{List, All, Contains, map, filter, count_by, if◌then◌else◌}
@@ -49,7 +49,7 @@ pub record IsClosed (all : Bool) (keeps : ℤ → Bool) (kept : ℕ → Bool)
     (calls : List Call) : Type 0 where
   pub every : all ≡ true → (v : ℤ) → keeps v ≡ true
   pub each : All (λ e. fits all keeps (kept e.number) e.op (reply_of e.returned) ≡ true) calls
-  -- A pending removal may have taken any value. It is left out only where as many kept values were
+  -- A pending removal may have taken any value. It is left out only if as many kept values were
   -- taken out, or can be by the pending removals that were invoked before it, as can have been put
   -- in.
   pub pending : All (λ e. is_pending_removal e.op e.returned ≡ true → kept e.number ≡ false
@@ -89,7 +89,7 @@ abbrev pub ended_before : ℕ → Option Return → Bool
 ended_before from None = false
 ended_before from (Some r) = nat_lt r.at from
 
--- the value that a call left in a register, whatever the register contained, where the suffix
+-- the value that a call left in a register, whatever the register contained, if the suffix
 -- begins with an operation
 abbrev pub written_before : Option (AnyOp × AnyReply) → AnyOp → AnyReply → Option ℤ
 written_before None op reply = None

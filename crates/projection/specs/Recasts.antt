@@ -1,4 +1,4 @@
--- What becomes of a call, where it is left out or becomes a call of another operation, with the
+-- What becomes of a call: it is left out or becomes a call of another operation, with the
 -- same numbers.
 use Rattle.std.specs.Prelude.{ℕ, Option, Some, None, option_map}
 use Rattle.model.specs.declared.AnyOp.{AnyOp}

@@ -104,7 +104,7 @@ pub fn without(
     ensures kind { IfOk result (λ o. IfSome o (λ p. p.kind ≡ history.now.kind)) }
     ensures calls { IfOk result (λ o. IfSome o (λ p.
         IsRest value before (calls_of history.now.ops) (calls_of p.ops))) }
-    // `None` is given only where the value may have been in the object.
+    // `None` is given only if the value may have been in the object.
     ensures refused { IfOk result (λ o. o ≡ None
         → IsAbsent value before (calls_of history.now.ops) → ⊥) }
 {

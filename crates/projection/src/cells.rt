@@ -25,7 +25,7 @@ struct CellCut {
     other: i64,
 }
 
-/// Whether this content is kept, where `none` says it of no value.
+/// Whether this content is kept, if `none` says it of no value.
 fn keeps(none: bool, values: &Values, content: Option<i64>) -> bool
     ensures { result ≡ spec.keeps_content none (keeps_value values.now) content }
 {
@@ -35,7 +35,7 @@ fn keeps(none: bool, values: &Values, content: Option<i64>) -> bool
     }
 }
 
-/// What a touch becomes that leaves this content in the part, where `own` is the call itself if it
+/// What a touch becomes that leaves this content in the part, when `own` is the call itself if it
 /// is one of a register.
 fn change(
     none: bool,

@@ -61,7 +61,7 @@ fn takes_since(count: Count, operation: &Invocation) -> bool
     }
 }
 
-/// How often the object can have contained it before the count begins, at most, where that is
+/// How often the object can have contained it before the count begins, at most, if that is
 /// known.
 fn most_before(kind: Kind, count: Count) -> Option<usize>
     ensures { result ≡ counts.most_before kind count.counted count.from }

@@ -20,10 +20,10 @@ use std::collections::BTreeSet;
 pub enum Cut {
     /// What can take effect from the call with this number on: see [`from`].
     From(u32),
-    /// What was invoked before this number, pending where it had not returned by then: see
+    /// What was invoked before this number, pending if it had not returned by then: see
     /// [`until`].
     Until(u32),
-    /// All except what was done with this value before this number, where it definitely was not in:
+    /// All except what was done with this value before this number, if it definitely was not in:
     /// see [`without`].
     Without {
         value: i64,
@@ -121,14 +121,14 @@ pub fn part_by(
     history: &ObjectHistory,
     cuts: &[Cut],
 ) -> Result<Option<ObjectHistory>, AllocError>
-    // Where no order of the part is valid, none of the whole is. None of its operations failed.
+    // If no order of the part is valid, none of the whole is. None of its operations failed.
     ensures part { IfOk result (λ o. IfSome o (λ p. IsPart history.now p)) }
     ensures kind { IfOk result (λ o. IfSome o (λ p.
         p.kind ≡ part_kind cuts.now history.now.kind)) }
     // The calls of the part are those that the cuts name.
     ensures named { IfOk result (λ o. IfSome o (λ p.
         NamesPart cuts.now (calls_of history.now.ops) (calls_of p.ops))) }
-    // `None` is given only where the cuts name no part.
+    // `None` is given only if the cuts name no part.
     ensures refused { IfOk result (λ o. o ≡ None → (part : List Call)
         → NamesPart cuts.now (calls_of history.now.ops) part → ⊥) }
 {

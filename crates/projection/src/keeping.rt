@@ -169,7 +169,7 @@ pub fn keep(
         IsClosedPart values.now numbers.now (calls_of history.now.ops))) }
     ensures calls { IfOk result (λ o. IfSome o (λ p. calls_of p.ops
         ≡ kept_calls (keeps_number numbers.now) (calls_of history.now.ops))) }
-    // `None` is given only where the part is not closed.
+    // `None` is given only if the part is not closed.
     ensures refused { IfOk result (λ o. o ≡ None
         → IsClosedPart values.now numbers.now (calls_of history.now.ops) → ⊥) }
 {

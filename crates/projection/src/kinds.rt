@@ -41,7 +41,7 @@ impl Place {
         }
     }
 
-    /// The call itself, where it is a call of a register.
+    /// The call itself, if it is a call of a register.
     pub(crate) fn own_call(self, op: AnyOp, reply: AnyReply) -> Option<(AnyOp, AnyReply)>
         ensures { result ≡ spec.own_call self op reply }
     {

@@ -1,6 +1,6 @@
 //! Closure under projection, prefixes, suffixes, cells and entries, and without what was done with
 //! a value that is absent; the bounds of the two counts; and that cuts name one part at most, which
-//! has a valid order where its operations have one as the history says them: functions that do
+//! has a valid order if its operations have one as the history says them: functions that do
 //! nothing, whose contracts are theorems.
 
 ghost use Rattle.std.specs.Prelude.{◌≡◌, ◌<◌, ◌≤◌, ◌+◌, ℕ, ℤ, Bool, List, Option, Some};
@@ -22,7 +22,7 @@ ghost use Rattle.projection.specs.Cuts.{NamesPart, part_kind};
 ghost use Rattle.projection.specs.Listed.{listed};
 ghost use Rattle.projection.specs.Parts.{IsClosed, kept_calls, calls_before, IsStart, calls_from};
 
-/// Closure under projection: where the calls of an object have a valid order, a closed part has
+/// Closure under projection: if the calls of an object have a valid order, a closed part has
 /// one.
 pub fn projection_is_valid()
     ensures { (kind : Kind) (calls : List Call) (all : Bool) (keeps : ℤ → Bool)
@@ -34,8 +34,8 @@ pub fn projection_is_valid()
         → (part : List ℤ) × IsValidOrder kind (kept_calls kept calls) part }
 {}
 
-/// Closure under prefixes: where the calls have a valid order, those that were invoked before a
-/// number have one, each pending where it had not returned by then.
+/// Closure under prefixes: if the calls have a valid order, those that were invoked before a
+/// number have one, each pending if it had not returned by then.
 pub fn prefix_is_valid()
     ensures { (kind : Kind) (calls : List Call) (until : ℕ) (order : List ℤ)
         → All (λ e. (r : Return) → e.returned ≡ Some r → e.number < r.at) calls
@@ -43,7 +43,7 @@ pub fn prefix_is_valid()
         → (part : List ℤ) × IsValidOrder kind (calls_before until calls) part }
 {}
 
-/// Where the calls have a valid order, and before a number at least as many removals of a value had
+/// If the calls have a valid order, and before a number at least as many removals of a value had
 /// returned as puts of it were invoked, the calls without those have one.
 pub fn without_is_valid()
     ensures { (kind : Kind) (calls : List Call) (v : ℤ) (number : ℕ) (order : List ℤ)
@@ -53,7 +53,7 @@ pub fn without_is_valid()
         → (part : List ℤ) × IsValidOrder kind (calls_without v number calls) part }
 {}
 
-/// Closure under suffixes: where the calls have a valid order, those of a suffix have one.
+/// Closure under suffixes: if the calls have a valid order, those of a suffix have one.
 pub fn suffix_is_valid()
     ensures { (kind : Kind) (calls : List Call) (from at : ℕ) (first : Option (AnyOp × AnyReply))
         (order : List ℤ)
@@ -63,7 +63,7 @@ pub fn suffix_is_valid()
         → (part : List ℤ) × IsValidOrder kind (calls_from from at first calls) part }
 {}
 
-/// Where the calls of an object have a valid order, a content was taken away from a number on no
+/// If the calls of an object have a valid order, a content was taken away from a number on no
 /// more often than the object can have contained it before, and calls that had not returned before
 /// this number set it.
 pub fn count_is_bounded()
@@ -75,7 +75,7 @@ pub fn count_is_bounded()
         → taken_since what from calls ≤ most + set_since what from calls }
 {}
 
-/// Where the calls of an object have a valid order, no more values definitely were ahead of what a
+/// If the calls of an object have a valid order, no more values definitely were ahead of what a
 /// removal found than other calls can have taken out before it.
 pub fn ahead_is_bounded()
     ensures { (kind : Kind) (calls : List Call) (removal : Call) (at from : ℕ)
@@ -92,7 +92,7 @@ pub fn ahead_is_bounded()
         ≤ count_by (may_precede (is_value_ahead found removal.op) removal.number at) calls }
 {}
 
-/// Where the calls of an object have a valid order, those of a cell have one, whatever it keeps and
+/// If the calls of an object have a valid order, those of a cell have one, whatever it keeps and
 /// whatever its other value is.
 pub fn cell_is_valid()
     ensures { (kind : Kind) (calls : List Call) (keeps : ℤ → Bool) (other : ℤ) (kept : ℕ → Bool)
@@ -101,7 +101,7 @@ pub fn cell_is_valid()
         → (part : List ℤ) × IsValidOrder kind (cell_calls keeps other kept calls) part }
 {}
 
-/// Where the calls of an object have a valid order, those of an entry have one as calls of a
+/// If the calls of an object have a valid order, those of an entry have one as calls of a
 /// register, whatever its key is, whatever it keeps and whatever its other value is.
 pub fn entry_is_valid()
     ensures { (kind : Kind) (calls : List Call) (key : ℤ) (keeps : ℤ → Bool) (other : ℤ)
@@ -121,8 +121,8 @@ pub fn one_part()
         → p ≡ q }
 {}
 
-/// Where the calls of the whole with the numbers of a part, as the history says them, have a valid
-/// order alone, the part has one, as it is counted. So where the part has none, they have none.
+/// If the calls of the whole with the numbers of a part, as the history says them, have a valid
+/// order alone, the part has one, as it is counted. So if the part has none, they have none.
 pub fn listed_is_valid()
     ensures { (cuts : List Cut) (kind : Kind) (calls part : List Call) (order : List ℤ)
         → All (λ e. kind_of e.op ≡ kind) calls

@@ -1,4 +1,4 @@
-//! Parts of an object's history that have a valid order where the whole has one, so that a small
+//! Parts of an object's history that have a valid order if the whole has one, so that a small
 //! part can show that no order of the whole is valid.
 #![tactic(auto)]
 

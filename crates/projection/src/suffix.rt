@@ -29,7 +29,7 @@ struct Start {
     first: Option<First>,
 }
 
-/// The value that an operation with this reply left in a register, whatever it contained, where the
+/// The value that an operation with this reply left in a register, whatever it contained, if the
 /// suffix begins with an operation.
 fn written_before(first: Option<First>, op: AnyOp, reply: AnyReply) -> Option<i64>
     ensures { result ≡ parts.written_before first op reply }
@@ -193,7 +193,7 @@ pub fn from(
     ensures kind { IfOk result (λ o. IfSome o (λ p. p.kind ≡ history.now.kind)) }
     ensures calls { IfOk result (λ o. IfSome o (λ p.
         IsSuffix number (calls_of history.now.ops) (calls_of p.ops))) }
-    // `None` is given only where no suffix begins at this number.
+    // `None` is given only if no suffix begins at this number.
     ensures refused { IfOk result (λ o. o ≡ None → (part : List Call)
         → IsSuffix number (calls_of history.now.ops) part → ⊥) }
 {

@@ -166,7 +166,7 @@ impl<S: SeqObject> Desk<S> {
         self.has_kind(object, S::kind_of(op))
     }
 
-    /// Posts a call: its invocation, with its ticket, is the last event of the journal. Where it is
+    /// Posts a call: its invocation, with its ticket, is the last event of the journal. If it is
     /// refused nothing changes, and no ticket is taken. It does not enlist the row. That the ticket
     /// is a new one is said by the record of `close`.
     pub fn post(&self, client: &mut Client<S>, object: u32, op: S::Op) -> Result<(), Post>

@@ -1,4 +1,4 @@
-//! One try at a word: a look, and then the exchange, where it can hit.
+//! One try at a word: a look, and then the exchange, if it can hit.
 
 ghost use Rattle.std.specs.Prelude.{◌≡◌, ◌≢◌, ℕ, ◌<◌, ◌==◌};
 ghost use mathlib.Core.Option.{none};
@@ -7,7 +7,7 @@ ghost use Rattle.atomic_table.specs.Table.{step, Allows, Me};
 
 use atomic_table::{Play, Seat, Shared, TableRule};
 
-/// Exchanges `old` for `new`, as `compare_exchange` does. Where a look at the word finds another
+/// Exchanges `old` for `new`, as `compare_exchange` does. If a look at the word finds another
 /// value, that is a miss, and no exchange is made: a load takes the word from no other processor.
 pub(crate) fn look_and_exchange<S, V, K, P: TableRule<S, V, K>, L: Play<S, V>, M: Play<S, V>>(
     shared: &Shared<S, V, K, P>,

@@ -135,14 +135,14 @@ impl<S: SeqObject> Hand<S> {
         can_do(&self.core, &self.request.op)
     }
 
-    /// Does the operation, logs it, and answers the request. Where an allocation fails it answers
+    /// Does the operation, logs it, and answers the request. If an allocation fails it answers
     /// Refused, and nothing is done or logged.
     pub fn answer(self, desk: &Desk<S>) -> (Pass<S>, Answer<S::Reply>)
         requires desk { self.desk ≡ desk.now.id }
         requires possible { CanDo (kind_held self) self.log self.request.op }
         ensures desk { result.0.desk ≡ self.desk }
         ensures state { result.0.state ≡ record self.state { room = result.0.state.room } }
-        // An entry takes room for one, where there was room.
+        // An entry takes room for one, if there was room.
         ensures room { 0 < self.state.room →
             result.0.state.room + length (logged self.row self.request
             (answer_in S.reply_in result.1))

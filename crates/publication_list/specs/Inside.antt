@@ -17,7 +17,7 @@ abbrev pub tries_of : ListView → List Enlist
 tries_of (view.Place row o tries) = tries
 tries_of v = []
 
--- a row is between two tries to enlist it where its owner has woken it
+-- a row is between two tries to enlist it if its owner has woken it
 abbrev pub OwnAtRest : Bool → RowKnowledge → Type 0
 OwnAtRest false o = o ≡ own.Unknown
 OwnAtRest true o = (n : ℕ) × (o ≡ own.Awake n)
@@ -27,7 +27,7 @@ IsPlace row trying tries me =
     (row < max_rows)
     × ((o : RowKnowledge) × (me ≡ (view.Place row o tries, [])) × OwnAtRest trying o)
 
--- where the row was not asleep, the try is over
+-- if the row was not asleep, the try is over
 abbrev pub after_look : Bool → List Enlist → List Enlist
 after_look true tries = tries
 after_look false tries = tries ++ Already ∷ []
@@ -54,7 +54,7 @@ walks_of v = []
 abbrev pub HasMet : {S : Type 0} → List ℕ → List (List ℕ) → Me S ListView → Type 0
 HasMet rows walks me = me ≡ (view.Walker (made_of me.0) rows None walks, [])
 
--- In a walk these rows were met so far, where the last one left `left`, and the word `at` leads on.
+-- In a walk these rows were met so far, if the last one left `left`, and the word `at` leads on.
 pub record Meeting {S : Type 0} (left : List ℕ) (walks : List (List ℕ)) (places : ℕ) (rows : List ℕ)
     (at : ℕ) (me : Me S ListView) : Type 0 where
   pub met : HasMet (left_of me.0) (walks ++ left_of me.0 ∷ []) me

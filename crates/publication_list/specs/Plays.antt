@@ -35,7 +35,7 @@ taken_slots hands = hands.1
 abbrev pub sees : Step ℕ → Hands → ℕ → Hands → Type 0
 sees step before found after = after ≡ before
 
--- The own mark was found: the row is asleep where it is 0, and else the try is over
+-- The own mark was found: the row is asleep if it is 0, and else the try is over
 abbrev pub looks : Step ℕ → Hands → ℕ → Hands → Type 0
 looks step before found after =
     (c : ℕ) (o : RowKnowledge) (tries : List Enlist)
@@ -57,7 +57,7 @@ links step before found after =
     → known before ≡ view.Place c o tries → step.word ≡ 1 + c →
     after ≡ (view.Place c (own.Awake step.first) tries, taken_slots before)
 
--- the row is listed where the head was as expected, and else the try has missed
+-- the row is listed if the head was as expected, and else the try has missed
 abbrev pub enlists : Step ℕ → Hands → ℕ → Hands → Type 0
 enlists step before found after =
     (c : ℕ) (o : RowKnowledge) (tries : List Enlist)

@@ -35,12 +35,12 @@ word_at [] k = 0
 word_at (r ∷ rs) zero = 1 + r
 word_at (r ∷ rs) (suc k) = word_at rs k
 
--- the mark of a row: 1 where it is active
+-- the mark of a row: 1 if it is active
 abbrev pub mark_of : Stage → ℕ
 mark_of asleep = 0
 mark_of t = 1
 
--- What a walk meets, where the last combiner left these rows: newcomers, distinct and not among
+-- What a walk meets, if the last combiner left these rows: newcomers, distinct and not among
 -- those left, followed by those left, in their order.
 abbrev pub WalkMeets : List ℕ → List ℕ → Type 0
 WalkMeets left met = (newcomers : List ℕ) × (met ≡ newcomers ++ left) × IsDistinct met

@@ -39,7 +39,7 @@ pub record Sound (l : PublicationList) : Type 0 where
   pub few : l.made ≤ max_rows
   pub low : (k : ℕ) → k < length l.rows → slice_index l.rows k < l.made
   pub distinct : IsDistinct l.rows
-  -- a row is in the list where its stage says so, and no other does
+  -- a row is in the list if its stage says so, and no other does
   pub stands : (r : ℕ) → l.stage r ≡ listed
       → (k : ℕ) × (k < length l.rows) × (slice_index l.rows k ≡ r)
   pub listed : (k : ℕ) → k < length l.rows → l.stage (slice_index l.rows k) ≡ listed

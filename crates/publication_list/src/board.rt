@@ -10,7 +10,7 @@ pub(crate) const HEAD: usize = 0;
 /// The next word of row 0: 0, or 1 and the row that follows.
 pub(crate) const NEXTS: usize = 1;
 
-/// The mark of row 0: 1 where it is active.
+/// The mark of row 0: 1 if it is active.
 pub(crate) const MARKS: usize = 33;
 
 /// The result of a try to enlist a row.

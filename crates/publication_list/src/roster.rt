@@ -83,7 +83,7 @@ impl Roster {
         Ok((Roster { table, rows }, places, walker))
     }
 
-    /// Tries once to put the row in front of the list, where it is not active. A try is an atomic
+    /// Tries once to put the row in front of the list, if it is not active. A try is an atomic
     /// step, or some, and only such a step adds one to those of the place.
     pub fn enlist(&self, place: &mut Place) -> Enlist
         requires { place.old.roster ≡ self.now.id }

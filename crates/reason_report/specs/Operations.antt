@@ -21,7 +21,7 @@ use Rattle.reason_report.specs.Segments.{comment_text, value_text}
 abbrev pub event_at : List Event → ℕ → Option Event
 event_at es number = find (λ e. e.number == number) es
 
--- the process of an event, and 0 where there is none
+-- the process of an event, and 0 if there is none
 abbrev pub process_in : Option Event → ℕ
 process_in None = 0
 process_in (Some e) = e.process
@@ -48,7 +48,7 @@ abbrev pub reply_in : AnyReply → Option Event → AnyReply
 reply_in other None = other
 reply_in other (Some e) = reply_by other e.action
 
--- with the reply that the history has where a part has a return
+-- with the reply that the history has if a part has a return
 abbrev pub end_in : List Event → End → End
 end_in es (Returned at reply) = Returned at (reply_in reply (event_at es at))
 end_in es Pending = Pending
@@ -64,7 +64,7 @@ operation_in es o = record {
 
 -- ---- the text
 
--- as events 4 and 9, or event 12 where it did not return in the part
+-- as events 4 and 9, or event 12 if it did not return in the part
 abbrev pub place_text : ℕ → End → List ℕ
 place_text number (Returned at reply) =
     codes "events " ++ (decimal number ++ (codes " and " ++ decimal at))
@@ -75,7 +75,7 @@ place_text number Failed = codes "event " ++ decimal number
 abbrev pub op_text : AnyOp → List ℕ
 op_text op = codes ":" ++ (name_of (function_in op) ++ (codes " " ++ value_text (op_value op)))
 
--- as , :ok 7 where it returned
+-- as , :ok 7 if it returned
 abbrev pub reply_text : End → List ℕ
 reply_text (Returned at reply) = codes ", :ok " ++ value_text (reply_value reply)
 reply_text Pending = []
@@ -89,12 +89,12 @@ call_text o = op_text o.op ++ reply_text o.«end»
 abbrev pub is_same : Invocation → Invocation → Bool
 is_same left right = derived.eq-value.it left right
 
--- what the part counts an operation as, where that is not what the history says of it
+-- what the part counts an operation as, if that is not what the history says of it
 abbrev pub counted_text : Invocation → Invocation → List ℕ
 counted_text told counted =
     if is_same told counted then [] else codes ", counted as " ++ call_text counted
 
--- where it did not return in the part
+-- if it did not return in the part
 abbrev pub open_text : End → List ℕ
 open_text (Returned at reply) = []
 open_text Pending = codes ", pending"

@@ -141,7 +141,7 @@ fn is_same(left: &Invocation, right: &Invocation) -> bool
     *left == *right
 }
 
-/// What the part counts the operation as, where that is not what the history says of it.
+/// What the part counts the operation as, if that is not what the history says of it.
 fn push_counted(
     text: &mut Vec<u8>,
     told: &Invocation,
@@ -243,8 +243,8 @@ fn push_lines(
     Ok(())
 }
 
-/// Appends a line for each operation of the part, after `; ` where they are comments: its numbers,
-/// and what the history says of it. Where the part counts it as another operation, or with another
+/// Appends a line for each operation of the part, after `; ` if they are comments: its numbers,
+/// and what the history says of it. If the part counts it as another operation, or with another
 /// reply, that comes after it.
 pub fn push_operations(
     text: &mut Vec<u8>,

@@ -20,7 +20,7 @@ fn line_of(alloc: Global, reason: &Reason) -> Result<Vec<u8>, AllocError>
     }
 }
 
-/// Appends the line of the reason, after `; ` where it is a comment.
+/// Appends the line of the reason, after `; ` if it is a comment.
 pub fn push_reason(
     alloc: Global,
     text: &mut Vec<u8>,

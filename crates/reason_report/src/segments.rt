@@ -80,7 +80,7 @@ pub(crate) fn push_segments(text: &mut Vec<u8>, segments: &[Segment]) -> Result<
     Ok(())
 }
 
-/// Appends `; ` where the line is a comment.
+/// Appends `; ` if the line is a comment.
 pub(crate) fn push_comment(text: &mut Vec<u8>, commented: bool) -> Result<(), AllocError>
     ensures { OnOk result (text.new.items ≡ text.old.items ++ comment_text commented) }
 {

@@ -1,5 +1,5 @@
-//! The lines of reasons and of their operations, where no command writes them, and where memory is
-//! refused.
+//! The lines of reasons and of their operations that no command writes, and those when an
+//! allocation fails.
 
 use edn::{Out, WriteFault, read_forms};
 use events::split;

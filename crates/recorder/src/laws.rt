@@ -14,7 +14,7 @@ pub fn one_history()
         AreEventsOf journals fs → es ≡ fs }
 {}
 
-/// The journals and logs of a sound record are a record, where no client makes more than 10,000
+/// The journals and logs of a sound record are a record, if no client makes more than 10,000
 /// calls.
 pub fn sound_record_is_a_record()
     ensures { (kinds : List Kind) (quota : ℕ) (journals : ℕ → List AnyEvent)

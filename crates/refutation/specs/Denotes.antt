@@ -94,7 +94,7 @@ numbers_in None = Some []
 numbers_in (Some (vector ds)) = numbers_with [] ds
 numbers_in (Some other) = None
 
--- an integer, or none where the value is absent; another value is neither
+-- an integer, or none if the value is absent; another value is neither
 abbrev pub integer_or_absent : Option Datum → Option (Option ℤ)
 integer_or_absent None = Some None
 integer_or_absent (Some d) = option_map (λ z. Some z) (integer_in d)
@@ -116,7 +116,7 @@ abbrev pub keep_with : Option KeptValues → Option (List ℕ) → Option CutSee
 keep_with (Some vs) (Some ns) = Some (keep vs ns)
 keep_with vs ns = None
 
--- where a key is absent
+-- if a key is absent
 abbrev pub or_else : Option Datum → Option CutSeen → Option CutSeen → Option CutSeen
 or_else None here there = there
 or_else (Some d) here there = here
@@ -216,7 +216,7 @@ first_in (Some (atom (keyword k))) =
     else if same_bytes k (codes "return") then Some LeastReturn else None
 first_in (Some other) = None
 
--- a number of steps, or none where the value is absent; another value is neither
+-- a number of steps, or none if the value is absent; another value is neither
 abbrev pub steps_in : Option Datum → Option (Option ℕ)
 steps_in None = Some None
 steps_in (Some d) = option_map (λ n. Some n) (number_in (Some d))

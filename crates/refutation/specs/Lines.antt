@@ -39,7 +39,7 @@ abbrev pub values_text : Values → List ℕ
 values_text values.All = codes ":all"
 values_text (values.Only s) = codes "[" ++ (integers_text true s.keys ++ codes "]")
 
--- the pair :numbers with a vector of numbers; nothing where there are none
+-- the pair :numbers with a vector of numbers; nothing if there are none
 abbrev pub numbers_text : List ℕ → List ℕ
 numbers_text [] = []
 numbers_text (n ∷ ns) = codes ", :numbers [" ++ (naturals_text true (n ∷ ns) ++ codes "]")
@@ -89,7 +89,7 @@ count_text c =
     codes ", :count {"
     ++ (counted_text c.counted ++ ((codes ", :from " ++ decimal c.from) ++ codes "}"))
 
--- the pair :from, where it is not 0, and the closing bracket
+-- the pair :from, if it is not 0, and the closing bracket
 abbrev pub start_text : ℕ → List ℕ
 start_text from =
     if from == 0 then codes "}" else (codes ", :from " ++ decimal from) ++ codes "}"
@@ -103,7 +103,7 @@ abbrev pub first_text : TryFirst → List ℕ
 first_text LeastNumber = codes ", :search {:first :number, :steps "
 first_text LeastReturn = codes ", :search {:first :return, :steps "
 
--- the pair :search, as in `, :search {:first :return, :steps 20000}`; nothing where it says nothing
+-- the pair :search, as in `, :search {:first :return, :steps 20000}`; nothing if it says nothing
 -- that would not be so without it
 abbrev pub search_text : TryFirst → Option ℕ → List ℕ
 search_text first (Some n) = (first_text first ++ decimal n) ++ codes "}"

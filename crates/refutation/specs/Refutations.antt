@@ -20,7 +20,7 @@ use Rattle.refutation.specs.declared.refuting.Doubt.TheVariants.{NoMemory}
 use Rattle.refutation.specs.declared.refuting.Refutation.{Refutation}
 use Rattle.refutation.specs.declared.refuting.Refutation.TheVariants as refutation
 
--- where the reason names a part, this holds of the part
+-- if the reason names a part, this holds of the part
 abbrev pub IfPart : Refutation → (ObjectCalls → Type 0) → Type 0
 IfPart (refutation.Impossible part) P = P part
 IfPart (refutation.NotShown part doubt) P = P part
@@ -34,14 +34,14 @@ is_impossible (refutation.NotShown part doubt) = false
 is_impossible refutation.NoPart = false
 is_impossible refutation.OtherObject = false
 
--- where it is shown that no order is valid, this holds of the part
+-- if it is shown that no order is valid, this holds of the part
 abbrev pub IfImpossible : Refutation → (ObjectCalls → Type 0) → Type 0
 IfImpossible (refutation.Impossible part) P = P part
 IfImpossible (refutation.NotShown part doubt) P = ⊤
 IfImpossible refutation.NoPart P = ⊤
 IfImpossible refutation.OtherObject P = ⊤
 
--- where it is not shown, this holds of the part and of why
+-- if it is not shown, this holds of the part and of why
 abbrev pub IfNotShown : Refutation → (ObjectCalls → Doubt → Type 0) → Type 0
 IfNotShown (refutation.Impossible part) P = ⊤
 IfNotShown (refutation.NotShown part doubt) P = P part doubt
@@ -103,11 +103,11 @@ pub record IsNamedPart (cuts : List Cut) (x : ℕ) (whole : Kind) (calls : List 
 -- the answer to a reason on the operations of an object that has the reason's number
 pub record IsAnswerOn (kind : Kind) (calls : List Call) (reason : Reason)
     (answer : Refutation) : Type 0 where
-  -- it is impossible only where no order of the operations is valid
+  -- it is impossible only if no order of the operations is valid
   pub impossible : is_impossible answer ≡ true → IsNoneValid kind calls
   -- what is handed out is a part with the calls that the reason names
   pub part : IfPart answer (IsNamedPart reason.cuts.items reason.object kind calls)
-  -- it is impossible only where the reason's basis shows it of that part, and no order of the
+  -- it is impossible only if the reason's basis shows it of that part, and no order of the
   -- part is valid
   pub shown : IfImpossible answer (λ part.
       IsShownBy reason.basis part × HasNoValidOrder part)
@@ -119,6 +119,6 @@ pub record IsAnswerOn (kind : Kind) (calls : List Call) (reason : Reason)
 pub record IsAnswer (es : List Event) (reason : Reason) (answer : Refutation) : Type 0 where
   pub on : IsAnswerOn (kind_at es reason.object) (calls_on reason.object (denoted es)) reason
       answer
-  -- another object is answered exactly where no invocation names the reason's object
+  -- another object is answered exactly if no invocation names the reason's object
   pub other_object : answer ≡ refutation.OtherObject → IsNamed es reason.object → ⊥
   pub own_object : answer ≢ refutation.OtherObject → IsNamed es reason.object

@@ -47,7 +47,7 @@ pub fn refute_all(
 ) -> Result<Vec<Refutation>, AllocError>
     // Each is the answer to its reason on the object that has the reason's number.
     ensures each { IfOk result (λ v. AllZip (IsAnswer history.now) reasons.now v.items) }
-    // Where one is impossible the history is not linearizable.
+    // If one is impossible the history is not linearizable.
     ensures impossible { IfOk result (λ v. Any (λ r. is_impossible r ≡ true) v.items
         → IsLinearizable (kind_at history.now) (events (denoted history.now)) → ⊥) }
 {

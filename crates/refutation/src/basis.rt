@@ -89,7 +89,7 @@ fn first(form: Option<&Form>) -> Option<TryFirst>
     }
 }
 
-/// How many steps a search may take, or none where the map has no such key. `None`: the value is no
+/// How many steps a search may take, or none if the map has no such key. `None`: the value is no
 /// number.
 fn steps(form: Option<&Form>) -> Option<Option<u32>>
     ensures { result ≡ spec.steps_in (option_map (λ f. view f.now) form.entry) }
@@ -126,7 +126,7 @@ fn search(form: Option<&Form>) -> Option<Basis>
     }
 }
 
-/// The basis of a reason: a count, or where the map names none a search.
+/// The basis of a reason: a count, or if the map names none a search.
 #[tactic(auto, using(edn_reader::proofs::Pairs::map_view))]
 pub(crate) fn basis(count: Option<&Form>, searched: Option<&Form>) -> Option<Basis>
     ensures { result ≡ spec.basis_in (option_map (λ f. view f.now) count.entry)

@@ -21,7 +21,7 @@ fn int_at(entries: &[(Name, Form)], key: &[u8]) -> Option<i64>
     }
 }
 
-/// The integer under a key, or none where the map has no such key. `None`: the value is no integer.
+/// The integer under a key, or none if the map has no such key. `None`: the value is no integer.
 pub(crate) fn optional_int_at(entries: &[(Name, Form)], key: &[u8]) -> Option<Option<i64>>
     ensures { result ≡ spec.optional_int_at key.now (entries_of (pair_views entries.now)) }
 {
@@ -120,7 +120,7 @@ fn cut_in(alloc: Global, form: &Form) -> Result<Option<Cut>, AllocError>
     }
 }
 
-/// The cuts that the forms are, one by one and in order, where all are cuts.
+/// The cuts that the forms are, one by one and in order, if all are cuts.
 fn cuts_of(alloc: Global, forms: &[Form]) -> Result<Option<Vec<Cut>>, AllocError>
     ensures { IfOk result (λ o. option_map (λ v. map spec.seen_cut v.items) o
         ≡ spec.cuts_with [] (items_of (views forms.now))) }
@@ -135,7 +135,7 @@ fn cuts_of(alloc: Global, forms: &[Form]) -> Result<Option<Vec<Cut>>, AllocError
     Ok(Some(cuts))
 }
 
-/// The cuts of a reason; none where the map does not name them.
+/// The cuts of a reason; none if the map does not name them.
 #[tactic(auto, using(edn_reader::proofs::Pairs::vector_view))]
 pub(crate) fn cuts(alloc: Global, form: Option<&Form>) -> Result<Option<Vec<Cut>>, AllocError>
     ensures { IfOk result (λ o. option_map (λ v. map spec.seen_cut v.items) o

@@ -47,7 +47,7 @@ pub fn part_is_not_linearizable()
 }
 
 /// The same of the part's calls alone, as they are counted: they are a history, with these calls,
-/// and it is not linearizable exactly where the part has no valid order.
+/// and it is not linearizable exactly if the part has no valid order.
 pub fn part_alone_is_not_linearizable()
     // The calls of a part of a history are a history, on its object, and have no other calls.
     ensures history { (cuts : List Cut) (x : ℕ) (h : List Numbered) (part : List Call)
@@ -68,7 +68,7 @@ pub fn part_alone_is_not_linearizable()
 }
 
 /// The operations at the numbers of a part, as the history says them and not as they are counted:
-/// where the part has no valid order they have none, and alone they are not linearizable.
+/// if the part has no valid order they have none, and alone they are not linearizable.
 pub fn listed_is_not_linearizable()
     ensures no_order { (cuts : List Cut) (x : ℕ) (kind : Kind) (h : List Numbered)
         (part : ObjectCalls)

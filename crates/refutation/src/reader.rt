@@ -67,7 +67,7 @@ pub fn read_reasons(alloc: Global, forms: &[Form]) -> Result<Vec<Reason>, Reason
     // Such a fault means that the forms denote no reasons.
     ensures refused { IfErr result (λ e. e.kind ≢ ReasonFaultKind.NoMemory
         → (rs : List Reason) → Denotes (views forms.now) rs → ⊥) }
-    // An allocation failed where nothing was wrong before this form.
+    // An allocation failed when nothing was wrong before this form.
     ensures memory { IfErr result (λ e. e.kind ≡ ReasonFaultKind.NoMemory
         → IsSoundBefore (views forms.now) e.form) }
 {

@@ -31,7 +31,7 @@ pub enum Basis {
 impl Basis {
     ghost use Rattle.refutation.specs.Refutations.{steps_of};
 
-    /// How many steps a search may take, where it may take `limit` if the reason gives no number.
+    /// How many steps a search may take: `limit` if the reason names no number.
     pub fn steps(self, limit: u64) -> u64
         ensures { result ≡ steps_of self limit }
     {

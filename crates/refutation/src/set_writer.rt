@@ -120,7 +120,7 @@ fn write_some_numbers<S: Sink>(numbers: &BTreeSet<u32>, sink: &mut S) -> Result<
     write_bytes(b"]", sink)
 }
 
-/// The pair `:numbers`; nothing where there are none.
+/// The pair `:numbers`; nothing if there are none.
 pub(crate) fn write_numbers<S: Sink>(numbers: &BTreeSet<u32>, sink: &mut S) -> Result<(), Failed>
     requires { S.broken sink.old ≡ false }
     ensures sent { Writes result (S.sent sink.old) (S.sent sink.new) (S.broken sink.new)

@@ -10,7 +10,7 @@ use projection::Values;
 use std::alloc::{AllocError, Global};
 use std::collections::BTreeSet;
 
-/// The number of a map of a history, where the form is one.
+/// The number of a map of a history, if the form is one.
 pub(crate) fn number(form: Option<&Form>) -> Option<u32>
     ensures { result ≡ spec.number_in (option_map (λ f. view f.now) form.entry) }
 {
@@ -20,7 +20,7 @@ pub(crate) fn number(form: Option<&Form>) -> Option<u32>
     }
 }
 
-/// The set of the integers, where all forms are integers.
+/// The set of the integers, if all forms are integers.
 fn integers(alloc: Global, forms: &[Form]) -> Result<Option<BTreeSet<i64>>, AllocError>
     ensures { IfOk result (λ o. option_map (λ s. s.keys) o
         ≡ spec.integers_with [] (items_of (views forms.now))) }
@@ -35,7 +35,7 @@ fn integers(alloc: Global, forms: &[Form]) -> Result<Option<BTreeSet<i64>>, Allo
     Ok(Some(set))
 }
 
-/// The set of the numbers of maps, where all forms are such numbers.
+/// The set of the numbers of maps, if all forms are such numbers.
 fn numbers_of(alloc: Global, forms: &[Form]) -> Result<Option<BTreeSet<u32>>, AllocError>
     ensures { IfOk result (λ o. option_map (λ s. s.keys) o
         ≡ spec.numbers_with [] (items_of (views forms.now))) }
@@ -50,7 +50,7 @@ fn numbers_of(alloc: Global, forms: &[Form]) -> Result<Option<BTreeSet<u32>>, Al
     Ok(Some(set))
 }
 
-/// The values that are kept, where the form says which.
+/// The values that are kept, if the form says which.
 #[tactic(auto, using(edn_reader::proofs::Pairs::vector_view))]
 pub(crate) fn values(alloc: Global, form: Option<&Form>) -> Result<Option<Values>, AllocError>
     ensures { IfOk result (λ o. option_map spec.seen_values o
@@ -68,7 +68,7 @@ pub(crate) fn values(alloc: Global, form: Option<&Form>) -> Result<Option<Values
     }
 }
 
-/// The numbers that are kept; none where the map does not name them.
+/// The numbers that are kept; none if the map does not name them.
 #[tactic(auto, using(edn_reader::proofs::Pairs::vector_view))]
 pub(crate) fn numbers(
     alloc: Global,

@@ -67,7 +67,7 @@ fn write_count<S: Sink>(count: Count, sink: &mut S) -> Result<(), Failed>
     write_start(count.from, sink)
 }
 
-/// The pair `:from` of a count, where it is not 0, and the closing bracket.
+/// The pair `:from` of a count, if it is not 0, and the closing bracket.
 fn write_later_start<S: Sink>(from: u32, sink: &mut S) -> Result<(), Failed>
     requires { S.broken sink.old ≡ false }
     ensures sent { Writes result (S.sent sink.old) (S.sent sink.new) (S.broken sink.new)

@@ -117,7 +117,7 @@ fault_line (CertificateForms k) =
 
 -- ---- all
 
--- the lines of a verdict, each a comment where that is wanted
+-- the lines of a verdict, each a comment if that is wanted
 abbrev pub verdict_text : Bool → Verdict → List ℕ
 verdict_text commented (Yes s) =
     (comment_text commented ++ total_line s) ++ kind_lines commented s.kinds.items

@@ -7,9 +7,9 @@ use Rattle.report.specs.Counts.{AreCountsOf}
 use Rattle.report.specs.declared.verdict.Verdict.{Verdict}
 use Rattle.report.specs.declared.verdict.Verdict.TheVariants.{Yes, No, Malformed, NoMemory}
 
--- Where the certificates of these client events were checked with this result: yes with the counts
+-- If the certificates of these client events were checked with this result: yes with the counts
 -- of the events, or no with the refusal. `NoMemory` is answered for the refusal of that name, and
--- where memory for the counts was refused.
+-- if memory for the counts was refused.
 abbrev pub IsVerdictOnCheck : List Event → Result Unit Refusal → Verdict → Type 0
 IsVerdictOnCheck es (Ok u) (Yes s) = AreCountsOf es s
 IsVerdictOnCheck es (Ok u) (No r) = ⊥

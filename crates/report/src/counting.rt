@@ -114,7 +114,7 @@ fn count_operations(kind: Option<Kind>, all: &[Invoked]) -> usize
     all.iter().filter(|i| is_of(kind, i) && !i.failed).count()
 }
 
-/// Puts in an object: one more where it is new, else none.
+/// Puts in an object: one more if it is new, else none.
 fn insert_object(objects: &mut NumberMap<()>, object: u32) -> Result<usize, AllocError>
     ensures among { OnOk result ((x : ℕ) → is_some (value_of objects.new x)
         ≡ (if object == x then true else is_some (value_of objects.old x))) }
@@ -179,7 +179,7 @@ fn is_among(counts: &IndexMap<Kind, KindCount>, kind: Kind) -> bool
     counts.keys().any(|known| is_same_kind(kind, *known))
 }
 
-/// Puts in the counts of a kind, where it is new.
+/// Puts in the counts of a kind, if it is new.
 fn note_kind(
     alloc: Global,
     counts: &mut IndexMap<Kind, KindCount>,

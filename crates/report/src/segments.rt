@@ -39,7 +39,7 @@ fn write_segments<S: Sink>(segments: &[Segment], sink: &mut S) -> Result<(), Fai
     Ok(())
 }
 
-/// Writes `; ` where the line is a comment.
+/// Writes `; ` if the line is a comment.
 fn write_comment<S: Sink>(commented: bool, sink: &mut S) -> Result<(), Failed>
     requires { S.broken sink.old ≡ false }
     ensures sent { Writes result (S.sent sink.old) (S.sent sink.new) (S.broken sink.new)

@@ -44,7 +44,7 @@ fn write_lines<S: Sink>(verdict: &Verdict, commented: bool, sink: &mut S) -> Res
     write_line(commented, &line, sink)
 }
 
-/// Writes the lines of a verdict, each after `; ` where they are comments, without taking memory.
+/// Writes the lines of a verdict, each after `; ` if they are comments, without taking memory.
 /// `Device` is the only error.
 pub fn write_verdict<S: Sink>(
     verdict: &Verdict,

@@ -15,7 +15,7 @@ max_operations = 4096
 abbrev pub max_places : ℕ
 max_places = 4294967294
 
--- where an order was found, this holds of it
+-- if an order was found, this holds of it
 abbrev pub IfFound : Outcome → (List ℤ → Type 0) → Type 0
 IfFound (Found order) P = P order.items
 IfFound Impossible P = ⊤

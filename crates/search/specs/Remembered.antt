@@ -24,7 +24,7 @@ pub record IsOneOlder (before after : Dead) : Type 0 where
 abbrev pub IsKept : Dead → Dead → Type 0
 IsKept before after = (after ≡ before) ⊎ IsOneOlder before after
 
--- a pair is remembered besides those of `kept`, where none or the older ones were forgotten
+-- a pair is remembered besides those of `kept`, if none or the older ones were forgotten
 pub record IsRemembered (before : Dead) (pair : Pair) (after : Dead) : Type 0 where
   pub kept : Dead
   pub is_kept : IsKept before kept

@@ -111,7 +111,7 @@ IsOrder t rest = Continues (length t.items.items) (call_at t.items.items) [] (em
 abbrev pub IsNoOrder : Trials → Type 0
 IsNoOrder t = IsDead (length t.items.items) (call_at t.items.items) [] (empty t.kind)
 
--- where the search is nothing goes on, or nothing that begins with this place
+-- if the search is nothing goes on, or nothing that begins with this place
 abbrev pub IsDeadHere : Trials → State → Type 0
 IsDeadHere t s =
     IsDead (length t.items.items) (call_at t.items.items) (places (reverse s.levels.items))

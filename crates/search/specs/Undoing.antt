@@ -66,7 +66,7 @@ pub record IsStep (before : Content) (op : AnyOp) (after : Content) (step : Step
   pub does : next before op ≡ Some (after, step.reply)
   pub back : undone step.undo after ≡ before
 
--- the step of an operation that takes the first value, where there is one
+-- the step of an operation that takes the first value, if there is one
 abbrev pub IsTaken : List ℤ → List ℤ → Step → Type 0
 IsTaken [] after step = (after ≡ []) × (step ≡ record { reply = Value None; undo = Nothing })
 IsTaken (v ∷ vs) after step =

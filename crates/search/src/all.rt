@@ -30,10 +30,10 @@ pub fn search_all(
     ensures named { IfOk result (λ v. (x : ℕ)
         → Contains (map (λ a. a.0) v.items) x ↔ IsNamed history.now x) }
     ensures answers { IfOk result (λ v. All (λ a. IsAnswerOn history.now limit a.0 a.1) v.items) }
-    // Where one is impossible the history is not linearizable.
+    // If one is impossible the history is not linearizable.
     ensures impossible { IfOk result (λ v. Any (λ a. a.1.found ≡ SearchOutcome.Impossible) v.items
         → IsLinearizable (kind_at history.now) (events (denoted history.now)) → ⊥) }
-    // Where all are found `check_all` accepts the certificates.
+    // If all are found `check_all` accepts the certificates.
     ensures distinct { IfOk result (λ v. AreDistinct (certificates_in v.items)) }
     ensures valid { IfOk result (λ v. All (λ a. IsFound a.1) v.items
         → AreValid history.now (certificates_in v.items)) }

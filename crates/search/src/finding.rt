@@ -81,7 +81,7 @@ fn search_from_start(
     }
 }
 
-/// Searches where some operation returned and there are not too many. An allocation failure is an
+/// Searches if some operation returned and there are not too many. An allocation failure is an
 /// error.
 fn search_operations(
     alloc: Global,
@@ -123,7 +123,7 @@ pub fn find_order(alloc: Global, history: &ObjectHistory, first: TryFirst, limit
     ensures out_of_steps { result.outcome ≡ Outcome.OutOfSteps → result.steps ≡ limit }
     ensures too_large { (result.outcome ≡ Outcome.TooLarge)
         ↔ (max_operations < length (calls_of history.now.ops)) }
-    // NoMemory is answered only where some operation returned.
+    // NoMemory is answered only if some operation returned.
     ensures memory { result.outcome ≡ Outcome.NoMemory
         → Any (λ call. IsSome call.returned) (calls_of history.now.ops) }
 {
@@ -136,7 +136,7 @@ pub fn find_order(alloc: Global, history: &ObjectHistory, first: TryFirst, limit
     find_order_of_any_size(alloc, history, first, limit)
 }
 
-/// The same, of any number of operations: none is too many. Where there are more than 4,294,967,294,
+/// The same, of any number of operations: none is too many. If there are more than 4,294,967,294,
 /// which no history within the limits of its form has, the answer is that the steps are not enough.
 pub fn find_order_of_any_size(
     alloc: Global,
@@ -151,7 +151,7 @@ pub fn find_order_of_any_size(
     ensures steps { result.steps ≤ limit }
     ensures out_of_steps { result.outcome ≡ Outcome.OutOfSteps → result.steps ≡ limit }
     ensures any_size { result.outcome ≢ Outcome.TooLarge }
-    // NoMemory is answered only where some operation returned.
+    // NoMemory is answered only if some operation returned.
     ensures memory { result.outcome ≡ Outcome.NoMemory
         → Any (λ call. IsSome call.returned) (calls_of history.now.ops) }
 {

@@ -9,7 +9,7 @@ use std::collections::VecDeque;
 
 const BYTES_OF_A_SMALL_VALUE: usize = 4;
 
-/// What an object contained, with values of four bytes where all are small.
+/// What an object contained, with values of four bytes if all are small.
 #[derive(Drop)]
 pub enum Kept {
     Queue(Vec<i32>),
@@ -18,7 +18,7 @@ pub enum Kept {
     Whole(Reversible),
 }
 
-/// The values, where all are small.
+/// The values, if all are small.
 fn narrowed(alloc: Global, values: &VecDeque<i64>) -> Result<Option<Vec<i32>>, AllocError>
     ensures { IfOk result (λ o. IfSome o (λ v. v.items ≡ values.now.items)) }
 {
@@ -76,7 +76,7 @@ impl Kept {
             _ => false,
         }
     }
-    /// How many bytes this takes at most, where it has at most this many keys.
+    /// How many bytes this takes at most, if it has at most this many keys.
     pub(crate) fn bytes(&self, keys: usize) -> usize {
         match self {
             Kept::Queue(values) | Kept::Stack(values) | Kept::Heap(values) => {

@@ -53,7 +53,7 @@ pub(crate) trait ReversibleKind {
     /// The digest after this step of the operation, which left the state.
     fn digest(state: &Self::State, digest: Digest, op: &AnyOp, step: &Step) -> Digest;
 
-    /// How many bytes the state takes at most, apart from its own size, where it has at most this
+    /// How many bytes the state takes at most, apart from its own size, if it has at most this
     /// many keys.
     fn bytes(_state: &Self::State, _keys: usize) -> usize {
         0

@@ -117,7 +117,7 @@ impl Reversible {
         }
     }
 
-    /// How many bytes the content takes at most, where it has at most this many keys.
+    /// How many bytes the content takes at most, if it has at most this many keys.
     pub(crate) fn bytes(&self, keys: usize) -> usize {
         match self {
             Reversible::Queue(values) => Queues::bytes(values, keys),

@@ -82,7 +82,7 @@ fn owed_before(left: usize, end: &End) -> usize
     if end.has_returned() { left + 1 } else { left }
 }
 
-/// How many operations a pair that is remembered lists, where it lists all that are to return.
+/// How many operations a pair that is remembered lists, if it lists all that are to return.
 const MOST_LISTED: usize = 4096;
 
 /// The state of a search: the order that has begun, and the place that is looked at next.
@@ -145,7 +145,7 @@ impl State {
         self.at = self.undone.next[self.at as usize + 1];
     }
 
-    /// Goes on to the first pending place, where all others that come before it were invoked too
+    /// Goes on to the first pending place, if all others that come before it were invoked too
     /// late.
     fn skip(&mut self, trials: &Trials)
         requires trials { AreTrials trials.now }
@@ -236,7 +236,7 @@ impl State {
         self.go_on(trials, step)
     }
 
-    /// The pair at which the search is, where it lists few operations. Once a pending one is in
+    /// The pair at which the search is, if it lists few operations. Once a pending one is in
     /// the order, all that are to return are listed.
     fn pair_here(&self, alloc: Global, trials: &Trials) -> Result<Option<Pair>, AllocError>
         requires trials { AreTrials trials.now }

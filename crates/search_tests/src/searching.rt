@@ -1,4 +1,4 @@
-//! The bounded search where nothing is said of which operation it tries first, on texts whose answers
+//! The bounded search when nothing is said of which operation it tries first, on texts whose answers
 //! and steps are known.
 
 use events::{History, ObjectHistory, split};

@@ -15,9 +15,9 @@ pub enum MapOp {
     Put { key: i64, value: i64 },
     Get(i64),
     Del(i64),
-    /// Puts the value where the key has none.
+    /// Puts the value if the key has none.
     PutIfAbsent { key: i64, value: i64 },
-    /// Puts the new value where the key has the expected one.
+    /// Puts the new value if the key has the expected one.
     Replace { key: i64, expected: i64, new: i64 },
     /// Puts the value, and does not tell the earlier one.
     Assoc { key: i64, value: i64 },
@@ -28,7 +28,7 @@ pub enum MapOp {
 /// What a map answers.
 #[derive(Clone, Copy, Debug, PartialEq, Eq)]
 pub enum MapReply {
-    /// The value that the key had before; none where it had none, or the operation tells none.
+    /// The value that the key had before; none if it had none, or the operation tells none.
     Value(Option<i64>),
     /// Whether the value was put.
     Changed(bool),

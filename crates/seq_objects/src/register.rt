@@ -13,11 +13,11 @@ use std::marker::Model;
 pub enum RegisterOp {
     Write(i64),
     Read,
-    /// Writes the new value where the register contains the expected one.
+    /// Writes the new value if the register contains the expected one.
     Cas { expected: i64, new: i64 },
     /// Leaves nothing.
     Clear,
-    /// Writes the value where the register contains nothing.
+    /// Writes the value if the register contains nothing.
     Create(i64),
 }
 
@@ -43,7 +43,7 @@ impl RegisterOp {
 /// What a register answers.
 #[derive(Clone, Copy, Debug, PartialEq, Eq)]
 pub enum RegisterReply {
-    /// The value that was written or read; none where nothing is there.
+    /// The value that was written or read; none if nothing is there.
     Value(Option<i64>),
     Swapped { expected: i64, new: i64 },
     NotSwapped,

@@ -21,7 +21,7 @@ pub enum Value {
     Triple(i64, i64, i64),
 }
 
-/// The operation of this name with this argument; none where the argument has not the shape that
+/// The operation of this name with this argument; none if the argument has not the shape that
 /// the name asks for.
 pub fn op_of(f: Function, value: Value) -> Option<AnyOp>
     ensures op { result ≡ op_with f value }
@@ -127,7 +127,7 @@ pub fn value_of_op(op: &AnyOp) -> Value
     }
 }
 
-/// The reply to an operation of this name that the value stands for; none where the value has not
+/// The reply to an operation of this name that the value stands for; none if the value has not
 /// the shape of a reply to it.
 pub fn reply_of(f: Function, value: Value) -> Option<AnyReply>
     ensures reply { result ≡ reply_with f value }

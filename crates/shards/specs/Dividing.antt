@@ -39,7 +39,7 @@ FitsAmong count d = (c : ClientMap) → client_of d ≡ Some c → c.object / mo
 abbrev pub Fits : ℕ → SpelledMap → Type 0
 Fits count m = FitsAmong count m.form
 
--- the places of the maps of clients on some objects, where the first form is in this place
+-- the places of the maps of clients on some objects, if the first form is in this place
 abbrev pub places_from : ℕ → (ℕ → Bool) → List Datum → List ℕ
 places_from n has [] = []
 places_from n has (d ∷ ds) =

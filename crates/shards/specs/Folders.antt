@@ -14,7 +14,7 @@ lines_for shard maps places = record {
   tables = λ s. if s == shard then places else [];
 }
 
--- These were added to the files, where they are known.
+-- These were added to the files, if they are known.
 abbrev pub AddsFiles : Option Files → Option Files → Files → Type 0
 AddsFiles None new more = ⊤
 AddsFiles (Some old) None more = ⊥

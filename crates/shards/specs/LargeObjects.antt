@@ -9,7 +9,7 @@ use Rattle.shards.specs.ShardTexts.{SpelledMap}
 abbrev pub maps_on : List SpelledMap → ℕ → ℕ
 maps_on maps x = length (filter (λ m. is_on (λ y. y == x) m.form) maps)
 
--- Where each object has this many maps, these are the objects with more maps than a text may have,
+-- If each object has this many maps, these are the objects with more maps than a text may have,
 -- and no others, in rising number.
 pub record AreLarge (counts : ℕ → ℕ) (large : List LargeObject) : Type 0 where
   pub rising : AllPairs (λ a b. a.object < b.object) large

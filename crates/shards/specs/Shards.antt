@@ -23,7 +23,7 @@ pub record AreRenumbered (es others : List Event) : Type 0 where
   pub same : map said others ≡ map said es
   pub rising : AllPairs (λ a b. a.number < b.number) others
 
--- the same events, where each object has another name: a text names objects by small numbers
+-- the same events, if each object has another name: a text names objects by small numbers
 abbrev pub renamed_event : (ℕ → ℕ) → Event → Event
 renamed_event name e = record e { object = name e.object }
 
@@ -41,7 +41,7 @@ abbrev pub AreShards : (ℕ → ℕ) → (ℕ → ℕ) → List Event → (ℕ �
 AreShards shard_of name es shards =
     (s : ℕ) → AreRenumbered (renamed name (events_on (λ x. shard_of x == s) es)) (shards s)
 
--- The history that the events denote is linearizable, where each object is of the kind that its
+-- The history that the events denote is linearizable, if each object is of the kind that its
 -- operations have: the form in which a verdict on a text says it.
 abbrev pub DenoteLinearizable : List Event → Type 0
 DenoteLinearizable es = IsLinearizable (kind_at es) (events (denoted es))

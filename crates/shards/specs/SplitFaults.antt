@@ -32,7 +32,7 @@ IsFoundAmong ds f =
     × (f.kind ≡ TooMany → (f.map ≡ most_maps) × (most_maps < length ds)
     × IsFaultlessAtAnyLength (take most_maps ds))
 
--- What is read after a piece of a text: a line feed, or nothing where the source is at its end.
+-- What is read after a piece of a text: a line feed, or nothing if the source is at its end.
 abbrev pub EndsPiece : List ℕ → Option (List ℕ) → Type 0
 EndsPiece [] left = IsAtEnd left
 EndsPiece (b ∷ bs) left = b ≡ 10
@@ -99,7 +99,7 @@ IsSplitFault count Read left left_after = ⊤
 IsSplitFault count Write left left_after = ⊤
 IsSplitFault count NoMemory left left_after = ⊤
 
--- where a fault says that its source failed, or its folder, this is so; and neither failed where
+-- if a fault says that its source failed, or its folder, this is so; and neither failed if
 -- something is wrong with the text
 abbrev pub IsFailureOf : SplitFault → Bool → Bool → Type 0
 IsFailureOf Read source folder = source ≡ true

@@ -58,7 +58,7 @@ EndsInsideForm (piece.FewShards x) = ⊥
 abbrev pub too_long_at : ℕ → TextFault
 too_long_at start = Text (record { kind = edn_kind.TooLong; place = start })
 
--- the fault of a piece that begins at this place, where the place of the fault is that in the text
+-- the fault of a piece that begins at this place, if the place of the fault is that in the text
 abbrev pub IsFaultFrom : ℕ → PieceFault → SplitFault → Type 0
 IsFaultFrom start fault (Malformed (Text e)) = (place : ℕ) × (e.place ≡ start + place)
     × (fault ≡ piece.Malformed (Text (record e { place = place }))) × (e.kind ≢ edn_kind.NoMemory)

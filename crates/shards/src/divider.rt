@@ -123,7 +123,7 @@ impl Divider {
         }
     }
 
-    /// Takes in the maps that one more piece of the text spells. Where the text of the piece has a
+    /// Takes in the maps that one more piece of the text spells. If the text of the piece has a
     /// fault, nothing is taken, so a longer piece may be tried; after any other fault nothing is
     /// known of what was taken.
     pub fn take(&mut self, alloc: Global, piece: &[u8]) -> Result<(), PieceFault>

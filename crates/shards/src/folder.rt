@@ -8,7 +8,7 @@ use edn::Failed;
 
 /// Takes lines of the files of shards, until it fails. Each call asks that it has not failed.
 pub trait Folder {
-    /// What the files have, where it is known.
+    /// What the files have, if it is known.
     ghost files: { Self → Option Files };
     /// Whether it failed.
     ghost broken: { Self → Bool };

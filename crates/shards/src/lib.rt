@@ -1,4 +1,4 @@
-//! A history in shards: each object is in one of them, and the whole is linearizable exactly where
+//! A history in shards: each object is in one of them, and the whole is linearizable exactly if
 //! each shard is; of events in memory, and of texts (`texts.rt`), also of a text that is longer
 //! than `judge` reads. These theorems are the contracts of functions that do nothing. They follow
 //! from locality: Herlihy and Wing, "Linearizability: A Correctness Condition for Concurrent
@@ -36,8 +36,8 @@ pub use texts::{
     texts_of_shards_decide,
 };
 
-/// Where no two objects that events name get the same name, the history is linearizable exactly
-/// where that of the renamed events is.
+/// If no two objects that events name get the same name, the history is linearizable exactly
+/// if that of the renamed events is.
 pub fn objects_may_be_renamed()
     ensures { (name : ℕ → ℕ) (es : List Event)
         → IsProper es
@@ -45,7 +45,7 @@ pub fn objects_may_be_renamed()
         → (DenoteLinearizable es ↔ DenoteLinearizable (renamed name es)) }
 {}
 
-/// The shards of a proper list of events are proper, where the objects of each have names of their
+/// The shards of a proper list of events are proper, if the objects of each have names of their
 /// own.
 pub fn shards_are_proper()
     ensures { (shard_of name : ℕ → ℕ) (es : List Event) (shards : ℕ → List Event)
@@ -64,8 +64,8 @@ pub fn shards_name_objects()
         ↔ ((x : ℕ) × IsNamed es x × (shard_of x ≡ s) × (name x ≡ y))) }
 {}
 
-/// The history that proper events denote is linearizable exactly where that of each shard is, where
-/// the objects of each shard have names of their own.
+/// The history that proper events denote is linearizable exactly if that of each shard is, provided
+/// that the objects of each shard have names of their own.
 pub fn shards_decide()
     ensures { (shard_of name : ℕ → ℕ) (es : List Event) (shards : ℕ → List Event)
         → IsProper es → AreApart shard_of name es → AreShards shard_of name es shards
@@ -81,9 +81,9 @@ pub fn shards_may_be_renumbered()
     ensures whole_linearizable { DenoteLinearizable one_each }
 {}
 
-/// Each shard may be proper, and linearizable, where the whole is neither: a process that waits for
-/// a response in one shard may invoke an operation in another. So a tool that divides a history has
-/// to check on the whole what each process does.
+/// Each shard may be proper, and linearizable, although the whole is neither: a process that waits
+/// for a response in one shard may invoke an operation in another. So a tool that divides a history
+/// has to check on the whole what each process does.
 pub fn proper_shards_do_not_make_a_proper_whole()
     ensures divided { AreShards own_shard (λ x. x) two_at_once shards_of_two_at_once }
     ensures shards_proper { (s : ℕ) → IsProper (shards_of_two_at_once s) }

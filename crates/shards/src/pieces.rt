@@ -149,7 +149,7 @@ impl Pieces {
         Ok(())
     }
 
-    /// Asks for twice as much text, where no piece of it can be read. What is longer than a text
+    /// Asks for twice as much text, if no piece of it can be read. What is longer than a text
     /// may be is too long.
     pub fn ask_for_more(&mut self) -> Result<(), SplitFault>
         ensures stays { StaysAs self.old self.new }

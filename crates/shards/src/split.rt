@@ -18,7 +18,7 @@ use std::alloc::Global;
 /// How long a piece is that is divided at a time, unless its maps need more.
 const PIECE_LENGTH: usize = 262_144;
 
-/// Divides the next piece of what was read, or asks for more where no piece of it can be read.
+/// Divides the next piece of what was read, or asks for more if no piece of it can be read.
 fn divide_piece(alloc: Global, divider: &mut Divider, pieces: &mut Pieces) -> Result<(), SplitFault>
     ensures divided { OnOk result ((count : ℕ) (text : List ℕ) (written : Files)
         → AreUnderWay count divider.old pieces.old text written
@@ -73,7 +73,7 @@ fn divide_last<D: Folder>(
 }
 
 /// Divides a history as `split_over` does, by pieces that are mostly a little longer than
-/// `piece_length` bytes. The shards do not depend on that; which fault is found may, where there
+/// `piece_length` bytes. The shards do not depend on that; which fault is found may, if there
 /// are several. It is public for tests, which take short pieces.
 pub fn split_by_pieces<F: Source, D: Folder>(
     alloc: Global,

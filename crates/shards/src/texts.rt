@@ -14,7 +14,7 @@ ghost use Rattle.shards.specs.ShardTexts.{IsSplit, IsShardOf, IsLinearizableAtAn
 ghost use Rattle.shards.specs.ShardTexts.{TextDenotes};
 ghost use Rattle.shards.specs.Tables.{AreShort};
 
-/// The maps of clients on some objects have no fault where all maps of a history have none.
+/// The maps of clients on some objects have no fault if all maps of a history have none.
 pub fn shards_have_no_fault()
     ensures { (has : ℕ → Bool) (ds : List Datum) → IsFaultlessAtAnyLength ds
         → IsFaultlessAtAnyLength (forms_on has ds) }
@@ -29,7 +29,7 @@ pub fn shards_denote()
         → (s : ℕ) → IsShardOf (λ x. shard_of x == s) name es (shards s) }
 {}
 
-/// Each shard has the numbers of the whole in its table, where these have 32 bits: with them its
+/// Each shard has the numbers of the whole in its table, if these have 32 bits: with them its
 /// events are those of the whole on its objects, by their names in the shard.
 pub fn shards_keep_their_numbers()
     ensures { (shard_of name : ℕ → ℕ) (whole : List ℕ) (files : Files) (es own : List Event)
@@ -39,15 +39,15 @@ pub fn shards_keep_their_numbers()
         → with_numbers ns own ≡ renamed name (events_on (λ x. shard_of x == s) es) }
 {}
 
-/// The history of the whole is linearizable exactly where that of each shard is.
+/// The history of the whole is linearizable exactly if that of each shard is.
 pub fn texts_of_shards_decide()
     ensures { (shard_of name : ℕ → ℕ) (whole : List ℕ) (shards : ℕ → List ℕ)
         → IsSplit shard_of name whole shards
         → (IsLinearizableAtAnyLength whole ↔ ((s : ℕ) → IsLinearizableAtAnyLength (shards s))) }
 {}
 
-/// What the commands say of shards decides the whole. It is linearizable where a yes says so of
-/// each shard that is not empty, and not linearizable where a no of `verify` or of `refute` says so
+/// What the commands say of shards decides the whole. It is linearizable if a yes says so of
+/// each shard that is not empty, and not linearizable if a no of `verify` or of `refute` says so
 /// of one.
 pub fn judged_shards_decide()
     ensures yes { (shard_of name : ℕ → ℕ) (whole : List ℕ) (shards : ℕ → List ℕ)

@@ -48,7 +48,7 @@ pub record IsGoingOn (h : Header) (steps : List (ℕ × AnyStep)) (client : ℕ)
   pub going : world.ended client ≡ false
   pub earlier : (d : ℕ) → d < client → world.ended d ≡ true
 
--- why the steps have no record, except where an allocation failed
+-- why the steps have no record, except if an allocation failed
 abbrev pub IsPlayFault : Header → List (ℕ × AnyStep) → PlayFault → Type 0
 IsPlayFault h steps (play.NotEnded c) = IsGoingOn h steps c
 IsPlayFault h steps play.NoMemory = ⊤
@@ -57,7 +57,7 @@ IsPlayFault h steps play.NoMemory = ⊤
 abbrev pub IsSchedule : List ℕ → Type 0
 IsSchedule text = (h : Header) × (steps : List (ℕ × AnyStep)) × DenotesSchedule text h steps
 
--- Nothing is wrong with the text as far as it was looked at: up to a token and with it, or, where
+-- Nothing is wrong with the text as far as it was looked at: up to a token and with it, or, if
 -- it spells forms, up to one of them and with it; or it denotes a schedule.
 abbrev pub IsScheduleSound : List ℕ → Type 0
 IsScheduleSound text =
@@ -85,14 +85,14 @@ IsOfSteps (Form f) = ⊥
 IsOfSteps (NotEnded c) = ⊤
 IsOfSteps NoMemory = ⊤
 
--- what is answered where the text has this fault
+-- what is answered if the text has this fault
 abbrev pub IsTextFault : EdnFault → SimulationFault → Type 0
 IsTextFault e (Text g) = (g ≡ e) × (e.kind ≢ edn_kind.NoMemory)
 IsTextFault e (Form f) = ⊥
 IsTextFault e (NotEnded c) = ⊥
 IsTextFault e NoMemory = e.kind ≡ edn_kind.NoMemory
 
--- what is answered where the forms have this fault
+-- what is answered if the forms have this fault
 abbrev pub IsFormFault : ScheduleFault → SimulationFault → Type 0
 IsFormFault f (Text e) = ⊥
 IsFormFault f (Form g) = (g ≡ f) × (f.kind ≢ form_kind.NoMemory)

@@ -31,7 +31,7 @@ pub struct Header {
     pub quota: u32,
 }
 
-/// The number, where it is within these bounds.
+/// The number, if it is within these bounds.
 fn number_within(low: u32, high: u32, value: Option<u64>) -> Option<u32>
     ensures number { result ≡ spec.number_within low high value }
     ensures within { IfSome result (λ n. (low ≤ n) × (n ≤ high)) }
@@ -42,7 +42,7 @@ fn number_within(low: u32, high: u32, value: Option<u64>) -> Option<u32>
     }
 }
 
-/// The number that the map has for the key, where it is within these bounds.
+/// The number that the map has for the key, if it is within these bounds.
 pub(crate) fn number_at(entries: &[(Name, Form)], key: &[u8], low: u32, high: u32) -> Option<u32>
     ensures number { result
         ≡ spec.number_at key.now low high (entries_of (pair_views entries.now)) }

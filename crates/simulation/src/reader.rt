@@ -47,7 +47,7 @@ fn read_steps(alloc: Global, forms: &[Form]) -> Result<Vec<(u32, Step<AnyOp>)>, 
 }
 
 /// The schedule that the forms are: a header, and then a step for each further form. The fault is
-/// that of the least faulty form; an allocation failure comes only where nothing is wrong up to a
+/// that of the least faulty form; an allocation failure comes only if nothing is wrong up to a
 /// form and with it.
 pub fn read_schedule(alloc: Global, forms: &[Form]) -> Result<Schedule, ScheduleFault>
     ensures denotes { IfOk result (λ s. Denotes (views forms.now) s.header s.steps.items) }

@@ -24,7 +24,7 @@ pub enum SimulationFault {
     NoMemory,
 }
 
-/// What is wrong where this fault of the text was found.
+/// What is wrong if this fault of the text was found.
 fn text_fault(fault: EdnFault) -> SimulationFault
     ensures { IsTextFault fault result }
 {
@@ -34,7 +34,7 @@ fn text_fault(fault: EdnFault) -> SimulationFault
     }
 }
 
-/// What is wrong where this fault of the forms was found.
+/// What is wrong if this fault of the forms was found.
 fn form_fault(fault: ScheduleFault) -> SimulationFault
     ensures { IsFormFault fault result }
 {

@@ -50,7 +50,7 @@ fn client_at(entries: &[(Name, Form)], key: &[u8]) -> Option<u32>
     number_at(entries, key, 0, MAX_CLIENTS - 1)
 }
 
-/// The draw of a call, where there is a function, or else of a return.
+/// The draw of a call, if there is a function, or else of a return.
 fn draw_in(entries: &[(Name, Form)]) -> Option<Step<AnyOp>>
     ensures { result ≡ spec.draw_with (value_at (codes "f") (entries_of (pair_views entries.now)))
         (entries_of (pair_views entries.now)) }

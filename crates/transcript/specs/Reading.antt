@@ -19,7 +19,7 @@ pub record DenotesEvents (text : List ℕ) (es : List Event) : Type 0 where
   pub spelled : Spells forms text
   pub denoted : Denotes forms es
 
--- The text of a record's history is read back as its events, where the tickets in the journals are
+-- The text of a record's history is read back as its events, if the tickets in the journals are
 -- all the numbers below some number, each once, and no object is greater than a text can name.
 abbrev pub WrittenDenotes : Type 0
 WrittenDenotes = (objects : ℕ) (journals : ℕ → List AnyEvent) (logs : ℕ → List AnyEntry)
@@ -29,7 +29,7 @@ WrittenDenotes = (objects : ℕ) (journals : ℕ → List AnyEvent) (logs : ℕ 
     → (text : List ℕ) (es : List Event) → IsHistoryText journals text → AreEventsOf journals es
     → DenotesEvents text es
 
--- So is that of a sound record's history, where there are no more objects than a text can have.
+-- So is that of a sound record's history, if there are no more objects than a text can have.
 abbrev pub SoundWrittenDenotes : Type 0
 SoundWrittenDenotes =
     (kinds : List Kind) (quota : ℕ) (journals : ℕ → List AnyEvent) (logs : ℕ → List AnyEntry)

@@ -126,7 +126,7 @@ pub fn account_of<S: SeqObject>(alloc: Global, account: &Record<S>) -> Result<Ac
     })
 }
 
-/// Checks the record's history with its certificates. Where the record is sound they are accepted,
+/// Checks the record's history with its certificates. If the record is sound they are accepted,
 /// except for an allocation failure. This is that theorem as one contract, of the calls by which
 /// `run` and `simulate` check what `account_of` gathered.
 pub fn check_record<S: SeqObject>(alloc: Global, account: &Record<S>) -> Result<(), Refusal>

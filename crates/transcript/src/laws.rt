@@ -22,7 +22,7 @@ pub fn sound_record_is_accepted()
         → AreValid events certificates }
 {}
 
-/// The text of the lines of a record's history spells forms that denote it, where its tickets are
+/// The text of the lines of a record's history spells forms that denote it, if its tickets are
 /// all the numbers below some number and its objects are at most 65,535, as in each sound record.
 pub fn written_history_denotes()
     ensures written { WrittenDenotes }

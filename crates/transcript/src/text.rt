@@ -185,7 +185,7 @@ pub(crate) fn history_text(alloc: Global, lines: &[Line]) -> Result<Vec<u8>, All
     }
 }
 
-/// Writes the lines of a record's history, in order of tickets. Where an allocation fails nothing
+/// Writes the lines of a record's history, in order of tickets. If an allocation fails nothing
 /// goes out.
 pub fn write_history<S: SeqObject, K: Sink>(
     alloc: Global,

@@ -35,7 +35,7 @@ certificate_in (OutOfSteps n) = None
 certificate_in NoMemory = None
 certificate_in Open = None
 
--- where an order is shown, this holds of the certificate
+-- if an order is shown, this holds of the certificate
 abbrev pub IfOrder : Decision → (Certificate → Type 0) → Type 0
 IfOrder (Order c) P = P c
 IfOrder (Impossible f) P = ⊤
@@ -43,7 +43,7 @@ IfOrder (OutOfSteps n) P = ⊤
 IfOrder NoMemory P = ⊤
 IfOrder Open P = ⊤
 
--- where no order is valid, this holds of what shows it
+-- if no order is valid, this holds of what shows it
 abbrev pub IfImpossible : Decision → (ShownReason → Type 0) → Type 0
 IfImpossible (Order c) P = ⊤
 IfImpossible (Impossible f) P = P f
@@ -51,7 +51,7 @@ IfImpossible (OutOfSteps n) P = ⊤
 IfImpossible NoMemory P = ⊤
 IfImpossible Open P = ⊤
 
--- where a search is out of steps, this holds of their number
+-- if a search is out of steps, this holds of their number
 abbrev pub IfOutOfSteps : Decision → (ℕ → Type 0) → Type 0
 IfOutOfSteps (Order c) P = ⊤
 IfOutOfSteps (Impossible f) P = ⊤
@@ -157,7 +157,7 @@ pub record IsAnswer (x : ℕ) (kind : Kind) (calls : List Call) (limit : ℕ) (e
   pub unshown : is_shown d ≡ false → IsUntrue kind calls e ⊎ Searches e
   pub refused : d ≡ Open → IsUntrue kind calls e
 
--- What is decided of an object, with its kind and calls, by claims, where a search for which none
+-- What is decided of an object, with its kind and calls, by claims, if a search for which none
 -- of them names a number of steps takes at most `limit`.
 pub record IsDecision (claims : List Claim) (limit x : ℕ) (kind : Kind) (calls : List Call)
     (d : Decision) : Type 0 where
@@ -172,10 +172,10 @@ pub record IsDecision (claims : List Claim) (limit x : ℕ) (kind : Kind) (calls
       Any (λ e. (object_of e ≡ x) × SearchesIn limit n e) claims)
   -- a search ran out of memory, for which a claim on the object asks
   pub memory : d ≡ NoMemory → Any (λ e. (object_of e ≡ x) × Searches e) claims
-  -- where nothing is shown each claim on the object is not true, or asks for a search
+  -- if nothing is shown each claim on the object is not true, or asks for a search
   pub unshown : is_shown d ≡ false
       → All (λ e. object_of e ≡ x → IsUntrue kind calls e ⊎ Searches e) claims
-  -- it is open only where no claim on the object is true
+  -- it is open only if no claim on the object is true
   pub refused : d ≡ Open → All (λ e. object_of e ≡ x → IsUntrue kind calls e) claims
 
 -- a decision on the object with this number, in the history that the events denote
@@ -194,12 +194,12 @@ pub record AreDecisionsOn (es : List Event) (claims : List Claim) (limit : ℕ)
   -- on the objects that some invocation names, and no others
   pub named : (x : ℕ) → Contains (map (λ a. a.0) answers) x ↔ IsNamed es x
   pub decisions : All (λ a. IsDecisionOn es claims limit a.0 a.1) answers
-  -- where one is impossible the history is not linearizable
+  -- if one is impossible the history is not linearizable
   pub impossible : Any (λ a. is_impossible a.1 ≡ true) answers
       → IsLinearizable (kind_at es) (events (denoted es)) → ⊥
-  -- where all have an order `check_all` accepts the certificates
+  -- if all have an order `check_all` accepts the certificates
   pub distinct : AreDistinct (certificates_in answers)
   pub valid : All (λ a. IsSome (certificate_in a.1)) answers
       → AreValid es (certificates_in answers)
-  -- where one has no order the claims have no valid order of some object
+  -- if one has no order the claims have no valid order of some object
   pub lacking : list_all (λ a. is_order a.1) answers ≡ false → LacksOrder es claims

@@ -52,7 +52,7 @@ fn decide_further(
     Ok(next)
 }
 
-/// Decides further by a claim, where it is on one of these objects, which are in rising number.
+/// Decides further by a claim, if it is on one of these objects, which are in rising number.
 ///
 /// An error: an allocation failed.
 fn take_claim(

@@ -51,7 +51,7 @@ fn is_sentence(bytes: &[u8]) -> bool
     are_printed(bytes) && !begins_like_a_line(bytes)
 }
 
-/// The sentence, where the value is a string of printed characters that cannot be taken for a line
+/// The sentence, if the value is a string of printed characters that cannot be taken for a line
 /// that is proved.
 pub(crate) fn note(alloc: Global, value: Option<&Form>) -> Result<Option<Vec<u8>>, AllocError>
     ensures { IfOk result (λ o. option_map (λ v. v.items) o

@@ -38,7 +38,7 @@ fn decide_by_order(
     }
 }
 
-/// What is decided where the reason does not show that no order is valid. The search of the whole
+/// What is decided if the reason does not show that no order is valid. The search of the whole
 /// object, of which nothing was cut off, may have found an order.
 fn decide_by_doubt(reason: &Reason, limit: u64, doubt: Doubt) -> Decision
     ensures { (kind : Kind) (calls : List Call) (note : Option (Vec ℕ)) (part : ObjectCalls)
@@ -58,7 +58,7 @@ fn decide_by_doubt(reason: &Reason, limit: u64, doubt: Doubt) -> Decision
     }
 }
 
-/// What is decided by a reason. Where it names no number of steps a search has the limit `limit`.
+/// What is decided by a reason. If it names no number of steps a search has the limit `limit`.
 ///
 /// An error: an allocation failed.
 fn decide_by_reason(
@@ -83,7 +83,7 @@ fn decide_by_reason(
     }
 }
 
-/// What is decided of an object by a claim on it. Where a reason names no number of steps a search
+/// What is decided of an object by a claim on it. If a reason names no number of steps a search
 /// has the limit `limit`.
 ///
 /// An error: an allocation failed.

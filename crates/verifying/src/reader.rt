@@ -94,7 +94,7 @@ pub fn read_claims(alloc: Global, forms: &[Form]) -> Result<Vec<Claim>, ClaimFau
     // Such a fault means that the forms denote no claims.
     ensures refused { IfErr result (λ e. e.kind ≢ ClaimFaultKind.NoMemory
         → (cs : List Claim) → Denotes (views forms.now) cs → ⊥) }
-    // An allocation failed where nothing was wrong before this form.
+    // An allocation failed when nothing was wrong before this form.
     ensures memory { IfErr result (λ e. e.kind ≡ ClaimFaultKind.NoMemory
         → IsSoundBefore (views forms.now) e.form) }
 {

@@ -12,7 +12,7 @@ use Rattle.model.specs.declared.AnyReply.TheVariants.{Value, Flag}
 abbrev pub Table : Type 0
 Table = map.FinMap int_cmp ℤ
 
--- the table, with this value of this key where it is so
+-- the table, with this value of this key if it is so
 abbrev pub inserted_if : Bool → Table → ℤ → ℤ → Table
 inserted_if so m k v = if so then map.insert m k v else m
 

@@ -14,11 +14,11 @@ use Rattle.model.specs.declared.AnyReply.TheVariants.{Value, Swapped, NotSwapped
 abbrev pub is_same : Bool → Bool → Bool
 is_same a b = if a then b else not b
 
--- a call is kept only where its value is kept
+-- a call is kept only if its value is kept
 abbrev pub only_where : Bool → Bool → Bool
 only_where kept keeps = not kept || keeps
 
--- A removal is kept exactly where the value that it took is kept. One that found nothing is kept or
+-- A removal is kept exactly if the value that it took is kept. One that found nothing is kept or
 -- left out. When a pending one may be left out is said of all of them (`IsClosed`).
 abbrev pub fits_removal : (ℤ → Bool) → Bool → Option AnyReply → Bool
 fits_removal keeps kept None = true
@@ -28,7 +28,7 @@ fits_removal keeps kept (Some (Swapped a b)) = true
 fits_removal keeps kept (Some NotSwapped) = true
 fits_removal keeps kept (Some (Flag b)) = true
 
--- A read is kept only where its value is kept. A pending one, or one that found nothing, is kept or
+-- A read is kept only if its value is kept. A pending one, or one that found nothing, is kept or
 -- left out.
 abbrev pub fits_read : (ℤ → Bool) → Bool → Option AnyReply → Bool
 fits_read keeps kept None = true
@@ -38,9 +38,9 @@ fits_read keeps kept (Some (Swapped a b)) = true
 fits_read keeps kept (Some NotSwapped) = true
 fits_read keeps kept (Some (Flag b)) = true
 
--- A swap is left out only where its new value is left out, and kept only where its expected value
--- is kept. A pending one is also kept where both values are left out. A failed one is kept only
--- where all values are kept.
+-- A swap is left out only if its new value is left out, and kept only if its expected value
+-- is kept. A pending one is also kept if both values are left out. A failed one is kept only
+-- if all values are kept.
 abbrev pub fits_cas : Bool → (ℤ → Bool) → Bool → ℤ → ℤ → Option AnyReply → Bool
 fits_cas all keeps kept a b None = if kept then keeps a || not (keeps b) else not (keeps b)
 fits_cas all keeps kept a b (Some (Value v)) = true
@@ -48,13 +48,13 @@ fits_cas all keeps kept a b (Some (Swapped c d)) = if kept then keeps a else not
 fits_cas all keeps kept a b (Some NotSwapped) = only_where kept all
 fits_cas all keeps kept a b (Some (Flag c)) = true
 
--- A creation is left out only where its value is left out. One that failed is kept only where all
+-- A creation is left out only if its value is left out. One that failed is kept only if all
 -- values are kept.
 abbrev pub fits_create : Bool → (ℤ → Bool) → Bool → ℤ → Option AnyReply → Bool
 fits_create all keeps kept v (Some (Flag false)) = only_where kept all
 fits_create all keeps kept v reply = kept || not (keeps v)
 
--- A removal is kept exactly where its key is kept. One that found nothing may also be left out.
+-- A removal is kept exactly if its key is kept. One that found nothing may also be left out.
 abbrev pub fits_del : (ℤ → Bool) → Bool → ℤ → Option AnyReply → Bool
 fits_del keeps kept k None = is_same kept (keeps k)
 fits_del keeps kept k (Some (Value (Some v))) = is_same kept (keeps k)
@@ -63,7 +63,7 @@ fits_del keeps kept k (Some (Swapped c d)) = true
 fits_del keeps kept k (Some NotSwapped) = true
 fits_del keeps kept k (Some (Flag b)) = true
 
--- A change that replies whether it took place is kept exactly where its key is kept. One that
+-- A change that replies whether it took place is kept exactly if its key is kept. One that
 -- failed may also be left out.
 abbrev pub fits_change : (ℤ → Bool) → Bool → ℤ → Option AnyReply → Bool
 fits_change keeps kept k (Some (Flag false)) = only_where kept (keeps k)

@@ -24,12 +24,12 @@ key_of (Remove v) = Some v
 key_of (Has v) = Some v
 key_of op = None
 
--- what leaves this number in a counter at 0, where it is a number of 64 bits
+-- what leaves this number in a counter at 0, if it is a number of 64 bits
 abbrev pub leaves_count : ℤ → Option (Option (AnyOp × AnyReply))
 leaves_count n = if is_i64 n then Some (Some (FetchAdd n, Value (Some (pos 0)))) else None
 
 -- What an operation with this reply leaves in the object (of a map: under its key; of a set: of its
--- element), where the reply tells: nothing, or what this other operation leaves in an empty object,
+-- element), if the reply tells: nothing, or what this other operation leaves in an empty object,
 -- with the reply that it then has.
 abbrev pub leaves : AnyOp → AnyReply → Option (Option (AnyOp × AnyReply))
 leaves Dequeue (Value None) = Some None

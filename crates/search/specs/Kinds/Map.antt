@@ -6,7 +6,7 @@ use Rattle.seq_objects.specs.declared.map_object.MapOp.{MapOp}
 use Rattle.seq_objects.specs.declared.map_object.MapOp.TheVariants.{Put, Get, Del, PutIfAbsent}
 use Rattle.seq_objects.specs.declared.map_object.MapOp.TheVariants.{Replace, Assoc, Dissoc}
 
--- the value of a reply, where it is one
+-- the value of a reply, if it is one
 abbrev pub value_in : AnyReply → Option ℤ
 value_in (Value v) = v
 value_in reply = None

@@ -16,7 +16,7 @@ use std::alloc::AllocError;
 /// How many bytes a key takes with its value, in a tree whose nodes may be half full.
 const BYTES_OF_A_KEY: usize = 64;
 
-/// The value of a reply; none where the reply is not a value.
+/// The value of a reply; none if the reply is not a value.
 fn value_of(reply: &MapReply) -> Option<i64>
     ensures { result ≡ value_in (map_reply reply.now) }
 {
