@@ -82,7 +82,7 @@ pub fn run_workers<R: Threads + Wait + Sync, G: Gate>(
 
 type Worker<'a> = PromisedHandle<Client<AnyObject>, WorkerOf<'a>>;
 
-/// Runs the clients of a new desk, and hands client 0 back, which has met the others. There is room
+/// Runs the clients of a new desk, and returns client 0, which has met the others. There is room
 /// for their threads.
 fn run_all<'a, R: Threads + Wait + Sync, G: Gate>(
     rt: &R,

@@ -14,7 +14,7 @@ use publication::{Client, Desk};
 use seq_objects::{AnyObject, Gate};
 use std::sync::Wait;
 
-/// Makes the client's calls of the workload, one after another, and hands the client back. If
+/// Makes the client's calls of the workload, one after another, and returns the client. If
 /// an allocation fails in a call it makes no more, and that one is outstanding. The clause does not
 /// say that an allocation failed.
 pub(crate) fn work<R: Wait, G: Gate>(

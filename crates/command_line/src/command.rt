@@ -1,4 +1,4 @@
-//! The command that `clap` is told of, built from the table.
+//! The command that `clap` is given, built from the table.
 
 ghost use Rattle.std.specs.Prelude.{◌≡◌, ◌||◌, IfOk, false, map, codes};
 ghost use Rattle.clap.specs.Words.{app_of, new_app, rule_of};

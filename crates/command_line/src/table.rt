@@ -206,11 +206,7 @@ pub const COMMANDS: [CommandRow; 8] = [
                 "how many calls each client makes, 0 to 10000 (default 100)",
                 Takes::Number(CALLS),
             ),
-            (
-                "seed",
-                "seed of the calls (default 0)",
-                Takes::Number(SEED),
-            ),
+            ("seed", "seed of the calls (default 0)", Takes::Number(SEED)),
         ],
     ),
     (
@@ -226,10 +222,7 @@ pub const COMMANDS: [CommandRow; 8] = [
         "divides a history of any length into shards, each a history of its own, by objects",
         &[
             HISTORY,
-            (
-                "FOLDER",
-                "the folder for the shards; created if missing",
-            ),
+            ("FOLDER", "the folder for the shards; created if missing"),
         ],
         &[(
             "shards",

@@ -15,7 +15,7 @@ use report::{Verdict, write_verdict};
 use std::alloc::{AllocError, Global};
 use std::thread::Threads;
 
-/// Writes the lines of a verdict, and gives the exit status.
+/// Writes the lines of a verdict, and returns the exit status.
 fn write_verdict_with_status<S: Sink>(verdict: &Verdict, sink: &mut S) -> u8
     requires working { S.broken sink.old ≡ false }
     ensures leaves { Leaves (IsVerdictOutput (λ v. v ≡ verdict.now))
@@ -27,7 +27,7 @@ fn write_verdict_with_status<S: Sink>(verdict: &Verdict, sink: &mut S) -> u8
     }
 }
 
-/// Judges two texts in memory, writes the verdict, and gives the exit status.
+/// Judges two texts in memory, writes the verdict, and returns the exit status.
 pub(crate) fn check_bytes<R: Threads + Sync, S: Sink>(
     rt: &R,
     alloc: Global,
@@ -51,7 +51,7 @@ pub(crate) fn check_bytes<R: Threads + Sync, S: Sink>(
     }
 }
 
-/// Judges two texts that come from sources, writes the verdict, and gives the exit status.
+/// Judges two texts that come from sources, writes the verdict, and returns the exit status.
 pub(crate) fn check_sources<R: Threads + Sync, H: Source, C: Source, S: Sink>(
     rt: &R,
     alloc: Global,

@@ -184,7 +184,7 @@ fn division_output(alloc: Global, division: &Division) -> Result<Output, AllocEr
     Ok(Output { status, text })
 }
 
-/// Divides a history, and gives the output.
+/// Divides a history, and returns the output.
 fn split_output<F: Source, D: Folder>(
     alloc: Global,
     history: &mut F,
@@ -211,7 +211,7 @@ fn split_output<F: Source, D: Folder>(
 }
 
 /// Divides the history that a source gives among this many shards, writes how many maps they have,
-/// and gives the exit status: 0; 2 if the history is malformed; 3 if a shard has more maps
+/// and returns the exit status: 0; 2 if the history is malformed; 3 if a shard has more maps
 /// than one text may have; 4 if the output failed. Only after 0 and 3 is it known that the
 /// folder has all maps.
 pub fn split_history<F: Source, D: Folder, S: Sink>(

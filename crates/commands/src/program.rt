@@ -31,7 +31,7 @@ fn no_output(alloc: Global) -> Output
 }
 
 /// Does the command on the bytes of its first and second file (empty if it has none), writes its
-/// output, and gives the exit status: 0 for yes, or if each object has a certificate; 1 for no,
+/// output, and returns the exit status: 0 for yes, or if each object has a certificate; 1 for no,
 /// or if an object is impossible; 2 if a text other than evidence is malformed or a client of
 /// a schedule has not ended; 3 if an allocation failed, a thread could not be started, some
 /// object stays open, no reason shows that the history is not linearizable, or evidence is

@@ -12,9 +12,9 @@ use judging::{history_of_text_by_workers, read_text};
 use std::alloc::Global;
 use std::thread::Threads;
 
-/// Judges the history in one text by the evidence in another, writes the lines, and gives the exit
-/// status. The history's text is read by this many workers. The evidence is read after
-/// the history, so that the finder can go on working meanwhile.
+/// Judges the history in one text by the evidence in another, writes the lines, and returns the
+/// exit status. The history's text is read by this many workers. The evidence is read after the
+/// history, so that the finder can go on working meanwhile.
 pub(crate) fn verify_sources<R: Threads + Sync, H: Source, E: Source, S: Sink>(
     rt: &R,
     alloc: Global,

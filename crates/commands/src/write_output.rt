@@ -8,7 +8,7 @@ use edn::{Failed, Sink, write_bytes};
 use history_commands::{Output, Status};
 use std::alloc::AllocError;
 
-/// Writes the lines, and gives the exit status.
+/// Writes the lines, and returns the exit status.
 fn send<S: Sink>(lines: &[u8], status: Status, sink: &mut S) -> u8
     requires working { S.broken sink.old ≡ false }
     requires not_failed { status ≢ Status.Failed }
@@ -21,7 +21,7 @@ fn send<S: Sink>(lines: &[u8], status: Status, sink: &mut S) -> u8
     }
 }
 
-/// Writes what was made, or says that an allocation failed, and gives the exit status.
+/// Writes what was made, or says that an allocation failed, and returns the exit status.
 pub(crate) fn write_output<S: Sink>(made: Result<Output, AllocError>, sink: &mut S) -> u8
     requires working { S.broken sink.old ≡ false }
     ensures leaves { Leaves (IsMade made)

@@ -1,9 +1,9 @@
 //! How long calls on a desk take.
 //!
 //! This many threads, each with a client of its own, make calls on one object. Printed are for each
-//! kind of object and number of threads the least time of a call in nanoseconds, over all rounds: the
-//! time of a whole round, through the number of its calls. The word is the number of rounds; with
-//! none there is one round of each, and no time is printed.
+//! kind of object and number of threads the least time of a call in nanoseconds, over all rounds:
+//! the time of a whole round, through the number of its calls. The word is the number of rounds;
+//! with none there is one round of each, and no time is printed.
 #![tactic(auto)]
 
 ghost use Rattle.std.specs.Prelude.{◌≡◌, ◌+◌, ◌<◌, length, IfOk};

@@ -91,7 +91,7 @@ impl<D: Supply + Drop> In<D> {
         matches!(self.failure, Some(ErrorKind::OutOfMemory))
     }
 
-    /// Gives the supply back.
+    /// Returns the supply.
     pub fn into_inner(self) -> D
         ensures { result ≡ supply_of self }
     {

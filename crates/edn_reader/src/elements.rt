@@ -156,7 +156,7 @@ impl<'a> Elements<'a> {
     }
 
     /// Reads the next element, or says that there is none. After an error what is left stays as it
-    /// was, and the next call answers the same, except for an allocation failure.
+    /// was, and the next call returns the same, except for an allocation failure.
     pub fn advance(&mut self) -> Result<bool, EdnFault>
         ensures reads { IfOk result (λ more.
             ReadsNext (keeping_in self.old) (left_of self.old) (tokens_in self.new)

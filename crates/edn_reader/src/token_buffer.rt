@@ -184,7 +184,7 @@ impl<'a> TokenBuffer<'a> {
         Ok(Some(self.remains))
     }
 
-    /// Reads the next element of a text, and gives what follows it, or none if there is no
+    /// Reads the next element of a text, and returns what follows it, or none if there is no
     /// element more. Of its tokens all are kept, or the beginning of each value if it is to be
     /// cut, and its integer vector if there is a key for it. After an error nothing is open, as
     /// before.

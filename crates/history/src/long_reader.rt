@@ -35,7 +35,7 @@ impl LongReader {
         }
     }
 
-    /// Takes in one more map, and gives its event, if it is a client's. The events that are given
+    /// Adds one more map, and returns its event, if it is a client's. The events that are given
     /// are in turn those of the maps, each with the place of its map as its number. There may be
     /// 4,294,967,295 maps, and one more is TooMany. After an allocation failure nothing is known of
     /// the reader, and after any other fault it is as it was.

@@ -52,7 +52,7 @@ impl<'a> MapReader<'a> {
     }
 
     /// What the next form says, or that there is none. After an error what is left stays as it was,
-    /// and the next call answers the same, except for an allocation failure.
+    /// and the next call returns the same, except for an allocation failure.
     #[inline(always)]
     pub fn advance(&mut self) -> Result<Option<OperationMap>, EdnFault>
         ensures reads { IfOk result (λ r. ReadsNext (left_in self.old) r (left_in self.new)) }

@@ -10,7 +10,7 @@ use crate::status::status_by;
 use history::History;
 use std::alloc::{AllocError, Global};
 
-/// What a command answers on an object of a history.
+/// The answer of a command for an object of a history.
 pub(crate) trait Answer {
     /// Whether no order is valid.
     ghost impossible: { Self → Bool };

@@ -65,7 +65,8 @@ impl Source for Pieces {
     }
 }
 
-/// Whether the texts are judged yes, its lines are written, and both sources are read to their ends.
+/// Whether the texts are judged yes, its lines are written, and both sources are read to their
+/// ends.
 fn is_yes<R: AllocGlobal + Threads + Sync, H: Source, C: Source>(
     rt: &R,
     history: &mut H,

@@ -49,9 +49,9 @@ fn history_in_pieces<R: Threads + Sync>(
     join_pieces(alloc, reads)
 }
 
-/// The history that a text denotes, or the first fault of the text, as `history_of_text` gives it.
-/// A text of 1 MB or more whose maps are in lines of their own is read by `workers` threads, at
-/// most 16, each a piece of it. With 0 or 1 it starts no thread.
+/// Returns the history that a text denotes, or the first fault of the text, as `history_of_text`
+/// does. A text of 1 MB or more whose maps are in lines of their own is read by `workers` threads,
+/// at most 16, each a piece of it. With 0 or 1 it starts no thread.
 pub fn history_of_text_by_workers<R: Threads + Sync>(
     rt: &R,
     alloc: Global,

@@ -41,8 +41,7 @@ impl From<AllocError> for ReadFault {
     }
 }
 
-/// The bytes that a source gives, to its end or to the limit. They are asked for in pieces of 64
-/// kB.
+/// Reads the bytes of a source, to its end or to the limit, in pieces of 64 kB.
 pub fn read_text<S: Source>(alloc: Global, source: &mut S) -> Result<Vec<u8>, ReadFault>
     requires { S.broken source.old ≡ false }
     ensures read { IfOk result (λ v.

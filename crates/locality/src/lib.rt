@@ -77,8 +77,9 @@ pub fn linearizable_has_orders()
         → (x : ℕ) → HasValidOrder kinds h x }
 {}
 
-/// What is linearizable here is linearizable as the text of Herlihy and Wing reads. The converse does
-/// not hold: an operation that is pending may there take effect before one that returned before it.
+/// What is linearizable here is linearizable as the text of Herlihy and Wing reads. The converse
+/// does not hold: an operation that is pending may there take effect before one that returned
+/// before it.
 pub fn linearizable_as_written()
     ensures { (kinds : ℕ → Kind) (h : List Event)
         → IsLinearizable kinds h

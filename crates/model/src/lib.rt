@@ -61,7 +61,7 @@ pub enum AnyOp {
     UnlockBy(i64),
 }
 
-/// What an operation answers.
+/// The reply of an operation.
 #[derive(Clone, Copy, Debug, PartialEq, Eq)]
 pub enum AnyReply {
     /// A value, or nil.

@@ -46,7 +46,7 @@ impl Places {
     }
 }
 
-/// What a client keeps itself, beside its seat at the table and its number.
+/// What a client keeps itself, in addition to its seat at the table and its number.
 #[derive(Drop)]
 pub(crate) struct Member<O, R> {
     pub calls: u32,

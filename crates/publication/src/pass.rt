@@ -79,7 +79,7 @@ impl<S: SeqObject> Pass<S> {
         }
     }
 
-    /// Counts a pass, and gives its number, which stays at 2^64 - 1 once it is there. `set_age`
+    /// Counts a pass, and returns its number, which stays at 2^64 - 1 once it is there. `set_age`
     /// gives it to rows.
     pub fn count_pass(&mut self) -> u64
         ensures counted { self.new
@@ -135,7 +135,7 @@ impl<S: SeqObject> Hand<S> {
         can_do(&self.core, &self.request.op)
     }
 
-    /// Does the operation, logs it, and answers the request. If an allocation fails it answers
+    /// Applies the operation, logs it, and answers the request. If an allocation fails it answers
     /// Refused, and nothing is done or logged.
     pub fn answer(self, desk: &Desk<S>) -> (Pass<S>, Answer<S::Reply>)
         requires desk { self.desk ≡ desk.now.id }

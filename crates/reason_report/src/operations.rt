@@ -44,7 +44,7 @@ fn op_in(other: AnyOp, event: Option<Event>) -> AnyOp
     }
 }
 
-/// The reply that the event gives, or else the other one.
+/// Returns the reply of the event, or otherwise the other one.
 fn reply_in(other: AnyReply, event: Option<Event>) -> AnyReply
     ensures { result ≡ spec.reply_in other event }
 {

@@ -8,8 +8,8 @@ use seq_objects::SeqObject;
 use std::marker::Model;
 
 /// The journals of the clients and the logs of the objects, each by number. No ticket is in the
-/// journals twice, all tickets are below 640,000, each object that a journal names has a log, and in
-/// order of tickets the events of the journals are a proper history.
+/// journals twice, all tickets are below 640,000, each object that a journal names has a log, and
+/// in order of tickets the events of the journals are a proper history.
 #[derive(Drop)]
 pub struct Record<S: SeqObject> {
     journals: Vec<Vec<JournalEvent<S::Op, S::Reply>>>,

@@ -1,7 +1,8 @@
 //! Refutations: small reasons why no order of an object's operations is valid, from any source, as
 //! text and in memory, and their check.
 //!
-//! The text of a reason is one map, as `{:object 0, :cuts [{:until 120} {:keep [1 2], :numbers [4 7]}]}`.
+//! The text of a reason is one map, as
+//! `{:object 0, :cuts [{:until 120} {:keep [1 2], :numbers [4 7]}]}`.
 #![tactic(auto)]
 
 mod all;

@@ -57,7 +57,8 @@ fn doubt_of_search(alloc: Global, part: &ObjectHistory, trial: Trial, limit: u64
     }
 }
 
-/// What the count answers of a part; `None`: it is exceeded, so that no order of the part is valid.
+/// Counts over a part. Returns None if the count is exceeded, so that no order of the part is
+/// valid.
 fn doubt_of_count(part: &ObjectHistory, count: Count) -> Option<Doubt>
     ensures exceeded { result ≡ None → IsShownBy (Basis.Counting count) part.now }
     ensures shown { result ≡ None → IsNoneValid part.now.kind (calls_of part.now.ops) }
@@ -69,8 +70,8 @@ fn doubt_of_count(part: &ObjectHistory, count: Count) -> Option<Doubt>
     Some(Doubt::NotExceeded)
 }
 
-/// What the count of what was ahead of a removal answers of a part; `None`: it is exceeded, so that
-/// no order of the part is valid.
+/// Counts what was ahead of a removal in a part. Returns None if the count is exceeded, so that no
+/// order of the part is valid.
 fn doubt_of_ahead(part: &ObjectHistory, number: u32, from: u32) -> Option<Doubt>
     ensures exceeded { result ≡ None → IsShownBy (Basis.Ahead number from) part.now }
     ensures shown { result ≡ None → IsNoneValid part.now.kind (calls_of part.now.ops) }
@@ -82,7 +83,7 @@ fn doubt_of_ahead(part: &ObjectHistory, number: u32, from: u32) -> Option<Doubt>
     Some(Doubt::NotExceeded)
 }
 
-/// What the basis answers of a part; `None`: it shows that no order of the part is valid.
+/// Checks a basis on a part. Returns None if it shows that no order of the part is valid.
 fn doubt_of(alloc: Global, part: &ObjectHistory, basis: Basis, limit: u64) -> Option<Doubt>
     ensures basis { result ≡ None → IsShownBy basis part.now }
     ensures shown { result ≡ None → IsNoneValid part.now.kind (calls_of part.now.ops) }

@@ -1,4 +1,4 @@
-//! What a search answers.
+//! The answers of a search.
 
 use certificate::Certificate;
 

@@ -1,8 +1,9 @@
 //! The bounded search: for an order of the operations of one object, and for certificates, an order
 //! for each object of a history, or the answer that none is valid.
 //!
-//! It is the search of Wing and Gong, "Testing and Verifying Concurrent Objects", Journal of Parallel
-//! and Distributed Computing 17, 1993: depth first, over objects whose operations can be undone.
+//! It is the search of Wing and Gong, "Testing and Verifying Concurrent Objects", Journal of
+//! Parallel and Distributed Computing 17, 1993: depth first, over objects whose operations can be
+//! undone.
 #![tactic(auto)]
 
 mod all;

@@ -1,5 +1,5 @@
-//! The bounded search when nothing is said of which operation it tries first, on texts whose answers
-//! and steps are known.
+//! The bounded search when nothing is said of which operation it tries first, on texts whose
+//! answers and steps are known.
 
 use events::{History, ObjectHistory, split};
 use history::read_history_text;

@@ -25,7 +25,7 @@ pub enum MapOp {
     Dissoc(i64),
 }
 
-/// What a map answers.
+/// The reply of a map.
 #[derive(Clone, Copy, Debug, PartialEq, Eq)]
 pub enum MapReply {
     /// The value that the key had before; none if it had none, or the operation tells none.

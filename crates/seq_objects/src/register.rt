@@ -40,7 +40,7 @@ impl RegisterOp {
     }
 }
 
-/// What a register answers.
+/// The reply of a register.
 #[derive(Clone, Copy, Debug, PartialEq, Eq)]
 pub enum RegisterReply {
     /// The value that was written or read; none if nothing is there.

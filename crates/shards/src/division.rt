@@ -1,4 +1,4 @@
-//! What dividing a history gives.
+//! The result of dividing a history.
 
 /// An object with more maps of clients than a text may have, and their number.
 #[derive(Clone, Copy, Debug, PartialEq, Eq)]

@@ -44,7 +44,7 @@ fn divide_piece(alloc: Global, divider: &mut Divider, pieces: &mut Pieces) -> Re
     }
 }
 
-/// Divides the last piece, and gives to the folder all that waits.
+/// Divides the last piece, and writes all that waits to the folder.
 fn divide_last<D: Folder>(
     alloc: Global,
     divider: &mut Divider,
@@ -113,10 +113,11 @@ pub fn split_by_pieces<F: Source, D: Folder>(
 
 /// Divides a history of any length among this many shards: object x is in shard
 /// (x / 65536 + x % 65536) mod `shards`, and has the name x % 65536 there. The source is read once,
-/// to its end. Writes each map of a client to the folder, spelled with its object's name in the shard, and its
-/// number in the full history. (Tests, not a clause, show that the bytes are otherwise unchanged,
-/// without the separators and comments before them.) Returns the number of maps of each shard, and
-/// the objects with more maps than a text may have. After a fault the folder has some of the maps.
+/// to its end. Writes each map of a client to the folder, spelled with its object's name in the
+/// shard, and its number in the full history. (Tests, not a clause, show that the bytes are
+/// otherwise unchanged, without the separators and comments before them.) Returns the number of
+/// maps of each shard, and the objects with more maps than a text may have. After a fault the
+/// folder has some of the maps.
 ///
 /// The memory depends on the shards, on the processes and objects that are named, and on the
 /// longest piece of the text without a line feed between two maps. A piece of more than 268,435,456

@@ -51,7 +51,7 @@ impl Waiting {
         Ok(())
     }
 
-    /// Gives all lines to the folder, if those of maps have at least this many bytes.
+    /// Writes all lines to the folder, if those of maps have at least this many bytes.
     pub fn flush<D: Folder>(
         &mut self,
         folder: &mut D,

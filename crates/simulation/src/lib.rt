@@ -1,5 +1,5 @@
 //! Schedules, the steps of clients of a machine as a text has them, and what they lead to: the
-//! machine that a schedule asks for takes its steps, and hands out its record.
+//! machine that a schedule asks for takes its steps, and returns its record.
 #![tactic(auto)]
 
 mod fault;

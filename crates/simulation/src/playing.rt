@@ -57,7 +57,7 @@ pub fn machine_of(alloc: Global, header: &Header) -> Result<Machine<AnyObject>, 
     Machine::new(alloc, objects, header.clients, header.quota)
 }
 
-/// Takes the steps of the schedule, and hands out the record once all clients have ended.
+/// Takes the steps of the schedule, and returns the record once all clients have ended.
 pub fn play(alloc: Global, schedule: &Schedule) -> Result<Played, PlayFault>
     requires { IsWithin schedule.now.header }
     ensures played { IfOk result (λ p.

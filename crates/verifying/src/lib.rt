@@ -1,6 +1,6 @@
 //! A decision on each object of a history by claims: an order that was checked, a reason that was
-//! checked, or the answer of the bounded search for which a claim asks. Claims are read from a text,
-//! and nothing is assumed of them.
+//! checked, or the answer of the bounded search for which a claim asks. Claims are read from a
+//! text, and nothing is assumed of them.
 #![tactic(auto)]
 
 mod all;

@@ -6,8 +6,8 @@ ghost use Rattle.projection.specs.Kinds.Map as spec;
 use crate::touches::{Leave, Need, Touch};
 use seq_objects::{AnyOp, AnyReply};
 
-/// What an operation with this reply does to the cell of the key. No reply: what it does if it takes
-/// effect. `None`: nothing, or it has no such reply.
+/// What an operation with this reply does to the cell of the key. No reply: what it does if it
+/// takes effect. `None`: nothing, or it has no such reply.
 pub(crate) fn map_touch(key: i64, op: AnyOp, reply: Option<AnyReply>) -> Option<Touch>
     ensures { result ≡ spec.map_touch key op reply }
 {
