@@ -10,8 +10,8 @@
  *     recorder_close(&recorder);
  *
  * An atomic counter gives a ticket before each call and one after it. A thread writes into its own
- * journal and takes no lock. The events in the order of their tickets are the history: where one call
- * returned before another was invoked in the history, it did so in fact. So a history that is not
+ * journal and takes no lock. The events in the order of their tickets are the history: if it shows one
+ * call returning before another was invoked, that is what happened. So a history that is not
  * linearizable shows that the object is not.
  *
  * Calls that never overlap show no fault. So after one ticket of an invocation in eight the thread
@@ -21,9 +21,9 @@
  * The recorder owns the journals, so use them by their addresses: a copy of one takes its calls with
  * it, and recorder_text gives NULL then.
  *
- * The reply of enqueue, push, insert and write is their argument: where the reply is nil, the argument
- * is written, and recorder_text gives NULL where it is anything else. The reply of cas is its pair where
- * it swapped, else fcbench_false(). That of put and del is what was there before, or nil where nothing
+ * The reply of enqueue, push, insert and write is their argument: if the reply is nil, the argument
+ * is written, and recorder_text gives NULL if it is anything else. The reply of cas is its pair if
+ * it swapped, else fcbench_false(). That of put and del is what was there before, or nil if nothing
  * was: a store that does not tell it has assoc and dissoc, whose reply is nil. So is that of clear,
  * acquire, release, lock and unlock. That of add, remove, contains, create, put-if-absent and replace is
  * fcbench_truth of what the call says, and that of fetch-add the number before.
@@ -32,14 +32,14 @@
  * found, which is a get then. Invoke it as put-if-absent, since if it times out, it may have put, and end
  * it with journal_return_as.
  *
- * An empty queue is a reply and no failure: where the dequeue finds nothing, return fcbench_nil().
+ * An empty queue is a reply, not a failure: if the dequeue finds nothing, return fcbench_nil().
  *
- * A call that does not return, as one that timed out, may have happened or may still happen: its
+ * A call that does not return, such as one that timed out, may have happened or may still happen: its
  * operation ends with :info. A thread that goes on after such a call does so as a new process, as
- * Jepsen's threads do, and says so with journal_give_up. Use journal_fail only where the call definitely
+ * Jepsen's threads do, and says so with journal_give_up. Use journal_fail only if the call definitely
  * did not happen: if a call that timed out is written as failed, a correct queue gets a no.
  *
- * Needs C11 and sched_yield of POSIX. Where an allocation fails the program ends: a history with a gap would be worth nothing. */
+ * Needs C11 and sched_yield of POSIX. If an allocation fails the program ends: a history with a gap would be worth nothing. */
 #ifndef FCBENCH_RECORDER_H
 #define FCBENCH_RECORDER_H
 
@@ -125,7 +125,7 @@ static inline void recorder_close(struct recorder *recorder) {
     free(recorder->journals);
 }
 
-/* Call it where the call may have happened, or may still happen, as after a timeout, and the thread goes on: it does so as another
+/* Call it if the call may have happened, or may still happen, as after a timeout, and the thread goes on: it does so as another
  * process. */
 static inline void journal_give_up(struct journal *journal) {
     journal->process += journal->recorder->threads;
@@ -142,7 +142,7 @@ static inline uint64_t recorder_mixed(uint64_t ticket) {
     return (ticket * UINT64_C(0x9E3779B97F4A7C15)) >> 32;
 }
 
-/* Call it just before the call. It gives the number of the call in this journal. Where the call before is not ended, it is given up. */
+/* Call it just before the call. It gives the number of the call in this journal. If the call before is not ended, it is given up. */
 static inline size_t journal_invoke(struct journal *journal, uint16_t object, const char *function, struct fcbench_value argument) {
     if (journal_is_pending(journal))
         journal_give_up(journal);
@@ -171,12 +171,12 @@ static inline void journal_return(struct journal *journal, size_t call, struct f
     journal_end(journal, call, RECORDED_OK, reply);
 }
 
-/* Call it only where the call definitely did not happen. A timeout is journal_give_up. */
+/* Call it only if the call definitely did not happen. A timeout is journal_give_up. */
 static inline void journal_fail(struct journal *journal, size_t call) {
     journal_end(journal, call, RECORDED_FAIL, fcbench_nil());
 }
 
-/* As journal_return, where it is known only now what the call was: its invocation is written with this function and argument. */
+/* Like journal_return, if it is known only now what the call was: its invocation is written with this function and argument. */
 static inline void journal_return_as(struct journal *journal, size_t call, const char *function, struct fcbench_value argument,
                                      struct fcbench_value reply) {
     journal_end(journal, call, RECORDED_OK, reply);
@@ -192,7 +192,7 @@ static inline void journal_return_as(struct journal *journal, size_t call, const
         journal_return((journal), journal_call_, journal_reply_);                                      \
     } while (0)
 
-/* Makes a call that may fail, and records it: `is_done` is an expression that makes the call and is 0 only where it definitely did not
+/* Makes a call that may fail, and records it: `is_done` is an expression that makes the call and is 0 only if it definitely did not
  * happen. Otherwise `reply` is looked at afterwards. */
 #define JOURNAL_TRY_CALL(journal, object, function, argument, is_done, reply)                          \
     do {                                                                                               \
@@ -310,7 +310,7 @@ static inline uint64_t recorded_end(const struct journal *journal, size_t call, 
 }
 
 /* How much the calls overlapped: the share that overlapped another one, from 0 to 1, and in `*at_once` how many were outstanding at once
- * at most. Where the share is small, the history could hardly have failed. */
+ * at most. If the share is small, the history could hardly have failed. */
 static inline double recorder_overlap(const struct recorder *recorder, size_t *at_once) {
     uint64_t tickets = atomic_load(&recorder->tickets);
     size_t calls = 0, overlapping = 0, *begun = recorder_memory(NULL, 2 * (tickets + 1) * sizeof *begun), *over = begun + tickets + 1;
@@ -340,8 +340,8 @@ static inline double recorder_overlap(const struct recorder *recorder, size_t *a
 }
 
 /* The history, after all threads have ended: each event at the place of its ticket, and a zero byte after the text. The
- * caller frees it. Where events are missing, since a journal was copied, the text is NULL and `*length` is how many: without them a
- * correct object could get a no. Where a reply is to be the argument of its call and is not, the text is NULL and `*length` is 0. */
+ * caller frees it. If events are missing, since a journal was copied, the text is NULL and `*length` is how many: without them a
+ * correct object could get a no. If a reply is to be the argument of its call and is not, the text is NULL and `*length` is 0. */
 static inline char *recorder_text(struct recorder *recorder, size_t *length) {
     uint64_t tickets = atomic_load(&recorder->tickets);
     struct recorder_event *events = recorder_events(recorder, tickets, length);

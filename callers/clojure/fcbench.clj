@@ -9,11 +9,11 @@
   A history is a sequence of operation maps, as Jepsen has it in memory or in history.edn of its store. The program's command import
   makes a text of them, with one map for each operation, in its place, and its command judge tells the answer in the words of the history.
 
-  A verdict is of what the history says. Where it is not plain what an operation says, as a :cas that replies nil, nothing is
+  A verdict is of what the history says. If it is not plain what an operation says, as a :cas that replies nil, nothing is
   assumed: :valid? is :unknown, and the reason names the operation.
 
   Options of profile, check and checker:
-    :independent?   values are tuples [key value] of jepsen.independent, also where they are plain vectors, as in a file
+    :independent?   values are tuples [key value] of jepsen.independent, even if they are plain vectors, as in a file
     :fail-is-reply  which failed operations are replies of nil, or of a :cas of false: a predicate of such an operation; or true,
                     by which it is one if its :error is :empty or :not-found
     :initial        what registers contain at first: {object value}, or one value for all
@@ -21,7 +21,7 @@
   Options of check and checker:
     :steps          the most steps of the last search for each object
     :seconds        when the search stops, and the history is judged by what was found
-    :draw, :always  a file for the page of fcbench draw, written where :valid? is not true, or always"
+    :draw, :always  a file for the page of fcbench draw, written if :valid? is not true, or always"
   (:require [clojure.edn :as edn]
             [clojure.java.io :as io]
             [clojure.java.shell :as shell]
@@ -37,14 +37,14 @@
   (throw (ex-info (apply str words) {::refused true})))
 
 (defn- index-of
-  "The :index of an operation, where it is not its place in the history."
+  "The :index of an operation, if it is not its place in the history."
   [place op]
   (let [index (:index op)]
     (when (and (integer? index) (not= index place))
       index)))
 
 (defn- places-words
-  "These places of the history, and each :index where one differs."
+  "These places of the history, and each :index if one differs."
   [history numbers]
   (let [places (map #(Long/parseLong %) numbers)
         operations (map #(get history %) places)
@@ -88,7 +88,7 @@
   (not (keyword? process)))
 
 (defn- with-error
-  "The operation with the error by which import knows a failed one that is a reply: where a predicate says so, with that of an empty
+  "The operation with the error by which import knows a failed one that is a reply: if a predicate says so, with that of an empty
   content, and otherwise with its own."
   [fail-is-reply {:keys [type] :as op}]
   (if (ifn? fail-is-reply)
@@ -115,7 +115,7 @@
   (into (sorted-map) (keep (fn [entry] (when (contains? entry sort) [(entry sort) (:is entry)]))) table))
 
 (defn- imported
-  "Lets the program write a text of the history and a table of names into this folder. It throws where an operation can't be judged."
+  "Lets the program write a text of the history and a table of names into this folder. It throws if an operation can't be judged."
   [{:keys [independent? fail-is-reply initial] :as options} history folder]
   (let [[operations names text] (map #(io/file folder %) ["operations.edn" "names.edn" "history.edn"])
         flags (concat (when fail-is-reply ["--fail-is-reply"])
@@ -138,7 +138,7 @@
 (defn profile
   "The text that fcbench judges, as its command import makes it, and its :warning, if it has one; :keys and :values, which have by its
   number each key, object or value that has got one; and :before, how many maps of initial values are before the first operation. It
-  throws where an operation can't be judged."
+  throws if an operation can't be judged."
   ([history] (profile history {}))
   ([history options] (with-folder #(imported options history %))))
 
@@ -214,7 +214,7 @@
   (when steps ["--steps" steps]))
 
 (defn- validity
-  "What the exit status says, where the lines say the same: so no other program's status is taken for a verdict. It is nil where
+  "What the exit status says, if the lines say the same: so no other program's status is taken for a verdict. It is nil if
   the lines are none of fcbench."
   [exit out]
   (cond
@@ -231,7 +231,7 @@
      :reason (into (if (nil? valid?) [(strange options exit)] []) (lines-of history (str out err)))}))
 
 (defn- with-page
-  "The answer, and the page where one is asked for."
+  "The answer, and the page if one is asked for."
   [{:keys [draw always] :as options} folder answer]
   (if (and draw (or always (not (true? (:valid? answer)))))
     (let [{:keys [exit out]} (apply run options "draw" (concat (limits options) ["--names" (io/file folder "names.edn") (io/file folder "history.edn")]))]
@@ -247,7 +247,7 @@
 
 (defn check
   "What a checker says of a history: :valid? is true, false or :unknown, and :reason the lines that say why. :keys and :values
-  have what has got a number, and :drawn is the file of the page. Where an operation of a line has an :index that is not its place
+  have what has got a number, and :drawn is the file of the page. If an operation of a line has an :index that is not its place
   in the history, the line says it too."
   [{:keys [program] :as options} _test history _opts]
   (try
@@ -267,16 +267,16 @@
 ;; The checker
 
 (defprotocol Checker
-  "What jepsen.checker/Checker is, where Jepsen is not on the path."
+  "What jepsen.checker/Checker is, if Jepsen is not on the path."
   (check-history [checker test history opts]))
 
 (defn- resolved
-  "What this symbol names, where its namespace is on the path."
+  "What this symbol names, if its namespace is on the path."
   [it]
   (try (requiring-resolve it) (catch IOException _ nil)))
 
 (defn- in-store
-  "The options with the page in the test's folder of Jepsen's store, where there is one."
+  "The options with the page in the test's folder of Jepsen's store, if there is one."
   [{:keys [draw] :as options} test {:keys [subdirectory]}]
   (let [path (when (and draw (not (.isAbsolute (io/file draw)))) (resolved 'jepsen.store/path))]
     (if path
@@ -285,7 +285,7 @@
       options)))
 
 (defn checker
-  "A checker: of jepsen.checker/Checker where Jepsen is on the path, else of Checker above. A page is drawn in the store of the test."
+  "A checker: of jepsen.checker/Checker if Jepsen is on the path, else of Checker above. A page is drawn in the store of the test."
   ([] (checker {}))
   ([options]
    (let [ask (fn [test history opts] (check (in-store options test opts) test history opts))]

@@ -252,7 +252,7 @@
     (is (string/starts-with? (page) "<!DOCTYPE html>"))
     (is (= {:valid? false, :drawn (.getPath file)} (dissoc (judged (stored old-read) draw) :reason)))
     (is (string/includes? (page) "impossible"))
-    ;; In the store of the test, and as it is said where the test has none.
+    ;; In the store of the test, and as it is said if the test has none.
     (let [store (.getParentFile file)
           it (fcbench/checker {:program program, :draw "page.html"})
           absolute (fcbench/checker {:program program, :draw (io/file file)})]
@@ -363,7 +363,7 @@
     (is (= ["object 0: impossible" "value 2 was read and never written; event 4 (:index 6) is the first that leaves no order"
             "events 3 and 4 (:index 5 and 6): process 0, :read nil, :ok 2"]
            (butlast (:reason (judged (of-key "y" history))))))
-    ;; The same in one run, where it is given tuples.
+    ;; The same in one run, if it is given tuples.
     (is (= ["object 1, which is \"y\": impossible" "value 2 was read and never written; event 6 is the first that leaves no order"
             "events 5 and 6: process 0, :read nil, :ok 2"]
            (butlast (:reason (judged history)))))))

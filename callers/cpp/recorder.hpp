@@ -11,17 +11,17 @@
 //     const std::string text = recorder.history(journals);
 //
 // An atomic counter gives a ticket before each call and one after it. A thread writes into its own journal and takes no
-// lock. The events in the order of their tickets are the history: where one call returned before another was invoked in the
-// history, it did so in fact. So a history that is not linearizable shows that the object is not.
+// lock. The events in the order of their tickets are the history: if it shows one call returning before another was
+// invoked, that is what happened. So a history that is not linearizable shows that the object is not.
 //
 // Calls that never overlap show no fault. So after one ticket of an invocation in eight the thread yields, which leaves room for
 // another thread: `fcbench::Recorder recorder(false)` turns this off. `overlap` says how much the calls of the journals overlapped.
 //
 // A journal that is destroyed, or not handed to `history`, takes its calls with it: `history` throws std::logic_error then.
 //
-// The reply of enqueue, push, insert and write is their argument: where the call gives nothing, it is written. `history` throws
-// where the call gives anything else, as a length. The reply of cas is its pair where it swapped, else Value::no(). That of put and
-// del is what was there before, or std::nullopt where nothing was: a store that does not tell it has assoc and dissoc, whose reply is
+// The reply of enqueue, push, insert and write is their argument: if the call returns nothing, it is written. `history` throws
+// if the call returns anything else, such as a length. The reply of cas is its pair if it swapped, else Value::no(). That of put and
+// del is what was there before, or std::nullopt if nothing was: a store that does not tell it has assoc and dissoc, whose reply is
 // nothing. So is that of clear, acquire, release, lock and unlock. That of add, remove, contains, create, put-if-absent and replace is
 // Value::truth of what the call says, and that of fetch-add the number before.
 //
@@ -29,11 +29,11 @@
 // `invoke` it as put-if-absent, since if it times out, it may have put, and end it with
 // returned_as("put-if-absent", {k, v}, Value::truth(true)) or returned_as("get", k, found).
 //
-// An empty queue is a reply and no failure, so use `call` for `bool try_pop(int &out)`:
+// An empty queue is a reply, not a failure, so use `call` for `bool try_pop(int &out)`:
 //     journal.call("dequeue", std::nullopt, [&] { int out; return queue.try_pop(out) ? std::optional(out) : std::nullopt; });
 //
-// A call that does not return, as one that throws or times out, may have happened: its operation ends with :info, and the
-// journal goes on as a new process, as Jepsen's threads do. Use `failed` and the false of `try_call` only where the call definitely
+// A call that does not return, such as one that throws or times out, may have happened: its operation ends with :info, and the
+// journal goes on as a new process, as Jepsen's threads do. Use `failed` and the false of `try_call` only if the call definitely
 // did not happen: if a call that timed out is written as failed, a correct queue gets a no.
 #ifndef FCBENCH_RECORDER_HPP
 #define FCBENCH_RECORDER_HPP
@@ -72,7 +72,7 @@ public:
     Value(std::optional<T> number) : text_(number ? digits(*number) : "nil") {}
 
     template <class T, if_bool<T> = 0>
-    Value(T) = delete; // a bool is no argument or reply: give the number of your element, `no` where a cas did not swap, or `truth`
+    Value(T) = delete; // a bool is no argument or reply: give the number of your element, `no` if a cas did not swap, or `truth`
 
     template <class T, class U, if_number<T> = 0, if_number<U> = 0>
     Value(T first, U second) : text_("[" + digits(first) + " " + digits(second) + "]") {}
@@ -152,7 +152,7 @@ public:
         return call_on(0, function, std::move(argument), act);
     }
 
-    // Makes a call that may fail, and records it. `act` gives what is false only where the call definitely did not happen: a
+    // Makes a call that may fail, and records it. `act` gives what is false only if the call definitely did not happen: a
     // std::optional of the reply, or a pointer to it, or a bool. A true has no reply, so a bool is for the functions alone whose
     // reply is known: enqueue, push, insert, write, and those of `is_silent`. Otherwise the call is not made and std::logic_error thrown.
     template <class Act>
@@ -178,8 +178,8 @@ public:
         return try_call_on(0, function, std::move(argument), act);
     }
 
-    // Call it just before a call, where `call` does not suit, as in asynchronous code. Then call one of `returned`, `failed` and
-    // `gave_up`; where there is none before the next `invoke`, it is `gave_up`.
+    // Call it just before a call, if `call` does not suit, as in asynchronous code. Then call one of `returned`, `failed` and
+    // `gave_up`; if there is none before the next `invoke`, it is `gave_up`.
     void invoke(std::uint16_t object, const char *function, Value argument) {
         if (is_pending_) {
             gave_up();
@@ -210,7 +210,7 @@ public:
 
     void returned() { returned(Value::not_given()); }
 
-    // As `returned`, where it is known only now what the call was: its invocation is written with this function and argument.
+    // Like `returned`, if it is known only now what the call was: its invocation is written with this function and argument.
     void returned_as(const char *function, Value argument, Value reply) {
         const std::uint64_t ticket = ended();
         events_.back().function = function;
@@ -218,10 +218,10 @@ public:
         end(ticket, "ok", std::move(reply));
     }
 
-    // Call it only where the call definitely did not happen: it is written with :fail. A timeout is `gave_up`.
+    // Call it only if the call definitely did not happen: it is written with :fail. A timeout is `gave_up`.
     void failed() { end(ended(), "fail", std::nullopt); }
 
-    // Call it where the call may have happened, or may still happen, as after a timeout: it is written with :info, and what
+    // Call it if the call may have happened, or may still happen, as after a timeout: it is written with :info, and what
     // follows is of another process.
     void gave_up() {
         const std::uint64_t ticket = ended();
@@ -265,7 +265,7 @@ private:
         return false;
     }
 
-    // Throws where the reply of a call is missing, or is to be its argument and is not.
+    // Throws if the reply of a call is missing, or is to be its argument and is not.
     void want_replies() const {
         for (std::size_t at = 1; at < events_.size(); at++) {
             const Event &call = events_[at - 1], &end = events_[at];
@@ -318,7 +318,7 @@ public:
         std::size_t at_once = 0;
     };
 
-    // How much the calls of these journals overlapped. Where the share is small, the history could hardly have failed.
+    // How much the calls of these journals overlapped. If the share is small, the history could hardly have failed.
     static Overlap overlap(const std::vector<Journal> &journals) {
         std::vector<const Event *> events;
         for (const Journal &journal : journals) {
@@ -351,7 +351,7 @@ public:
     }
 
     // The history, after all threads have ended: each event at the place of its ticket. It takes all journals: without the calls
-    // of one of them a correct object could get a no. So it throws where some are missing, also those of a history made before.
+    // of one of them a correct object could get a no. So it throws if some are missing, also those of a history made before.
     std::string history(std::vector<Journal> &journals) {
         for (Journal &journal : journals) {
             if (journal.tickets_ != &tickets_) {

@@ -37,7 +37,7 @@ TIED = ("setpriv", "--pdeathsig", "KILL")
 
 
 def find(program, stem, steps):
-    """Looks for the evidence of the shard in `stem.edn`. Returns it, or None where the shard is malformed, and what the finder says.
+    """Looks for the evidence of the shard in `stem.edn`. Returns it, or None if the shard is malformed, and what the finder says.
     Workers do this."""
     line = [program, "find", f"{stem}.edn", "--places", f"{stem}.places", "--workers", "1", *steps]
     if shutil.which(TIED[0]):

@@ -15,7 +15,7 @@ import (
 	"unsafe"
 )
 
-// Steps stands for as many steps as the program takes where it is given none: 1,000,000; of a judgement 100 for each operation of the
+// Steps stands for as many steps as the program takes if it is given none: 1,000,000; of a judgement 100 for each operation of the
 // object if that is more.
 const Steps = 1<<32 - 1
 
@@ -83,13 +83,13 @@ func Judge(history string) Answer {
 	return JudgeWithSteps(history, Steps)
 }
 
-// JudgeWithSteps judges a history, where the last search takes at most this many steps for each object.
+// JudgeWithSteps judges a history, with at most this many steps of the last search for each object.
 func JudgeWithSteps(history string, steps uint32) Answer {
 	return whole(func(out []byte) (Verdict, int) { return JudgeInto([]byte(history), steps, out) })
 }
 
-// JudgeInto judges a history, where the last search takes at most this many steps for each object, and writes the lines into a buffer.
-// They are cut where it is too small. It also gives how long they are.
+// JudgeInto judges a history, with at most this many steps of the last search for each object, and writes the lines into a buffer.
+// They are cut if it is too small. It also gives how long they are.
 func JudgeInto(history []byte, steps uint32, out []byte) (Verdict, int) {
 	var needed C.size_t
 	text, length := bytesOf(history)
@@ -110,7 +110,7 @@ func Check(history, certificates string) Answer {
 	})
 }
 
-// Find finds certificates: where it is a yes, the lines are their text.
+// Find finds certificates: if it is a yes, the lines are their text.
 func Find(history string) Answer {
 	text, length := bytesOf([]byte(history))
 	return whole(func(out []byte) (Verdict, int) {
@@ -126,7 +126,7 @@ func Refute(history, reasons string) Answer {
 	return RefuteWithSteps(history, reasons, Steps)
 }
 
-// RefuteWithSteps checks reasons, where the search of a part takes at most this many steps.
+// RefuteWithSteps checks reasons, with at most this many steps of the search of a part.
 func RefuteWithSteps(history, reasons string, steps uint32) Answer {
 	text, length := bytesOf([]byte(history))
 	why, count := bytesOf([]byte(reasons))

@@ -17,18 +17,18 @@ import (
 //	// after the goroutines have ended:
 //	text := recorder.History(journals)
 //
-// An atomic counter gives a ticket before each call and one after it. A goroutine writes into its own journal and takes no lock.
-// The events in the order of their tickets are the history: where one call returned before another was invoked in the
-// history, it did so in fact. So a history that is not linearizable shows that the object is not.
+// An atomic counter gives a ticket before each call and one after it. A goroutine writes into its own journal and takes
+// no lock. The events in the order of their tickets are the history: if it shows one call returning before another was
+// invoked, that is what happened. So a history that is not linearizable shows that the object is not.
 //
 // A journal that is not handed to History takes its calls with it: History panics then.
 //
 // Calls that never overlap show no fault. So after one ticket of an invocation in eight the goroutine yields, which leaves room for
 // another: NoYields turns this off. Overlap says how much the calls of the journals overlapped.
 //
-// The reply of enqueue, push, insert and write is their argument: where the call gives Nil, the argument is written. History panics
-// where the call gives anything else, as a length. The reply of cas is its pair where it swapped, else False. That of put and del is
-// what was there before, or Nil where nothing was: a store that does not tell it has assoc and dissoc, whose reply is Nil. So is that of
+// The reply of enqueue, push, insert and write is their argument: if the call gives Nil, the argument is written. History panics
+// if the call returns anything else, such as a length. The reply of cas is its pair if it swapped, else False. That of put and del is
+// what was there before, or Nil if nothing was: a store that does not tell it has assoc and dissoc, whose reply is Nil. So is that of
 // clear, acquire, release, lock and unlock. That of add, remove, contains, create, put-if-absent and replace is Truth of what the call
 // says, and that of fetch-add the number before.
 //
@@ -36,10 +36,10 @@ import (
 // Invoke it as put-if-absent, since if it times out, it may have put, and end it with ReturnedAs("put-if-absent", Pair(k, v), True) or
 // ReturnedAs("get", Number(k), Number(found)).
 //
-// An empty queue is a reply and no failure: where Dequeue gives (int64, bool), give Nil where the bool is false, and use Call.
+// An empty queue is a reply, not a failure: if Dequeue gives (int64, bool), give Nil if the bool is false, and use Call.
 //
-// A call that does not return, as one that panics or times out, may have happened: its operation ends with :info, and the
-// journal goes on as a new process, as Jepsen's threads do. Use Failed and an error of TryCall only where the call definitely did not
+// A call that does not return, such as one that panics or times out, may have happened: its operation ends with :info, and the
+// journal goes on as a new process, as Jepsen's threads do. Use Failed and an error of TryCall only if the call definitely did not
 // happen: if a call that timed out is written as failed, a correct queue gets a no.
 type Recorder struct {
 	// NoYields says that no goroutine yields between the ticket of an invocation and the call.
@@ -70,7 +70,7 @@ type Value struct {
 }
 
 var (
-	// Nil is nothing, as the argument of dequeue, and its reply where the queue is empty.
+	// Nil is nothing, as the argument of dequeue, and its reply if the queue is empty.
 	Nil = Value{shape: isNil}
 	// False is the reply of a cas that found another value, or of a question that is not so.
 	False = Value{shape: isFalse}
@@ -147,12 +147,12 @@ func (j *Journal) CallOn(object uint16, function string, argument Value, act fun
 	return reply
 }
 
-// TryCall makes a call on object 0 that may fail, and records it. act gives an error only where the call definitely did not happen.
+// TryCall makes a call on object 0 that may fail, and records it. act gives an error only if the call definitely did not happen.
 func (j *Journal) TryCall(function string, argument Value, act func() (Value, error)) (Value, error) {
 	return j.TryCallOn(0, function, argument, act)
 }
 
-// TryCallOn makes a call on an object that may fail, and records it. act gives an error only where the call definitely did not happen.
+// TryCallOn makes a call on an object that may fail, and records it. act gives an error only if the call definitely did not happen.
 func (j *Journal) TryCallOn(object uint16, function string, argument Value, act func() (Value, error)) (Value, error) {
 	j.Invoke(object, function, argument)
 	reply, err := act()
@@ -164,7 +164,7 @@ func (j *Journal) TryCallOn(object uint16, function string, argument Value, act 
 	return reply, err
 }
 
-// Invoke is called just before a call, where Call does not suit. Then one of Returned, Failed and GaveUp is called; where there is
+// Invoke is called just before a call, if Call does not suit. Then one of Returned, Failed and GaveUp is called; if there is
 // none before the next Invoke, it is GaveUp.
 func (j *Journal) Invoke(object uint16, function string, argument Value) {
 	if j.isPending {
@@ -183,12 +183,12 @@ func (j *Journal) Invoke(object uint16, function string, argument Value) {
 // mixed is a number that looks drawn, for each ticket.
 func mixed(ticket int64) uint64 { return uint64(ticket) * 0x9E3779B97F4A7C15 >> 32 }
 
-// Returned is called just after the call returned. It panics where no call is outstanding, as Failed and GaveUp do.
+// Returned is called just after the call returned. It panics if no call is outstanding, as Failed and GaveUp do.
 func (j *Journal) Returned(reply Value) {
 	j.end("ok", reply)
 }
 
-// ReturnedAs is as Returned, where it is known only now what the call was: its invocation is written with this function and argument.
+// ReturnedAs is like Returned, if it is known only now what the call was: its invocation is written with this function and argument.
 func (j *Journal) ReturnedAs(function string, argument, reply Value) {
 	j.end("ok", reply)
 	for at := len(j.events) - 2; at < len(j.events); at++ {
@@ -197,12 +197,12 @@ func (j *Journal) ReturnedAs(function string, argument, reply Value) {
 	j.events[len(j.events)-2].value = argument
 }
 
-// Failed is called only where the call definitely did not happen: it is written with :fail. A timeout is GaveUp.
+// Failed is called only if the call definitely did not happen: it is written with :fail. A timeout is GaveUp.
 func (j *Journal) Failed() {
 	j.end("fail", Nil)
 }
 
-// GaveUp is called where the call may have happened, or may still happen, as after a timeout: it is written with :info, and what
+// GaveUp is called if the call may have happened, or may still happen, as after a timeout: it is written with :info, and what
 // follows is of another process.
 func (j *Journal) GaveUp() {
 	j.end("info", Nil)
@@ -249,7 +249,7 @@ func isQuestion(function string) bool {
 	return false
 }
 
-// History is the history, after all goroutines have ended: each event at the place of its ticket. It panics where it is not handed
+// History is the history, after all goroutines have ended: each event at the place of its ticket. It panics if it is not handed
 // each journal of this recorder once, also those of a history that it made before: without the calls of one of them a correct
 // object could get a no.
 func (r *Recorder) History(journals []*Journal) string {
@@ -274,7 +274,7 @@ func (r *Recorder) History(journals []*Journal) string {
 }
 
 // Overlap says how much the calls of these journals overlapped: the share that overlapped another one, from 0 to 1, and how many were
-// outstanding at once at most. Where the share is small, the history could hardly have failed.
+// outstanding at once at most. If the share is small, the history could hardly have failed.
 func (r *Recorder) Overlap(journals []*Journal) (share float64, atOnce int) {
 	var events []event
 	for _, journal := range journals {
@@ -307,7 +307,7 @@ func (r *Recorder) Overlap(journals []*Journal) (share float64, atOnce int) {
 	return share, atOnce
 }
 
-// wantReplies panics where the reply of a call is missing, or is to be its argument and is not.
+// wantReplies panics if the reply of a call is missing, or is to be its argument and is not.
 func (j *Journal) wantReplies() {
 	for at := 1; at < len(j.events); at++ {
 		call, end := j.events[at-1], j.events[at]
@@ -323,7 +323,7 @@ func (j *Journal) wantReplies() {
 	}
 }
 
-// wantEach panics where the tickets of these events are not all tickets.
+// wantEach panics if the tickets of these events are not all tickets.
 func (r *Recorder) wantEach(events []event) {
 	for at := range events {
 		if at > 0 && events[at].ticket == events[at-1].ticket {

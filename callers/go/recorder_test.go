@@ -18,7 +18,7 @@ const (
 	mostOperations = 5
 	// Of the calls of a right queue more overlap another one: all but some of the goroutine that ends last.
 	leastOverlap = 0.5
-	// A goroutine waits no longer for others: only where one of them does not end.
+	// A goroutine waits no longer for others: only if one of them does not end.
 	patience = time.Minute
 )
 
@@ -185,7 +185,7 @@ func TestJournalThatIsNotHandedIn(t *testing.T) {
 	}
 }
 
-// The reply of a function that puts a value in is its argument, also where the call gives nothing.
+// The reply of a function that puts a value in is its argument, even if the call returns nothing.
 func TestRepliesOfCallsThatGiveNothing(t *testing.T) {
 	recorder := &Recorder{}
 	journal := recorder.Journal()

@@ -24,9 +24,9 @@ import java.util.stream.Collectors;
  *
  * An argument or a reply is null, false, a Byte, Short, Integer or Long, or a pair of numbers, which {@link #pair} makes.
  *
- * <p>An atomic counter gives a ticket before each call and one after it. A thread writes into its own journal and takes no lock. The
- * events in the order of their tickets are the history: where one call returned before another was invoked in the history, it did so
- * in fact. So a history that is not linearizable shows that the object is not.
+ * <p>An atomic counter gives a ticket before each call and one after it. A thread writes into its own journal and takes no lock. The events
+ * in the order of their tickets are the history: if it shows one call returning before another was invoked, that is what happened. So a
+ * history that is not linearizable shows that the object is not.
  *
  * <p>Calls that never overlap show no fault. So after one ticket of an invocation in eight the thread yields, which leaves room for
  * another thread: {@code new Recorder(false)} turns this off. {@link #overlap} says how much the calls of the journals overlapped.
@@ -35,7 +35,7 @@ import java.util.stream.Collectors;
  *
  * <p>The reply of enqueue, push, insert and write is their argument, and that of acquire, release, lock, unlock, assoc, dissoc and clear is
  * null: such calls are made by {@code run}, which drops what they give, as the boolean of a queue's {@code add}. The reply of cas is its
- * pair where it swapped, else false. That of put and del is what was there before, or null where nothing was: a store that does not tell
+ * pair if it swapped, else false. That of put and del is what was there before, or null if nothing was: a store that does not tell
  * it has assoc and dissoc. That of add, remove, contains, create, put-if-absent and replace is a boolean, and that of fetch-add the number
  * before, as getAndAdd gives it.
  *
@@ -43,8 +43,8 @@ import java.util.stream.Collectors;
  * then. Invoke it as put-if-absent, since if it times out, it may have put, and end it with
  * {@code returnedAs("put-if-absent", pair(k, v), true)} or {@code returnedAs("get", k, found)}.
  *
- * <p>A call that does not return, as one that throws or times out, may have happened: its operation ends with :info, and the journal
- * goes on as a new process, as Jepsen's threads do. Use {@code failed} and {@link Failed} only where the call definitely did not happen: if a
+ * <p>A call that does not return, such as one that throws or times out, may have happened: its operation ends with :info, and the journal
+ * goes on as a new process, as Jepsen's threads do. Use {@code failed} and {@link Failed} only if the call definitely did not happen: if a
  * call that timed out is written as failed, a correct queue gets a no.
  */
 public final class Recorder {
@@ -161,7 +161,7 @@ public final class Recorder {
             return callOn(0, function, argument, act);
         }
 
-        /** Makes a call on an object, and records it. Where act throws Failed, it definitely did not happen. */
+        /** Makes a call on an object, and records it. If act throws Failed, it definitely did not happen. */
         public <T> T callOn(int object, String function, Object argument, Supplier<T> act) {
             invoke(object, function, argument);
             T reply = done(act);
@@ -197,7 +197,7 @@ public final class Recorder {
         }
 
         /**
-         * Call it just before a call, where call and run do not suit. Then call one of returned, failed and gaveUp; where there is none
+         * Call it just before a call, if call and run do not suit. Then call one of returned, failed and gaveUp; if there is none
          * before the next invoke, it is gaveUp.
          */
         public void invoke(int object, String function, Object argument) {
@@ -217,7 +217,7 @@ public final class Recorder {
             end("ok", reply);
         }
 
-        /** As returned, where it is known only now what the call was: its invocation is written with this function and argument. */
+        /** Like returned, if it is known only now what the call was: its invocation is written with this function and argument. */
         public void returnedAs(String function, Object argument, Object reply) {
             end("ok", reply);
             Event call = events.get(events.size() - 2);
@@ -226,13 +226,13 @@ public final class Recorder {
             events.get(events.size() - 1).function = function;
         }
 
-        /** Call it only where the call definitely did not happen: it is written with :fail. A timeout is gaveUp. */
+        /** Call it only if the call definitely did not happen: it is written with :fail. A timeout is gaveUp. */
         public void failed() {
             end("fail", null);
         }
 
         /**
-         * Call it where the call may have happened, or may still happen, as after a timeout: it is written with :info, and what follows is
+         * Call it if the call may have happened, or may still happen, as after a timeout: it is written with :info, and what follows is
          * of another process.
          */
         public void gaveUp() {
@@ -252,7 +252,7 @@ public final class Recorder {
             isPending = false;
         }
 
-        /** Throws where the reply of a call is missing, or is to be its argument and is not. */
+        /** Throws if the reply of a call is missing, or is to be its argument and is not. */
         private void wantReplies() {
             for (int at = 1; at < events.size(); at++) {
                 Event call = events.get(at - 1), end = events.get(at);
@@ -314,7 +314,7 @@ public final class Recorder {
 
     /** How much calls overlapped. */
     public static final class Overlap {
-        /** Which share of the calls overlapped another one, from 0 to 1. Where it is small, the history could hardly have failed. */
+        /** Which share of the calls overlapped another one, from 0 to 1. If it is small, the history could hardly have failed. */
         public final double share;
         /** How many calls were outstanding at once at most. */
         public final int atOnce;

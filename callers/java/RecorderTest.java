@@ -21,7 +21,7 @@ public final class RecorderTest {
     private static final int THREADS = 4, CALLS = 50, MOST_OPERATIONS = 5;
     /** Of the calls of a right queue more overlap another one: all but some of the thread that ends last. */
     private static final double LEAST_OVERLAP = 0.5;
-    /** A thread waits no longer for others, in nanoseconds: only where one of them has died. */
+    /** A thread waits no longer for others, in nanoseconds: only if one of them has died. */
     private static final long PATIENCE = TimeUnit.SECONDS.toNanos(60);
 
     private static String program;

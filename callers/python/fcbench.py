@@ -9,7 +9,7 @@ import enum
 import os
 import typing
 
-# As many steps as the program takes where it is given none: 1,000,000; of a judgement 100 for each operation of the object if that is more.
+# As many steps as the program takes if it is given none: 1,000,000; of a judgement 100 for each operation of the object if that is more.
 STEPS = 2**32 - 1
 CAPACITY = 512
 HERE = os.path.dirname(os.path.abspath(__file__))
@@ -98,7 +98,7 @@ def check(history, certificates):
 
 
 def find(history):
-    """Finds certificates: where it is a yes, the lines are their text."""
+    """Finds certificates: if it is a yes, the lines are their text."""
     text = _bytes(history)
     return _whole(_C.fcbench_find, text, len(text))
 

@@ -16,18 +16,18 @@ An empty queue is a reply and no error, so a `get` that raises at an empty queue
         except queues.Empty:
             return None
 
-A counter gives a ticket before each call and one after it: next() of itertools.count is one step in CPython. A thread writes into its
-own journal and takes no lock. The events in the order of their tickets are the history: where one call returned before another was
-invoked in the history, it did so in fact. So a history that is not linearizable shows that the object is not.
+A counter gives a ticket before each call and one after it: next() of itertools.count is one step in CPython. A thread writes into its own
+journal and takes no lock. The events in the order of their tickets are the history: if it shows one call returning before another was invoked,
+that is what happened. So a history that is not linearizable shows that the object is not.
 
 A journal that is not handed to `history` takes its calls with it: `history` raises ValueError then.
 
 Calls that never overlap show no fault. So after one ticket of an invocation in eight the thread yields, which leaves room for
 another thread: Recorder(yields=False) turns this off. `overlap` says how much the calls of the journals overlapped.
 
-The reply of enqueue, push, insert and write is their argument: where the call gives None, the argument is written. `history` raises
-ValueError where it gives anything else, as a length. The reply of cas is True, or its pair, where it swapped, else False. That of put and del is
-what was there before, or None where nothing was: a store that does not tell it has assoc and dissoc. The reply of these, of clear, and of
+The reply of enqueue, push, insert and write is their argument: if the call gives None, the argument is written. `history` raises
+ValueError if it returns anything else, such as a length. The reply of cas is True, or its pair, if it swapped, else False. That of put and del is
+what was there before, or None if nothing was: a store that does not tell it has assoc and dissoc. The reply of these, of clear, and of
 acquire, release, lock and unlock is None, or True, as threading.Lock has it. That of add, remove, contains, create, put-if-absent and replace
 is True or False. That of fetch-add is the number before.
 
@@ -35,7 +35,7 @@ What a call was may be known only when it has returned, as a put-if-absent that 
 as put-if-absent, since if it times out, it may have put, and end it with returned_as("put-if-absent", (k, v), True) or
 returned_as("get", k, found).
 
-A call that does not return, as one that raises or times out, may have happened: its operation ends with :info, and the journal goes on
+A call that does not return, such as one that raises or times out, may have happened: its operation ends with :info, and the journal goes on
 as a new process, as Jepsen's threads do. One that definitely did not happen raises Failed, or one of the errors that are given to try_call: its
 operation ends with :fail. If a call that timed out is written as failed, a correct queue gets a no."""
 import collections
@@ -101,7 +101,7 @@ def check_call(function, argument):
 
 
 def written_reply(function, argument, reply):
-    """What a history has for this reply: the argument, where the call says no more than that it took place."""
+    """What a history has for this reply: the argument, if the call says no more than that it took place."""
     if reply is True and function in SILENT:
         return None
     took_place = reply is True and function == "cas" or reply in (None, NotGiven) and function in PUTS
@@ -124,7 +124,7 @@ class Journal:
         return self.try_call(function, argument, act, (), number)
 
     def try_call(self, function, argument, act, errors, number=0):
-        """Makes a call that may fail, and records it. act raises Failed, or one of these errors, only where the call definitely did not
+        """Makes a call that may fail, and records it. act raises Failed, or one of these errors, only if the call definitely did not
         happen."""
         self.invoke(function, argument, number)
         try:
@@ -139,8 +139,8 @@ class Journal:
         return reply
 
     def invoke(self, function, argument, number=0):
-        """Call it just before a call, where `call` does not suit, as in asynchronous code. Then call one of returned, failed and gave_up;
-        where there is none before the next invoke, it is gave_up."""
+        """Call it just before a call, if `call` does not suit, as in asynchronous code. Then call one of returned, failed and gave_up;
+        if there is none before the next invoke, it is gave_up."""
         check_call(function, argument)
         if self.is_pending:
             self.gave_up()
@@ -156,19 +156,19 @@ class Journal:
         self._end(ticket, "ok", function, written_reply(function, argument, reply), number)
 
     def returned_as(self, function, argument, reply):
-        """As `returned`, where it is known only now what the call was: its invocation is written with this function and argument."""
+        """Like `returned`, if it is known only now what the call was: its invocation is written with this function and argument."""
         check_call(function, argument)
         ended = self._ended()
         self.events[-1] = (*self.events[-1][:3], function, argument, ended[3])
         self._end(ended[0], "ok", function, written_reply(function, argument, reply), ended[3])
 
     def failed(self):
-        """Call it only where the call definitely did not happen: it is written with :fail. A timeout is gave_up."""
+        """Call it only if the call definitely did not happen: it is written with :fail. A timeout is gave_up."""
         ticket, function, argument, number = self._ended()
         self._end(ticket, "fail", function, argument, number)
 
     def gave_up(self):
-        """Call it where the call may have happened, or may still happen, as after a timeout: it is written with :info, and what follows is
+        """Call it if the call may have happened, or may still happen, as after a timeout: it is written with :info, and what follows is
         of another process."""
         ticket, function, argument, number = self._ended()
         self._end(ticket, "info", function, argument, number)
@@ -181,7 +181,7 @@ class Journal:
         return next(self.recorder.tickets), *self.events[-1][3:]
 
     def _want_replies(self):
-        """Raises ValueError where the reply of a call is missing, or is to be its argument and is not."""
+        """Raises ValueError if the reply of a call is missing, or is to be its argument and is not."""
         for call, end in zip(self.events, self.events[1:]):
             _, _, kind, function, reply, _ = end
             if kind == "ok" and reply is NotGiven and function not in SILENT:
@@ -234,7 +234,7 @@ class Recorder:
         )
 
     def overlap(self, journals):
-        """How much the calls of these journals overlapped. Where the share is small, the history could hardly have failed."""
+        """How much the calls of these journals overlapped. If the share is small, the history could hardly have failed."""
         events = sorted((event for journal in journals for event in journal.events), key=lambda event: event[0])
         calls, outstanding, at_once, overlapped = 0, {}, 0, set()
         for ticket, process, kind, *_ in events:

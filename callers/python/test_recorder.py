@@ -15,7 +15,7 @@ from recorder import Failed, Recorder
 THREADS, CALLS, MOST_OPERATIONS = 4, 50, 5
 # Of the calls of a right queue more overlap another one: all but some of the thread that ends last.
 LEAST_OVERLAP = 0.5
-# A thread waits no longer for others, in seconds: only where one of them has died.
+# A thread waits no longer for others, in seconds: only if one of them has died.
 PATIENCE = 60
 RUNS = int(os.environ.get("FCBENCH_RUNS", "100"))
 sys.setswitchinterval(0.00001)  # so that threads take turns often

@@ -11,7 +11,7 @@ pub mod recorder;
 
 use std::fmt::{self, Display};
 
-/// As many steps as the program takes where it is given none: 1,000,000. For a judgement: 1,000,000, or 100 for each operation of the
+/// The program's default number of steps: 1,000,000. For a judgement: 1,000,000, or 100 for each operation of the
 /// object, whichever is more.
 pub const STEPS: u32 = u32::MAX;
 
@@ -145,12 +145,12 @@ pub fn judge(history: impl AsRef<[u8]>) -> Answer {
     judge_with_steps(history, STEPS)
 }
 
-/// Judges a history, where the last search takes at most `steps` steps for each object.
+/// Judges a history, with at most `steps` steps of the last search for each object.
 pub fn judge_with_steps(history: impl AsRef<[u8]>, steps: u32) -> Answer {
     whole(|out| judge_into(history.as_ref(), steps, out))
 }
 
-/// Judges a history, where the last search takes at most `steps` steps for each object, and writes the lines into `out`. Where it is
+/// Judges a history, with at most `steps` steps of the last search for each object, and writes the lines into `out`. If it is
 /// too small they are cut. Also gives how long all lines are.
 #[must_use]
 pub fn judge_into(history: &[u8], steps: u32, out: &mut [u8]) -> (Verdict, usize) {
@@ -165,7 +165,7 @@ pub fn check(history: impl AsRef<[u8]>, certificates: impl AsRef<[u8]>) -> Answe
     whole(|out| check_into(history.as_ref(), certificates.as_ref(), out))
 }
 
-/// Judges a history by certificates, and writes the lines into `out`. Where it is too small they are cut. Also gives how long all lines
+/// Judges a history by certificates, and writes the lines into `out`. If it is too small they are cut. Also gives how long all lines
 /// are.
 #[must_use]
 pub fn check_into(history: &[u8], certificates: &[u8], out: &mut [u8]) -> (Verdict, usize) {
@@ -176,12 +176,12 @@ pub fn check_into(history: &[u8], certificates: &[u8], out: &mut [u8]) -> (Verdi
     })
 }
 
-/// Finds certificates: where it is a yes, the lines are their text.
+/// Finds certificates: if it is a yes, the lines are their text.
 pub fn find(history: impl AsRef<[u8]>) -> Answer {
     whole(|out| find_into(history.as_ref(), out))
 }
 
-/// Finds certificates, and writes their text into `out`. Where it is too small they are cut. Also gives how long the text is.
+/// Finds certificates, and writes their text into `out`. If it is too small they are cut. Also gives how long the text is.
 #[must_use]
 pub fn find_into(history: &[u8], out: &mut [u8]) -> (Verdict, usize) {
     // SAFETY: as above.
@@ -195,13 +195,13 @@ pub fn refute(history: impl AsRef<[u8]>, reasons: impl AsRef<[u8]>) -> Answer {
     refute_with_steps(history, reasons, STEPS)
 }
 
-/// Checks reasons why a history is not linearizable, where the search of a part takes at most `steps` steps.
+/// Checks reasons why a history is not linearizable, with at most `steps` steps of the search of a part.
 pub fn refute_with_steps(history: impl AsRef<[u8]>, reasons: impl AsRef<[u8]>, steps: u32) -> Answer {
     whole(|out| refute_into(history.as_ref(), reasons.as_ref(), steps, out))
 }
 
-/// Checks reasons why a history is not linearizable, where the search of a part takes at most `steps` steps, and writes the lines into
-/// `out`. Where it is too small they are cut. Also gives how long all lines are.
+/// Checks reasons why a history is not linearizable, with at most `steps` steps of the search of a part, and writes the lines into
+/// `out`. If it is too small they are cut. Also gives how long all lines are.
 #[must_use]
 pub fn refute_into(history: &[u8], reasons: &[u8], steps: u32, out: &mut [u8]) -> (Verdict, usize) {
     let (first, length) = (reasons.as_ptr(), reasons.len());
@@ -222,7 +222,7 @@ pub fn verify_with_steps(history: impl AsRef<[u8]>, evidence: impl AsRef<[u8]>, 
     whole(|out| verify_into(history.as_ref(), evidence.as_ref(), steps, out))
 }
 
-/// Checks evidence from any source, judges a history by what it shows, and writes the lines into `out`. Where it is too small they are cut.
+/// Checks evidence from any source, judges a history by what it shows, and writes the lines into `out`. If it is too small they are cut.
 /// Also gives how long all lines are.
 #[must_use]
 pub fn verify_into(history: &[u8], evidence: &[u8], steps: u32, out: &mut [u8]) -> (Verdict, usize) {

@@ -11,28 +11,28 @@
 //! ```
 //!
 //! An atomic counter gives a ticket before each call and one after it. A thread writes into its own journal and takes no lock.
-//! The events in the order of their tickets are the history: where one call returned before another was invoked in the history,
-//! it did so in fact. So a history that is not linearizable shows that the object is not.
+//! The events in the order of their tickets are the history: if it shows one call returning before another was invoked, that is
+//! what happened. So a history that is not linearizable shows that the object is not.
 //!
 //! Calls that never overlap show no fault. So after one ticket of an invocation in eight the thread yields, which leaves room for
 //! another thread: `Recorder::without_yields` turns this off. `overlap` says how much the calls of the journals overlapped.
 //!
 //! A journal that is dropped, or not handed to `history`, takes its calls with it: `history` panics then.
 //!
-//! The reply of `enqueue`, `push`, `insert` and `write` is their argument: where the call gives nothing, it is written. Where it gives
-//! anything else, as a length, drop it by `|| { queue.push(v); }`: `history` panics at another reply.
+//! The reply of `enqueue`, `push`, `insert` and `write` is their argument: if the call returns nothing, it is written. If it returns
+//! anything else, such as a length, drop it by `|| { queue.push(v); }`: `history` panics at another reply.
 //!
-//! The reply of `put` and `del` is what was there before, or `None` where nothing was: a store that does not tell it has `assoc` and
+//! The reply of `put` and `del` is what was there before, or `None` if nothing was: a store that does not report it has `assoc` and
 //! `dissoc`, whose reply is nothing. So is that of `clear`, `acquire`, `release`, `lock` and `unlock`. That of `add`, `remove`, `contains`,
 //! `create`, `put-if-absent` and `replace` is a `bool`, and that of `fetch-add` the number before.
 //!
 //! What a call was may be known only when it has returned, as a put-if-absent that gives the value that it found, which is a `get` then.
 //! `invoke` it as `put-if-absent`, since if it times out, it may have put, and end it with `returned_as`.
 //!
-//! An empty queue is a reply and no failure: where `pop` gives a `Result`, record `journal.call("dequeue", (), || queue.pop().ok())`.
+//! An empty queue is a reply, not a failure: if `pop` gives a `Result`, record `journal.call("dequeue", (), || queue.pop().ok())`.
 //!
-//! A call that does not return, as one that panics or times out, may have happened: its operation ends with `:info`, and the
-//! journal goes on as a new process, as Jepsen's threads do. Use `failed` and an error of `try_call` only where the call definitely
+//! A call that does not return, such as one that panics or times out, may have happened: its operation ends with `:info`, and the
+//! journal goes on as a new process, as Jepsen's threads do. Use `failed` and an error of `try_call` only if the call definitely
 //! did not happen: if a call that timed out is written as failed, a correct queue gets a no.
 //!
 //! Threads that are not scoped take a recorder that is leaked, a new one for each history:
@@ -56,7 +56,7 @@ pub enum Value {
     /// No reply, as a call gives that returns `()`: it is enough for functions whose reply is known, as `enqueue` and `acquire`. As an
     /// argument it is nothing.
     NotGiven,
-    /// Nothing, as the argument of `dequeue`, and its reply where the queue is empty.
+    /// Nothing, as the argument of `dequeue`, and its reply if the queue is empty.
     Nil,
     /// The reply of an operation that did not take place, as of a `cas` that found another value, or of a question that is not so.
     False,
@@ -75,7 +75,7 @@ impl Value {
     ///
     /// # Panics
     ///
-    /// Where the number does not fit.
+    /// If the number does not fit.
     #[must_use]
     pub fn number(number: impl TryInto<i64>) -> Value {
         Value::Number(fitting(number))
@@ -83,11 +83,11 @@ impl Value {
 
     /// The argument of `put`, a key and a value; or that of `cas`, what is expected and what is new.
     ///
-    /// The reply of a `cas` is this pair where it swapped, or `true`, else `false`.
+    /// The reply of a `cas` is this pair if it swapped, or `true`, else `false`.
     ///
     /// # Panics
     ///
-    /// Where a number does not fit in `i64`.
+    /// If a number does not fit in `i64`.
     #[must_use]
     pub fn pair(first: impl TryInto<i64>, second: impl TryInto<i64>) -> Value {
         Value::Pair(fitting(first), fitting(second))
@@ -97,7 +97,7 @@ impl Value {
     ///
     /// # Panics
     ///
-    /// Where a number does not fit in `i64`.
+    /// If a number does not fit in `i64`.
     #[must_use]
     pub fn triple(key: impl TryInto<i64>, expected: impl TryInto<i64>, new: impl TryInto<i64>) -> Value {
         Value::Triple(fitting(key), fitting(expected), fitting(new))
@@ -278,7 +278,7 @@ const CALLS_TO_A_YIELD: u64 = 8;
 /// How much calls overlapped.
 #[derive(Clone, Copy, Debug, PartialEq)]
 pub struct Overlap {
-    /// Which share of the calls overlapped another one, from 0 to 1. Where it is small, the history could hardly have failed.
+    /// Which share of the calls overlapped another one, from 0 to 1. If it is small, the history could hardly have failed.
     pub share: f64,
     /// How many calls were outstanding at once at most.
     pub at_once: usize,
@@ -309,7 +309,7 @@ impl Recorder {
         Recorder { tickets: AtomicU64::new(0), processes: AtomicU64::new(0), yields: true }
     }
 
-    /// The same, where no thread yields between the ticket of an invocation and the call.
+    /// The same, if no thread yields between the ticket of an invocation and the call.
     #[must_use]
     pub const fn without_yields() -> Recorder {
         Recorder { tickets: AtomicU64::new(0), processes: AtomicU64::new(0), yields: false }
@@ -325,8 +325,8 @@ impl Recorder {
     ///
     /// # Panics
     ///
-    /// Where it is not handed all journals of this recorder, also those of a history that it made before: without the calls of one of
-    /// them a correct object could get a no. And where the reply of a call is to be its argument, and is not.
+    /// If it is not handed all journals of this recorder, also those of a history that it made before: without the calls of one of
+    /// them a correct object could get a no. And if the reply of a call is to be its argument, and is not.
     #[must_use]
     pub fn history(&self, journals: &[Journal]) -> String {
         let is_own = journals.iter().all(|journal| ptr::eq(journal.recorder, self));
@@ -397,7 +397,7 @@ impl Journal<'_> {
         reply
     }
 
-    /// Makes a call on object 0 that may fail, and records it. `act` gives an error only where the call definitely did not happen.
+    /// Makes a call on object 0 that may fail, and records it. `act` gives an error only if the call definitely did not happen.
     pub fn try_call<R: Reply, E>(
         &mut self,
         function: &'static str,
@@ -407,7 +407,7 @@ impl Journal<'_> {
         self.try_call_on(0, function, argument, act)
     }
 
-    /// Makes a call on an object that may fail, and records it. `act` gives an error only where the call definitely did not happen.
+    /// Makes a call on an object that may fail, and records it. `act` gives an error only if the call definitely did not happen.
     pub fn try_call_on<R: Reply, E>(
         &mut self,
         object: u16,
@@ -424,8 +424,8 @@ impl Journal<'_> {
         reply
     }
 
-    /// Call it just before a call, where `call` does not suit, as in async code. Then call one of `returned`, `failed` and `gave_up`;
-    /// where there is none before the next `invoke`, it is `gave_up`.
+    /// Call it just before a call, if `call` does not suit, as in async code. Then call one of `returned`, `failed` and `gave_up`;
+    /// if there is none before the next `invoke`, it is `gave_up`.
     pub fn invoke(&mut self, object: u16, function: &'static str, argument: impl Into<Value>) {
         if self.outstanding.is_some() {
             self.gave_up();
@@ -446,16 +446,16 @@ impl Journal<'_> {
     ///
     /// # Panics
     ///
-    /// Where no call is outstanding.
+    /// If no call is outstanding.
     pub fn returned(&mut self, reply: impl Into<Value>) {
         self.end(Kind::Ok, reply.into());
     }
 
-    /// As `returned`, where it is known only now what the call was: its invocation is written with this function and argument.
+    /// Like `returned`, if it is known only now what the call was: its invocation is written with this function and argument.
     ///
     /// # Panics
     ///
-    /// Where no call is outstanding.
+    /// If no call is outstanding.
     pub fn returned_as(&mut self, function: &'static str, argument: impl Into<Value>, reply: impl Into<Value>) {
         let value = argument.into();
         let outstanding = self.outstanding.as_mut().expect("no call is outstanding");
@@ -466,27 +466,27 @@ impl Journal<'_> {
         }
     }
 
-    /// Call it only where the call definitely did not happen: it is written with `:fail`. A timeout is `gave_up`.
+    /// Call it only if the call definitely did not happen: it is written with `:fail`. A timeout is `gave_up`.
     ///
     /// # Panics
     ///
-    /// Where no call is outstanding.
+    /// If no call is outstanding.
     pub fn failed(&mut self) {
         self.end(Kind::Fail, Value::Nil);
     }
 
-    /// Call it where the call may have happened, or may still happen, as after a timeout: it is written with `:info`, and what
+    /// Call it if the call may have happened, or may still happen, as after a timeout: it is written with `:info`, and what
     /// follows is of another process.
     ///
     /// # Panics
     ///
-    /// Where no call is outstanding.
+    /// If no call is outstanding.
     pub fn gave_up(&mut self) {
         self.end(Kind::Info, Value::Nil);
         self.process = next(&self.recorder.processes);
     }
 
-    /// Panics where the reply of a call is missing, or is to be its argument and is not.
+    /// Panics if the reply of a call is missing, or is to be its argument and is not.
     fn want_replies(&self) {
         for pair in self.events.windows(2) {
             let (call, end) = (&pair[0], &pair[1]);

@@ -15,7 +15,7 @@ const CALLS: usize = 50;
 const MOST_OPERATIONS: usize = 5;
 /// Of the calls of a right queue more overlap another one: all but some of the thread that ends last.
 const LEAST_OVERLAP: f64 = 0.5;
-/// A thread waits no longer for others: only where one of them has died.
+/// A thread waits no longer for others: only if one of them has died.
 const PATIENCE: Duration = Duration::from_secs(60);
 
 /// Its dequeue reads the index of the head and then moves it.
@@ -180,7 +180,7 @@ fn a_journal_that_is_not_handed_in() {
     assert_eq!(message_of(|| other.history(&journals)), "a journal of another recorder was handed in");
 }
 
-/// The reply of a function that puts a value in is its argument, also where the call gives nothing.
+/// The reply of a function that puts a value in is its argument, even if the call returns nothing.
 #[test]
 fn replies_of_calls_that_give_nothing() {
     let recorder = Recorder::new();
@@ -234,7 +234,7 @@ fn a_recorder_of_two_rounds() {
     assert_eq!(message_of(round), "2 events are missing: a journal is missing, or this recorder was already used");
 }
 
-/// A pop that gives an error where the queue is empty: that is a reply. As a failure a wrong one would not be found.
+/// A pop that gives an error if the queue is empty: that is a reply. As a failure a wrong one would not be found.
 #[test]
 fn an_empty_queue_is_a_reply() {
     #[derive(Debug, PartialEq)]
@@ -434,7 +434,7 @@ impl Register {
     }
 }
 
-/// A compare-and-set replies its pair where it swapped, else `false`.
+/// A compare-and-set replies its pair if it swapped, else `false`.
 #[test]
 fn a_compare_and_set() {
     let recorder = Recorder::new();
