@@ -33,7 +33,7 @@ fn said_by(mut program: Command, give: impl FnOnce(ChildStdin)) -> Result<Said, 
     Ok(Said { status, lines: String::from_utf8_lossy(lines).into_owned() })
 }
 
-/// What is found of a history. Where the finder fails that is nothing, or less.
+/// What is found of a history. If the finder fails that is nothing, or less.
 fn decisions_on(history: &History, steps: Option<u64>) -> Vec<Decision> {
     let options = Options { steps, ..Options::default() };
     let found = catch_unwind(AssertUnwindSafe(|| decide(history, options)));

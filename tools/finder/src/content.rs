@@ -114,7 +114,7 @@ impl Content {
 
 /// A content that is kept to compare with.
 pub enum Kept {
-    /// The values of a container, in four bytes each where all are small.
+    /// The values of a container, in four bytes each if all are small.
     Small(Box<[i32]>),
     Whole(Content),
 }
@@ -148,7 +148,7 @@ impl Kept {
         }
     }
 
-    /// How many bytes it takes at most, where there are at most this many keys: a key is in a tree
+    /// How many bytes it takes at most, if there are at most this many keys: a key is in a tree
     /// whose nodes may be half full.
     pub fn bytes(&self, keys: usize) -> usize {
         match self {

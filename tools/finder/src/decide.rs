@@ -30,7 +30,7 @@ impl Default for Options {
 /// How many operations the search for an order of one part of a reason may try.
 const STEPS_OF_A_PART: u64 = 10_000;
 
-/// How many steps the last search has of an object of few operations, where no number is given.
+/// How many steps the last search has of an object of few operations, if no number is given.
 const DEFAULT_STEPS: u64 = 1_000_000;
 
 /// How many steps it has for each operation of many.
@@ -49,7 +49,7 @@ fn first_search(history: &ObjectHistory) -> Search {
     Search { first: TryFirst::Return, steps: 20_000 + 20 * history.ops.len() as u64 }
 }
 
-/// The last search of all operations. It is handed over.
+/// The last search of all operations. It is left to `verify`.
 fn last_search(history: &ObjectHistory, steps: Option<u64>) -> Search {
     let calls = history.call_count();
     let first = if calls > MOST_BY_NUMBER { TryFirst::Return } else { TryFirst::Number };
@@ -57,13 +57,18 @@ fn last_search(history: &ObjectHistory, steps: Option<u64>) -> Search {
     Search { first, steps: steps.unwrap_or(default) }
 }
 
-/// Looks for an order of an object, or for a reason why it has none: first by the quick methods
-/// that are made for its kind, then for a reason by patterns, of a map first at the key where these
-/// methods stopped, for an order by a search of all that a queue or stack may contain, for a reason
-/// in two values, and at a map by a search of each key that is open. Where these decide nothing
-/// there is a first search of 20,000 steps and 20 more for each operation, which tries first what
-/// returns first, and then as much of the last search as takes a million steps. What decides nothing
-/// is handed over to the last search.
+/// Looks for an order of an object, or for a reason why it has none. It tries in turn:
+///
+/// 1. the quick methods that are made for its kind;
+/// 2. reasons by patterns, of a map first at the key at which these methods stopped;
+/// 3. for an order, a search over all possible contents of a queue or stack;
+/// 4. reasons in two values;
+/// 5. at a map, a search of each open key;
+/// 6. a first search of 20,000 steps and 20 more for each operation, which tries operations by
+///    their returns;
+/// 7. a million steps of the last search.
+///
+/// If nothing decides, the last search is left to `verify`.
 fn decide_object(history: &ObjectHistory, steps: Option<u64>) -> Evidence {
     let open_key = match quick_order(history) {
         Quick::Order(order) => return Evidence::Order(order),
@@ -88,7 +93,7 @@ fn decide_object(history: &ObjectHistory, steps: Option<u64>) -> Evidence {
     found.unwrap_or(Evidence::Search(last))
 }
 
-/// What a search of all operations finds: an order, or a reason; nothing where it runs out of steps.
+/// What a search of all operations finds: an order, or a reason; nothing if it runs out of steps.
 pub(crate) fn by_search(history: &ObjectHistory, by: Search) -> Option<Evidence> {
     let mut searched = search(history, by.first, by.steps);
     match std::mem::replace(&mut searched.outcome, Outcome::Impossible) {

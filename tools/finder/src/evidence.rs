@@ -51,7 +51,7 @@ impl<I: Clone + IntoIterator<Item: Display>> Display for Spaced<I> {
     }
 }
 
-/// The numbers of operations, where there are some.
+/// The numbers of operations, if there are some.
 struct Numbers<'a>(&'a BTreeSet<u32>);
 
 impl Display for Numbers<'_> {

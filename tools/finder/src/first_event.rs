@@ -54,7 +54,7 @@ struct Beginnings<'a> {
 }
 
 impl<'a> Beginnings<'a> {
-    /// Where the reason holds for what was before its end, that is the shortest beginning so far.
+    /// If the reason holds for what was before its end, that is the shortest beginning so far.
     fn of(history: &'a ObjectHistory, reason: &FoundReason, budget: usize) -> Beginnings<'a> {
         let mut returns: Vec<u32> = history.ops.iter().filter_map(|o| o.returned()).collect();
         returns.sort_unstable();

@@ -26,7 +26,7 @@ struct Reader<'a> {
 }
 
 impl<'a> Reader<'a> {
-    /// The element that begins with this token, where this many more brackets may be open. `None`:
+    /// The element that begins with this token, if this many more brackets may be open. `None`:
     /// there is none.
     fn element(&mut self, token: Token, depth: usize) -> Option<Element<'a>> {
         match token.kind {
@@ -139,7 +139,7 @@ pub struct Event {
     pub process: i64,
     pub of_type: EventType,
     pub function: &'static Function,
-    /// None where it is no value of an operation.
+    /// None if it is no value of an operation.
     pub value: Option<Value>,
     pub object: u32,
 }

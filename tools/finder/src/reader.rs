@@ -210,7 +210,7 @@ struct Reading {
 }
 
 impl Reading {
-    /// Adds the maps of a piece. Where a map or a comment began before the piece, they are found
+    /// Adds the maps of a piece. If a map or a comment began before the piece, they are found
     /// anew together with what is left of the pieces before. `None`: it is no history.
     fn add(&mut self, piece: &[u8], found: Found) -> Option<()> {
         if !self.rest.is_empty() {

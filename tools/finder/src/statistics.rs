@@ -100,7 +100,7 @@ fn puts_tell_nothing(object: &ObjectHistory) -> bool {
     has_second
 }
 
-/// How many removals failed, and their function, where there are several and none returned.
+/// How many removals failed, and their function, if there are several and none returned.
 fn failed_removals(history: &History) -> Option<(usize, &'static str)> {
     let of = |f: &'static Function| {
         let all = history.objects.iter().flat_map(|it| &it.ops);

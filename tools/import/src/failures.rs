@@ -46,13 +46,13 @@ impl Replies {
         self.0.iter().any(|own| own == error || (word.is_some() && word_of(own) == word))
     }
 
-    /// Whether a failed call of this function without an error is a reply. A read is written so where there was no answer.
+    /// Whether a failed call of this function without an error is a reply. A read is written so if there was no answer.
     pub fn has_none(&self, function: &Function) -> bool {
         self.0.contains(&Form::Nil) && !function.only_looks()
     }
 }
 
-/// What a failed operation says of itself: its `:error`, or its value, as `:exhausted`, where its function takes none.
+/// What a failed operation says of itself: its `:error`, or its value, such as `:exhausted`, if its function takes none.
 pub fn error_of<'a>(map: &'a Form, function: &Function, value: &'a Form) -> Option<&'a Form> {
     let error = map.get("error").filter(|error| **error != Form::Nil);
     let is_word = function.argument == Shape::Nothing && word_of(value).is_some();
@@ -90,7 +90,7 @@ fn may_be_reply(function: &Function, error: &Form) -> bool {
     }
 }
 
-/// Operations of a function that failed with an error, or nil where there was none.
+/// Operations of a function that failed with an error, or nil if there was none.
 struct Failure {
     function: &'static Function,
     error: Form,

@@ -3,7 +3,7 @@
 use std::collections::HashSet;
 use std::fmt::{self, Display, Formatter};
 
-/// A form. Tags are dropped where a form is read, except those of a string, as `#uuid`.
+/// A form. Tags are dropped when a form is read, except those of a string, such as `#uuid`.
 #[derive(Clone, Debug, PartialEq, Eq, Hash, PartialOrd, Ord)]
 pub enum Form {
     Nil,
@@ -50,7 +50,7 @@ impl Form {
 #[derive(Default)]
 pub struct Entries {
     all: Vec<(Form, Form)>,
-    /// Their keys, where they are many.
+    /// Their keys, if they are many.
     keys: HashSet<Form>,
 }
 

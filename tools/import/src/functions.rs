@@ -23,7 +23,7 @@ pub fn shape_words(shape: Shape) -> &'static str {
     }
 }
 
-/// The function of this name. Where tokens have owners, that of a kind whose operations name them.
+/// The function of this name. If tokens have owners, that of a kind whose operations name them.
 pub fn function(name: &str, has_owners: bool) -> Option<&'static Function> {
     let named = functions().find(|it| it.name == name || it.other_names.contains(&name))?;
     let holds = named.holds().filter(|_| has_owners);

@@ -111,7 +111,7 @@ fn absent_sentence(object: u32) -> Spans {
     spans!["The history has no object ", object, "."]
 }
 
-/// Which objects of the list are not drawn, where some are not.
+/// Which objects of the list are not drawn, if some are not.
 fn not_drawn_sentence(rows: &[ObjectRow], drawings: &[ObjectDrawing]) -> Option<Spans> {
     let is_drawn = |row: &&ObjectRow| drawings.iter().any(|it| it.object == row.object);
     let mut left_out = rows.iter().filter(|row| !is_drawn(row));

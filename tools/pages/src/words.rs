@@ -48,7 +48,7 @@ impl<'a> Words<'a> {
         self.names.and_then(|names| names.of_object(object))
     }
 
-    /// The name of an object, and its number where it has none.
+    /// The name of an object, and its number if it has none.
     pub fn name_of(&self, object: u32) -> String {
         self.object(object).unwrap_or_else(|| object.to_string())
     }

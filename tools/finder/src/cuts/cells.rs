@@ -18,8 +18,8 @@ impl Cell<'_> {
         content.map_or(self.key.is_none(), |value| self.values.has(value))
     }
 
-    /// What leaves this content in the part. What it found stays known only where that is kept.
-    /// Where all is kept, an operation of an object which is one cell stays as it is (`own`).
+    /// What leaves this content in the part. What it found stays known only if that is kept.
+    /// If all is kept, an operation of an object which is one cell stays as it is (`own`).
     fn changed(
         &self,
         own: Option<(Op, Reply)>,

@@ -246,7 +246,7 @@ mod tests {
         has_order(&calls, &Content::empty(history.kind))
     }
 
-    /// The operations on one key, where there are keys.
+    /// The operations on one key, if there are keys.
     fn on_one_key(history: &ObjectHistory) -> ObjectHistory {
         let key = history.ops[0].op.key();
         let ops = history.ops.iter().filter(|o| o.op.key() == key);

@@ -34,7 +34,7 @@ pub(crate) struct ContainerOrders {
     pub other_pairs: fn(&Timeline, Touches) -> Option<Vec<u32>>,
     /// By a search of all that the object may contain.
     pub by_contents: Option<OrderMethod>,
-    /// Whether the quick methods take long where values repeat.
+    /// Whether the quick methods take long if values repeat.
     pub are_slow: bool,
 }
 

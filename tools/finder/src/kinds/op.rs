@@ -74,7 +74,7 @@ impl Reply {
 }
 
 impl Value {
-    /// The first integer, which is the key where there are keys.
+    /// The first integer, which is the key if there are keys.
     pub fn first(self) -> Option<i64> {
         match self {
             Value::Int(first) | Value::Pair(first, _) | Value::Triple(first, ..) => Some(first),
@@ -82,7 +82,7 @@ impl Value {
         }
     }
 
-    /// The last but one, which is the value to be replaced where there is one.
+    /// The last but one, which is the value to be replaced if there is one.
     pub fn expected(self) -> Option<i64> {
         match self {
             Value::Pair(expected, _) | Value::Triple(_, expected, _) => Some(expected),

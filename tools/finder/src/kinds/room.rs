@@ -64,7 +64,7 @@ pub struct Words {
     pub left_end: &'static str,
 }
 
-/// What operations call, without an argument.
+/// A function of a kind: what `:f` names.
 pub struct Function {
     /// Its name, as a history writes it after `:f :`.
     pub name: &'static str,
@@ -124,7 +124,7 @@ pub enum Shape {
     Flag,
     /// Nothing, or what a client notes where it was told nothing: its argument, or that it was done.
     Silent,
-    /// What a client notes where it has acquired or released a lock.
+    /// What a client notes if it has acquired or released a lock.
     Token,
 }
 
@@ -184,7 +184,7 @@ impl Room {
         }
     }
 
-    /// The name of the first of its functions that is so; empty where none is.
+    /// The name of the first of its functions that satisfies `is_so`, or "".
     fn name_where(&self, is_so: impl Fn(&Function) -> bool) -> &'static str {
         self.functions.iter().find(|function| is_so(function)).map_or("", |function| function.name)
     }
@@ -260,7 +260,7 @@ impl Function {
         }
     }
 
-    /// One that this is what it does to a cell, and that tells nothing of it.
+    /// A function that does this to a cell, and replies nil.
     pub(super) const fn setting_silently(
         name: &'static str,
         kind: Kind,

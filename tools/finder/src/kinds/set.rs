@@ -35,7 +35,7 @@ static CONTAINS: Function = Function::telling_whether(
 );
 
 /// The effect of an operation that changes one content to the other one, and replies whether it did
-/// so. Where it did not the other one was there. While it is pending either may have been there.
+/// so. If it did not the other one was there. While it is pending either may have been there.
 fn changes(old: Option<i64>, new: Option<i64>, reply: Option<Reply>) -> Effect {
     match reply {
         Some(Reply::Flag(true)) => Effect { need: Need::Is(old), sets: Some(new) },

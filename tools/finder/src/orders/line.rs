@@ -21,7 +21,7 @@ pub struct Line {
     takes: Vec<Step>,
     empties: Vec<Step>,
     phase: usize,
-    /// The gap of the last call that finds nothing, and 0 where there is none.
+    /// The gap of the last call that finds nothing, and 0 if there is none.
     from: u32,
     put_at: u32,
     take_at: u32,

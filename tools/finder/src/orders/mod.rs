@@ -2,7 +2,7 @@
 //! kind. What is handed out was checked.
 //!
 //! The methods are made to find an order of any token without owners, and of a container in which
-//! each value is put in once, in some n log n steps of n calls. Where values repeat those of a
+//! each value is put in once, in some n log n steps of n calls. If values repeat those of a
 //! container find many orders, and further ones by its contents, and `cells` those of an object that
 //! has cells, of a token with owners, and of a number. They do not find each. The room of a kind says
 //! which methods are for it.
@@ -77,7 +77,7 @@ pub fn quick_order(history: &ObjectHistory) -> Quick {
     }
 }
 
-/// Whether the quick methods take long: some of them try many pairs where values repeat.
+/// Whether the quick methods take long: some of them try many pairs if values repeat.
 pub fn is_slow(history: &ObjectHistory) -> bool {
     container_orders(history).is_some_and(|orders| orders.are_slow)
         && Touches::of(&Timeline::of(&history.ops).calls).repeat()

@@ -1,5 +1,5 @@
 //! Orders of the calls on a number that may be valid. What a call found says where it comes: after
-//! a call that left that number. Where no call did, pending additions must have, and they are
+//! a call that left that number. If no call did, pending additions must have, and they are
 //! chosen so that their sum fills the gap. Then each call asks for a number and leaves one, as a
 //! call on a cell does.
 

@@ -46,7 +46,7 @@ pub enum Pattern {
     RefusedUnderItsValue { value: i64, number: u32 },
     /// An operation sets a value and finds none before it, while one definitely is there.
     DoneOverValue { name: &'static str, number: u32 },
-    /// An operation that sets a value where there is none is refused, while there definitely is
+    /// An operation that sets a value if there is none is refused, while there definitely is
     /// none.
     RefusedWithoutValue { name: &'static str, number: u32 },
     /// The key of a cell without values is put there twice, and not taken away in between, or taken
@@ -348,7 +348,7 @@ impl Pattern {
         }
     }
 
-    /// The value that the pattern is about, and what it says of it; none where it is about no
+    /// The value that the pattern is about, and what it says of it; none if it is about no
     /// value.
     fn of_value(&self, kind: Kind, facts: Facts) -> Option<(i64, String)> {
         let Words { put, taken, out_of_date, .. } = kind.words;

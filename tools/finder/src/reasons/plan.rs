@@ -35,7 +35,7 @@ pub enum Element {
 }
 
 /// What is kept, from a call on, until a number. Where `all_values` is set, as at a number, the
-/// elements are operations alone. Where there is a `key` it is that of a map, of which a cell is kept: the
+/// elements are operations alone. If there is a `key` it is that of a map, of which a cell is kept: the
 /// values are those under the key.
 #[derive(Default)]
 pub struct Plan {
@@ -135,7 +135,7 @@ impl Plan {
         !is_over && self.until.is_none_or(|until| operation.number < until)
     }
 
-    /// The number of the return of the call at which the plan begins; 0 where there is none.
+    /// The number of the return of the call at which the plan begins; 0 if there is none.
     fn begun(&self, ops: &[Invocation]) -> u32 {
         let first = self.from.and_then(|from| ops.iter().find(|o| o.number == from));
         first.and_then(Invocation::returned).unwrap_or(0)

@@ -118,7 +118,7 @@ impl Proposer<'_> {
         cuts
     }
 
-    /// The candidate made smaller, if its part has no valid order. Where the part begins at a call
+    /// The candidate made smaller, if its part has no valid order. If the part begins at a call
     /// the plan does so no more.
     fn shrink(&self, mut candidate: Candidate) -> Option<Shrunk> {
         let cuts = self.base_cuts(&candidate);
@@ -196,7 +196,7 @@ impl Proposer<'_> {
     }
 
     /// A reason to which the patterns of a map's keys from this one on lead. The others are looked
-    /// at only where this one has no reason that is small enough.
+    /// at only if this one has no reason that is small enough.
     fn propose_from(&self, key: i64) -> Option<Proposal> {
         let own = self.best_on(key, key);
         if own.as_ref().is_some_and(|own| own.size <= FEW) {
@@ -242,7 +242,7 @@ impl Proposer<'_> {
 /// A small reason why no order of the object's operations is valid, if a pattern leads to one, or
 /// if there are few operations. The open key of a map is one for whose operations no order was
 /// found, while one was found for each lesser key: it is looked at first, and the greater ones only
-/// where it has no reason that is small enough. The search for an order of one part takes at most
+/// if it has no reason that is small enough. The search for an order of one part takes at most
 /// this many steps.
 pub fn propose(history: &ObjectHistory, open_key: Option<i64>, steps: u64) -> Option<Proposal> {
     propose_within(history, open_key, steps, u64::MAX)

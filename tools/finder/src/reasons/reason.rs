@@ -57,7 +57,7 @@ pub enum Shown {
 }
 
 impl Shown {
-    /// The count, and how a part is searched where there is none.
+    /// The count, and how a part is searched if there is none.
     fn parts(self) -> (Option<Count>, Search) {
         match self {
             Shown::ByCount(count) => (Some(count), Search { first: TryFirst::Return, steps: 0 }),

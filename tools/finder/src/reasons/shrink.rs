@@ -131,7 +131,7 @@ impl<'a> Judge<'a> {
         }
     }
 
-    /// Makes the plan smaller. False where it does not hold to begin with.
+    /// Makes the plan smaller. False if it does not hold to begin with.
     pub fn shrink(&mut self, plan: &mut Plan) -> bool {
         if !self.holds(plan) {
             return false;

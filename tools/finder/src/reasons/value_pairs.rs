@@ -1,4 +1,4 @@
-//! Pairs of values of a queue, stack or heap in which values repeat. Where no pattern leads to a
+//! Pairs of values of a queue, stack or heap in which values repeat. If no pattern leads to a
 //! reason all that was done with two values is kept, and is made smaller if it has no valid order.
 
 use super::{Candidate, Element, Pattern, Plan};

@@ -43,7 +43,7 @@ fn whole(key: Option<i64>, calls: &[&Call], all_values: bool) -> Option<Candidat
     Some(Candidate { pattern: Pattern::General, key, plan, weight: calls.len() })
 }
 
-/// The plans that keep everything, where there are few calls.
+/// The plans that keep everything, if there are few calls.
 pub fn wholes_of(kind: Kind, timeline: &Timeline) -> Vec<Candidate> {
     let calls: Vec<&Call> = timeline.calls.iter().collect();
     let all_values: &[bool] = match kind.family {

@@ -1,6 +1,6 @@
 //! The puts and removals of one value, paired as they come.
 //!
-//! A removal takes a value whose put has returned. Where there is none it waits for the next put
+//! A removal takes a value whose put has returned. If there is none it waits for the next put
 //! that returns, and takes one that runs when it returns itself. So the value definitely is in the
 //! object in few gaps.
 
@@ -100,7 +100,7 @@ impl Matching {
         }
     }
 
-    /// False where no put is left that the removal can have.
+    /// False if no put is left that the removal can have.
     fn take_returns(&mut self, take: Key) -> bool {
         if !self.waiting.remove(&take) {
             return true;
@@ -120,7 +120,7 @@ impl Matching {
         later.max_by_key(|k| (self.end_of(self.pairs[*k].0), *k))
     }
 
-    /// Gives the removal the put of one that returns later, which waits again. False where there is
+    /// Gives the removal the put of one that returns later, which waits again. False if there is
     /// none.
     fn take_over(&mut self, take: Key) -> bool {
         let Some(k) = self.later_pair(take.0) else {
@@ -167,7 +167,7 @@ impl Matching {
         true
     }
 
-    /// False where the removal has no put.
+    /// False if the removal has no put.
     fn happen(
         &mut self,
         (gap, event, place): (u32, Event, usize),
@@ -194,7 +194,7 @@ impl Matching {
     }
 
     /// Pairs the removals that wait at the end: they are pending. One that no put is left for did
-    /// not happen. False where one is not pending.
+    /// not happen. False if one is not pending.
     fn pair_the_rest(&mut self) -> bool {
         while let Some((end, take)) = self.waiting.pop_first() {
             if end != PENDING {

@@ -7,7 +7,7 @@ use crate::trees::{ABSENT, Least};
 /// The removals that are pending, and the calls that need values to be gone: a value must be gone
 /// where its put returns before one of these begins.
 pub struct Removals {
-    /// For each moment at which such a call begins the moment of its return. None where no removal
+    /// For each moment at which such a call begins the moment of its return. None if no removal
     /// is pending.
     returns: Option<Least>,
     moments: usize,

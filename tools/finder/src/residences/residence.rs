@@ -1,4 +1,4 @@
-//! How long each value is in a queue, stack or heap. Where a value comes more than once, its puts
+//! How long each value is in a queue, stack or heap. If a value comes more than once, its puts
 //! and removals are paired, and each pair counts as a value of its own.
 
 use super::Touch;

@@ -137,7 +137,7 @@ impl<'a> Contents<'a> {
         Some(above)
     }
 
-    /// The last push of the pop's value that can be on top, where pending pops may pop this many
+    /// The last push of the pop's value that can be on top, if pending pops may pop this many
     /// values, and the pushes above it.
     fn on_top(&self, take: usize, others: usize) -> Option<(usize, Vec<usize>)> {
         let last = self.value(take).open.iter().rev().take(MOST_PUSHES).copied();
@@ -175,8 +175,8 @@ impl<'a> Contents<'a> {
         }
     }
 
-    /// Pairs a pop with a push that can be on top, where pending pops may pop this many values.
-    /// False where there is none.
+    /// Pairs a pop with a push that can be on top, if pending pops may pop this many values.
+    /// False if there is none.
     fn pop_top(&mut self, take: usize, others: usize) -> bool {
         let Some((put, above)) = self.on_top(take, others) else {
             return false;
@@ -186,7 +186,7 @@ impl<'a> Contents<'a> {
         true
     }
 
-    /// Gives the pop the push of one that returns later, which waits again. False where there is
+    /// Gives the pop the push of one that returns later, which waits again. False if there is
     /// none.
     fn take_over(&mut self, take: Key) -> bool {
         let value = self.value_of[take.1];
@@ -203,7 +203,7 @@ impl<'a> Contents<'a> {
         true
     }
 
-    /// A pop returns. False where no push is left that it can have.
+    /// A pop returns. False if no push is left that it can have.
     fn take_returns(&mut self, take: Key) -> bool {
         if !self.value_mut(take.1).waiting.remove(&take) || self.pop_top(take.1, 0) {
             return true;
@@ -236,7 +236,7 @@ impl<'a> Contents<'a> {
         gone.into_iter().for_each(|(_, put)| self.join_waiting(put));
     }
 
-    /// False where a pop has no push.
+    /// False if a pop has no push.
     fn happen(&mut self, event: Event) -> bool {
         match event {
             Event::FindsNone => self.find_none(),

@@ -12,7 +12,7 @@ const FEW: usize = 10;
 /// How many boxes there are at the end where values are taken out.
 const NEAR: usize = 8;
 
-/// Whether a place of a list of this length has a box whatever is there: each where they are few;
+/// Whether a place of a list of this length has a box whatever is there: each if they are few;
 /// else those where values are taken out, and the one at the other end.
 fn is_near(place: usize, length: usize, gives: Gives) -> bool {
     let (near, other): (Range<usize>, usize) = match gives {
@@ -116,7 +116,7 @@ impl Boxes<'_> {
         self.add_values(BoxKind::Absent, reply.value().to_string(), under, None);
     }
 
-    /// The entries of cells with keys; where there are many only the one of the key, of which the
+    /// The entries of cells with keys; if there are many only the one of the key, of which the
     /// object gives this.
     fn entries(&mut self, entries: &Entries, key: Option<i64>, gives: &'static str) {
         let items = &entries.items;

@@ -163,7 +163,7 @@ impl Content {
         }
     }
 
-    /// The values in it, with their keys where it has keys; of a token whether it is held, and its
+    /// The values in it, with their keys if it has keys; of a token whether it is held, and its
     /// owner.
     pub fn values(&self) -> Vec<i64> {
         match self {

@@ -96,7 +96,7 @@ impl<'a> Route<'a> {
     }
 
     /// How many entries are walked along: those up to the fault. Without one, of a long order those
-    /// up to the last entry that is drawn, or all where none is.
+    /// up to the last entry that is drawn, or all if none is.
     fn reach(&self) -> usize {
         let all = self.order.len();
         match self.refused {

@@ -35,7 +35,7 @@ struct Trying<'a> {
     tried: Tried,
 }
 
-/// Why the operation does not fit where the object gives this; nothing where it fits.
+/// Why the operation does not fit where the object gives this; nothing if it fits.
 fn failure_of(invocation: &Invocation, gives: Option<Reply>) -> Option<Failure> {
     match (gives, invocation.reply()) {
         (None, _) => Some(Failure::NotPossible),

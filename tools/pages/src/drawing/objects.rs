@@ -401,7 +401,7 @@ pub fn draw_refused(subject: &Subject, order: &[i64], fault: OrderFault) -> Obje
 /// A part of an object's history of which no order is valid.
 pub struct DrawnPart<'a> {
     pub history: Cow<'a, ObjectHistory>,
-    /// The number from which on it is a part, where that is not the beginning.
+    /// The number from which on it is a part, if that is not the beginning.
     pub from: Option<u32>,
     /// The value that stands for all that it does not keep, if one does.
     pub other: Option<i64>,

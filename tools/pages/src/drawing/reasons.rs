@@ -1,12 +1,12 @@
 //! Why an object has no valid order, in a sentence. The pattern that led the finder to a reason
-//! says which sentence is tried, and it is said only where all it says was checked on all
+//! says which sentence is tried, and it is said only if all it says was checked on all
 //! operations of the object; else the general one is said.
 
 use crate::contents::{puts, takes, value_put};
 use crate::timeline::{Operation, Role, Span, Spans, State, Tried, spans};
 use finder::{Counted, Gives, Kind, Lost, Need, Pattern, Reply, Sentence};
 
-/// The operations of an object, and those of a part of which no order is valid. Where the part
+/// The operations of an object, and those of a part of which no order is valid. If the part
 /// begins, if not at the beginning, and the pattern that led to it.
 #[derive(Clone, Copy)]
 pub struct Reason<'a> {
@@ -20,7 +20,7 @@ pub struct Reason<'a> {
 /// How many operations are named one by one at most.
 const MOST_NAMED: usize = 12;
 
-/// The operations, with `and` before the last; where there are many, how many there are.
+/// The operations, with `and` before the last; if there are many, how many there are.
 fn named(operations: &[Operation]) -> Spans {
     listed(operations, " and ")
 }
@@ -41,12 +41,12 @@ fn listed(operations: &[Operation], last: &'static str) -> Spans {
     spans
 }
 
-/// One of the operations, with `or` before the last; where there are many, how many there are.
+/// One of the operations, with `or` before the last; if there are many, how many there are.
 pub fn one_of(operations: &[Operation]) -> Spans {
     listed(operations, " or ")
 }
 
-/// How often, as `twice`, and by which operations where these are few.
+/// How often, as `twice`, and by which operations if these are few.
 fn times(operations: &[Operation]) -> Spans {
     let mut spans = match operations.len() {
         1 => spans!["once"],
@@ -113,7 +113,7 @@ fn left_by(operation: &Operation) -> Option<Option<i64>> {
     operation.op().effect(Some(operation.reply()?))?.shows()
 }
 
-/// The words on what an operation left, which is this: where there are keys also the key.
+/// The words on what an operation left, which is this: if there are keys also the key.
 fn left_words(operation: &Operation, left: Option<i64>) -> Spans {
     let op = operation.op();
     let mut words = match (op.sets(), op.key()) {
@@ -399,7 +399,7 @@ impl Reason<'_> {
     fn of_pattern(&self) -> Option<Spans> {
         match &self.sentence.pattern {
             Pattern::Lost(lost) => self.not_empty().or_else(|| self.lost(lost)),
-            // Where an operation failed that would have put the value in, the finder's sentence says so.
+            // If an operation failed that would have put the value in, the finder's sentence says so.
             Pattern::NeverSet(_) | Pattern::TooEarly(_) if self.sentence.facts.undone.is_some() => {
                 None
             }

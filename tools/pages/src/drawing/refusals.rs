@@ -12,7 +12,7 @@ use std::collections::{BTreeMap, BTreeSet};
 #[derive(Clone, Copy)]
 pub enum Alone {
     Never,
-    /// Where more operations than these are drawn.
+    /// When more operations than these are drawn.
     Above(usize),
     Always,
 }

@@ -136,7 +136,7 @@ fn marked_line(
     }
 }
 
-/// The line of the place, with the place marked, and the lines around it. Where the place is empty,
+/// The line of the place, with the place marked, and the lines around it. If the place is empty,
 /// a word says what is missing there.
 pub fn excerpt(text: &[u8], place: ByteRange, caption: Spans, missing: &'static str) -> Excerpt {
     let from = place.from.min(text.len());

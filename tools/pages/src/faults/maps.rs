@@ -84,7 +84,7 @@ impl<'a> Map<'a> {
         }
     }
 
-    /// What is wrong with it, where it has a process, and an earlier map if it needs one.
+    /// What is wrong with it, if it has a process, and an earlier map if it needs one.
     fn clash(&self, earlier: Option<&Earlier>) -> Option<Spans> {
         let process = self.process?;
         if self.kind == MapFaultKind::Stray {
@@ -112,7 +112,7 @@ impl<'a> Map<'a> {
         sentence
     }
 
-    /// The history before it, drawn; none where it can't be read again.
+    /// The history before it, drawn; none if it can't be read again.
     fn before(&self, text: &[u8]) -> Option<Before> {
         let history = read_history(&text[..self.place.from])?;
         let number = self.clashes_with(&history);

@@ -16,7 +16,7 @@ pub fn count_text(count: usize) -> String {
     text
 }
 
-/// The reply that a label tells; none where it tells nothing that the operation does not.
+/// The reply that a label tells; none if it tells nothing that the operation does not.
 fn told_reply(operation: &Operation) -> Option<Value> {
     let reply = operation.reply()?;
     let op = operation.op();
@@ -46,8 +46,8 @@ pub fn label(operation: &Operation, words: &Words) -> String {
     words.values(text)
 }
 
-/// The text, or where it has more characters than these, its beginning and three dots; nothing
-/// where there is room for fewer than four.
+/// The text, or if it has more characters than these, its beginning and three dots; nothing
+/// if there is room for fewer than four.
 pub fn fit(text: &str, most: usize) -> String {
     if text.chars().count() <= most {
         return text.into();
@@ -59,7 +59,7 @@ pub fn fit(text: &str, most: usize) -> String {
 }
 
 /// The same of an operation's label, of which the middle is left out, so that both its name and the
-/// end of its reply stay; nothing where what is left of it cannot be read.
+/// end of its reply stay; nothing if what is left of it cannot be read.
 pub fn fit_label(text: &str, most: usize) -> String {
     let length = text.chars().count();
     if length <= most {

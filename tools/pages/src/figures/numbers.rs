@@ -2,7 +2,7 @@
 
 /// The widest line.
 pub const WIDEST: u32 = 920;
-/// The room for the names of the lanes, where none has more than `NAME_LENGTH` characters.
+/// The room for the names of the lanes, if none has more than `NAME_LENGTH` characters.
 pub const LEFT: u32 = 56;
 const NAME_LENGTH: u32 = 7;
 /// The characters of the longest name of a lane.

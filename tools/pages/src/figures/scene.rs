@@ -104,7 +104,7 @@ impl Scene<'_> {
         self.focus.get(&operation.number()).copied().unwrap_or(other)
     }
 
-    /// The label of an operation, no longer than the longest. Where operations of several objects
+    /// The label of an operation, no longer than the longest. If operations of several objects
     /// are drawn, it ends with the object.
     pub fn label(&self, operation: &Operation) -> String {
         let mut text = label(operation, &self.words);

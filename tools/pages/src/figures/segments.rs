@@ -57,7 +57,7 @@ fn end_at(layout: &Layout, number: u32, side: Side) -> BarEnd {
     BarEnd { line, x, is_open: true }
 }
 
-/// The part in a line of the stretch from one event to another, or to the end; none where it is not in the line, or no wider than a gap.
+/// The part in a line of the stretch from one event to another, or to the end; none if it is not in the line, or no wider than a gap.
 pub fn stretch_between(
     layout: &Layout,
     from: u32,

@@ -70,7 +70,7 @@ fn draw_no_more(moments: &mut [Moment]) {
     }
 }
 
-/// Draws the events of the window: those of the stretch, if one is given; all, where there are no
+/// Draws the events of the window: those of the stretch, if one is given; all, if there are no
 /// more than `whole`; without a focus the first ones; and else what is around the focus, the less of
 /// it the more the focus is.
 pub fn choose(moments: &mut [Moment], focus: &[u32], stretch: Stretch, whole: usize) {

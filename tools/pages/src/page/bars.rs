@@ -78,7 +78,7 @@ impl Bar {
         ]
     }
 
-    /// Its edge, which has no line where it is open.
+    /// Its edge, which has no line if it is open.
     fn edge(&self) -> Html {
         let (left, right, top, low) = (self.from, self.to, self.top, self.low());
         path(

@@ -13,7 +13,7 @@ pub struct TextLine {
     pub text: String,
 }
 
-/// A line of a text with a part of it marked, and whether it is cut at its two ends. Where nothing
+/// A line of a text with a part of it marked, and whether it is cut at its two ends. If nothing
 /// is there to be marked, a word says what is missing.
 pub struct MarkedLine {
     pub number: usize,

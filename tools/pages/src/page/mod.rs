@@ -183,7 +183,7 @@ impl Page<'_> {
         ]
     }
 
-    /// What the page is about, past its head: the fault, the reason or the object. None where that
+    /// What the page is about, past its head: the fault, the reason or the object. None if that
     /// is all of the page.
     fn place_name(&self) -> Option<&'static str> {
         match (self.answer, self.drawings) {

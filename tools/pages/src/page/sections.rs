@@ -23,7 +23,7 @@ fn some_line(figure: &Figure, holds: fn(&Line) -> bool) -> bool {
     figure.lines.iter().any(holds)
 }
 
-/// The place of the refused entry in the order, from 1; 0 where there is none.
+/// The place of the refused entry in the order, from 1; 0 if there is none.
 fn refused_rank(drawing: &ObjectDrawing) -> usize {
     let refused = drawing.rows.iter().rev().find_map(|row| match row {
         Row::Entry { rank, entry: Entry::Refused, .. } => Some(*rank),
@@ -130,7 +130,7 @@ fn reason_caption(drawing: &ObjectDrawing, figure: &Figure) -> Spans {
     said
 }
 
-/// The operations of a reason that are not wholly within it, by their names where they are few.
+/// The operations of a reason that are not wholly within it, by their names if they are few.
 fn outside(operations: &[Operation], shown: &Shown) -> Option<Html> {
     let more = operations.len().saturating_sub(MOST_NAMED);
     let more = (more > 0).then(|| html![", and ", count_text(more), " more"]);

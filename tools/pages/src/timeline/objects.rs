@@ -53,9 +53,9 @@ pub struct ObjectDrawing {
     pub tried: Option<Tried>,
     /// How many operations the reason has, of which the figure of it may leave some out.
     pub reason: usize,
-    /// How many operations that did not fail the object has, where there is a reason.
+    /// How many operations that did not fail the object has, if there is a reason.
     pub live: usize,
-    /// The number at which a reason begins, where that is not the beginning.
+    /// The number at which a reason begins, if that is not the beginning.
     pub from: Option<u32>,
     /// The operations of a reason that returned, and of which it counts no return: they may have
     /// taken effect outside of it.

@@ -54,17 +54,17 @@ impl Operation {
         }
     }
 
-    /// The number of its return; none where it did not return.
+    /// The number of its return; none if it did not return.
     pub fn returned(&self) -> Option<u32> {
         self.invocation.returned()
     }
 
-    /// Its reply; none where it did not return.
+    /// Its reply; none if it did not return.
     pub fn reply(&self) -> Option<Reply> {
         self.invocation.reply()
     }
 
-    /// The number at which its bar ends; none where the bar stays open.
+    /// The number at which its bar ends; none if the bar stays open.
     pub fn closed(&self) -> Option<u32> {
         match self.invocation.end {
             End::Returned { at, .. } => Some(at),

@@ -78,7 +78,7 @@ impl Position<'_> {
     }
 
     /// The first step of a shortest way to a content. The list takes in the contents out of which
-    /// calls lead there: all of them where there is no way.
+    /// calls lead there: all of them if there is no way.
     pub fn step_to(&self, goal: usize, contents: &mut Vec<usize>) -> Option<usize> {
         contents.push(goal);
         let mut next = 0;
@@ -120,7 +120,7 @@ impl Position<'_> {
         steps.find(|step| *step != place)
     }
 
-    /// Adds a step, except where one is there that does the same.
+    /// Adds a step, unless one is there that does the same.
     fn add_new(&self, steps: &mut Vec<usize>, place: usize) {
         let done = |place: usize| (self.accesses[place].need, self.accesses[place].sets);
         if steps.iter().all(|step| done(*step) != done(place)) {
@@ -189,7 +189,7 @@ impl Position<'_> {
     }
 
     /// Adds the steps that can be of use: calls that have to return, and what lets such a call find
-    /// what it asks for. One that need not take effect does only where that is seen.
+    /// what it asks for. One that need not take effect does only if that is seen.
     fn add_others(&self, steps: &mut Vec<usize>) {
         for (_, place) in self.waiting.by_end.iter().take_while(|(end, _)| *end != PENDING) {
             if self.refuses(*place) {
@@ -207,7 +207,7 @@ impl Position<'_> {
     }
 
     /// The steps that may be tried after this many: the likely ones, and where these are not
-    /// enough the others. There are none where no way leads to what the call asks for.
+    /// enough the others. There are none if no way leads to what the call asks for.
     pub fn steps_after(&self, tried: usize) -> Vec<usize> {
         let mut steps = self.likely_steps();
         let is_blocked = steps.is_empty() && self.goal().is_some();

@@ -1,6 +1,6 @@
 //! The search for an order of one cell's calls. It goes through their begins and returns. What only
 //! looks for a content is placed as soon as the content is there; what sets one is placed where a
-//! call returns that has no place yet, one step after the other. Where no step is left it goes back
+//! call returns that has no place yet, one step after the other. If no step is left it goes back
 //! and tries the next one.
 
 use super::choices::Position;
@@ -78,7 +78,7 @@ impl<'a> Search<'a> {
         self.fingerprint = self.fingerprint.wrapping_add(fingerprint_of(access));
     }
 
-    /// The call waits no longer. False where it did not wait.
+    /// The call waits no longer. False if it did not wait.
     fn leave(&mut self, call: usize) -> bool {
         let access = &self.accesses[call];
         let waits = self.waiting.remove(call, access);
@@ -138,7 +138,7 @@ impl<'a> Search<'a> {
         self.waiting.by_end.contains(&(self.accesses[call].call.end, call))
     }
 
-    /// Goes on to the next return of a call that has no place; none where all have one.
+    /// Goes on to the next return of a call that has no place; none if all have one.
     fn next_return(&mut self) -> Option<usize> {
         while let Some(moment) = self.moments.get(self.at).copied() {
             self.steps += 1;
@@ -217,7 +217,7 @@ impl<'a> Search<'a> {
     }
 
     /// Gives up the choices since one of the contents was set that lead to what the call at this
-    /// choice asks for. Where no way leads there now, none of them can set it again.
+    /// choice asks for. If no way leads there now, none of them can set it again.
     fn leap_back(&mut self, choice: &Choice) {
         let position = self.position(choice);
         let Some(goal) = position.goal() else {
@@ -239,7 +239,7 @@ impl<'a> Search<'a> {
         self.hasty && self.steps > self.steps_there + MOST_UNTIL_HASTE
     }
 
-    /// Tries the next step of the last state that has one left. False where none has.
+    /// Tries the next step of the last state that has one left. False if none has.
     fn try_step(&mut self) -> bool {
         while let Some(mut choice) = self.choices.pop() {
             self.back_to(&choice);

@@ -64,7 +64,7 @@ impl Waiting {
         }
     }
 
-    /// Takes a call out. False where it does not wait.
+    /// Takes a call out. False if it does not wait.
     pub fn remove(&mut self, place: usize, access: &Access) -> bool {
         let end = access.call.end;
         let (role, content) = role_of(access);
@@ -98,7 +98,7 @@ impl Waiting {
     }
 
     /// Whether another call than this one sets the content and returns. Those that are pending are
-    /// kept for where nothing else helps.
+    /// kept for when nothing else helps.
     pub fn has_other_setter(&self, target: usize, place: usize) -> bool {
         let mut setters = self.returning.range((target, 0)..=(target, usize::MAX));
         setters.any(|(_, other)| *other != place)

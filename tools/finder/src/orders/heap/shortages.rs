@@ -26,7 +26,7 @@ const IN_VAIN: u64 = 1_000;
 
 /// The gaps `from <= gap < to`, in none of which the values below one, or any, are all gone.
 pub struct Shortage {
-    /// None where it is that of a call that finds nothing.
+    /// None if it is that of a call that finds nothing.
     pub below: Option<i64>,
     pub from: u32,
     pub to: u32,
@@ -101,7 +101,7 @@ impl Demands {
         costs.collect()
     }
 
-    /// Demands that values be gone in one gap of a shortage. False where that was demanded before.
+    /// Demands that values be gone in one gap of a shortage. False if that was demanded before.
     fn add(&mut self, shortage: &Shortage, covers: &[&Cover]) -> bool {
         // of the cheapest gaps the last
         let costs = self.costs(shortage.gaps(), covers);
@@ -117,7 +117,7 @@ impl Demands {
         self.demands.len() > before
     }
 
-    /// Demands what these shortages need. False where that is too much, or nothing new is demanded.
+    /// Demands what these shortages need. False if that is too much, or nothing new is demanded.
     pub fn add_all(&mut self, shortages: &[Shortage], covers: &[Cover]) -> bool {
         if shortages.len() > MOST_SHORTAGES {
             return false;

@@ -234,7 +234,7 @@ impl LineUp {
         false
     }
 
-    /// Lines up all. False where it can't be done.
+    /// Lines up all. False if it can't be done.
     pub fn run(&mut self) -> bool {
         let calls = self.puts.calls.len() + self.empties.left.len();
         for _ in 0..8 * calls + 20_000 {

@@ -9,7 +9,7 @@ const PLENTY: i64 = 1 << 32;
 /// For each removal how many more puts of its value begin before it returns than removals have to
 /// be lined up by then.
 pub struct Room {
-    /// None where each value is put in once: then there is always room.
+    /// None if each value is put in once: then there is always room.
     counts: Option<Counts>,
 }
 

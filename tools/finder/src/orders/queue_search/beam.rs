@@ -6,7 +6,7 @@ use super::steps::Search;
 /// How many states a layer has at most.
 const WIDTH: usize = 24;
 
-/// How many times as many it has where no state was left.
+/// How many times as many it has if no state was left.
 const WIDER: usize = 4;
 
 /// How often it is made wider.
@@ -81,7 +81,7 @@ impl Walk {
         }
     }
 
-    /// Goes back to a beam that was saved. False where that was done too often.
+    /// Goes back to a beam that was saved. False if that was done too often.
     fn go_back(&mut self) -> bool {
         self.trials += 1;
         self.width *= WIDER;
@@ -98,7 +98,7 @@ impl Walk {
         true
     }
 
-    /// Saves the beam where it is time to, and is narrow again where it has come far enough.
+    /// Saves the beam where it is time to, and is narrow again if it has come far enough.
     fn save(&mut self) {
         let layer = self.beam.layer;
         if !layer.is_multiple_of(SAVE) {
@@ -121,7 +121,7 @@ impl Walk {
         std::iter::once(&mut self.beam).chain(&mut self.saved).flat_map(Beam::states)
     }
 
-    /// Drops the steps that led to no state that is left, where there are too many.
+    /// Drops the steps that led to no state that is left, if there are too many.
     fn collect(&mut self, search: &mut Search) {
         if search.records.len() < self.collect_at {
             return;

@@ -1,7 +1,7 @@
 //! Other pairs for the equal values of a stack, where those that were chosen do not fit.
 //!
 //! Two values cross where the lower one definitely is popped before the upper one, though the upper
-//! one was pushed before that. Where equal values change their pops fewer may cross.
+//! one was pushed before that. If equal values change their pops fewer may cross.
 
 use crate::residences::Residence;
 use crate::timeline::PENDING;

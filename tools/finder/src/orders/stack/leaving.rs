@@ -52,7 +52,7 @@ struct Heights {
     last: Vec<u32>,
     /// How many values there are after the last turn, and before each, from the last on.
     before: Least,
-    /// How many there are after each turn: one fewer than none where a call finds nothing.
+    /// How many there are after each turn: one fewer than none if a call finds nothing.
     after: Least,
 }
 
@@ -62,7 +62,7 @@ struct Stay {
     /// The turn before which it is put.
     place: usize,
     gap: u32,
-    /// The turn before which it is gone; none where it may stay.
+    /// The turn before which it is gone; none if it may stay.
     until: Option<usize>,
 }
 
@@ -178,7 +178,7 @@ struct Placing {
 }
 
 impl Placing {
-    /// Takes out the values that no known pop takes, of those with these numbers. False where there
+    /// Takes out the values that no known pop takes, of those with these numbers. False if there
     /// are none.
     fn let_leave(&mut self, mut numbers: Vec<u32>) -> bool {
         numbers.sort_unstable();

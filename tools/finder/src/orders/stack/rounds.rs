@@ -1,4 +1,4 @@
-//! Orders in which other pairs are tried where values can't be ordered.
+//! Orders in which other pairs are tried if values can't be ordered.
 
 use super::crossings::uncross;
 use super::ordering::Ordering;
@@ -18,7 +18,7 @@ pub fn rounds_of(residences: &[Residence]) -> usize {
     (MOST_ORDERED / residences.len().max(1)).clamp(1, MOST_ROUNDS)
 }
 
-/// Changes the pops of equal values where values could not be ordered: so that fewer cross if that
+/// Changes the pops of equal values if values could not be ordered: so that fewer cross if that
 /// is told, and else so that more can be ordered. Whether any was changed.
 fn change(
     residences: &mut [Residence],
@@ -34,7 +34,7 @@ fn change(
     changes
 }
 
-/// An order of the calls that may be valid: where values can't be ordered other pairs are tried, as
+/// An order of the calls that may be valid: if values can't be ordered other pairs are tried, as
 /// long as comparisons, this many, are left.
 pub fn order_in_rounds(
     mut residences: Vec<Residence>,

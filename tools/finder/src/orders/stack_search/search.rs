@@ -47,7 +47,7 @@ impl Search {
         self.left == 0 || kept > MOST_KEPT
     }
 
-    /// The states at the end; none where it is given up.
+    /// The states at the end; none if it is given up.
     pub fn run(&mut self, calls: &[Call], moments: &[Moment], slack: u32) -> Vec<State> {
         let mut states = vec![State::BEGIN];
         for moment in moments {

@@ -88,7 +88,7 @@ impl Search {
         drafts.extend(popped.filter(|draft| draft.state.pops as usize <= begun));
     }
 
-    /// Places the calls that run and find nothing, where there is nothing.
+    /// Places the calls that run and find nothing, if there is nothing.
     fn with_empties(&mut self, mut state: State) -> State {
         while state.content == EMPTY
             && let Some(by) = self.running.first(state.placed, Role::FindsNone)

@@ -44,7 +44,7 @@ fn unset(scene: &Scene, access: &Access, content: usize) -> Option<Candidate> {
 /// What asks for the first of these contents after another was shown. The others are kept too.
 fn stale(scene: &Scene, access: &Access, contents: &[usize], sight: Sight) -> Candidate {
     let shown = scene.call(sight.place);
-    // An object which is one cell keeps a value that is set where there is none.
+    // An object which is one cell keeps a value that is set if there is none.
     let new = access.sets.filter(|_| contents[0] == NOTHING && scene.cell.key.is_none());
     let kept: Vec<usize> = contents.iter().copied().chain(new).collect();
     let mut plan = scene.plan(&kept, &[shown, access.call]);

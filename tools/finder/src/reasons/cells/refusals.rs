@@ -81,7 +81,7 @@ fn last_shown(shown: &[Shown], content: usize, moment: u32) -> Option<Shown> {
     shown[..next].last().copied().filter(|last| last.content == content)
 }
 
-/// The call that shows, at or after this one, that the content is there last. Where a content is
+/// The call that shows, at or after this one, that the content is there last. If a content is
 /// set once it stays until then.
 fn last_sight(scene: &Scene, shown: &[Shown], first: Shown) -> Shown {
     if scene.setters.count(first.content) != 1 {
@@ -91,7 +91,7 @@ fn last_sight(scene: &Scene, shown: &[Shown], first: Shown) -> Shown {
 }
 
 /// The calls that show that this content is there from before a call until it ends: the first and
-/// the last one. There are none where the cell has been empty from the beginning. `None`: another
+/// the last one. There are none if the cell has been empty from the beginning. `None`: another
 /// content may be there.
 fn shown_around(
     scene: &Scene,

@@ -58,7 +58,7 @@ impl Setters {
     }
 
     /// How many set this content, begin before `to`, and are not over by `from`; more than `most`
-    /// where they are more, or are not counted to the end.
+    /// if they are more, or are not counted to the end.
     pub fn touching(&self, content: usize, from: u32, to: u32, most: usize) -> usize {
         let mut many = 0;
         let mut setters = self.setters[..self.before(content, to)].iter().rev();

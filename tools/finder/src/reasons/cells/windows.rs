@@ -113,7 +113,7 @@ pub struct CountStart {
 }
 
 /// How a count in a window with these takers can begin. A window from moment 0 on is counted from
-/// the beginning. In another one the part begins with the first taker. Where others overlap it,
+/// the beginning. In another one the part begins with the first taker. If others overlap it,
 /// which the part would not have, only the count can begin there.
 pub fn starts_in(takers: &[Call], window: Window) -> Vec<CountStart> {
     let Some(first) = takers.iter().min_by_key(|taker| taker.begin) else {

@@ -64,14 +64,14 @@ impl Question<'_> {
 }
 
 /// A put that returned, and the number at which the removal was invoked that is its pair; that of
-/// no removal where there is none.
+/// no removal if there is none.
 struct Pair {
     key: i64,
     returned: u32,
     leaves: i64,
 }
 
-/// Where there is no removal: this is after all numbers.
+/// If there is no removal: this is after all numbers.
 const NEVER: i64 = u32::MAX as i64;
 
 /// Pairs in rising order of their keys. Those whose puts returned before a number are in the tree,
@@ -214,7 +214,7 @@ impl<'a> Asking<'a> {
         }
     }
 
-    /// The question of a removal that found the value of the run at this place; none where its puts
+    /// The question of a removal that found the value of the run at this place; none if its puts
     /// leave it open what was ahead.
     fn of_found(&self, place: usize, call: &'a Call, pairs: &Pairs) -> Option<Question<'a>> {
         let run = &self.runs.runs[place];

@@ -7,7 +7,7 @@ use crate::timeline::Call;
 /// A value with at most this many calls is kept whole.
 pub const FEW_CALLS: usize = 8;
 
-/// The number before which what was done with the value of a run is left out; none where the run is
+/// The number before which what was done with the value of a run is left out; none if the run is
 /// its first, or the value has few calls.
 fn since_of(runs: &Runs, run: &Run) -> Option<u32> {
     run.since.filter(|_| runs.calls_of(run.value) > FEW_CALLS)
