@@ -80,7 +80,7 @@ fn parts_in(form: &Form) -> Option<(u32, &[Form])>
     Some((object, forms))
 }
 
-/// The certificate that a form is, if it is one.
+/// Reads a form as a certificate, if it is one.
 ///
 /// An error: an allocation failed for its order.
 pub fn certificate_in(alloc: Global, form: &Form) -> Result<Option<Certificate>, AllocError>
@@ -123,8 +123,8 @@ fn next_certificate(
     }
 }
 
-/// The certificates that the forms are, one by one and in order. A fault is that of the least
-/// faulty form, except for an allocation failure, which names the form that was being read.
+/// Reads each form as a certificate, in order. A fault is that of the least faulty form, except for
+/// an allocation failure, which names the form that was being read.
 pub fn read_certificates(alloc: Global, forms: Vec<Form>) -> Result<Vec<Certificate>, CertFault>
     requires fit { All (λ f. Fits max_open (view f)) forms.items }
     ensures denotes { IfOk result (λ v. Denotes (views forms.items) v.items) }

@@ -138,10 +138,10 @@ impl Reading {
     }
 }
 
-/// The certificates that the text denotes, each element being one, or what is wrong. What is wrong
-/// with the text comes before what is wrong with an element: after the first that is faulty, or for
-/// which an allocation failed, the text is still read to its end. Of an element its order is kept,
-/// and of any other value no more than its beginning.
+/// Reads the certificates that the text denotes, each element being one, or returns what is wrong.
+/// What is wrong with the text comes before what is wrong with an element: after the first that is
+/// faulty, or for which an allocation failed, the text is still read to its end. Of an element its
+/// order is kept, and of any other value no more than its beginning.
 pub fn read_certificates_text(alloc: Global, text: &[u8]) -> Result<Vec<Certificate>, CertTextFault>
     ensures denotes { IfOk result (λ v.
         (ds : List Datum) × Spells ds text.now × Denotes ds v.items) }

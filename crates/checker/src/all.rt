@@ -15,7 +15,7 @@ use events::{History, ObjectHistory, split};
 use number_map::NumberMap;
 use std::alloc::{AllocError, Global};
 
-/// The place of the certificate of each object.
+/// Returns the place of the certificate of each object.
 pub fn places(alloc: Global, certificates: &[Certificate]) -> Result<NumberMap<usize>, AllocError>
     ensures { IfOk result (λ m. AreAllPlaces m certificates.now) }
 {

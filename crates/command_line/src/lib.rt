@@ -18,7 +18,7 @@ pub use asking::{Line, LineFault, RunOptions};
 use std::alloc::Global;
 use std::convert::AsStr;
 
-/// What the words ask for, the program's name being the first of them.
+/// Returns what the arguments ask for, the program's name being the first of them.
 pub fn line<S: AsStr>(alloc: Global, words: &[S]) -> Result<Line, LineFault>
     ensures { MatchResult result (spec.AskFor (map S.text words.now))
         (spec.IsFault (map S.text words.now)) }

@@ -19,9 +19,9 @@ use std::alloc::{AllocError, Global};
 /// The most bytes that a text may have.
 pub const MAX_LENGTH: usize = 268_435_456;
 
-/// The forms that a text spells. A text that is too long is not looked at; then comes whether it
-/// is UTF-8 as a whole; then it is read from left to right, and its first fault is the answer. The
-/// form of an element is made once the element is whole.
+/// Reads the forms that a text spells. A text that is too long is not looked at; then comes whether
+/// it is UTF-8 as a whole; then it is read from left to right, and its first fault is the answer.
+/// The form of an element is made once the element is whole.
 pub fn read_forms(alloc: Global, text: &[u8]) -> Result<Vec<Form>, EdnFault>
     ensures spelled { IfOk result (λ v. Spells (views v.items) text.now) }
     // The text spells no others.

@@ -16,8 +16,8 @@ pub struct MapText<'a> {
     pub text: &'a [u8],
 }
 
-/// The maps that a piece of a history's text spells, in order. The bytes of each spell it alone. A
-/// form that is no operation map is among them, and says so.
+/// Reads the maps that a piece of a history's text spells, in order. The bytes of each spell it
+/// alone. A form that is not an operation map is among them, and says so.
 pub fn maps_of<'a>(alloc: Global, piece: &'a [u8]) -> Result<Vec<MapText<'a>>, EdnFault>
     ensures maps { IfOk result (λ v. AreMapsOf piece.entry.now v.items) }
     ensures unreadable { IfErr result (λ e. e.kind ≢ FaultKind.NoMemory

@@ -54,9 +54,9 @@ fn begins_in_lines(alloc: Global, text: &[u8]) -> bool {
     }
 }
 
-/// The text in pieces, with a line feed between each two. They are this many and of nearly one
-/// length, but no answer depends on that. None says nothing of the text: its first lines cannot be
-/// read by themselves, its lines are too few or too long, or an allocation failed.
+/// Cuts the text into pieces, with a line feed between each two. They are this many and of nearly
+/// one length, but no answer depends on that. None means nothing about the text: its first lines
+/// cannot be read by themselves, its lines are too few or too long, or an allocation failed.
 pub fn pieces_of(alloc: Global, text: &[u8], count: usize) -> Option<Vec<&[u8]>>
     ensures { IfSome result (λ v. joined_by_feeds (map (λ p. p.now) v.items) ≡ text.entry.now) }
 {

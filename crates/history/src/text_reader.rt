@@ -83,10 +83,11 @@ impl Reading {
     }
 }
 
-/// The history that the text denotes, each form being one operation map, or what is wrong. What is
-/// wrong with the text comes before what is wrong with a map: after the first map that is faulty,
-/// or for which an allocation failed, the text is still read to its end. The forms of the text are
-/// never in memory together, and of a value only what can be an argument or a reply.
+/// Reads the history that the text denotes, each form being one operation map, or returns what is
+/// wrong. What is wrong with the text comes before what is wrong with a map: after the first map
+/// that is faulty, or for which an allocation failed, the text is still read to its end. The forms
+/// of the text are never in memory together, and of a value only what can be an argument or a
+/// reply.
 pub fn read_history_text(alloc: Global, text: &[u8]) -> Result<History, TextFault>
     ensures denotes { IfOk result (λ h. (ds : List Datum) × Spells ds text.now × Denotes ds h) }
     ensures short { OnOk result (IsShort text.now) }

@@ -49,7 +49,7 @@ fn write_comments<S: Sink>(certificates: &[Certificate], sink: &mut S) -> Result
     Ok(())
 }
 
-/// The text of these certificates, each line a comment.
+/// Returns the text of these certificates, each line a comment.
 pub fn comments_text(alloc: Global, certificates: &[Certificate]) -> Result<Vec<u8>, AllocError>
     ensures { IfOk result (λ v. v.items ≡ comment_lines certificates.now) }
 {

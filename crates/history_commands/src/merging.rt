@@ -79,9 +79,9 @@ impl Merging {
         self.add(answer_shard(alloc, shard, text, table, evidence, steps)?)
     }
 
-    /// The answer on the shards that were taken, which is one on the whole if these are all its
-    /// shards. It is malformed if a shard is, or else no if an object is impossible, or else
-    /// yes if each object of each shard has an order.
+    /// Returns the answer on the shards that were taken, which is one on the full history if these
+    /// are all its shards. It is malformed if a shard is, otherwise no if an object is impossible,
+    /// otherwise yes if each object of each shard has an order.
     pub fn output(self, alloc: Global) -> Result<Output, AllocError>
         ensures { (shards : List Shard) → AreMerged self shards
             → IfOk result (λ o. IsMerge shards o.status o.text.items) }

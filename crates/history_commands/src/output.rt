@@ -20,7 +20,7 @@ pub struct Output {
     ghost unfailed: { status ≢ Failed },
 }
 
-/// This text and then the lines of the verdict, as comments or as they are.
+/// Returns this text and then the lines of the verdict, as comments or as they are.
 pub fn with_verdict(text: Vec<u8>, verdict: &Verdict, commented: bool) -> Result<Output, AllocError>
     ensures { IfOk result (λ o. IsExactly (spec.status_of verdict.now)
         (text.items ++ verdict_text commented verdict.now) o.status o.text.items) }

@@ -61,7 +61,7 @@ fn failure_of_fault(fault: Fault) -> TextFailure
     }
 }
 
-/// The history that a text denotes, or the first fault of the text.
+/// Returns the history that a text denotes, or the first fault of the text.
 pub fn history_of_text(alloc: Global, text: &[u8]) -> Result<History, TextFailure>
     ensures denotes { IfOk result (λ es. DenotesHistory text.now es) }
     ensures only { IfOk result (λ es. (fs : List Event) → DenotesHistory text.now fs → fs ≡ es) }

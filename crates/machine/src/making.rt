@@ -35,8 +35,8 @@ fn lists<T: Drop>(alloc: Global, count: usize) -> Result<Vec<Vec<T>>, AllocError
 }
 
 impl<S: SeqObject> Machine<S> {
-    /// A machine for these objects, which are empty, and this many clients, each of which may make
-    /// this many calls. All clients are idle, and nothing has happened.
+    /// Makes a machine for these empty objects and this many clients, each of which may make this
+    /// many calls. All clients are idle, and nothing has happened.
     pub fn new(
         alloc: Global,
         objects: Vec<S>,

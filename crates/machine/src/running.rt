@@ -92,8 +92,8 @@ impl<S: SeqObject> Machine<S> {
         None
     }
 
-    /// The record of the machine's own world, once all clients have ended; or the machine, and the
-    /// least client that has not. It takes no memory.
+    /// Returns the record of the machine's own world, once all clients have ended; or the machine,
+    /// and the least client that has not. It takes no memory.
     pub fn finish(self) -> Result<Record<S>, (Machine<S>, u32)>
         ensures ended { IfOk result (λ _. (c : ℕ) → c < clients_of self → HasEnded self c) }
         ensures journals { IfOk result (λ r. (c : ℕ) →

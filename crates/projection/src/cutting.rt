@@ -110,10 +110,10 @@ fn cut_by(
     }
 }
 
-/// The part that the cuts name, one after another: each cuts the part that those before it named.
-/// `None`: one of them names no part: a `Keep` is not closed, a `From` begins at no operation whose
-/// reply tells what it left, or the value of a `Without` may have been there. With no cuts the part
-/// is the whole, without the operations that failed: no part has one of these.
+/// Returns the part that the cuts name, one after another: each cuts the part that those before it
+/// named. `None`: one of them names no part: a `Keep` is not closed, a `From` begins at no
+/// operation whose reply tells what it left, or the value of a `Without` may have been there. With
+/// no cuts the part is the whole, without the operations that failed: no part has one of these.
 ///
 /// An error: an allocation failed.
 pub fn part_by(

@@ -9,8 +9,8 @@ use crate::plays::{Adopts, Learns, SendsSeen, TakesMessage};
 use seq_objects::SeqObject;
 
 impl<S: SeqObject> Desk<S> {
-    /// Two clients tell each other what they have seen of the object's log: afterwards both have
-    /// seen one legal log, which goes on from what each had seen.
+    /// Lets two clients share what they have seen of the object's log: afterwards both have seen
+    /// one legal log, which extends what each had seen.
     pub fn meet(&self, one: Client<S>, other: Client<S>, object: u32) -> (Client<S>, Client<S>)
         requires one { one.desk ≡ self.now.id }
         requires other { other.desk ≡ self.now.id }

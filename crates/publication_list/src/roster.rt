@@ -61,8 +61,8 @@ fn make_all(table: &Board, seat: &mut Chair, rows: u32, made: &mut Vec<Place>)
 }
 
 impl Roster {
-    /// A roster for this many rows, none of which is listed, with a place for each row, in rising
-    /// order.
+    /// Makes a roster for this many rows, none of which is listed, with a place for each row, in
+    /// rising order.
     pub fn new(alloc: Global, rows: u32) -> Result<(Roster, Vec<Place>, Walker), AllocError>
         requires { (0 < rows) × (rows < 1 + max_rows) }
         ensures rows { IfOk result (λ r. r.0.rows ≡ rows) }

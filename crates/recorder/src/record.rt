@@ -33,7 +33,7 @@ impl<S: SeqObject> Record<S> {
     ghost use Rattle.recorder.specs.Records.{items_of, recorded};
     ghost use Rattle.recorder.specs.Histories.{IsRecordOf};
 
-    /// The record of these journals and logs.
+    /// Makes a record of these journals and logs.
     pub fn new(
         journals: Vec<Vec<JournalEvent<S::Op, S::Reply>>>,
         logs: Vec<Vec<LogEntry<S::Op, S::Reply>>>,

@@ -15,7 +15,7 @@ use edn::Form;
 use edn_fields::value_at;
 use std::alloc::{AllocError, Global};
 
-/// The reason that a form is, if it is one.
+/// Reads a form as a reason, if it is one.
 ///
 /// An error: an allocation failed.
 #[tactic(auto, using(edn_reader::proofs::Pairs::map_view))]
@@ -56,7 +56,7 @@ fn next_reason(alloc: Global, form: &Form) -> Result<Reason, ReasonFaultKind>
     }
 }
 
-/// The reasons that the forms are, one by one and in order. Several may be of one object.
+/// Reads each form as a reason, in order. Several may be for one object.
 ///
 /// The error names the first form that is no reason, or the one that was being read when the
 /// allocation failed.

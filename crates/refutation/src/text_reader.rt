@@ -13,8 +13,8 @@ use crate::reader::read_reasons;
 use edn::read_forms;
 use std::alloc::Global;
 
-/// The reasons that the text denotes, each element being one, or what is wrong. What is wrong with
-/// the text comes before what is wrong with an element.
+/// Reads the reasons that the text denotes, each element being one, or returns what is wrong. What
+/// is wrong with the text comes before what is wrong with an element.
 pub fn read_reasons_text(alloc: Global, text: &[u8]) -> Result<Vec<Reason>, ReasonTextFault>
     ensures denotes { IfOk result (λ v.
         (ds : List Datum) × Spells ds text.now × Denotes ds v.items) }

@@ -32,9 +32,9 @@ fn refused(refusal: Refusal) -> Verdict
     }
 }
 
-/// The verdict if the certificates of a history were checked with this result: yes with the
-/// counts of the history, or no with the refusal. If an allocation failed, in the check or here,
-/// it is `NoMemory`.
+/// Returns the verdict if the certificates of a history were checked with this result: yes with the
+/// counts of the history, or no with the refusal; `NoMemory` if an allocation failed, in the check
+/// or here.
 pub fn verdict_on_check(alloc: Global, history: &History, checked: Result<(), Refusal>) -> Verdict
     ensures { IsVerdictOnCheck history.now checked result }
 {

@@ -237,8 +237,8 @@ pub(crate) fn summary_of(alloc: Global, events: &[Event]) -> Result<Summary, All
     summary_of_invoked(alloc, &all)
 }
 
-/// What a history has. The operations are those that did not fail. The objects and the kinds are
-/// those that some invocation names, be it failed.
+/// Counts what a history has. The operations are those that did not fail. The objects and the kinds
+/// are those that some invocation names, be it failed.
 pub fn summary(alloc: Global, history: &History) -> Result<Summary, AllocError>
     ensures operations { IfOk result (λ s. s.operations ≡ length (operations_in history.now)) }
     ensures objects { IfOk result (λ s. s.objects ≡ length (objects_in (uses history.now))) }

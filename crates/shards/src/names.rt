@@ -52,7 +52,7 @@ pub fn objects_have_own_names()
         → IsObjectOf count shard name (spec.object_named count shard name) }
 {}
 
-/// How many shards an object needs at least.
+/// Returns how many shards an object needs at least.
 pub fn shards_needed(object: u32) -> u32
     ensures { result ≡ object / most_names + 1 }
 {

@@ -141,9 +141,9 @@ fn renumber(alloc: Global, events: &[Event], numbers: &[u32]) -> Result<Vec<Even
     Ok(renumbered)
 }
 
-/// The history of a shard, each event with the number that it has in the whole: that in the place
-/// of its map in the table. The table has a line for each event, and no others: so no table fits a
-/// history with a map that is ignored.
+/// Gives each event of a shard's history the number that it has in the full history: that in the
+/// place of its map in the table. The table has a line for each event, and no others: so no table
+/// fits a history with a map that is ignored.
 pub fn with_table(alloc: Global, history: History, table: &[u8]) -> Result<History, TableFault>
     ensures numbered { IfOk result (λ h. (ns : List ℕ) × FitsTable ns table.now history
         × (h ≡ with_numbers ns history)) }

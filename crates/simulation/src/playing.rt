@@ -44,7 +44,7 @@ fn objects_of(alloc: Global, header: &Header) -> Result<Vec<AnyObject>, AllocErr
     Ok(objects)
 }
 
-/// The machine that the header asks for, of which no step was taken: this many clients, and empty
+/// Makes the machine that the header asks for, before any step: this many clients, and empty
 /// objects. It fails only on an allocation failure.
 pub fn machine_of(alloc: Global, header: &Header) -> Result<Machine<AnyObject>, AllocError>
     requires { IsWithin header.now }

@@ -64,7 +64,7 @@ fn schedule_in(alloc: Global, text: &[u8]) -> Result<Schedule, SimulationFault>
 }
 
 /// Plays the schedule that the text denotes: a machine of its own takes the steps, and its record
-/// is handed out once all clients have ended.
+/// is returned once all clients have ended.
 pub fn simulate(alloc: Global, text: &[u8]) -> Result<Played, SimulationFault>
     ensures simulated { IfOk result (λ p. IsSimulated text.now p.refused p.record) }
     ensures short { IfOk result (λ _. IsShort text.now) }

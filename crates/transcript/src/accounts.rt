@@ -28,9 +28,9 @@ fn events_in(alloc: Global, lines: &[Line]) -> Result<Vec<Event>, AllocError>
     lines.iter().map(|line| line.event).collect(alloc)
 }
 
-/// The history of a record: the event of each ticket, in order of tickets. A client is a process,
-/// and its number that of the process; a ticket is the number of its event; and a call that was
-/// refused memory is one that did not happen.
+/// Returns the history of a record: the event of each ticket, in order of tickets. A client is a
+/// process, and its number that of the process; a ticket is the number of its event; and a call in
+/// which an allocation failed is one that did not happen.
 pub fn history<S: SeqObject>(alloc: Global, account: &Record<S>) -> Result<History, AllocError>
     ensures history { IfOk result (AreEventsOf (journals_in S.op_in S.reply_in account.now)) }
     ensures kept { IsRecordOf S.op_in S.reply_in account.now }
@@ -78,8 +78,8 @@ fn certificates_by<S: SeqObject>(
     Ok(certificates)
 }
 
-/// A certificate for each object that some call names, in rising order of objects: the tickets of
-/// its log.
+/// Returns a certificate for each object that some call names, in rising order of objects: the
+/// tickets of its log.
 pub fn certificates<S: SeqObject>(
     alloc: Global,
     account: &Record<S>,
@@ -103,8 +103,8 @@ pub struct Account {
     pub text: Vec<u8>,
 }
 
-/// The history, the certificates and the text of the history of a record, as `history`,
-/// `certificates` and `write_history` give them one by one.
+/// Returns the history, the certificates and the text of the history of a record, as `history`,
+/// `certificates` and `write_history` make them one by one.
 pub fn account_of<S: SeqObject>(alloc: Global, account: &Record<S>) -> Result<Account, AllocError>
     ensures history { IfOk result (λ a.
         AreEventsOf (journals_in S.op_in S.reply_in account.now) a.history) }

@@ -83,7 +83,7 @@ fn next_claim(alloc: Global, form: &Form) -> Result<Claim, ClaimFaultKind>
     }
 }
 
-/// The claims that the forms are, one by one and in order. Several may be of one object.
+/// Reads each form as a claim, in order. Several may be on one object.
 ///
 /// The error names the first form that is no claim, or the one that was being read when the
 /// allocation failed.

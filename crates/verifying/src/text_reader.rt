@@ -13,8 +13,8 @@ use crate::reader::read_claims;
 use edn::read_forms;
 use std::alloc::Global;
 
-/// The claims that the text denotes, each element being one, or what is wrong. What is wrong with
-/// the text comes before what is wrong with an element.
+/// Reads the claims that the text denotes, each element being one, or returns what is wrong. What
+/// is wrong with the text comes before what is wrong with an element.
 pub fn read_claims_text(alloc: Global, text: &[u8]) -> Result<Vec<Claim>, ClaimTextFault>
     ensures denotes { IfOk result (λ v.
         (ds : List Datum) × Spells ds text.now × Denotes ds v.items) }
