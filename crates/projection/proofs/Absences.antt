@@ -1,38 +1,30 @@
 -- Where a value definitely is not in an object before some number, an order is valid without what was done with it
 -- before.
-use Rattle.std.proofs.Common.{◌≡◌, ◌≢◌, ◌⊎◌, inl, inr, ℕ, ℤ, pos, ◌+ℤ◌, ◌<◌, ◌≤◌, ◌+◌, nat_lt, Bool, true, false, not}
+use Rattle.std.proofs.Common.{rules, ◌≡◌, ◌≢◌, ◌⊎◌, inl, inr, ℕ, ℤ, pos, ◌<◌, ◌≤◌, ◌+◌, nat_lt, Bool, true, false, not}
 use Rattle.std.proofs.Common.{◌&&◌, ◌||◌, cond, List, [], ◌∷◌, ◌++◌}
 use Rattle.std.proofs.Common.{Option, Some, None, AllPairs, Contains, IfSome, IsSome, length, map, filter, refl, ap}
 use Rattle.std.proofs.Common.{sym, ◌∙◌, subst, arith}
 use Rattle.std.proofs.lemmas.Bool.Decides.{nat_tests}
-use Rattle.std.specs.Ordering.{int_cmp, int_eq}
-use Rattle.std.specs.FinMap as table_of
-use Rattle.std.specs.FinSet as set
+use Rattle.std.specs.Ordering.{int_eq}
 use Rattle.model.specs.declared.Kind.{Kind}
-use Rattle.model.specs.declared.Kind.TheVariants as kind
 use Rattle.model.specs.declared.AnyOp.{AnyOp}
-use Rattle.model.specs.declared.AnyOp.TheVariants.{Enqueue, Dequeue, Push, Pop, Insert, ExtractMin, Write, Read}
-use Rattle.model.specs.declared.AnyOp.TheVariants.{Cas, Put, Get, Del, Acquire, Release}
-use Rattle.model.specs.declared.AnyOp.TheVariants.{Clear, Create, PutIfAbsent, Replace, Assoc, Dissoc, Add, Remove, Has}
-use Rattle.model.specs.declared.AnyOp.TheVariants.{FetchAdd, GetCount, LockBy, UnlockBy}
+use Rattle.model.specs.declared.AnyOp.TheVariants.{Enqueue, Dequeue, Push, Pop, Insert, ExtractMin}
 use Rattle.model.specs.declared.AnyReply.{AnyReply}
-use Rattle.model.specs.declared.AnyReply.TheVariants.{Swapped, NotSwapped}
-use Rattle.model.specs.Objects.{Content, queue, stack, heap, register, table, mutex, elements, count, owner, empty}
-use Rattle.model.specs.Objects.{contains_value, with_value, next}
-use Rattle.model.specs.Objects.{inserted_if, is_absent, has_value}
+use Rattle.model.specs.Objects.{Content, queue, stack, heap, empty}
+use Rattle.model.specs.Objects.{with_value, next}
 use Rattle.model.specs.Orders.{Call, Return, ReturnsBefore, RepliesAlong, IsValidOrder}
 use Rattle.model.proofs.Lists.{In, Pairs, in_filter, in_filter_passes, in_filter_from, filter_all, pairs_filter}
-use Rattle.model.proofs.Lists.{in_from_contains, contains_from_in, all_from_in, all_at}
-use Rattle.model.proofs.Lists.{all_from_pairs, pairs_from_all, pairs_map, pairs_from_map, pairs_weaker}
+use Rattle.model.proofs.Lists.{contains_from_in, all_from_in}
+use Rattle.model.proofs.Lists.{all_from_pairs, pairs_map}
 use Rattle.projection.specs.Parts.{reply_of, takes_out, ended_before}
 use Rattle.projection.specs.Kinds.Containers.{puts_in}
 use Rattle.projection.specs.Absent.{is_put_before, is_taken_before, IsAbsent, calls_without}
-use Rattle.projection.proofs.Conserved.{one, tally, count_tally, kept_size, size_empty, size_cons, turn, Turn}
+use Rattle.projection.proofs.Ordered.{calls_apart, in_calls, in_entries, named_apart, entries_apart, in_time_order}
+use Rattle.projection.proofs.Conserved.{one, tally, count_tally, kept_size, size_empty, turn, Turn}
 use Rattle.projection.proofs.Conserved.{count_among}
 use Rattle.projection.proofs.Contents.{IsRising, filter_in, filter_out, after_in, after_out, with_value_in}
 use Rattle.projection.proofs.Contents.{with_value_out, rising_with_value}
-use Rattle.projection.proofs.Booleans.{false_is_not_true, true_or_false}
-use Rattle.projection.proofs.Steps.{adds, frees}
+use Rattle.projection.proofs.Booleans.{some_at, false_is_not_true, true_or_false}
 
 neither : ((false ≡ true) ⊎ (false ≡ true)) → ⊥
 neither k = elim k [ inl e ↦ false_is_not_true e | inr e ↦ false_is_not_true e ]
@@ -50,29 +42,11 @@ IsOthers v (heap vs) d = (d ≡ heap (filter (others v) vs)) × IsRising vs
 IsOthers v c d = d ≡ c
 
 empty_others : (v : ℤ) (k : Kind) → IsOthers v (empty k) (empty k)
-empty_others v kind.Queue = refl
-empty_others v kind.Stack = refl
-empty_others v kind.Heap = (refl, tt)
-empty_others v kind.Register = refl
-empty_others v kind.Map = refl
-empty_others v kind.Mutex = refl
-empty_others v kind.Set = refl
-empty_others v kind.Counter = refl
-empty_others v kind.Lock = refl
+empty_others v k = search rules
 
 none_of : (v : ℤ) (vs : List ℤ) → length (filter (int_eq v) vs) ≡ 0 → filter (others v) vs ≡ vs
 none_of v [] z = refl
-none_of v (w ∷ ws) z = elim (true_or_false (int_eq v w)) [
-  | inl e ↦ absurd (some (int_eq v w) _ _ e (size_cons (int_eq v) w ws) z)
-  | inr e ↦ filter_in (others v) w ws (ap not e)
-      ∙ ap (λ us. w ∷ us) (none_of v ws (rest (int_eq v w) _ _ (size_cons (int_eq v) w ws) z))
-]
-  where
-    some : (b : Bool) (size more : ℕ) → b ≡ true → size ≡ one b + more → size ≡ 0 → ⊥
-    some b size more e f z = let g = ap one e in absurd (omega arith)
-
-    rest : (b : Bool) (size more : ℕ) → size ≡ one b + more → size ≡ 0 → more ≡ 0
-    rest b size more f z = omega arith
+none_of v (w ∷ ws) z = let rest = none_of v ws in grind arith
 
 same_content : (v : ℤ) (c d : Content) → IsOthers v c d → kept_size (int_eq v) c ≡ 0 → d ≡ c
 same_content v (queue vs) d s z = s ∙ ap (λ us. queue us) (none_of v vs z)
@@ -126,61 +100,19 @@ heap_goes v (w ∷ vs) ExtractMin r =
     )
 heap_goes v vs op r = tt
 
-abbrev swapped : Option ℤ → ℤ → ℤ → Bool → Option (Content × AnyReply)
-swapped x a b t = cond t (Some (register (Some b), Swapped a b)) (Some (register x, NotSwapped))
+-- a content that is no list of values goes on as it is
+abbrev is_list : Content → Bool
+is_list (queue vs) = true
+is_list (stack vs) = true
+is_list (heap vs) = true
+is_list c = false
 
-register_goes : (v : ℤ) (x : Option ℤ) (op : AnyOp)
-    → IfSome (next (register x) op) (λ p. IsApart v op p.1 → Goes v op (register x) p.0 p.1)
-register_goes v x (Write w) = λ a. (register (Some w), refl, refl)
-register_goes v x Read = λ a. (register x, refl, refl)
-register_goes v x (Cas a b) = go (contains_value x a) refl
+stays_same : (v : ℤ) (c : Content) (op : AnyOp) → is_list c ≡ false → (p : Content × AnyReply) → next c op ≡ Some p
+    → IsOthers v p.0 p.0
+stays_same v c op e p does = subst (λ z. IfSome z (λ p. IsOthers v p.0 p.0)) does (own_others v c op e)
   where
-    go : (t : Bool) → contains_value x a ≡ t
-        → IfSome (swapped x a b t) (λ p. IsApart v (Cas a b) p.1 → Goes v (Cas a b) (register x) p.0 p.1)
-    go true e = λ k. (register (Some b), ap (swapped x a b) e, refl)
-    go false e = λ k. (register x, ap (swapped x a b) e, refl)
-register_goes v x Clear = λ a. (register None, refl, refl)
-register_goes v None (Create w) = λ a. (register (Some w), refl, refl)
-register_goes v (Some u) (Create w) = λ a. (register (Some u), refl, refl)
-register_goes v x op = tt
-
-table_goes : (v : ℤ) (m : table_of.FinMap int_cmp ℤ) (op : AnyOp)
-    → IfSome (next (table m) op) (λ p. IsApart v op p.1 → Goes v op (table m) p.0 p.1)
-table_goes v m (Put k w) = λ a. (table (table_of.insert m k w), refl, refl)
-table_goes v m (Get k) = λ a. (table m, refl, refl)
-table_goes v m (Del k) = λ a. (table (table_of.remove m k), refl, refl)
-table_goes v m (PutIfAbsent k w) = λ a. (table (inserted_if (is_absent m k) m k w), refl, refl)
-table_goes v m (Replace k u w) = λ a. (table (inserted_if (has_value m k u) m k w), refl, refl)
-table_goes v m (Assoc k w) = λ a. (table (table_of.insert m k w), refl, refl)
-table_goes v m (Dissoc k) = λ a. (table (table_of.remove m k), refl, refl)
-table_goes v m op = tt
-
-mutex_goes : (v : ℤ) (held : Bool) (op : AnyOp)
-    → IfSome (next (mutex held) op) (λ p. IsApart v op p.1 → Goes v op (mutex held) p.0 p.1)
-mutex_goes v false Acquire = λ a. (mutex true, refl, refl)
-mutex_goes v true Release = λ a. (mutex false, refl, refl)
-mutex_goes v held op = tt
-
-elements_goes : (v : ℤ) (s : set.FinSet int_cmp) (op : AnyOp)
-    → IfSome (next (elements s) op) (λ p. IsApart v op p.1 → Goes v op (elements s) p.0 p.1)
-elements_goes v s (Add w) = λ a. (elements (set.insert s w), refl, refl)
-elements_goes v s (Remove w) = λ a. (elements (set.remove s w), refl, refl)
-elements_goes v s (Has w) = λ a. (elements s, refl, refl)
-elements_goes v s op = tt
-
-count_goes : (v c : ℤ) (op : AnyOp) → IfSome (next (count c) op) (λ p. IsApart v op p.1 → Goes v op (count c) p.0 p.1)
-count_goes v c (FetchAdd n) = adds (λ p. IsApart v (FetchAdd n) p.1 → Goes v (FetchAdd n) (count c) p.0 p.1) c n
-    (λ does a. (count (c +ℤ n), does, refl))
-count_goes v c GetCount = λ a. (count c, refl, refl)
-count_goes v c op = tt
-
-lock_goes : (v : ℤ) (x : Option ℤ) (op : AnyOp)
-    → IfSome (next (owner x) op) (λ p. IsApart v op p.1 → Goes v op (owner x) p.0 p.1)
-lock_goes v None (LockBy o) = λ a. (owner (Some o), refl, refl)
-lock_goes v (Some p) (UnlockBy o) =
-    frees (λ q. IsApart v (UnlockBy o) q.1 → Goes v (UnlockBy o) (owner (Some p)) q.0 q.1) p o
-    (λ does a. (owner None, does, refl))
-lock_goes v x op = tt
+    own_others : (v : ℤ) (c : Content) (op : AnyOp) → is_list c ≡ false → IfSome (next c op) (λ p. IsOthers v p.0 p.0)
+    own_others v c op e = search rules
 
 abbrev GoesAt : ℤ → AnyOp → Content → Content → Type 0
 GoesAt v op c d = IfSome (next c op) (λ p. IsApart v op p.1 → Goes v op d p.0 p.1)
@@ -189,12 +121,8 @@ goes : (v : ℤ) (c d : Content) (op : AnyOp) → IsOthers v c d → GoesAt v op
 goes v (queue vs) d op s = subst (GoesAt v op (queue vs)) (sym s) (queue_goes v vs op)
 goes v (stack vs) d op s = subst (GoesAt v op (stack vs)) (sym s) (stack_goes v vs op)
 goes v (heap vs) d op s = subst (GoesAt v op (heap vs)) (sym s.0) (heap_goes v vs op s.1)
-goes v (register x) d op s = subst (GoesAt v op (register x)) (sym s) (register_goes v x op)
-goes v (table m) d op s = subst (GoesAt v op (table m)) (sym s) (table_goes v m op)
-goes v (mutex held) d op s = subst (GoesAt v op (mutex held)) (sym s) (mutex_goes v held op)
-goes v (elements x) d op s = subst (GoesAt v op (elements x)) (sym s) (elements_goes v x op)
-goes v (count c) d op s = subst (GoesAt v op (count c)) (sym s) (count_goes v c op)
-goes v (owner x) d op s = subst (GoesAt v op (owner x)) (sym s) (lock_goes v x op)
+goes v c d op s = some_at (λ p. IsApart v op p.1 → Goes v op d p.0 p.1) (next c op)
+    (λ p does a. (p.0, ap (λ (z : Content). next z op) s ∙ does, stays_same v c op refl p does))
 
 -- ---- a step that puts in the value, or takes it out, and that the part leaves out
 
@@ -205,78 +133,16 @@ abbrev SkipsAt : ℤ → AnyOp → Content → Content → Type 0
 SkipsAt v op c d = IfSome (next c op) (λ p. Touches v op p.1 → IsOthers v p.0 d)
 
 skips : (v : ℤ) (c d : Content) (op : AnyOp) → IsOthers v c d → SkipsAt v op c d
-skips v (queue vs) d (Enqueue w) s = λ k. elim k [
-  | inl e ↦ s ∙ ap (λ us. queue us) (after_out (others v) w vs (ap not e))
-  | inr e ↦ absurd (false_is_not_true e)
-]
-skips v (queue []) d Dequeue s = λ k. absurd (neither k)
-skips v (queue (w ∷ vs)) d Dequeue s = λ k. elim k [
-  | inl e ↦ absurd (false_is_not_true e)
-  | inr e ↦ s ∙ ap (λ us. queue us) (filter_out (others v) w vs (ap not e))
-]
-skips v (stack vs) d (Push w) s = λ k. elim k [
-  | inl e ↦ s ∙ ap (λ us. stack us) (sym (filter_out (others v) w vs (ap not e)))
-  | inr e ↦ absurd (false_is_not_true e)
-]
-skips v (stack []) d Pop s = λ k. absurd (neither k)
-skips v (stack (w ∷ vs)) d Pop s = λ k. elim k [
-  | inl e ↦ absurd (false_is_not_true e)
-  | inr e ↦ s ∙ ap (λ us. stack us) (filter_out (others v) w vs (ap not e))
-]
-skips v (heap vs) d (Insert w) s = λ k. elim k [
-  | inl e ↦ (s.0 ∙ ap (λ us. heap us) (with_value_out (others v) w vs (ap not e)), rising_with_value w vs s.1)
-  | inr e ↦ absurd (false_is_not_true e)
-]
-skips v (heap []) d ExtractMin s = λ k. absurd (neither k)
-skips v (heap (w ∷ vs)) d ExtractMin s = λ k. elim k [
-  | inl e ↦ absurd (false_is_not_true e)
-  | inr e ↦ (s.0 ∙ ap (λ us. heap us) (filter_out (others v) w vs (ap not e)), s.1.1)
-]
-skips v (register x) d (Write w) s = λ k. absurd (neither k)
-skips v (register x) d Read s = λ k. absurd (neither k)
-skips v (register x) d (Cas a b) s = go (contains_value x a)
-  where
-    go : (t : Bool) → IfSome {T = Content × AnyReply}
-        (cond t (Some (register (Some b), Swapped a b)) (Some (register x, NotSwapped)))
-        (λ p. Touches v (Cas a b) p.1 → IsOthers v p.0 d)
-    go true = λ k. absurd (neither k)
-    go false = λ k. absurd (neither k)
-skips v (table m) d (Put k w) s = λ t. absurd (neither t)
-skips v (table m) d (Get k) s = λ t. absurd (neither t)
-skips v (table m) d (Del k) s = λ t. absurd (neither t)
-skips v (mutex false) d Acquire s = λ k. absurd (neither k)
-skips v (mutex true) d Release s = λ k. absurd (neither k)
-skips v (register x) d Clear s = λ k. absurd (neither k)
-skips v (register None) d (Create w) s = λ k. absurd (neither k)
-skips v (register (Some u)) d (Create w) s = λ k. absurd (neither k)
-skips v (table m) d (PutIfAbsent k w) s = λ t. absurd (neither t)
-skips v (table m) d (Replace k u w) s = λ t. absurd (neither t)
-skips v (table m) d (Assoc k w) s = λ t. absurd (neither t)
-skips v (table m) d (Dissoc k) s = λ t. absurd (neither t)
-skips v (elements x) d (Add w) s = λ k. absurd (neither k)
-skips v (elements x) d (Remove w) s = λ k. absurd (neither k)
-skips v (elements x) d (Has w) s = λ k. absurd (neither k)
-skips v (count c) d (FetchAdd n) s =
-    adds (λ p. Touches v (FetchAdd n) p.1 → IsOthers v p.0 d) c n (λ does k. absurd (neither k))
-skips v (count c) d GetCount s = λ k. absurd (neither k)
-skips v (owner None) d (LockBy o) s = λ k. absurd (neither k)
-skips v (owner (Some p)) d (UnlockBy o) s =
-    frees (λ q. Touches v (UnlockBy o) q.1 → IsOthers v q.0 d) p o (λ does k. absurd (neither k))
-skips v c d op s = tt
+skips v c d op s = grind (arith, after_out, filter_out, with_value_out, rising_with_value)
 
 -- ---- how often the value is put in and taken out early
 
 no_put_takes : (keeps : ℤ → Bool) (op : AnyOp) (r : Option AnyReply) → puts_in keeps op ≡ true
     → takes_out keeps op r ≡ false
-no_put_takes keeps (Enqueue v) r e = refl
-no_put_takes keeps (Push v) r e = refl
-no_put_takes keeps (Insert v) r e = refl
-no_put_takes keeps op r e = absurd (false_is_not_true e)
+no_put_takes keeps op r e = search rules
 
 and_le : (a b : Bool) → one (a && b) ≤ one a
-and_le true true = omega arith
-and_le true false = omega arith
-and_le false b = omega arith
+and_le a b = search rules
 
 and_true : (a b : Bool) → (a && b) ≡ true → (a ≡ true) × (b ≡ true)
 and_true true b e = (refl, e)
@@ -287,8 +153,7 @@ or_false false b e = (refl, e)
 or_false true b e = absurd (false_is_not_true (sym e))
 
 or_true : (a b : Bool) → (a || b) ≡ true → (a ≡ true) ⊎ (b ≡ true)
-or_true true b e = inl refl
-or_true false b e = inr e
+or_true a b e = search rules
 
 and_false_right : (a b : Bool) → a ≡ true → (a && b) ≡ false → b ≡ false
 and_false_right true b p e = e
@@ -318,21 +183,13 @@ returned_first v number y e t n = go y.returned refl (early_removal v number y t
 tally_none : {X : Type 0} (p : X → Bool) (xs : List X) → ((x : X) → In x xs → p x ≡ false) → tally p xs ≡ 0
 tally_none p [] f = refl
 tally_none p (x ∷ xs) f =
-    let here = ap one (f x (inl refl)) in let rest = tally_none p xs (λ y i. f y (inr i)) in omega arith
+    let here = f x (inl refl) in
+    let rest = tally_none p xs (λ y i. f y (inr i)) in
+    grind arith
 
 none_tallied : {X : Type 0} (p : X → Bool) (xs : List X) → tally p xs ≡ 0 → (x : X) → In x xs → p x ≡ false
 none_tallied p [] z x i = absurd i
-none_tallied {X} p (y ∷ ys) z x i = elim i [
-  | inl q ↦ ap p q ∙ first (p y) (tally p ys) z
-  | inr j ↦ none_tallied p ys (rest (p y) (tally p ys) z) x j
-]
-  where
-    first : (b : Bool) (n : ℕ) → one b + n ≡ 0 → b ≡ false
-    first true n z = absurd (omega arith)
-    first false n z = refl
-
-    rest : (b : Bool) (n : ℕ) → one b + n ≡ 0 → n ≡ 0
-    rest b n z = omega arith
+none_tallied p (y ∷ ys) z x i = grind (arith, none_tallied p ys)
 
 -- after a late put the value is not taken early
 none_after : (v : ℤ) (number : ℕ) (e : Call) (es : List Call) → nat_lt e.number number ≡ false
@@ -347,12 +204,7 @@ none_after v number e es n f =
 put_cases : (v : ℤ) (number : ℕ) (e : Call)
     → (one (puts_in (int_eq v) e.op) ≡ one (is_put_before v number e))
     ⊎ ((puts_in (int_eq v) e.op ≡ true) × (nat_lt e.number number ≡ false))
-put_cases v number e = go (puts_in (int_eq v) e.op) (nat_lt e.number number)
-  where
-    go : (a b : Bool) → (one a ≡ one (a && b)) ⊎ ((a ≡ true) × (b ≡ false))
-    go true true = inl refl
-    go true false = inr (refl, refl)
-    go false b = inl refl
+put_cases v number e = grind arith
 
 -- what is taken early is there, or is put in early
 owed : (v : ℤ) (number : ℕ) (es : List Call) (c : Content) → RepliesAlong c es → Pairs (λ x y. ReturnsBefore y x → ⊥) es
@@ -526,21 +378,10 @@ without_valid kind calls v number order rising absent valid =
     let named : Call → ℤ = λ e. pos e.number in
     let entries = valid.entries in
     let p : Call → Bool = stays v number in
-    let known : (e : Call) → In e entries → In e calls =
-    λ e i. in_from_contains calls e (all_at (Contains calls) entries valid.known e i) in
-    let numbers = pairs_from_map (λ x y. x ≢ y) named entries
-    (subst (Pairs (λ x y. x ≢ y)) valid.numbers (pairs_from_all (λ x y. x ≢ y) order valid.once)) in
-    let apart = pairs_weaker (λ x y. named x ≢ named y) (λ x y. x ≢ y) entries
-    (λ x y i j ne e. ne (ap named e)) numbers in
-    let distinct = pairs_weaker (λ a b. a.number < b.number) (λ x y. x ≢ y) calls
-    (λ x y i j l e. risen x.number y.number l (ap (λ (z : Call). z.number) e))
-    (pairs_from_all (λ a b. a.number < b.number) calls rising) in
-    let in_time = pairs_from_all (λ x y. ReturnsBefore y x → ⊥) entries valid.in_order in
-    let puts = count_among (is_put_before v number) entries calls apart (λ e i q. known e i) in
-    let takes = count_among (is_taken_before v number) calls entries distinct
-    (λ e i q. in_from_contains entries e
-    (all_at (λ e. IsSome e.returned → Contains entries e) calls valid.whole e i
-    (returned e.returned (early_removal v number e q).1))) in
+    let puts = count_among (is_put_before v number) entries calls (entries_apart valid)
+    (λ e i q. in_calls valid e i) in
+    let takes = count_among (is_taken_before v number) calls entries (calls_apart calls rising)
+    (λ e i q. in_entries valid e i (returned e.returned (early_removal v number e q).1)) in
     let spent = sums _ _ _ _ _ _ _ (size_empty (int_eq v) kind) puts takes
     (count_tally (is_put_before v number) calls) (count_tally (is_taken_before v number) calls) absent.taken in (
       map named (filter p entries),
@@ -549,24 +390,20 @@ without_valid kind calls v number order rising absent valid =
         numbers = refl;
         known = all_from_in (Contains (filter p calls)) (filter p entries) (λ e i.
             contains_from_in (filter p calls) e
-            (in_filter_from p e calls (known e (in_filter p e entries i)) (in_filter_passes p e entries i)));
+            (in_filter_from p e calls (in_calls valid e (in_filter p e entries i)) (in_filter_passes p e entries i)));
         once = all_from_pairs (λ x y. x ≢ y) (map named (filter p entries))
             (pairs_map (λ x y. x ≢ y) named (filter p entries)
-            (pairs_filter (λ x y. named x ≢ named y) p entries numbers));
+            (pairs_filter (λ x y. named x ≢ named y) p entries (named_apart valid)));
         whole = all_from_in (λ e. IsSome e.returned → Contains (filter p entries) e) (filter p calls) (λ e i so.
-            let here = in_from_contains entries e
-            (all_at (λ e. IsSome e.returned → Contains entries e) calls valid.whole e (in_filter p e calls i) so) in
+            let here = in_entries valid e (in_filter p e calls i) so in
             contains_from_in (filter p entries) e (in_filter_from p e entries here (in_filter_passes p e calls i)));
         in_order = all_from_pairs (λ x y. ReturnsBefore y x → ⊥) (filter p entries)
-            (pairs_filter (λ x y. ReturnsBefore y x → ⊥) p entries in_time);
+            (pairs_filter (λ x y. ReturnsBefore y x → ⊥) p entries (in_time_order valid));
         replies = without_early v number entries (empty kind) (empty kind)
-            (empty_others v kind) valid.replies in_time spent;
+            (empty_others v kind) valid.replies (in_time_order valid) spent;
       },
     )
   where
-    risen : (a b : ℕ) → a < b → a ≡ b → ⊥
-    risen a b l e = absurd (omega arith)
-
     returned : (o : Option Return) → ended_before number o ≡ true → IsSome o
     returned None e = absurd (false_is_not_true e)
     returned (Some r) e = refl

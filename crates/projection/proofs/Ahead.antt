@@ -1,5 +1,5 @@
 -- What definitely was ahead of what a removal found was taken out before it.
-use Rattle.std.proofs.Common.{◌≡◌, ◌≢◌, ◌⊎◌, inl, inr, ℕ, ℤ, pos, ◌<◌, ◌≤◌, ◌+◌, ◌==◌, nat_lt, min}
+use Rattle.std.proofs.Common.{◌≡◌, ◌≢◌, ◌⊎◌, inl, inr, ℕ, ℤ, ◌<◌, ◌≤◌, ◌+◌, ◌==◌, nat_lt, min}
 use Rattle.std.proofs.Common.{Bool, true, false, not, ◌&&◌, ◌||◌, cond, List, [], ◌∷◌, ◌++◌, Option}
 use Rattle.std.proofs.Common.{Some, None, All, AllPairs, Contains, IfSome, IsSome, count_by, refl}
 use Rattle.std.proofs.Common.{ap, sym, ◌∙◌, subst, arith}
@@ -10,39 +10,33 @@ use Rattle.std.specs.List.{list_all}
 use Rattle.model.specs.declared.Kind.{Kind}
 use Rattle.model.specs.declared.Kind.TheVariants as variant
 use Rattle.model.specs.declared.AnyOp.{AnyOp}
-use Rattle.model.specs.declared.AnyOp.TheVariants.{Enqueue, Dequeue, Push, Pop, Insert, ExtractMin}
-use Rattle.model.specs.declared.AnyOp.TheVariants.{Write, Read, Cas, Put, Get, Del, Acquire}
-use Rattle.model.specs.declared.AnyOp.TheVariants.{Release, Clear, Create, PutIfAbsent, Replace, Assoc}
-use Rattle.model.specs.declared.AnyOp.TheVariants.{Dissoc, Add, Remove, Has, FetchAdd, GetCount}
-use Rattle.model.specs.declared.AnyOp.TheVariants.{LockBy, UnlockBy}
+use Rattle.model.specs.declared.AnyOp.TheVariants.{Dequeue, Pop}
 use Rattle.model.specs.declared.AnyReply.{AnyReply}
 use Rattle.model.specs.declared.AnyReply.TheVariants.{Value, Swapped, NotSwapped, Flag}
 use Rattle.model.specs.Objects.{queue, stack, kind_of, empty}
 use Rattle.model.specs.Orders.{Call, Return, ReturnsBefore, RepliesAlong, IsValidOrder}
 use Rattle.model.proofs.Lists.{In, Pairs, in_append, in_left, in_split, in_from_contains, all_at}
-use Rattle.model.proofs.Lists.{pairs_from_all, pairs_weaker, pairs_from_map}
+use Rattle.model.proofs.Lists.{pairs_from_all, pairs_weaker}
 use Rattle.projection.specs.Parts.{ended_before}
 use Rattle.projection.specs.Kinds.Containers.{puts_in, is_removal}
 use Rattle.projection.specs.Ahead.{found_in, found_by, first_put, ahead_before}
 use Rattle.projection.specs.Kinds.Containers.{is_value_ahead}
 use Rattle.projection.specs.Ahead.{is_settled, is_put_ahead, may_precede}
-use Rattle.projection.proofs.Conserved.{tally, count_tally, count_among}
-use Rattle.projection.proofs.Emptied.{joined, tally_le, pairs_front, pairs_to}
+use Rattle.projection.proofs.Ordered.{calls_apart, in_calls, in_entries, numbers_apart, in_time_order}
+use Rattle.projection.proofs.Conserved.{tally, count_tally, tally_le, count_among}
+use Rattle.std.proofs.lemmas.Bool.{and_from}
+use Rattle.projection.proofs.Emptied.{pairs_front, pairs_to}
 use Rattle.projection.proofs.Emptied.{pairs_beyond, put_by, may_by, spent}
 use Rattle.projection.proofs.InFront.{every, queue_spent, until_put, fresh_until, in_until}
 use Rattle.projection.proofs.InFront.{first_least, stack_spent, since_put, since_none, since_along}
 use Rattle.projection.proofs.InFront.{since_tally, in_since}
-use Rattle.projection.proofs.Booleans.{false_is_not_true, both_true}
+use Rattle.projection.proofs.Booleans.{passes_all, false_is_not_true, both_true}
 
 -- ---- the calls, and those in an order
 
 ended : (before : ℕ) (o : Option Return) → ended_before before o ≡ true → (r : Return) × (o ≡ Some r) ×
     (r.at < before)
-ended before None e = absurd (false_is_not_true e)
-ended before (Some r) e = (r, refl, less r.at before e)
-  where
-    less : (a b : ℕ) → nat_lt a b ≡ true → a < b
-    less a b e = grind (arith, nat_tests)
+ended before o e = grind (arith, nat_tests)
 
 -- what holds of a put that counts
 put_parts : (keeps : ℤ → Bool) (from before : ℕ) (e : Call) → is_put_ahead keeps from before e ≡ true
@@ -97,18 +91,10 @@ least_of a b = (omega arith, omega arith)
 
 before_removal : (found : Option ℤ) (op : AnyOp) (number : ℕ) (calls : List Call)
     → ahead_before found op number calls ≤ number
-before_removal None op number calls = omega arith
-before_removal (Some b) Dequeue number calls = (least_of number (first_put b calls)).0
-before_removal (Some b) op number calls = omega arith
+before_removal found op number calls = grind arith
 
 not_put : (keeps : ℤ → Bool) (op : AnyOp) → is_removal op ≡ true → puts_in keeps op ≡ true → ⊥
-not_put keeps Dequeue t p = false_is_not_true p
-not_put keeps Pop t p = false_is_not_true p
-not_put keeps ExtractMin t p = false_is_not_true p
-not_put keeps (Enqueue v) t p = false_is_not_true t
-not_put keeps (Push v) t p = false_is_not_true t
-not_put keeps (Insert v) t p = false_is_not_true t
-not_put keeps op t p = false_is_not_true p
+not_put keeps op t p = grind arith
 
 -- the removal in an order, and what stands before and after it
 record Split (kind : Kind) (calls : List Call) (n : Call) : Type 0 where
@@ -125,34 +111,17 @@ split_at : (kind : Kind) (calls : List Call) (order : List ℤ) (n : Call)
     → AllPairs (λ a b. a.number < b.number) calls → Contains calls n → IsSome n.returned
     → IsValidOrder kind calls order → Split kind calls n
 split_at kind calls order n rising stands ended v =
-    let number_of : Call → ℤ = λ e. pos e.number in
-    let known : (e : Call) → In e v.entries → In e calls = λ e i. in_from_contains calls e
-    (all_at (Contains calls) v.entries v.known e i) in
-    let whole : (e : Call) → In e calls → IsSome e.returned → In e v.entries = λ e i s. in_from_contains
-    v.entries e (all_at (λ e. IsSome e.returned → Contains v.entries e) calls v.whole e i s) in
-    let s = in_split n v.entries (whole n (in_from_contains calls n stands) ended) in
-    let xs : List Call = s.0 in
-    let ys : List Call = s.1 in
-    let apart = pairs_weaker (λ x y. number_of x ≢ number_of y) (λ x y. x.number ≢ y.number) v.entries
-    (λ x y i j ne e. ne (ap pos e))
-    (pairs_from_map (λ x y. x ≢ y) number_of v.entries
-    (subst (Pairs (λ x y. x ≢ y)) v.numbers (pairs_from_all (λ x y. x ≢ y) order v.once))) in
+    let s = in_split n v.entries (in_entries v n (in_from_contains calls n stands) ended) in
     record {
-      earlier = xs;
-      later = ys;
+      earlier = s.0;
+      later = s.1;
       replies = subst (RepliesAlong (empty kind)) s.2 v.replies;
-      in_time = subst (Pairs (λ x y. ReturnsBefore y x → ⊥)) s.2
-          (pairs_from_all (λ x y. ReturnsBefore y x → ⊥) v.entries v.in_order);
-      apart = subst (Pairs (λ x y. x.number ≢ y.number)) s.2 apart;
-      distinct = pairs_weaker (λ a b. a.number < b.number) (λ x y. x ≢ y) calls
-          (λ x y i j l e. risen x.number y.number l (ap (λ (z : Call). z.number) e))
-          (pairs_from_all (λ a b. a.number < b.number) calls rising);
-      known = λ e i. known e (subst (In e) (sym s.2) (in_left e xs (n ∷ ys) i));
-      whole = λ e i q. subst (In e) s.2 (whole e i q);
+      in_time = subst (Pairs (λ x y. ReturnsBefore y x → ⊥)) s.2 (in_time_order v);
+      apart = subst (Pairs (λ x y. x.number ≢ y.number)) s.2 (numbers_apart v);
+      distinct = calls_apart calls rising;
+      known = λ e i. in_calls v e (subst (In e) (sym s.2) (in_left e s.0 (n ∷ s.1) i));
+      whole = λ e i q. subst (In e) s.2 (in_entries v e i q);
     }
-  where
-    risen : (a b : ℕ) → a < b → a ≡ b → ⊥
-    risen a b l e = absurd (omega arith)
 
 -- a put that returned before the removal was invoked stands before it
 early : (kind : Kind) (calls : List Call) (n : Call) (s : Split kind calls n) (keeps : ℤ → Bool)
@@ -180,7 +149,7 @@ taken_early : (kind : Kind) (calls : List Call) (n : Call) (s : Split kind calls
     → tally (may_by keeps) s.earlier ≤ count_by (may_precede keeps n.number r.at) calls
 taken_early kind calls n s keeps r returned =
     let late : (e : Call) → In e s.earlier → may_by keeps e ≡ true → may_precede keeps n.number r.at e ≡ true =
-    λ e i p. joined (may_by keeps e) (not (e.number == n.number || nat_lt r.at e.number)) p
+    λ e i p. and_from (may_by keeps e) (not (e.number == n.number || nat_lt r.at e.number)) p
     (other e.number n.number r.at (pairs_to (λ x y. x.number ≢ y.number) s.earlier n s.later s.apart e i)
     (λ w. pairs_to (λ x y. ReturnsBefore y x → ⊥) s.earlier n s.later s.in_time e i (r, returned, w))) in
     let front = pairs_weaker (λ x y. x.number ≢ y.number) (λ x y. x ≢ y) s.earlier
@@ -247,11 +216,6 @@ queue_case kind calls n s r b from before is_queue dequeue returned value l firs
     turned : (a b : ℕ) → a < b → b < a → ⊥
     turned a b l m = omega arith
 
-settled_at : {X : Type 0} (p : X → Bool) (xs : List X) → list_all p xs ≡ true → (x : X) → In x xs → p x ≡ true
-settled_at p [] h x i = absurd i
-settled_at {X} p (y ∷ ys) h x i = let w = both_true (p y) (list_all p ys) h in elim i
-    [ inl e ↦ subst (λ (z : X). p z ≡ true) (sym e) w.0 | inr j ↦ settled_at p ys w.1 x j ]
-
 stack_case : (kind : Kind) (calls : List Call) (n : Call) (s : Split kind calls n) (r : Return) (b : ℤ)
     (from before : ℕ) → kind ≡ variant.Stack → n.op ≡ Pop → n.returned ≡ Some r → r.reply ≡ Value (Some b)
     → before ≤ n.number → list_all (λ e. not (puts_in (int_eq b) e.op) || ended_before from e.returned)
@@ -273,7 +237,7 @@ stack_case kind calls n s r b from before is_stack pop returned value l settled 
     (λ z j w.
     let t = ended from z.returned
     (either (puts_in (int_eq b) z.op) (ended_before from z.returned) w
-    (settled_at (λ (e : Call). not (puts_in (int_eq b) e.op) || ended_before from e.returned) calls settled
+    (passes_all (λ (e : Call). not (puts_in (int_eq b) e.op) || ended_before from e.returned) calls settled
     z (s.known z j))) in
     (t.0, t.1, reach t.0.at from e.number t.2 q.2))
     (λ w. turned e.number w.0.at
@@ -303,31 +267,7 @@ removal_cases : (o : Option ℤ) (op : AnyOp) → ((op ≡ Dequeue → o ≡ Non
 removal_cases None op = inl (λ e. refl, λ e. refl)
 removal_cases (Some b) Dequeue = inr (inl (b, refl, refl))
 removal_cases (Some b) Pop = inr (inr (b, refl, refl))
-removal_cases (Some b) ExtractMin = inl (λ e. absurd (cc e), λ e. absurd (cc e))
-removal_cases (Some b) (Enqueue v) = inl (λ e. absurd (cc e), λ e. absurd (cc e))
-removal_cases (Some b) (Push v) = inl (λ e. absurd (cc e), λ e. absurd (cc e))
-removal_cases (Some b) (Insert v) = inl (λ e. absurd (cc e), λ e. absurd (cc e))
-removal_cases (Some b) (Write v) = inl (λ e. absurd (cc e), λ e. absurd (cc e))
-removal_cases (Some b) Read = inl (λ e. absurd (cc e), λ e. absurd (cc e))
-removal_cases (Some b) (Cas x y) = inl (λ e. absurd (cc e), λ e. absurd (cc e))
-removal_cases (Some b) (Put k v) = inl (λ e. absurd (cc e), λ e. absurd (cc e))
-removal_cases (Some b) (Get k) = inl (λ e. absurd (cc e), λ e. absurd (cc e))
-removal_cases (Some b) (Del k) = inl (λ e. absurd (cc e), λ e. absurd (cc e))
-removal_cases (Some b) Acquire = inl (λ e. absurd (cc e), λ e. absurd (cc e))
-removal_cases (Some b) Release = inl (λ e. absurd (cc e), λ e. absurd (cc e))
-removal_cases (Some b) Clear = inl (λ e. absurd (cc e), λ e. absurd (cc e))
-removal_cases (Some b) (Create v) = inl (λ e. absurd (cc e), λ e. absurd (cc e))
-removal_cases (Some b) (PutIfAbsent k v) = inl (λ e. absurd (cc e), λ e. absurd (cc e))
-removal_cases (Some b) (Replace k v w) = inl (λ e. absurd (cc e), λ e. absurd (cc e))
-removal_cases (Some b) (Assoc k v) = inl (λ e. absurd (cc e), λ e. absurd (cc e))
-removal_cases (Some b) (Dissoc k) = inl (λ e. absurd (cc e), λ e. absurd (cc e))
-removal_cases (Some b) (Add v) = inl (λ e. absurd (cc e), λ e. absurd (cc e))
-removal_cases (Some b) (Remove v) = inl (λ e. absurd (cc e), λ e. absurd (cc e))
-removal_cases (Some b) (Has v) = inl (λ e. absurd (cc e), λ e. absurd (cc e))
-removal_cases (Some b) (FetchAdd v) = inl (λ e. absurd (cc e), λ e. absurd (cc e))
-removal_cases (Some b) GetCount = inl (λ e. absurd (cc e), λ e. absurd (cc e))
-removal_cases (Some b) (LockBy v) = inl (λ e. absurd (cc e), λ e. absurd (cc e))
-removal_cases (Some b) (UnlockBy v) = inl (λ e. absurd (cc e), λ e. absurd (cc e))
+removal_cases (Some b) op = inl (λ e. absurd (cc e), λ e. absurd (cc e))
 
 abbrev Bounded : (kind : Kind) (calls : List Call) (n : Call) (s : Split kind calls n) (from : ℕ)
     (op : AnyOp) (o : Option ℤ) → Type 0

@@ -1,5 +1,5 @@
 -- Prefixes: what `operation_before` makes of the operations gives `calls_before`, and is a part.
-use Rattle.std.proofs.Common.{◌≡◌, ◌≢◌, ℕ, nat_lt, Bool, true, false, cond, List, Option, Some, None, refl, sym}
+use Rattle.std.proofs.Common.{arith, ◌≡◌, ◌≢◌, ℕ, nat_lt, Bool, true, false, cond, List, Option, Some, None, refl, sym}
 use Rattle.std.proofs.Common.{◌∙◌, subst}
 use Rattle.std.specs.List.{filter_map}
 use Rattle.std.proofs.lemmas.Option.{same_Some}
@@ -45,29 +45,7 @@ operation_is until o p e = lives (has_failed o.«end») e
     lives false e = go (nat_lt o.number until) e
 
 operation_lives : (until : ℕ) (o p : Invocation) → operation_before until o ≡ Some p → p.«end» ≢ Failed
-operation_lives until o p e = lives (has_failed o.«end») refl e
-  where
-    was : (end : End) → has_failed end ≡ false → end_before until end ≢ Failed
-    was (Returned when r) q f = back (nat_lt when until) f
-      where
-        back : (b : Bool) → cond b (Returned when r) Pending ≡ Failed → ⊥
-        back true f = absurd (cc f)
-        back false f = absurd (cc f)
-    was Pending q f = absurd (cc f)
-    was Failed q f = absurd (cc q)
-
-    go : (b : Bool) → has_failed o.«end» ≡ false
-        → cond b (Some (record { number = o.number; op = o.op; «end» = end_before until o.«end» })) None ≡ Some p
-        → p.«end» ≢ Failed
-    go true q e = subst (λ (z : Invocation). z.«end» ≢ Failed) (same_Some _ p e) (was o.«end» q)
-    go false q e = absurd (cc e)
-
-    lives : (b : Bool) → has_failed o.«end» ≡ b
-        → cond b None (cond (nat_lt o.number until)
-        (Some (record { number = o.number; op = o.op; «end» = end_before until o.«end» })) None) ≡ Some p
-        → p.«end» ≢ Failed
-    lives true q e = absurd (cc e)
-    lives false q e = go (nat_lt o.number until) q e
+operation_lives until o p e = grind arith
 
 abbrev call_then : ℕ → Call → Option Call
 call_then until c = cond (nat_lt c.number until) (Some (call_before until c)) None
@@ -76,29 +54,9 @@ operation_call : (until : ℕ) (o : Invocation)
     → bind (operation_before until o) call_of ≡ bind (call_of o) (call_then until)
 operation_call until o = go o.«end»
   where
-    returned : (at : ℕ) (r : AnyReply) (b t : Bool)
-        → bind (cond b (Some (record { number = o.number; op = o.op; «end» = cond t (Returned at r) Pending }))
-        None) call_of
-        ≡ cond b (Some (record {
-          number = o.number;
-          op = o.op;
-          returned = cond t (Some (record { at = at; reply = r })) None;
-        })) None
-    returned at r true true = refl
-    returned at r true false = refl
-    returned at r false t = refl
-
-    pending : (b : Bool) → bind
-        (cond b (Some (record { number = o.number; op = o.op; «end» = Pending })) None) call_of
-        ≡ cond b (Some (record { number = o.number; op = o.op; returned = None })) None
-    pending true = refl
-    pending false = refl
-
     go : (e : End) → bind (operation_before until (record { number = o.number; op = o.op; «end» = e })) call_of
         ≡ bind (call_with o.number o.op e) (call_then until)
-    go (Returned at r) = returned at r (nat_lt o.number until) (nat_lt at until)
-    go Pending = pending (nat_lt o.number until)
-    go Failed = refl
+    go e = grind arith
 
 pub before_history : (until : ℕ) (h : ObjectCalls) → IsObjectHistory h
     → IsObjectHistory (record { object = h.object; kind = h.kind; ops = filter_map (operation_before until) h.ops })

@@ -1,5 +1,5 @@
 -- What definitely was ahead of what a removal found, counted over the operations of an object.
-use Rattle.std.proofs.Common.{MatchBool, ◌≡◌, ℕ, ℤ, ◌<◌, ◌≤◌, ◌==◌, nat_lt, min, Bool, true, false}
+use Rattle.std.proofs.Common.{MatchBool, ◌≡◌, ℕ, ℤ, ◌<◌, ◌≤◌, ◌==◌, nat_lt, Bool, true, false}
 use Rattle.std.proofs.Common.{not, ◌&&◌, ◌||◌, cond, List, [], ◌∷◌, Option, Some, None, All}
 use Rattle.std.proofs.Common.{AllPairs, count_by, refl, ap, sym, ◌∙◌, subst, arith}
 use Rattle.std.proofs.lemmas.Bool.Decides.{nat_tests}
@@ -31,7 +31,6 @@ use Rattle.projection.proofs.CountedCalls.{passes, count_calls}
 use Rattle.projection.specs.Ahead.{found_by, first_put, ahead_before, is_settled}
 use Rattle.projection.specs.Kinds.Containers.{is_value_ahead}
 use Rattle.projection.specs.Ahead.{is_put_ahead, may_precede, IsBlocked}
-use Rattle.projection.proofs.Conserved.{and_false}
 use Rattle.projection.proofs.Ahead.{pair_first, ahead_bounded}
 use Rattle.projection.proofs.Booleans.{false_is_not_true}
 
@@ -46,9 +45,7 @@ put_count keeps from before ops = count_calls
   where
     go : (o : Invocation) (e : End) → is_put_ahead_end keeps from before o.number o.op e ≡ passes
         (is_put_ahead keeps from before) (call_with o.number o.op e)
-    go o (Returned at r) = refl
-    go o Pending = sym (and_false (puts_in keeps o.op))
-    go o Failed = refl
+    go o e = grind arith
 
 may_count : (keeps : ℤ → Bool) (number at : ℕ) (ops : List Invocation)
     → count_by (may_precede_end keeps number at) ops ≡ count_by (may_precede keeps number at) (calls_of ops)
@@ -85,45 +82,14 @@ first_calls b (o ∷ os) = go o.«end» (first_calls b os)
 
 before_calls : (found : Option ℤ) (op : AnyOp) (number : ℕ) (ops : List Invocation)
     → ahead_before_end found op number ops ≡ ahead_before found op number (calls_of ops)
-before_calls None op number ops = refl
-before_calls (Some b) Dequeue number ops = ap (min number) (first_calls b ops)
-before_calls (Some b) (Enqueue v) number ops = refl
-before_calls (Some b) (Push v) number ops = refl
-before_calls (Some b) Pop number ops = refl
-before_calls (Some b) (Insert v) number ops = refl
-before_calls (Some b) ExtractMin number ops = refl
-before_calls (Some b) (Write v) number ops = refl
-before_calls (Some b) Read number ops = refl
-before_calls (Some b) (Cas x y) number ops = refl
-before_calls (Some b) (Put k v) number ops = refl
-before_calls (Some b) (Get k) number ops = refl
-before_calls (Some b) (Del k) number ops = refl
-before_calls (Some b) Acquire number ops = refl
-before_calls (Some b) Release number ops = refl
-before_calls (Some b) Clear number ops = refl
-before_calls (Some b) (Create v) number ops = refl
-before_calls (Some b) (PutIfAbsent k v) number ops = refl
-before_calls (Some b) (Replace k v w) number ops = refl
-before_calls (Some b) (Assoc k v) number ops = refl
-before_calls (Some b) (Dissoc k) number ops = refl
-before_calls (Some b) (Add v) number ops = refl
-before_calls (Some b) (Remove v) number ops = refl
-before_calls (Some b) (Has v) number ops = refl
-before_calls (Some b) (FetchAdd v) number ops = refl
-before_calls (Some b) GetCount number ops = refl
-before_calls (Some b) (LockBy v) number ops = refl
-before_calls (Some b) (UnlockBy v) number ops = refl
+before_calls found op number ops = grind (arith, first_calls)
 
 found_return : (op : AnyOp) (e : End) → found_end op e ≡ found_by op (return_of e)
-found_return op (Returned at r) = refl
-found_return op Pending = refl
-found_return op Failed = refl
+found_return op e = grind arith
 
 call_removal : (op : AnyOp) (number : ℕ) (e : End) (x : ℕ × Option ℤ) → found_end op e ≡ Some x
     → call_with number op e ≡ Some (record { number = number; op = op; returned = return_of e })
-call_removal op number (Returned at r) x q = refl
-call_removal op number Pending x q = absurd (cc q)
-call_removal op number Failed x q = absurd (cc q)
+call_removal op number e x q = grind arith
 
 settled_calls : (found : Option ℤ) (op : AnyOp) (from : ℕ) (ops : List Invocation)
     → are_settled found op from ops ≡ is_settled found op from (calls_of ops)

@@ -1,6 +1,10 @@
 -- What tests decide: the cases of a test, and what follows where one gives true. These are stated once
 -- here for all proofs of the crate, and each is immediate.
-use Rattle.std.proofs.Common.{◌≡◌, ◌⊎◌, inl, inr, ◌<◌, ◌&&◌, ℕ, nat_lt, Bool, true, false, refl, arith}
+use Rattle.std.proofs.Common.{◌≡◌, ◌⊎◌, inl, inr, ◌<◌, ◌&&◌, ℕ, nat_lt, Bool, true, false, Option, Some}
+use Rattle.std.proofs.Common.{None, IfSome, refl, arith}
+use Rattle.std.proofs.Common.{ap, ◌∙◌, List, [], ◌∷◌}
+use Rattle.std.specs.List.{list_all}
+use Rattle.model.proofs.Lists.{In}
 use Rattle.std.specs.Prelude.{ℤ}
 use Rattle.std.specs.Ordering.{int_eq}
 use Rattle.std.proofs.lemmas.Int.{ints}
@@ -22,3 +26,16 @@ less_by_test a b e = grind (arith, nat_tests)
 
 pub same_by_test : (v a : ℤ) → int_eq v a ≡ true → v ≡ a
 same_by_test v a e = grind (arith, ints)
+
+-- what holds of each step, as a fact of the step
+pub some_at : {T : Type 0} (P : T → Type 0) (o : Option T) → ((p : T) → o ≡ Some p → P p) → IfSome o P
+some_at P None f = tt
+some_at P (Some p) f = f p refl
+
+pub passes_all : {X : Type 0} (p : X → Bool) (xs : List X) → list_all p xs ≡ true → (x : X) → In x xs → p x ≡ true
+passes_all p [] h x i = absurd i
+passes_all p (y ∷ ys) h x i = grind (arith, passes_all p ys)
+
+pub all_passes : {X : Type 0} (p : X → Bool) (xs : List X) → ((x : X) → In x xs → p x ≡ true) → list_all p xs ≡ true
+all_passes p [] f = refl
+all_passes p (x ∷ xs) f = ap (λ b. b && list_all p xs) (f x (inl refl)) ∙ all_passes p xs (λ y i. f y (inr i))

@@ -25,7 +25,7 @@ abbrev pub passes : (Call → Bool) → Option Call → Bool
 passes q None = false
 passes q (Some c) = q c
 
-tally_calls : (p : Invocation → Bool) (q : Call → Bool) → ((o : Invocation) → p o ≡ passes q (call_of o))
+pub tally_calls : (p : Invocation → Bool) (q : Call → Bool) → ((o : Invocation) → p o ≡ passes q (call_of o))
     → (ops : List Invocation) → tally p ops ≡ tally q (calls_of ops)
 tally_calls p q same [] = refl
 tally_calls p q same (o ∷ ops) = ap (λ b. one b + tally p ops) (same o) ∙ go (call_of o) (tally_calls p q same ops)

@@ -188,6 +188,4 @@ cut_lives cut_operation ops f =
     (λ p i. let o = in_filter_map cut_operation p ops i in f o.0 p o.2)
 
 pub did_not_fail : (e : End) → has_failed e ≡ false → e ≢ Failed
-did_not_fail (Returned at r) q f = absurd (cc f)
-did_not_fail Pending q f = absurd (cc f)
-did_not_fail Failed q f = absurd (cc q)
+did_not_fail e h = grind arith

@@ -1,45 +1,24 @@
 -- What is put in before a removal that finds nothing, or the least value of a heap, is taken out before it.
-use Rattle.std.proofs.Common.{◌≡◌, inl, inr, ℕ, ℤ, ◌≤◌, ◌≤ℤ◌, ◌+◌, int_lt, Bool, true, false, ◌&&◌}
-use Rattle.std.proofs.Common.{cond, List, [], ◌∷◌, ◌++◌, length, Option, Some, None, IfSome, filter}
-use Rattle.std.proofs.Common.{refl, ap, sym, ◌∙◌, subst, arith}
+use Rattle.std.proofs.Common.{rules, ◌≡◌, inl, inr, ℤ, ◌≤◌, ◌≤ℤ◌, ◌+◌, int_lt, Bool, true, false}
+use Rattle.std.proofs.Common.{List, [], ◌∷◌, ◌++◌, length, Option, Some, None, IfSome, filter}
+use Rattle.std.proofs.Common.{refl, sym, ◌∙◌, subst, arith}
 use Rattle.std.proofs.lemmas.Int.{ints}
 use Rattle.std.proofs.lemmas.Option.{same_Some}
 use Rattle.model.specs.declared.Kind.{Kind}
-use Rattle.model.specs.declared.Kind.TheVariants as variant
 use Rattle.model.specs.declared.AnyOp.{AnyOp}
-use Rattle.model.specs.declared.AnyOp.TheVariants.{Enqueue, Dequeue, Push, Pop, Insert, ExtractMin}
-use Rattle.model.specs.declared.AnyOp.TheVariants.{Write, Read, Cas, Put, Get, Del, Acquire}
-use Rattle.model.specs.declared.AnyOp.TheVariants.{Release, Clear, Create, PutIfAbsent, Replace, Assoc}
-use Rattle.model.specs.declared.AnyOp.TheVariants.{Dissoc, Add, Remove, Has, FetchAdd, GetCount}
-use Rattle.model.specs.declared.AnyOp.TheVariants.{LockBy, UnlockBy}
+use Rattle.model.specs.declared.AnyOp.TheVariants.{Dequeue, Pop, Insert, ExtractMin}
 use Rattle.model.specs.declared.AnyReply.{AnyReply}
-use Rattle.model.specs.declared.AnyReply.TheVariants.{Value, Swapped, NotSwapped, Flag}
-use Rattle.model.specs.Objects.{Content, queue, stack, heap, register, table, mutex, elements, count, owner}
-use Rattle.model.specs.Objects.{empty, contains_value, next}
+use Rattle.model.specs.declared.AnyReply.TheVariants.{Value}
+use Rattle.model.specs.Objects.{Content, heap, owner}
+use Rattle.model.specs.Objects.{empty, next}
 use Rattle.model.specs.Orders.{Call, Return, RepliesAlong}
 use Rattle.model.proofs.Lists.{In, Pairs, in_left, in_middle}
-use Rattle.projection.specs.Parts.{reply_of, is_kept_value, takes_out}
+use Rattle.projection.specs.Parts.{reply_of, takes_out}
 use Rattle.projection.specs.Kinds.Containers.{puts_in, is_removal}
 use Rattle.projection.specs.Ahead.{may_take}
 use Rattle.projection.specs.Kinds.Containers.{is_value_ahead}
 use Rattle.projection.proofs.Contents.{IsRising, rising_with_value}
 use Rattle.projection.proofs.Conserved.{one, tally, kept_size, size_empty, turn}
-use Rattle.projection.proofs.Booleans.{false_is_not_true, both_true}
-use Rattle.projection.proofs.Steps.{adds, frees}
-
-pub joined : (a b : Bool) → a ≡ true → b ≡ true → (a && b) ≡ true
-joined true b e f = f
-joined false b e f = absurd (false_is_not_true e)
-
-one_le : (a b : Bool) → (a ≡ true → b ≡ true) → one a ≤ one b
-one_le true b f = let e = ap one (f refl) in omega arith
-one_le false b f = omega arith
-
-pub tally_le : {X : Type 0} (p q : X → Bool) (xs : List X) → ((x : X) → In x xs → p x ≡ true → q x ≡ true)
-    → tally p xs ≤ tally q xs
-tally_le p q [] f = omega arith
-tally_le p q (x ∷ xs) f = let a = one_le (p x) (q x) (f x (inl refl)) in let b = tally_le p q xs
-    (λ y i. f y (inr i)) in omega arith
 
 -- ---- lists
 
@@ -69,9 +48,7 @@ may_by keeps e = may_take keeps e.op (reply_of e.returned)
 -- a call that takes one out is one that may
 pub may_le : (keeps : ℤ → Bool) (op : AnyOp) (o : Option Return) (reply : AnyReply)
     → IfSome o (λ r. r.reply ≡ reply) → one (takes_out keeps op (Some reply)) ≤ one (may_take keeps op (reply_of o))
-may_le keeps op None reply h = one_le (takes_out keeps op (Some reply)) (is_removal op)
-    (λ e. (both_true (is_removal op) (is_kept_value keeps (Some reply)) e).0)
-may_le keeps op (Some r) reply h = let n = ap (λ (z : AnyReply). one (takes_out keeps op (Some z))) h in omega arith
+may_le keeps op o reply h = grind arith
 
 -- a heap's values rise
 abbrev IsSound : Content → Type 0
@@ -79,48 +56,11 @@ IsSound (heap vs) = IsRising vs
 IsSound c = Unit {0}
 
 sound_empty : (k : Kind) → IsSound (empty k)
-sound_empty variant.Queue = tt
-sound_empty variant.Stack = tt
-sound_empty variant.Heap = tt
-sound_empty variant.Register = tt
-sound_empty variant.Map = tt
-sound_empty variant.Mutex = tt
-sound_empty variant.Set = tt
-sound_empty variant.Counter = tt
-sound_empty variant.Lock = tt
+sound_empty k = search rules
 
 sound_next : (c : Content) (op : AnyOp) → IsSound c → IfSome (next c op) (λ p. IsSound p.0)
-sound_next (queue vs) (Enqueue v) s = tt
-sound_next (queue []) Dequeue s = tt
-sound_next (queue (v ∷ vs)) Dequeue s = tt
-sound_next (stack vs) (Push v) s = tt
-sound_next (stack []) Pop s = tt
-sound_next (stack (v ∷ vs)) Pop s = tt
 sound_next (heap vs) (Insert v) s = rising_with_value v vs s
-sound_next (heap []) ExtractMin s = tt
-sound_next (heap (v ∷ vs)) ExtractMin s = s.1
-sound_next (register x) (Write v) s = tt
-sound_next (register x) Read s = tt
-sound_next (register x) (Cas a b) s = go (contains_value x a)
-  where
-    go : (t : Bool) → IfSome {T = Content × AnyReply}
-        (cond t (Some (register (Some b), Swapped a b)) (Some (register x, NotSwapped))) (λ p. IsSound p.0)
-    go true = tt
-    go false = tt
-sound_next (table m) (Put k v) s = tt
-sound_next (table m) (Get k) s = tt
-sound_next (table m) (Del k) s = tt
-sound_next (mutex false) Acquire s = tt
-sound_next (mutex true) Release s = tt
-sound_next (register None) (Create v) s = tt
-sound_next (register (Some w)) (Create v) s = tt
-sound_next (count c) (FetchAdd n) s = adds (λ p. IsSound p.0) c n (λ does. tt)
-sound_next (elements x) (Add v) s = tt
-sound_next (elements x) (Remove v) s = tt
-sound_next (elements x) (Has v) s = tt
-sound_next (owner None) (LockBy o) s = tt
-sound_next (owner (Some p)) (UnlockBy o) s = frees (λ q. IsSound q.0) p o (λ does. tt)
-sound_next c op s = tt
+sound_next c op s = search rules
 
 -- ---- the content that the removal finds
 
@@ -137,28 +77,16 @@ reached keeps (e ∷ xs) n ys c s h =
     let t = turn keeps e c h.0 h.1 h.2 h.3 in
     let more = may_le keeps e.op e.returned h.1 h.3 in
     let r = reached keeps xs n ys h.0 (subst (λ z. IfSome z (λ p. IsSound p.0)) h.2 (sound_next c e.op s)) h.4 in
-    record {
-      content = r.content;
-      sound = r.sound;
-      along = r.along;
-      counted = sums _ _ _ _ _ _ _ _ t.balance
-          more r.counted;
-    }
-  where
-    sums : (after took size put may puts there mays : ℕ) → after + took ≡ size + put → took ≤ may
-        → after + puts ≤ there + mays → size + (put + puts) ≤ there + (may + mays)
-    sums after took size put may puts there mays a b d = omega arith
+    record { content = r.content; sound = r.sound; along = r.along; counted = omega arith }
 
 -- no value of a rising list is less than its first
 none_lesser : (b : ℤ) (vs : List ℤ) → ((v : ℤ) → In v vs → int_lt v b ≡ false)
     → length (filter (λ v. int_lt v b) vs) ≡ 0
 none_lesser b [] f = refl
-none_lesser b (v ∷ vs) f = go (int_lt v b) (f v (inl refl)) (none_lesser b vs (λ w i. f w (inr i)))
-  where
-    go : (t : Bool) → t ≡ false → length (filter (λ v. int_lt v b) vs) ≡ 0
-        → length (cond t (v ∷ filter (λ v. int_lt v b) vs) (filter (λ v. int_lt v b) vs)) ≡ 0
-    go true e h = absurd (false_is_not_true (sym e))
-    go false e h = h
+none_lesser b (v ∷ vs) f =
+    let here = f v (inl refl) in
+    let rest = none_lesser b vs (λ w i. f w (inr i)) in
+    grind arith
 
 not_lesser : (v w : ℤ) → v ≤ℤ w → int_lt w v ≡ false
 not_lesser v w l = grind (arith, ints)
@@ -173,13 +101,7 @@ least_first v b vs s e = subst (λ (z : ℤ). length (filter (λ w. int_lt w z) 
     [ inl q ↦ subst (λ (z : ℤ). int_lt z v ≡ false) (sym q) (not_self v) | inr j ↦ not_lesser v w (s.0 w j) ]))
 
 pub same_value : (x y : Option ℤ) → Value x ≡ Value y → x ≡ y
-same_value x y e = ap back e
-  where
-    back : AnyReply → Option ℤ
-    back (Value z) = z
-    back (Swapped a b) = None
-    back NotSwapped = None
-    back (Flag b) = None
+same_value x y e = cc
 
 some_none : (v : ℤ) → Some v ≡ None → ⊥
 some_none v e = absurd (cc e)
@@ -187,53 +109,15 @@ some_none v e = absurd (cc e)
 -- a lock has no removals
 no_removal : (P : Content × AnyReply → Type 0) (x : Option ℤ) (op : AnyOp) → is_removal op ≡ true
     → IfSome (next (owner x) op) P
-no_removal P None Dequeue t = tt
-no_removal P None Pop t = tt
-no_removal P None ExtractMin t = tt
-no_removal P (Some p) Dequeue t = tt
-no_removal P (Some p) Pop t = tt
-no_removal P (Some p) ExtractMin t = tt
-no_removal P x op t = absurd (false_is_not_true t)
+no_removal P x op t = search rules
 
 -- where a removal finds nothing, the object is empty, and where a heap's finds a value, it contains no lesser one
 emptied : (c : Content) (op : AnyOp) (o : Option ℤ) → IsSound c → (op ≡ Dequeue → o ≡ None)
     → (op ≡ Pop → o ≡ None) → is_removal op ≡ true
     → IfSome (next c op) (λ p. p.1 ≡ Value o → kept_size (is_value_ahead o op) c ≡ 0)
-emptied (queue []) Dequeue o s d u t = λ e. refl
-emptied (queue (v ∷ vs)) Dequeue o s d u t = λ e. absurd (some_none v (same_value (Some v) o e ∙ d refl))
-emptied (stack []) Pop o s d u t = λ e. refl
-emptied (stack (v ∷ vs)) Pop None s d u t = λ e. absurd (some_none v (same_value (Some v) None e))
-emptied (stack (v ∷ vs)) Pop (Some b) s d u t = λ e. absurd (some_none b (u refl))
-emptied (heap []) ExtractMin o s d u t = λ e. refl
-emptied (heap (v ∷ vs)) ExtractMin None s d u t = λ e. absurd (some_none v (same_value (Some v) None e))
 emptied (heap (v ∷ vs)) ExtractMin (Some b) s d u t = λ e. least_first v b vs s
     (same_Some v b (same_value (Some v) (Some b) e))
-emptied (queue vs) (Enqueue v) o s d u t = absurd (false_is_not_true t)
-emptied (stack vs) (Push v) o s d u t = absurd (false_is_not_true t)
-emptied (heap vs) (Insert v) o s d u t = absurd (false_is_not_true t)
-emptied (register x) (Write v) o s d u t = absurd (false_is_not_true t)
-emptied (register x) Read o s d u t = absurd (false_is_not_true t)
-emptied (register x) (Cas a b) o s d u t = absurd (false_is_not_true t)
-emptied (table m) (Put k v) o s d u t = absurd (false_is_not_true t)
-emptied (table m) (Get k) o s d u t = absurd (false_is_not_true t)
-emptied (table m) (Del k) o s d u t = absurd (false_is_not_true t)
-emptied (mutex false) Acquire o s d u t = absurd (false_is_not_true t)
-emptied (mutex true) Release o s d u t = absurd (false_is_not_true t)
-emptied (owner x) op o s d u t = no_removal (λ p. p.1 ≡ Value o → kept_size (is_value_ahead o op) (owner x) ≡ 0) x op t
-emptied c Clear o s d u t = absurd (false_is_not_true t)
-emptied c (Create v) o s d u t = absurd (false_is_not_true t)
-emptied c (PutIfAbsent k v) o s d u t = absurd (false_is_not_true t)
-emptied c (Replace k v w) o s d u t = absurd (false_is_not_true t)
-emptied c (Assoc k v) o s d u t = absurd (false_is_not_true t)
-emptied c (Dissoc k) o s d u t = absurd (false_is_not_true t)
-emptied c (Add v) o s d u t = absurd (false_is_not_true t)
-emptied c (Remove v) o s d u t = absurd (false_is_not_true t)
-emptied c (Has v) o s d u t = absurd (false_is_not_true t)
-emptied c (FetchAdd n) o s d u t = absurd (false_is_not_true t)
-emptied c GetCount o s d u t = absurd (false_is_not_true t)
-emptied c (LockBy w) o s d u t = absurd (false_is_not_true t)
-emptied c (UnlockBy w) o s d u t = absurd (false_is_not_true t)
-emptied c op o s d u t = tt
+emptied c op o s d u t = search rules
 
 -- what is put in before the removal is taken out before it
 pub spent : (n : Call) (r : Return) (o : Option ℤ) (xs ys : List Call) (k : Kind) → is_removal n.op ≡ true
@@ -246,7 +130,5 @@ spent n r o xs ys k t e f d u h =
     let gave : r.reply ≡ at.along.1 = subst (λ z. IfSome z (λ r. r.reply ≡ at.along.1)) e at.along.3 in
     let none = subst (λ z. IfSome z (λ p. p.1 ≡ Value o → kept_size keeps at.content ≡ 0)) at.along.2
     (emptied at.content n.op o at.sound d u t) (sym gave ∙ f) in
-    sums _ _ _ _ (size_empty keeps k) none at.counted
-  where
-    sums : (size puts there mays : ℕ) → size ≡ 0 → there ≡ 0 → size + puts ≤ there + mays → puts ≤ mays
-    sums size puts there mays a b l = omega arith
+    let nothing = size_empty keeps k in
+    omega arith

@@ -1,11 +1,10 @@
 -- A part of a valid order in which the pending removals of kept values are those that were invoked first.
-use Rattle.std.proofs.Common.{◌≡◌, ◌≢◌, ◌⊎◌, inl, inr, zero, suc, ℕ, ℤ, ◌<◌, ◌≤◌, ◌+◌, nat_lt, Bool, true, false}
-use Rattle.std.proofs.Common.{not, ◌&&◌, List, [], ◌∷◌, length}
+use Rattle.std.proofs.Common.{rules, ◌≡◌, ◌≢◌, ◌⊎◌, inl, inr, zero, suc, ℕ, ℤ, ◌<◌, ◌≤◌, ◌+◌, nat_lt, Bool, true, false}
+use Rattle.std.proofs.Common.{◌&&◌, List, [], ◌∷◌, length}
 use Rattle.std.proofs.Common.{Option, Some, None, IfSome, IsSome, is_some, refl, ap, sym, ◌∙◌, subst, arith}
 use Rattle.std.proofs.lemmas.Bool.Decides.{nat_tests}
 use Rattle.model.specs.declared.Kind.{Kind}
 use Rattle.model.specs.declared.AnyOp.{AnyOp}
-use Rattle.model.specs.declared.AnyOp.TheVariants.{Dequeue, Pop, ExtractMin}
 use Rattle.model.specs.declared.AnyReply.{AnyReply}
 use Rattle.model.specs.Objects.{Content, next, kind_of}
 use Rattle.model.specs.Orders.{Call, Return, ReturnsBefore, RepliesAlong}
@@ -56,12 +55,8 @@ none_before : (n : ℕ) (es : List Call) → ((x : Call) → In x es → n < x.n
 none_before n [] f = refl
 none_before n (e ∷ es) f =
     let rest = none_before n es (λ x i. f x (inr i)) in
-    let here = ap one (ap (λ z. is_open e && z) (not_before e.number n (weaker n e.number (f e (inl refl))))
-    ∙ and_false (is_open e)) in
-    omega arith
-  where
-    weaker : (a b : ℕ) → a < b → a ≤ b
-    weaker a b l = omega arith
+    let here = f e (inl refl) in
+    grind (arith, nat_tests)
 
 nth : (calls : List Call) → Pairs (λ a b. a.number < b.number) calls → (i : ℕ) → i < tally is_open calls → Nth calls i
 nth [] h i lt = absurd (omega arith)
@@ -107,9 +102,9 @@ late n (x ∷ xs) = elim (true_or_false (nat_lt x.number n)) [
 all_pass : (p : Call → Bool) (xs : List Call) → ((x : Call) → In x xs → p x ≡ true) → tally p xs ≡ length xs
 all_pass p [] f = refl
 all_pass p (x ∷ xs) f =
-    let here = ap one (f x (inl refl)) in
+    let here = f x (inl refl) in
     let rest = all_pass p xs (λ y i. f y (inr i)) in
-    omega arith
+    grind arith
 
 apart_calls : (xs : List Call) → Pairs (λ x y. x.number ≢ y.number) xs → Pairs (λ x y. x ≢ y) xs
 apart_calls xs h = pairs_weaker (λ x y. x.number ≢ y.number) (λ x y. x ≢ y) xs
@@ -148,52 +143,23 @@ place calls xs i rising many apart pending known =
 -- ---- facts of removals
 
 open_removal : (e : Call) → is_open e ≡ true → is_removal e.op ≡ true
-open_removal e h = go (is_removal e.op) h
-  where
-    go : (b : Bool) → (b && not (is_some e.returned)) ≡ true → b ≡ true
-    go true h = refl
-    go false h = h
+open_removal e h = grind arith
 
 open_returned : (e : Call) → is_open e ≡ true → is_some e.returned ≡ false
-open_returned e h = go (is_removal e.op) (is_some e.returned) h
-  where
-    go : (b c : Bool) → (b && not c) ≡ true → c ≡ false
-    go true true h = absurd (false_is_not_true h)
-    go true false h = refl
-    go false c h = absurd (false_is_not_true h)
+open_returned e h = grind arith
 
 not_returned : (e : Call) (r : Return) → is_open e ≡ true → e.returned ≡ Some r → ⊥
 not_returned e r h q = false_is_not_true (sym (open_returned e h) ∙ ap is_some q)
 
 closed_removal : (e : Call) → is_open e ≡ false → is_some e.returned ≡ false → is_removal e.op ≡ false
-closed_removal e h p = go (is_removal e.op) (is_some e.returned) h p
-  where
-    go : (b c : Bool) → (b && not c) ≡ false → c ≡ false → b ≡ false
-    go true true h p = absurd (false_is_not_true (sym p))
-    go true false h p = absurd (false_is_not_true (sym h))
-    go false c h p = refl
+closed_removal e h p = grind arith
 
 same_removal : (a b : AnyOp) → is_removal a ≡ true → is_removal b ≡ true → kind_of a ≡ kind_of b → a ≡ b
-same_removal Dequeue Dequeue h k e = refl
-same_removal Pop Pop h k e = refl
-same_removal ExtractMin ExtractMin h k e = refl
-same_removal Dequeue Pop h k e = absurd (cc e)
-same_removal Dequeue ExtractMin h k e = absurd (cc e)
-same_removal Pop Dequeue h k e = absurd (cc e)
-same_removal Pop ExtractMin h k e = absurd (cc e)
-same_removal ExtractMin Dequeue h k e = absurd (cc e)
-same_removal ExtractMin Pop h k e = absurd (cc e)
-same_removal Dequeue b h k e = absurd (false_is_not_true k)
-same_removal Pop b h k e = absurd (false_is_not_true k)
-same_removal ExtractMin b h k e = absurd (false_is_not_true k)
-same_removal a b h k e = absurd (false_is_not_true h)
+same_removal a b h k e = search rules
 
 fits_open : (all : Bool) (keeps : ℤ → Bool) (kept : Bool) (op : AnyOp) → is_removal op ≡ true
     → fits all keeps kept op None ≡ true
-fits_open all keeps kept Dequeue h = refl
-fits_open all keeps kept Pop h = refl
-fits_open all keeps kept ExtractMin h = refl
-fits_open all keeps kept op h = absurd (false_is_not_true h)
+fits_open all keeps kept op h = search rules
 
 -- ---- along calls
 

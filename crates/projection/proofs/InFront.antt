@@ -1,12 +1,9 @@
 -- What is in front of a value in a queue, or on top of it in a stack, is taken out before it.
-use Rattle.std.proofs.Common.{◌≡◌, inl, inr, ℕ, ℤ, ◌<◌, ◌≤◌, ◌+◌, zero-add, Bool, true, false, ◌||◌}
+use Rattle.std.proofs.Common.{◌≡◌, inl, inr, ℕ, ℤ, ◌<◌, ◌≤◌, ◌+◌, Bool, true, false, ◌||◌}
 use Rattle.std.proofs.Common.{cond, List, [], ◌∷◌, ◌++◌, Some, IfSome, refl, ap, sym, ◌∙◌, subst}
 use Rattle.std.proofs.Common.{arith}
 use Rattle.std.proofs.lemmas.Int.{ints}
-use Rattle.std.proofs.lemmas.Option.{same_Some}
 use Rattle.std.specs.Ordering.{int_eq}
-use Rattle.std.specs.Option.{option_map_or}
-use Rattle.std.specs.List.{find}
 use Rattle.model.specs.declared.AnyOp.{AnyOp}
 use Rattle.model.specs.declared.AnyOp.TheVariants.{Enqueue, Dequeue, Push, Pop}
 use Rattle.model.specs.declared.AnyReply.{AnyReply}
@@ -18,7 +15,7 @@ use Rattle.projection.specs.Parts.{takes_out}
 use Rattle.projection.specs.Kinds.Containers.{puts_in}
 use Rattle.projection.specs.Ahead.{first_put}
 use Rattle.projection.proofs.Conserved.{one, tally}
-use Rattle.projection.proofs.Emptied.{put_by, may_by, may_le, same_value}
+use Rattle.projection.proofs.Emptied.{put_by, may_by, may_le}
 use Rattle.projection.proofs.Booleans.{false_is_not_true}
 
 -- ---- a queue, where the removal finds a value
@@ -54,28 +51,13 @@ same_le a b e = omega arith
 queue_moves : (b : ℤ) (vs : List ℤ) (op : AnyOp) (m : ℕ)
     → IfSome (next (queue vs) op) (λ p. Moves b vs op m p.0 p.1)
 queue_moves b vs (Enqueue v) m = (vs ++ v ∷ [], refl, same_le _ _ (in_front_after b v vs m))
-queue_moves b [] Dequeue m = ([], refl, same_le _ _ (zero-add m))
-queue_moves b (v ∷ vs) Dequeue m = (vs, refl, go (int_eq b v))
-  where
-    rest : in_front b vs (0 + m) ≡ in_front b vs m
-    rest = ap (in_front b vs) (zero-add m)
-
-    go : (t : Bool) → cond t 0 (1 + in_front b vs (0 + m)) ≤ in_front b vs m + 1
-    go true = omega arith
-    go false = let e = rest in omega arith
+queue_moves b [] Dequeue m = ([], refl, omega arith)
+queue_moves b (v ∷ vs) Dequeue m = (vs, refl, grind arith)
 queue_moves b vs op m = tt
 
 found_first : (b : ℤ) (vs : List ℤ) → IfSome (next (queue vs) Dequeue)
     (λ p. p.1 ≡ Value (Some b) → in_front b vs 0 ≡ 0)
-found_first b [] = λ e. refl
-found_first b (v ∷ vs) = λ e. go (int_eq b v) (same b v (same_Some v b (same_value (Some v) (Some b) e)))
-  where
-    go : (t : Bool) → t ≡ true → cond t 0 (1 + in_front b vs 0) ≡ 0
-    go true q = refl
-    go false q = absurd (false_is_not_true q)
-
-    same : (b v : ℤ) → v ≡ b → int_eq b v ≡ true
-    same b v q = grind (arith, ints)
+found_first b vs = grind (arith, ints)
 
 pub queue_spent : (b : ℤ) (xs : List Call) (n : Call) (ys : List Call) (vs : List ℤ) → n.op ≡ Dequeue
     → ((reply : AnyReply) → IfSome n.returned (λ r. r.reply ≡ reply) → reply ≡ Value (Some b))
@@ -90,11 +72,8 @@ queue_spent b (e ∷ xs) n ys vs q gives h =
     (queue_moves b vs e.op (fresh b xs)) in
     let more = may_le every e.op e.returned h.1 h.3 in
     let rest = queue_spent b xs n ys s.0 q gives (subst (λ (c : Content). RepliesAlong c (xs ++ n ∷ ys)) s.1 h.4) in
-    sums _ _ _ _ _ s.2 more rest
-  where
-    sums : (before after took may mays : ℕ) → before ≤ after + took → took ≤ may → after ≤ mays
-        → before ≤ may + mays
-    sums before after took may mays a b d = omega arith
+    let moved = s.2 in
+    omega arith
 
 -- the calls before the first that puts in b
 abbrev pub until_put : ℤ → List Call → List Call
@@ -103,12 +82,7 @@ until_put b (e ∷ es) = cond (puts_in (int_eq b) e.op) [] (e ∷ until_put b es
 
 pub fresh_until : (b : ℤ) (es : List Call) → tally (put_by every) (until_put b es) ≡ fresh b es
 fresh_until b [] = refl
-fresh_until b (e ∷ es) = go (puts_in (int_eq b) e.op) (fresh_until b es)
-  where
-    go : (t : Bool) → tally (put_by every) (until_put b es) ≡ fresh b es
-        → tally (put_by every) (cond t [] (e ∷ until_put b es)) ≡ cond t 0 (one (puts_in every e.op) + fresh b es)
-    go true h = refl
-    go false h = ap (λ (z : ℕ). one (puts_in every e.op) + z) h
+fresh_until b (e ∷ es) = let rest = fresh_until b es in grind arith
 
 pub in_until : (b : ℤ) (es : List Call) (x : Call) → In x es → Pairs (λ x y. ReturnsBefore y x → ⊥) es
     → ((p : Call) → In p es → puts_in (int_eq b) p.op ≡ true → ReturnsBefore x p)
@@ -129,27 +103,10 @@ in_until b (e ∷ es) x i h f own = go (puts_in (int_eq b) e.op) refl
 pub first_least : (b : ℤ) (calls : List Call) → Pairs (λ x y. x.number < y.number) calls → (p : Call)
     → In p calls → puts_in (int_eq b) p.op ≡ true → first_put b calls ≤ p.number
 first_least b [] h p i q = absurd i
-first_least b (e ∷ es) h p i q = go (puts_in (int_eq b) e.op) refl (λ j. first_least b es h.1 p j q)
-  where
-    go : (t : Bool) → puts_in (int_eq b) e.op ≡ t → (In p es → first_put b es ≤ p.number)
-        → option_map_or (λ (e : Call). e.number) (cond t (Some e) (find (λ e. puts_in (int_eq b) e.op) es))
-        0 ≤ p.number
-    go true k rest = elim i [
-      | inl s ↦ least e.number p.number (ap (λ (z : Call). z.number) s)
-      | inr j ↦ below e.number p.number
-          (h.0 p j)
-    ]
-      where
-        least : (a c : ℕ) → c ≡ a → a ≤ c
-        least a c s = omega arith
-
-        below : (a c : ℕ) → a < c → a ≤ c
-        below a c s = omega arith
-    go false k rest = elim i [
-      | inl s ↦ absurd (false_is_not_true (sym k ∙ ap (λ (z : Call). puts_in (int_eq b) z.op) (sym s) ∙ q))
-      | inr j ↦
-          rest j
-    ]
+first_least b (e ∷ es) h p i q =
+    let rest = λ (j : In p es). first_least b es h.1 p j q in
+    let later = λ (j : In p es). h.0 p j in
+    grind arith
 
 -- ---- a stack, where the removal finds a value
 
@@ -159,30 +116,14 @@ Sinks b vs op after reply = (ws : List ℤ) × (after ≡ stack ws) ×
     (takes_out every op (Some reply)))
 
 stack_moves : (b : ℤ) (vs : List ℤ) (op : AnyOp) → IfSome (next (stack vs) op) (λ p. Sinks b vs op p.0 p.1)
-stack_moves b vs (Push v) = (v ∷ vs, refl, λ e. go (int_eq b v) e)
-  where
-    go : (t : Bool) → t ≡ false → in_front b vs 0 + 1 ≤ cond t 0 (1 + in_front b vs 0) + 0
-    go true e = absurd (false_is_not_true (sym e))
-    go false e = omega arith
+stack_moves b vs (Push v) = (v ∷ vs, refl, λ e. grind arith)
 stack_moves b [] Pop = ([], refl, λ e. omega arith)
-stack_moves b (v ∷ vs) Pop = (vs, refl, λ e. go (int_eq b v))
-  where
-    go : (t : Bool) → cond t 0 (1 + in_front b vs 0) + 0 ≤ in_front b vs 0 + 1
-    go true = omega arith
-    go false = omega arith
+stack_moves b (v ∷ vs) Pop = (vs, refl, λ e. grind arith)
 stack_moves b vs op = tt
 
 found_on_top : (b : ℤ) (vs : List ℤ) → IfSome (next (stack vs) Pop)
     (λ p. p.1 ≡ Value (Some b) → in_front b vs 0 ≡ 0)
-found_on_top b [] = λ e. refl
-found_on_top b (v ∷ vs) = λ e. go (int_eq b v) (same b v (same_Some v b (same_value (Some v) (Some b) e)))
-  where
-    go : (t : Bool) → t ≡ true → cond t 0 (1 + in_front b vs 0) ≡ 0
-    go true q = refl
-    go false q = absurd (false_is_not_true q)
-
-    same : (b v : ℤ) → v ≡ b → int_eq b v ≡ true
-    same b v q = grind (arith, ints)
+found_on_top b vs = grind (arith, ints)
 
 -- where none of the calls puts in b, what they put in is taken out
 pub stack_spent : (b : ℤ) (xs : List Call) (n : Call) (ys : List Call) (vs : List ℤ) → n.op ≡ Pop

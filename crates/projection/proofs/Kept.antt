@@ -1,10 +1,9 @@
 -- Closed projections: the checks of `keeping.rt` establish that the part is closed.
-use Rattle.std.proofs.Common.{◌≡◌, ◌≢◌, not, inl, inr, zero, suc, ℕ, ℤ, ◌<◌, ◌≤◌, ◌+◌, ◌-◌, ◌==◌, nat_lt, Bool}
+use Rattle.std.proofs.Common.{rules, ◌≡◌, ◌≢◌, not, inl, inr, zero, ℕ, ℤ, ◌<◌, ◌≤◌, ◌+◌, ◌-◌, ◌==◌, nat_lt, Bool}
 use Rattle.std.proofs.Common.{true, false, ◌&&◌, ◌||◌, cond, List, [], ◌∷◌}
 use Rattle.std.proofs.Common.{Option, Some, None, AllPairs, count_by, filter, length, get_or, drop, refl, ap, sym}
 use Rattle.std.proofs.Common.{◌∙◌, subst, arith}
-use Rattle.std.specs.List.{filter_map, cons_option, list_all}
-use Rattle.std.proofs.lemmas.Option.{same_Some}
+use Rattle.std.specs.List.{filter_map, list_all}
 use Rattle.std.proofs.Math.Seq.{drop-cons}
 use Rattle.std.proofs.lemmas.Bool.Decides.{nat_tests}
 use Rattle.model.specs.declared.AnyOp.{AnyOp}
@@ -24,12 +23,13 @@ use Rattle.projection.specs.declared.keeping.Values.TheVariants as values
 use Rattle.projection.specs.Cuts.{keeps_all, keeps_value, IsPart, NoneFailed}
 use Rattle.projection.specs.CutOperations.{has_failed, fits_end, is_kept_call, is_put, is_taken, is_open_removal}
 use Rattle.projection.specs.CutOperations.{keeps_first}
-use Rattle.projection.proofs.Conserved.{one, tally, count_tally}
+use Rattle.projection.proofs.Conserved.{one, tally, count_tally, and_false}
 use Rattle.projection.proofs.Closed.{projection_valid}
 use Rattle.projection.proofs.Sequences.{in_filter_map_from}
 use Rattle.projection.proofs.CutOperations.{bind, filter_map-filter, map-same, IsCutOperation, cut_history}
 use Rattle.projection.proofs.CutOperations.{cut_calls, cut_lives, did_not_fail, rising_calls, all_calls}
-use Rattle.projection.proofs.Booleans.{false_is_not_true}
+use Rattle.projection.proofs.Booleans.{false_is_not_true, both_true, passes_all, all_passes}
+use Rattle.projection.proofs.CountedCalls.{passes, tally_calls, count_calls}
 
 abbrev pub own : {X : Type 0} → (X → Bool) → X → Option X
 own p x = cond (p x) (Some x) None
@@ -37,52 +37,40 @@ own p x = cond (p x) (Some x) None
 pub as_filter : {X : Type 0} (p : X → Bool) (xs : List X) → filter_map (own p) xs ≡ filter p xs
 as_filter p xs = filter_map-filter p (λ x. x) xs ∙ map-same (filter p xs)
 
-operation_is : (kept : ℕ → Bool) (o p : Invocation) → own (is_kept_call kept) o ≡ Some p → IsCutOperation o p
-operation_is kept o p e = go (is_kept_call kept o) e
+pub own_is : (p : Invocation → Bool) (o q : Invocation) → own p o ≡ Some q → IsCutOperation o q
+own_is p o q e = subst (IsCutOperation o) (same (p o) e)
+    (record { number = refl; kind = refl; returned = λ at reply e. (reply, e) })
   where
-    go : (b : Bool) → cond b (Some o) None ≡ Some p → IsCutOperation o p
-    go true e = subst (IsCutOperation o) (same_Some o p e)
-        (record { number = refl; kind = refl; returned = λ at reply e. (reply, e) })
-    go false e = absurd (cc e)
+    same : (b : Bool) → cond b (Some o) None ≡ Some q → o ≡ q
+    same b e = grind arith
 
 -- an operation that is kept only where it did not fail
 pub own_lives : (p : Invocation → Bool) (o q : Invocation) → own (λ z. not (has_failed z.«end») && p z) o ≡ Some q
     → q.«end» ≢ Failed
-own_lives p o q e = go (has_failed o.«end») refl e
-  where
-    kept : (b : Bool) → has_failed o.«end» ≡ false → cond b (Some o) None ≡ Some q → q.«end» ≢ Failed
-    kept true h e = subst (λ (z : Invocation). z.«end» ≢ Failed) (same_Some o q e) (did_not_fail o.«end» h)
-    kept false h e = absurd (cc e)
-
-    go : (b : Bool) → has_failed o.«end» ≡ b → cond (not b && p o) (Some o) None ≡ Some q → q.«end» ≢ Failed
-    go true h e = absurd (cc e)
-    go false h e = kept (p o) h e
+own_lives p o q e = grind (arith, did_not_fail)
 
 pub filter_lives : (p : Invocation → Bool) (ops : List Invocation)
     → NoneFailed (filter (λ z. not (has_failed z.«end») && p z) ops)
 filter_lives p ops = subst NoneFailed (as_filter (λ z. not (has_failed z.«end») && p z) ops)
     (cut_lives (own (λ z. not (has_failed z.«end») && p z)) ops (own_lives p))
 
+pub own_call : (p : Invocation → Bool) (o : Invocation) → bind (own p o) call_of ≡ cond (p o) (call_of o) None
+own_call p o = grind arith
+
 operation_call : (kept : ℕ → Bool) (o : Invocation)
     → bind (own (is_kept_call kept) o) call_of ≡ bind (call_of o) (own (λ z. kept z.number))
-operation_call kept o = cut_operation (is_kept_call kept o) ∙ sym (part o.«end»)
+operation_call kept o = own_call (is_kept_call kept) o ∙ sym (part o.«end»)
   where
-    cut_operation : (b : Bool) → bind (cond b (Some o) None) call_of ≡ cond b (call_of o) None
-    cut_operation true = refl
-    cut_operation false = refl
-
     part : (e : End) → bind (call_with o.number o.op e) (own (λ z. kept z.number))
         ≡ cond (not (has_failed e) && kept o.number) (call_with o.number o.op e) None
-    part (Returned at r) = refl
-    part Pending = refl
-    part Failed = refl
+    part e = grind arith
 
 pub kept_history : (kept : ℕ → Bool) (h : ObjectCalls) → IsObjectHistory h
     → IsObjectHistory (record { object = h.object; kind = h.kind; ops = filter (is_kept_call kept) h.ops })
 kept_history kept h is =
     subst (λ (ops : List Invocation). IsObjectHistory (record { object = h.object; kind = h.kind; ops = ops }))
     (as_filter (is_kept_call kept) h.ops)
-    (cut_history h.object h.kind h.ops (own (is_kept_call kept)) (λ o p i e. operation_is kept o p e) is)
+    (cut_history h.object h.kind h.ops (own (is_kept_call kept)) (λ o p i e. own_is (is_kept_call kept) o p e) is)
 
 pub kept_calls_of : (kept : ℕ → Bool) (ops : List Invocation)
     → calls_of (filter (is_kept_call kept) ops) ≡ kept_calls kept (calls_of ops)
@@ -92,47 +80,22 @@ kept_calls_of kept ops = ap calls_of (sym (as_filter (is_kept_call kept) ops))
 
 -- ---- how many
 
-puts_of : (keeps : ℤ → Bool) (ops : List Invocation)
-    → tally (λ o. is_put keeps o.op o.«end») ops ≡ tally (λ e. puts_in keeps e.op) (calls_of ops)
-puts_of keeps [] = refl
-puts_of keeps (o ∷ ops) = go o.«end» (puts_of keeps ops)
-  where
-    go : (e : End) → tally (λ o. is_put keeps o.op o.«end») ops ≡ tally (λ e. puts_in keeps e.op) (calls_of ops)
-        → cond (is_put keeps o.op e) 1 0 + tally (λ o. is_put keeps o.op o.«end») ops
-        ≡ tally (λ e. puts_in keeps e.op) (cons_option (call_with o.number o.op e) (calls_of ops))
-    go (Returned at r) h = ap (λ (n : ℕ). cond (puts_in keeps o.op) 1 0 + n) h
-    go Pending h = ap (λ (n : ℕ). cond (puts_in keeps o.op) 1 0 + n) h
-    go Failed h = omega arith
-
-taken_of : (keeps : ℤ → Bool) (ops : List Invocation)
-    → tally (λ o. is_taken keeps o.op o.«end») ops
-    ≡ tally (λ e. takes_out keeps e.op (reply_of e.returned)) (calls_of ops)
-taken_of keeps [] = refl
-taken_of keeps (o ∷ ops) = go o.«end» (taken_of keeps ops)
-  where
-    nothing : (b : Bool) → cond (b && false) 1 0 ≡ zero
-    nothing true = refl
-    nothing false = refl
-
-    go : (e : End) → tally (λ o. is_taken keeps o.op o.«end») ops
-        ≡ tally (λ e. takes_out keeps e.op (reply_of e.returned)) (calls_of ops)
-        → cond (is_taken keeps o.op e) 1 0 + tally (λ o. is_taken keeps o.op o.«end») ops
-        ≡ tally (λ e. takes_out keeps e.op (reply_of e.returned))
-        (cons_option (call_with o.number o.op e) (calls_of ops))
-    go (Returned at r) h = ap (λ (n : ℕ). cond (takes_out keeps o.op (Some r)) 1 0 + n) h
-    go Pending h = let n = nothing (is_removal o.op) in omega arith
-    go Failed h = omega arith
-
 put_counts : (keeps : ℤ → Bool) (ops : List Invocation)
     → count_by (λ o. is_put keeps o.op o.«end») ops ≡ put_count keeps (calls_of ops)
-put_counts keeps ops = sym (count_tally (λ o. is_put keeps o.op o.«end») ops) ∙ puts_of keeps ops
-    ∙ count_tally (λ e. puts_in keeps e.op) (calls_of ops)
+put_counts keeps ops = count_calls (λ o. is_put keeps o.op o.«end») (λ e. puts_in keeps e.op) (λ o. go o o.«end») ops
+  where
+    go : (o : Invocation) (e : End)
+        → is_put keeps o.op e ≡ passes (λ e. puts_in keeps e.op) (call_with o.number o.op e)
+    go o e = search rules
 
 taken_counts : (keeps : ℤ → Bool) (ops : List Invocation)
     → count_by (λ o. is_taken keeps o.op o.«end») ops ≡ taken_count keeps (calls_of ops)
-taken_counts keeps ops =
-    sym (count_tally (λ o. is_taken keeps o.op o.«end») ops) ∙ taken_of keeps ops
-    ∙ count_tally (λ e. takes_out keeps e.op (reply_of e.returned)) (calls_of ops)
+taken_counts keeps ops = count_calls (λ o. is_taken keeps o.op o.«end»)
+    (λ e. takes_out keeps e.op (reply_of e.returned)) (λ o. go o o.«end») ops
+  where
+    go : (o : Invocation) (e : End)
+        → is_taken keeps o.op e ≡ passes (λ e. takes_out keeps e.op (reply_of e.returned)) (call_with o.number o.op e)
+    go o e = search (rules, and_false)
 
 -- ---- pending removals
 
@@ -142,130 +105,59 @@ is_open o = is_open_removal o.op o.«end»
 abbrev open_before : ℕ → List Invocation → ℕ
 open_before n ops = tally (λ o. is_open o && nat_lt o.number n) ops
 
-open_of : (n : ℕ) (ops : List Invocation)
-    → open_before n ops ≡ tally (λ e. is_pending_removal e.op e.returned && nat_lt e.number n) (calls_of ops)
-open_of n [] = refl
-open_of n (o ∷ ops) = go o.«end» (open_of n ops)
-  where
-    pending : (a b : Bool) → (a && b) ≡ ((a && true) && b)
-    pending true b = refl
-    pending false b = refl
-
-    over : (a b : Bool) → false ≡ ((a && false) && b)
-    over true b = refl
-    over false b = refl
-
-    sums : (a b x y : ℕ) → a ≡ b → x ≡ y → a + x ≡ b + y
-    sums a b x y e f = omega arith
-
-    go : (e : End) → open_before n ops
-        ≡ tally (λ e. is_pending_removal e.op e.returned && nat_lt e.number n) (calls_of ops)
-        → cond (is_open_removal o.op e && nat_lt o.number n) 1 0 + open_before n ops
-        ≡ tally (λ e. is_pending_removal e.op e.returned && nat_lt e.number n)
-        (cons_option (call_with o.number o.op e) (calls_of ops))
-    go (Returned at r) h = sums _ _ _ _ (ap one (over (is_removal o.op) (nat_lt o.number n))) h
-    go Pending h = sums _ _ _ _ (ap one (pending (is_removal o.op) (nat_lt o.number n))) h
-    go Failed h = omega arith
-
 pending_counts : (n : ℕ) (ops : List Invocation) → open_before n ops ≡ pending_before n (calls_of ops)
-pending_counts n ops = open_of n ops
+pending_counts n ops =
+    tally_calls (λ o. is_open o && nat_lt o.number n)
+    (λ e. is_pending_removal e.op e.returned && nat_lt e.number n) (λ o. go o o.«end») ops
     ∙ count_tally (λ e. is_pending_removal e.op e.returned && nat_lt e.number n) (calls_of ops)
-
-lt_yes : (a b : ℕ) → a < b → nat_lt a b ≡ true
-lt_yes a b l = grind (arith, nat_tests)
-
-lt_no : (a b : ℕ) → b ≤ a → nat_lt a b ≡ false
-lt_no a b l = grind (arith, nat_tests)
+  where
+    go : (o : Invocation) (e : End) → (is_open_removal o.op e && nat_lt o.number n)
+        ≡ passes (λ e. is_pending_removal e.op e.returned && nat_lt e.number n) (call_with o.number o.op e)
+    go o e = grind arith
 
 -- one more comes before what is later
 open_more : (o x : Invocation) (ops : List Invocation) (b : Bool) → is_open o ≡ b → o.number < x.number
     → open_before x.number (o ∷ ops) ≡ one b + open_before x.number ops
-open_more o x ops b q l =
-    ap (λ z. one z + open_before x.number ops)
-    (ap (λ z. is_open o && z) (lt_yes o.number x.number l) ∙ ap (λ z. z && true) q ∙ same b)
-  where
-    same : (b : Bool) → (b && true) ≡ b
-    same true = refl
-    same false = refl
+open_more o x ops b q l = grind (arith, nat_tests)
 
 open_none : (n : ℕ) (ops : List Invocation) → ((x : Invocation) → In x ops → n ≤ x.number) → open_before n ops ≡ zero
 open_none n [] f = refl
 open_none n (o ∷ ops) f =
     let rest = open_none n ops (λ x i. f x (inr i)) in
-    let here = ap one (ap (λ z. is_open o && z) (lt_no o.number n (f o (inl refl))) ∙ none (is_open o)) in
-    omega arith
-  where
-    none : (b : Bool) → (b && false) ≡ false
-    none true = refl
-    none false = refl
-
-zero_is : (m : ℕ) → m ≡ zero → (m == 0) ≡ true
-zero_is m e = grind (arith, nat_tests)
-
-is_zero : (m : ℕ) → (m == 0) ≡ true → m ≡ zero
-is_zero m e = grind (arith, nat_tests)
-
-not_zero : (m : ℕ) → zero < m → (m == 0) ≡ false
-not_zero m l = grind (arith, nat_tests)
-
-missing : (kept : ℕ → Bool) (m : ℕ) (o : Invocation) (ops : List Invocation) → zero < m → is_open o ≡ true
-    → kept o.number ≡ false → keeps_first kept m (o ∷ ops) ≡ false
-missing kept m o ops l q n = go (is_open o) (m == 0) (kept o.number) q (not_zero m l) n
-  where
-    go : (b d c : Bool) → b ≡ true → d ≡ false → c ≡ false
-        → cond b ((d || c) && keeps_first kept (m - 1) ops) (keeps_first kept m ops) ≡ false
-    go false d c e f g = absurd (false_is_not_true e)
-    go true true c e f g = absurd (false_is_not_true (sym f))
-    go true false true e f g = absurd (false_is_not_true (sym g))
-    go true false false e f g = refl
+    let here = f o (inl refl) in
+    grind (arith, nat_tests)
 
 -- a pending removal among the first ones is left out
 pub one_missing : (kept : ℕ → Bool) (most left i : ℕ) (ops : List Invocation) (d : Invocation) → i < length ops
     → keeps_first kept most ops ≡ keeps_first kept left (drop i ops) → is_open (get_or ops i d) ≡ true → zero < left
     → kept (get_or ops i d).number ≡ false → false ≡ keeps_first kept most ops
 one_missing kept most left i ops d lt e o less n =
-    sym (e ∙ ap (keeps_first kept left) (drop-cons ops i d lt)
-    ∙ missing kept left (get_or ops i d) (drop (suc i) ops) less o n)
+    let whole = e ∙ ap (keeps_first kept left) (drop-cons ops i d lt) in
+    grind (arith, nat_tests)
 
 -- what is left out comes after this many
 pub first_kept : (kept : ℕ → Bool) (most : ℕ) (ops : List Invocation) → Pairs (λ a b. a.number < b.number) ops
     → keeps_first kept most ops ≡ true
     → (x : Invocation) → In x ops → is_open x ≡ true → kept x.number ≡ false → most ≤ open_before x.number ops
 first_kept kept most [] h k x i o n = absurd i
-first_kept kept most (y ∷ ops) h k x i o n = go (λ m e j. first_kept kept m ops h.1 e x j o n) (is_open y) refl k
+first_kept kept most (y ∷ ops) h k x i o n = go (λ m e j. first_kept kept m ops h.1 e x j o n) (is_open y) refl k i
   where
-    left_out : (d b c : Bool) → ((d || b) && c) ≡ true → b ≡ false → d ≡ true
-    left_out true b c e f = refl
-    left_out false true c e f = absurd (false_is_not_true (sym f))
-    left_out false false c e f = absurd (false_is_not_true e)
-
-    rest : (b c : Bool) → (b && c) ≡ true → c ≡ true
-    rest true c e = e
-    rest false c e = absurd (false_is_not_true e)
-
-    none : most ≡ zero → most ≤ open_before x.number (y ∷ ops)
-    none e = omega arith
-
     go : ((m : ℕ) → keeps_first kept m ops ≡ true → In x ops → m ≤ open_before x.number ops) → (b : Bool)
         → is_open y ≡ b
         → cond b ((most == 0 || kept y.number) && keeps_first kept (most - 1) ops) (keeps_first kept most ops) ≡ true
-        → most ≤ open_before x.number (y ∷ ops)
-    go again true q e = elim i [
-      | inl w ↦ none (is_zero most
-          (left_out (most == 0) (kept y.number) (keeps_first kept (most - 1) ops) e
-          (ap (λ (u : Invocation). kept u.number) (sym w) ∙ n)))
-      | inr j ↦
-          let l = again (most - 1) (rest (most == 0 || kept y.number) (keeps_first kept (most - 1) ops) e) j in
-          let m = open_more y x ops true q (h.0 x j) in
-          omega arith
-    ]
-    go again false q e = elim i [
-      | inl w ↦ absurd (false_is_not_true (sym q ∙ ap (λ (u : Invocation). is_open u) (sym w) ∙ o))
-      | inr j ↦
-          let l = again most e j in
-          let m = open_more y x ops false q (h.0 x j) in
-          omega arith
-    ]
+        → In x (y ∷ ops) → most ≤ open_before x.number (y ∷ ops)
+    go again b q e (inl w) =
+        let left_out = ap (λ (u : Invocation). kept u.number) (sym w) ∙ n in
+        let opened = ap (λ (u : Invocation). is_open u) (sym w) ∙ o in
+        grind (arith, nat_tests)
+    go again true q e (inr j) =
+        let l = again (most - 1) (both_true _ _ e).1 j in
+        let m = open_more y x ops true q (h.0 x j) in
+        omega arith
+    go again false q e (inr j) =
+        let l = again most e j in
+        let m = open_more y x ops false q (h.0 x j) in
+        omega arith
 
 pub kept_first : (kept : ℕ → Bool) (most : ℕ) (ops : List Invocation) → Pairs (λ a b. a.number < b.number) ops
     → ((x : Invocation) → In x ops → is_open x ≡ true → kept x.number ≡ false → most ≤ open_before x.number ops)
@@ -273,33 +165,24 @@ pub kept_first : (kept : ℕ → Bool) (most : ℕ) (ops : List Invocation) → 
 kept_first kept most [] h f = refl
 kept_first kept most (y ∷ ops) h f = go (λ m g. kept_first kept m ops h.1 g) (is_open y) refl
   where
-    both : (a b : Bool) → a ≡ true → b ≡ true → (a && b) ≡ true
-    both true b e f = f
-    both false b e f = absurd (false_is_not_true e)
-
-    either : (d b : Bool) → b ≡ true → (d || b) ≡ true
-    either true b e = refl
-    either false b e = e
-
-    here : is_open y ≡ true → (b : Bool) → kept y.number ≡ b → (most == 0 || kept y.number) ≡ true
-    here q true k = either (most == 0) (kept y.number) k
-    here q false k =
-        let l = f y (inl refl) q k in
-        let m = open_none y.number (y ∷ ops) (λ x i. elim i [
-          | inl w ↦ subst (λ (u : Invocation). y.number ≤ u.number) (sym w) (omega arith)
-          | inr j ↦ let le = h.0 x j in omega arith
-        ]) in
-        ap (λ z. z || kept y.number) (zero_is most (omega arith))
+    none_open : open_before y.number (y ∷ ops) ≡ 0
+    none_open = open_none y.number (y ∷ ops) (λ x i. elim i [
+      | inl w ↦ subst (λ (u : Invocation). y.number ≤ u.number) (sym w) (omega arith)
+      | inr j ↦ let le = h.0 x j in omega arith
+    ])
 
     go : ((m : ℕ) → ((x : Invocation) → In x ops → is_open x ≡ true → kept x.number ≡ false
         → m ≤ open_before x.number ops)
         → keeps_first kept m ops ≡ true) → (b : Bool) → is_open y ≡ b
         → cond b ((most == 0 || kept y.number) && keeps_first kept (most - 1) ops) (keeps_first kept most ops) ≡ true
-    go again true q = both (most == 0 || kept y.number) (keeps_first kept (most - 1) ops)
-        (here q (kept y.number) refl) (again (most - 1) (λ x i o n.
+    go again true q =
+        let rest = again (most - 1) (λ x i o n.
         let l = f x (inr i) o n in
         let m = open_more y x ops true q (h.0 x i) in
-        omega arith))
+        omega arith) in
+        let first = f y (inl refl) q in
+        let none = none_open in
+        grind (arith, nat_tests)
     go again false q = again most (λ x i o n.
         let l = f x (inr i) o n in
         let m = open_more y x ops false q (h.0 x i) in
@@ -311,17 +194,6 @@ all_keeps : (vs : Values) → keeps_all vs ≡ true → (v : ℤ) → keeps_valu
 all_keeps values.All e v = refl
 all_keeps (values.Only s) e v = absurd (cc e)
 
-each_from_all : {X : Type 0} (p : X → Bool) (xs : List X) → list_all p xs ≡ true → (x : X) → In x xs → p x ≡ true
-each_from_all p [] h x i = absurd i
-each_from_all {X} p (y ∷ ys) h x i = elim i [
-  | inl e ↦ ap p e ∙ (both (p y) (list_all p ys) h).0
-  | inr j ↦ each_from_all p ys (both (p y) (list_all p ys) h).1 x j
-]
-  where
-    both : (a b : Bool) → (a && b) ≡ true → (a ≡ true) × (b ≡ true)
-    both true b e = (refl, e)
-    both false b e = absurd (cc e)
-
 pub closed_calls : (vs : Values) (kept : ℕ → Bool) (ops : List Invocation) → AllPairs (λ a b. a.number < b.number) ops
     → keeps_first kept (count_by (λ o. is_put (keeps_value vs) o.op o.«end») ops - count_by
     (λ o. is_taken (keeps_value vs) o.op o.«end») ops) ops
@@ -332,7 +204,7 @@ closed_calls vs kept ops rising first h = record {
   each = all_calls (λ number op returned. fits (keeps_all vs) (keeps_value vs) (kept number) op (reply_of returned)
       ≡ true) ops
       (λ o i c e. go o.number o.op o.«end» c e
-      (each_from_all (λ o. fits_end (keeps_all vs) (keeps_value vs) (kept o.number) o.op o.«end») ops h o i));
+      (passes_all (λ o. fits_end (keeps_all vs) (keeps_value vs) (kept o.number) o.op o.«end») ops h o i));
   pending = all_calls (λ number op returned. is_pending_removal op returned ≡ true → kept number ≡ false
       → put_count (keeps_value vs) (calls_of ops)
       ≤ taken_count (keeps_value vs) (calls_of ops) + pending_before number (calls_of ops)) ops
@@ -366,15 +238,11 @@ closed_calls vs kept ops rising first h = record {
     sums : (p q r s m n : ℕ) → p ≡ q → r ≡ s → m ≡ n → p - r ≤ m → q ≤ s + n
     sums p q r s m n a b d l = omega arith
 
-all_from_each : {X : Type 0} (p : X → Bool) (xs : List X) → ((x : X) → In x xs → p x ≡ true) → list_all p xs ≡ true
-all_from_each p [] f = refl
-all_from_each p (x ∷ xs) f = ap (λ b. b && list_all p xs) (f x (inl refl)) ∙ all_from_each p xs (λ y i. f y (inr i))
-
 pub closed_fits : (vs : Values) (kept : ℕ → Bool) (ops : List Invocation)
     → IsClosed (keeps_all vs) (keeps_value vs) kept (calls_of ops)
     → list_all (λ o. fits_end (keeps_all vs) (keeps_value vs) (kept o.number) o.op o.«end») ops ≡ true
 closed_fits vs kept ops h =
-    all_from_each (λ o. fits_end (keeps_all vs) (keeps_value vs) (kept o.number) o.op o.«end») ops
+    all_passes (λ o. fits_end (keeps_all vs) (keeps_value vs) (kept o.number) o.op o.«end») ops
     (λ o i. go o i o.«end» refl)
   where
     at : (o : Invocation) → In o ops → (c : Call) → call_of o ≡ Some c

@@ -1,5 +1,5 @@
 -- Suffixes: what `operation_from` makes of the operations gives `calls_from`, and is a part.
-use Rattle.std.proofs.Common.{◌≡◌, ◌≢◌, inl, inr, ℕ, ℤ, pos, ◌+ℤ◌, ◌<◌, ◌==◌, nat_lt, Bool, true, false, cond, List}
+use Rattle.std.proofs.Common.{arith, rules, ◌≡◌, ◌≢◌, inl, inr, ℕ, ℤ, ◌<◌, ◌==◌, nat_lt, Bool, true, false, cond, List}
 use Rattle.std.proofs.Common.{Option, Some, None, IfSome, All, Contains, refl, ap, sym, ◌∙◌, subst}
 use Rattle.std.specs.Prelude.{option_map}
 use Rattle.std.specs.Option.{option_map_or}
@@ -8,22 +8,17 @@ use Rattle.std.proofs.lemmas.Option.{same_Some}
 use Rattle.std.proofs.lemmas.Bool.{eqb-true}
 use Rattle.model.specs.declared.Kind.TheVariants.{Counter}
 use Rattle.model.specs.declared.AnyOp.{AnyOp}
-use Rattle.model.specs.declared.AnyOp.TheVariants.{Dequeue, Pop, ExtractMin, Write, Read, Cas, Put, Get, Del}
-use Rattle.model.specs.declared.AnyOp.TheVariants.{Acquire, Release}
-use Rattle.model.specs.declared.AnyOp.TheVariants.{Clear, Create, PutIfAbsent, Replace, Assoc, Dissoc, Add, Remove, Has}
-use Rattle.model.specs.declared.AnyOp.TheVariants.{FetchAdd, GetCount, LockBy, UnlockBy}
 use Rattle.model.specs.declared.AnyReply.{AnyReply}
-use Rattle.model.specs.declared.AnyReply.TheVariants.{Value, Swapped, Flag}
-use Rattle.model.specs.Objects.{kind_of, is_i64}
+use Rattle.model.specs.Objects.{kind_of}
 use Rattle.model.specs.Orders.{Call, Return, IsValidOrder}
 use Rattle.model.proofs.Lists.{In, Pairs, in_from_contains, contains_from_in, all_from_in, all_at, pairs_from_all}
 use Rattle.events.specs.declared.operations.End.{End}
 use Rattle.events.specs.declared.operations.End.TheVariants.{Returned, Pending, Failed}
 use Rattle.events.specs.declared.operations.Invocation.{Invocation}
 use Rattle.events.specs.Operations.{call_with, call_of, calls_of, return_of, ObjectCalls, IsObjectHistory}
-use Rattle.projection.specs.Parts.{IsStart, ended_before, written_before, write_call}
+use Rattle.projection.specs.Parts.{IsStart, written_before}
 use Rattle.projection.specs.Kinds.Starts.{leaves, leaves_count, key_of}
-use Rattle.projection.specs.Parts.{pending_call, overlapping, call_later, returned_call, call_from, calls_from}
+use Rattle.projection.specs.Parts.{call_from, calls_from}
 use Rattle.projection.specs.Cuts.{IsPart, IsSuffix}
 use Rattle.projection.specs.CutOperations.{has_failed, IsOnKey, is_over, as_returned, as_write, as_pending}
 use Rattle.projection.specs.CutOperations.{overlapping_operation, operation_later, operation_from}
@@ -36,43 +31,11 @@ use Rattle.projection.proofs.CutOperations.{all_calls, call_cases}
 -- ---- cut_operations
 
 count_kind : (n : ℤ) → IfSome (leaves_count n) (λ f. IfSome f (λ p. kind_of p.0 ≡ Counter))
-count_kind n = go (is_i64 n)
-  where
-    go : (t : Bool) → IfSome {T = Option (AnyOp × AnyReply)}
-        (cond t (Some (Some (FetchAdd n, Value (Some (pos 0))))) None) (λ f. IfSome f (λ p. kind_of p.0 ≡ Counter))
-    go true = refl
-    go false = tt
+count_kind n = grind arith
 
 pub leaves_kind : (op : AnyOp) (reply : AnyReply)
     → IfSome (leaves op reply) (λ f. IfSome f (λ p. kind_of p.0 ≡ kind_of op))
-leaves_kind Dequeue (Value None) = tt
-leaves_kind Pop (Value None) = tt
-leaves_kind ExtractMin (Value None) = tt
-leaves_kind (Write v) reply = refl
-leaves_kind Read (Value None) = tt
-leaves_kind Read (Value (Some v)) = refl
-leaves_kind (Cas a b) (Swapped c d) = refl
-leaves_kind (Put k v) reply = refl
-leaves_kind (Get k) (Value None) = tt
-leaves_kind (Get k) (Value (Some v)) = refl
-leaves_kind (Del k) reply = tt
-leaves_kind Acquire reply = refl
-leaves_kind Release reply = tt
-leaves_kind Clear reply = tt
-leaves_kind (Create v) (Flag true) = refl
-leaves_kind (PutIfAbsent k v) (Flag true) = refl
-leaves_kind (Replace k v w) (Flag true) = refl
-leaves_kind (Assoc k v) reply = refl
-leaves_kind (Dissoc k) reply = tt
-leaves_kind (Add v) reply = refl
-leaves_kind (Remove v) reply = tt
-leaves_kind (Has v) (Flag true) = refl
-leaves_kind (Has v) (Flag false) = tt
-leaves_kind (FetchAdd n) (Value (Some c)) = count_kind (c +ℤ n)
-leaves_kind GetCount (Value (Some c)) = count_kind c
-leaves_kind (LockBy o) reply = refl
-leaves_kind (UnlockBy o) reply = tt
-leaves_kind op reply = tt
+leaves_kind op reply = search rules
 
 -- ---- where a suffix begins
 
@@ -88,9 +51,7 @@ pub record IsStartOperation (ops : List Invocation) (from at : ℕ) (first : Opt
 
 returned_end : (e : End) (at : ℕ) (reply : AnyReply) → return_of e ≡ Some (record { at = at; reply = reply })
     → e ≡ Returned at reply
-returned_end (Returned t r) at reply q = let s = same_Some _ _ q in ap (λ (z : Return). Returned z.at z.reply) s
-returned_end Pending at reply q = absurd (cc q)
-returned_end Failed at reply q = absurd (cc q)
+returned_end e at reply q = grind arith
 
 on_key_each : (ops : List Invocation) (key : Option ℤ) → All (λ e. key_of e.op ≡ key) (calls_of ops)
     → All (IsOnKey key) ops
@@ -171,22 +132,18 @@ later_is first at o = whole (nat_lt at o.number)
     pending : IsCutOperation o (as_pending o.number o.op)
     pending = record { number = refl; kind = refl; returned = λ when reply e. absurd (cc e) }
 
-    same_at : (a : ℕ) (r : AnyReply) (b : ℕ) (t : AnyReply) → Returned a r ≡ Returned b t → a ≡ b
-    same_at a r b t e = cc
-
     with_value : (t : ℕ) (r : AnyReply) → o.«end» ≡ Returned t r → (v : Option ℤ) → written_before first o.op r ≡ v
         → IsCutOperation o (option_map_or (as_write o.number t) v (as_pending o.number o.op))
     with_value t r q None w = pending
     with_value t r q (Some v) w = record {
       number = refl;
       kind = sym (before_facts first o.op r v w).1;
-      returned = λ when reply e. (r, q ∙ ap (λ (z : ℕ). Returned z r) (same_at t (Value (Some v)) when reply e));
+      returned = λ when reply e. (r, cc (q, e));
     }
 
     ended : (e : End) → o.«end» ≡ e → IsCutOperation o (overlapping_operation first o.number o.op e)
     ended (Returned t r) q = with_value t r q (written_before first o.op r) refl
-    ended Pending q = pending
-    ended Failed q = pending
+    ended e q = pending
 
     whole : (b : Bool) → IsCutOperation o (cond b o (overlapping_operation first o.number o.op o.«end»))
     whole true = record { number = refl; kind = refl; returned = λ when reply e. (reply, e) }
@@ -239,45 +196,7 @@ operation_is h from at first said is s o p i e = failed (has_failed o.«end») e
 
 operation_lives : (from at : ℕ) (first : Option (AnyOp × AnyReply)) (o p : Invocation)
     → operation_from from at first o ≡ Some p → p.«end» ≢ Failed
-operation_lives from at first o p e = failed (has_failed o.«end») refl e
-  where
-    begins : (f : Option (AnyOp × AnyReply)) → option_map (as_returned from at) f ≡ Some p → p.«end» ≢ Failed
-    begins None e = absurd (cc e)
-    begins (Some x) e = subst (λ (z : Invocation). z.«end» ≢ Failed) (same_Some (as_returned from at x) p e)
-        (λ f. absurd (cc f))
-
-    with_value : (number t : ℕ) (op : AnyOp) (v : Option ℤ)
-        → (option_map_or (as_write number t) v (as_pending number op)).«end» ≢ Failed
-    with_value number t op None f = absurd (cc f)
-    with_value number t op (Some v) f = absurd (cc f)
-
-    overlaps : (h : End) → (overlapping_operation first o.number o.op h).«end» ≢ Failed
-    overlaps (Returned t r) f = with_value o.number t o.op (written_before first o.op r) f
-    overlaps Pending f = absurd (cc f)
-    overlaps Failed f = absurd (cc f)
-
-    later : (b : Bool) → has_failed o.«end» ≡ false
-        → (cond b o (overlapping_operation first o.number o.op o.«end»)).«end» ≢ Failed
-    later true q = did_not_fail o.«end» q
-    later false q = overlaps o.«end»
-
-    over : (b : Bool) → has_failed o.«end» ≡ false → cond b None (Some (operation_later first at o)) ≡ Some p
-        → p.«end» ≢ Failed
-    over true q e = absurd (cc e)
-    over false q e = subst (λ (z : Invocation). z.«end» ≢ Failed) (same_Some (operation_later first at o) p e)
-        (later (nat_lt at o.number) q)
-
-    own_or : (b : Bool) → has_failed o.«end» ≡ false
-        → cond b (option_map (as_returned from at) first)
-        (cond (is_over from o.«end») None (Some (operation_later first at o))) ≡ Some p → p.«end» ≢ Failed
-    own_or true q e = begins first e
-    own_or false q e = over (is_over from o.«end») q e
-
-    failed : (b : Bool) → has_failed o.«end» ≡ b
-        → cond b None (cond (o.number == from) (option_map (as_returned from at) first)
-        (cond (is_over from o.«end») None (Some (operation_later first at o)))) ≡ Some p → p.«end» ≢ Failed
-    failed true q e = absurd (cc e)
-    failed false q e = own_or (o.number == from) q e
+operation_lives from at first o p e = grind (arith, did_not_fail)
 
 -- ---- calls
 
@@ -287,69 +206,7 @@ as_call o = record { number = o.number; op = o.op; returned = return_of o.«end�
 
 operation_call : (from at : ℕ) (first : Option (AnyOp × AnyReply)) (o : Invocation)
     → bind (operation_from from at first o) call_of ≡ bind (call_of o) (call_from from at first)
-operation_call from at first o = go (has_failed o.«end») refl
-  where
-    begins : (f : Option (AnyOp × AnyReply))
-        → bind (option_map (as_returned from at) f) call_of ≡ option_map (returned_call from at) f
-    begins None = refl
-    begins (Some x) = refl
-
-    with_value : (number at : ℕ) (op : AnyOp) (v : Option ℤ)
-        → call_of (option_map_or (as_write number at) v (as_pending number op))
-        ≡ Some (option_map_or (write_call number at) v (pending_call number op))
-    with_value number at op None = refl
-    with_value number at op (Some v) = refl
-
-    did : (e : End) → has_failed e ≡ false
-        → call_with o.number o.op e ≡ Some (record { number = o.number; op = o.op; returned = return_of e })
-    did (Returned t r) q = refl
-    did Pending q = refl
-    did Failed q = absurd (cc q)
-
-    overlaps : (e : End) → call_of (overlapping_operation first o.number o.op e)
-        ≡ Some (overlapping first o.number o.op (return_of e))
-    overlaps (Returned t r) = with_value o.number t o.op (written_before first o.op r)
-    overlaps Pending = refl
-    overlaps Failed = refl
-
-    late : (b : Bool) → has_failed o.«end» ≡ false
-        → call_of (cond b o (overlapping_operation first o.number o.op o.«end»))
-        ≡ Some (cond b (as_call o) (overlapping first o.number o.op (return_of o.«end»)))
-    late true q = did o.«end» q
-    late false q = overlaps o.«end»
-
-    over : (e : End) → is_over from e ≡ ended_before from (return_of e)
-    over (Returned t r) = refl
-    over Pending = refl
-    over Failed = refl
-
-    kept : (b : Bool) → has_failed o.«end» ≡ false
-        → bind (cond b None (Some (operation_later first at o))) call_of
-        ≡ cond b None (Some (call_later first at (as_call o)))
-    kept true q = refl
-    kept false q = late (nat_lt at o.number) q
-
-    own : (b : Bool) → has_failed o.«end» ≡ false
-        → bind (cond b (option_map (as_returned from at) first)
-        (cond (is_over from o.«end») None (Some (operation_later first at o)))) call_of
-        ≡ cond b (option_map (returned_call from at) first)
-        (cond (ended_before from (return_of o.«end»)) None (Some (call_later first at (as_call o))))
-    own true q = begins first
-    own false q = kept (is_over from o.«end») q
-        ∙ ap (λ b. cond b None (Some (call_later first at (as_call o)))) (over o.«end»)
-
-    failed : (e : End) → has_failed e ≡ true → call_with o.number o.op e ≡ None
-    failed (Returned t r) q = absurd (cc q)
-    failed Pending q = absurd (cc q)
-    failed Failed q = refl
-
-    go : (b : Bool) → has_failed o.«end» ≡ b
-        → bind (cond b None (cond (o.number == from) (option_map (as_returned from at) first)
-        (cond (is_over from o.«end») None (Some (operation_later first at o))))) call_of
-        ≡ bind (call_of o) (call_from from at first)
-    go true q = ap (λ (z : Option Call). bind z (call_from from at first)) (sym (failed o.«end» q))
-    go false q = own (o.number == from) q
-        ∙ ap (λ (z : Option Call). bind z (call_from from at first)) (sym (did o.«end» q))
+operation_call from at first o = grind arith
 
 pub from_history : (h : ObjectCalls) (from at : ℕ) (first : Option (AnyOp × AnyReply)) → IsObjectHistory h
     → IsStart (calls_of h.ops) from at first

@@ -1,6 +1,8 @@
 pub mod Booleans
 pub mod Simulation
 pub mod Steps
+pub mod Tables
+pub mod Ordered
 pub mod Contents
 pub mod Conserved
 pub mod Fitting

@@ -1,13 +1,13 @@
 -- Calls with the numbers of a part, as the history says them: where they have a valid order alone, the part has one.
 -- Each cut makes of these calls what it makes of them in the whole, and that has a valid order where they have one.
+use Rattle.std.proofs.lemmas.Bool.Decides.{nat_tests}
 use Rattle.std.proofs.Common.{◌≡◌, inl, inr, ℕ, ℤ, pos, ◌<◌, ◌==◌, ◌&&◌, ◌||◌, nat_lt, Bool, true, false, cond, not}
 use Rattle.std.proofs.Common.{List, [], ◌∷◌, Option, Some, None, IfSome, IsSome}
 use Rattle.std.proofs.Common.{All, AllPairs, Contains, map, filter, refl, ap, sym, ◌∙◌, subst, arith}
 use Rattle.std.specs.Prelude.{option_map}
-use Rattle.std.specs.Option.{option_map_or}
 use Rattle.std.specs.List.{filter_map, cons_option}
 use Rattle.std.proofs.lemmas.Option.{same_Some}
-use Rattle.std.proofs.lemmas.Bool.{eqb-true, eq-eqb}
+use Rattle.std.proofs.lemmas.Bool.{eqb-true}
 use Rattle.model.specs.declared.Kind.{Kind}
 use Rattle.model.specs.declared.AnyOp.{AnyOp}
 use Rattle.model.specs.declared.AnyReply.{AnyReply}
@@ -20,7 +20,7 @@ use Rattle.model.proofs.Lists.{in_from_contains, contains_from_in, all_from_in, 
 use Rattle.model.proofs.Lists.{pairs_from_all, pairs_map, pairs_weaker}
 use Rattle.projection.specs.declared.cutting.Cut.{Cut}
 use Rattle.projection.specs.declared.cutting.Cut.TheVariants.{From, Until, Without, Keep, Cell, Entry}
-use Rattle.projection.specs.Parts.{IsStart, written_before, write_call, pending_call, overlapping, call_later}
+use Rattle.projection.specs.Parts.{IsStart, pending_call, call_later}
 use Rattle.projection.specs.Kinds.Starts.{key_of}
 use Rattle.projection.specs.Parts.{returned_call, call_from, call_before, calls_before, kept_calls}
 use Rattle.projection.specs.Recasts.{recast}
@@ -71,20 +71,7 @@ recast_kind done pending k y x d p e = go y.returned e
 
 later_kind : (first : Option (AnyOp × AnyReply)) (at : ℕ) (y : Call)
     → kind_of (call_later first at y).op ≡ kind_of y.op
-later_kind first at y = whole (nat_lt at y.number)
-  where
-    with_value : (t : ℕ) (r : AnyReply) (v : Option ℤ) → written_before first y.op r ≡ v
-        → kind_of (option_map_or (write_call y.number t) v (pending_call y.number y.op)).op ≡ kind_of y.op
-    with_value t r None q = refl
-    with_value t r (Some v) q = sym (before_facts first y.op r v q).1
-
-    returned : (o : Option Return) → kind_of (overlapping first y.number y.op o).op ≡ kind_of y.op
-    returned None = refl
-    returned (Some r) = with_value r.at r.reply (written_before first y.op r.reply) refl
-
-    whole : (b : Bool) → kind_of (cond b y (overlapping first y.number y.op y.returned)).op ≡ kind_of y.op
-    whole true = refl
-    whole false = returned y.returned
+later_kind first at y = grind (arith, before_facts)
 
 from_kinds : (kind : Kind) (from : ℕ) (calls part : List Call) → AreCalls kind calls → IsSuffix from calls part
     → (x : Call) → In x part → kind_of x.op ≡ kind
@@ -396,14 +383,7 @@ with_number (x ∷ part) n e = go (x.number == n) refl e (with_number part n)
 
 has_own : (part : List Call) (y : Call) → In y part → has_number part y.number ≡ true
 has_own [] y i = absurd i
-has_own (x ∷ part) y i = elim i [
-  | inl q ↦ ap (λ b. b || has_number part y.number) (eq-eqb x.number y.number (ap (λ (z : Call). z.number) (sym q)))
-  | inr j ↦ ap (λ b. (x.number == y.number) || b) (has_own part y j) ∙ either (x.number == y.number)
-]
-  where
-    either : (b : Bool) → (b || true) ≡ true
-    either true = refl
-    either false = refl
+has_own (x ∷ part) y i = grind (arith, nat_tests, has_own part y)
 
 pub listed_valid : (cuts : List Cut) (kind : Kind) (calls part : List Call) (order : List ℤ)
     → All (λ e. kind_of e.op ≡ kind) calls → AllPairs (λ a b. a.number < b.number) calls

@@ -1,6 +1,6 @@
 -- What the calls of a map do to the cell of a key is what their touches say: by cases of the operations, and of
 -- whether they are on the key.
-use Rattle.std.proofs.Common.{◌≡◌, inl, inr, ℤ, Bool, true, false, not, cond, Option, Some, None, is_some, IfSome}
+use Rattle.std.proofs.Common.{rules, ◌≡◌, inl, inr, ℤ, Bool, true, false, not, cond, Option, Some, None, is_some, IfSome}
 use Rattle.std.proofs.Common.{refl, ap, sym, ◌∙◌, subst}
 use Rattle.std.specs.Ordering.{int_eq}
 use Rattle.std.specs.Cmp.{int_cmp_total}
@@ -8,7 +8,7 @@ use Rattle.std.specs.FinMap as map
 use Rattle.model.specs.declared.AnyOp.{AnyOp}
 use Rattle.model.specs.declared.AnyOp.TheVariants.{Put, Get, Del, PutIfAbsent, Replace, Assoc, Dissoc}
 use Rattle.model.specs.declared.AnyReply.{AnyReply}
-use Rattle.model.specs.declared.AnyReply.TheVariants.{Value, Flag}
+use Rattle.model.specs.declared.AnyReply.TheVariants.{Flag}
 use Rattle.model.specs.declared.Kind.{Kind}
 use Rattle.model.specs.declared.Kind.TheVariants as kind
 use Rattle.model.specs.Objects.{Content, table, Table, next, kind_of, inserted_if, is_absent, has_value}
@@ -135,17 +135,4 @@ on_key key k t own e = go (int_eq key k)
 
 pub map_touch_kind : (key : ℤ) (op : AnyOp) (reply : Option AnyReply)
     → IfSome (map_touch key op reply) (λ t. kind_of op ≡ kind.Map)
-map_touch_kind key (Put k v) None = on_key key k _ _ refl
-map_touch_kind key (Put k v) (Some (Value c)) = on_key key k _ _ refl
-map_touch_kind key (Get k) (Some (Value c)) = on_key key k _ _ refl
-map_touch_kind key (Del k) None = on_key key k _ _ refl
-map_touch_kind key (Del k) (Some (Value c)) = on_key key k _ _ refl
-map_touch_kind key (PutIfAbsent k v) None = on_key key k _ _ refl
-map_touch_kind key (PutIfAbsent k v) (Some (Flag true)) = on_key key k _ _ refl
-map_touch_kind key (PutIfAbsent k v) (Some (Flag false)) = on_key key k _ _ refl
-map_touch_kind key (Replace k a b) None = on_key key k _ _ refl
-map_touch_kind key (Replace k a b) (Some (Flag true)) = on_key key k _ _ refl
-map_touch_kind key (Replace k a b) (Some (Flag false)) = on_key key k _ _ refl
-map_touch_kind key (Assoc k v) reply = on_key key k _ _ refl
-map_touch_kind key (Dissoc k) reply = on_key key k _ _ refl
-map_touch_kind key op reply = tt
+map_touch_kind key op reply = search rules

@@ -1,13 +1,14 @@
 -- What becomes of each call of an order can be done in turn, where each step of the whole has its step in the part.
 use Rattle.std.proofs.Common.{◌≡◌, ◌≢◌, ◌⊎◌, inl, inr, ℤ, pos, Bool, true, false, List, [], ◌∷◌, Option, Some, None}
-use Rattle.std.proofs.Common.{IfSome, IsSome, is_some, map, Contains, refl, ap, sym, ◌∙◌, subst}
+use Rattle.std.proofs.Common.{IfSome, IsSome, is_some, map, Contains, refl, ap, sym, ◌∙◌}
 use Rattle.std.specs.List.{filter_map, cons_option}
 use Rattle.model.specs.declared.Kind.{Kind}
 use Rattle.model.specs.declared.AnyReply.{AnyReply}
 use Rattle.model.specs.Objects.{Content, empty, next}
 use Rattle.model.specs.Orders.{Call, Return, ReturnsBefore, RepliesAlong, IsValidOrder}
-use Rattle.model.proofs.Lists.{In, Pairs, in_from_contains, contains_from_in, all_from_in, all_at, all_from_pairs}
-use Rattle.model.proofs.Lists.{pairs_from_all, pairs_map, pairs_from_map}
+use Rattle.model.proofs.Lists.{In, contains_from_in, all_from_in, all_from_pairs}
+use Rattle.model.proofs.Lists.{pairs_map}
+use Rattle.projection.proofs.Ordered.{in_calls, in_entries, named_apart, in_time_order}
 use Rattle.projection.proofs.Simulation.{pick, in_pick, pairs_pick}
 use Rattle.projection.proofs.Sequences.{in_filter_map, in_filter_map_from, pairs_filter_map}
 use Rattle.projection.proofs.Overlaps.{IsTimed, in_time}
@@ -65,36 +66,29 @@ pub mapped_valid : (R : Content → Content → Type 0) (cut : Call → Option C
     → (part : List ℤ) × IsValidOrder into (filter_map cut calls) part
 mapped_valid R cut calls kind into m start order v =
     let number : Call → ℤ = λ e. pos e.number in
-    let known : (e : Call) → In e v.entries → In e calls =
-    λ e i. in_from_contains calls e (all_at (Contains calls) v.entries v.known e i) in
     let p = picked R cut m v.entries (empty kind) (empty into) start v.replies in
     let all : List Call = filter_map cut v.entries in
-    let entries : List Call = pick p.flags all in
-    let apart = pairs_from_map (λ x y. x ≢ y) number v.entries
-    (subst (Pairs (λ x y. x ≢ y)) v.numbers (pairs_from_all (λ x y. x ≢ y) order v.once)) in
-    let in_order = pairs_from_all (λ x y. ReturnsBefore y x → ⊥) v.entries v.in_order in (
+    let entries : List Call = pick p.flags all in (
       map number entries,
       record {
         entries = entries;
         numbers = refl;
         known = all_from_in (Contains (filter_map cut calls)) entries (λ x i.
             let y = in_filter_map cut x v.entries (in_pick p.flags all x i) in
-            contains_from_in (filter_map cut calls) x (in_filter_map_from cut y.0 x calls (known y.0 y.1) y.2));
+            contains_from_in (filter_map cut calls) x (in_filter_map_from cut y.0 x calls (in_calls v y.0 y.1) y.2));
         once = all_from_pairs (λ x y. x ≢ y) (map number entries)
             (pairs_map (λ x y. x ≢ y) number entries
             (pairs_pick (λ x y. number x ≢ number y) p.flags all
             (pairs_filter_map (λ x y. number x ≢ number y) (λ x y. number x ≢ number y) cut v.entries
-            (λ x y a b i j ne f g q. ne (ap pos (sym (m.own x a f).number) ∙ q ∙ ap pos (m.own y b g).number)) apart)));
+            (λ x y a b i j ne f g q. ne (ap pos (sym (m.own x a f).number) ∙ q ∙ ap pos (m.own y b g).number)) (named_apart v))));
         whole = all_from_in (λ x. IsSome x.returned → Contains entries x) (filter_map cut calls) (λ x i so.
             let y = in_filter_map cut x calls i in
-            let here = in_from_contains v.entries y.0
-            (all_at (λ e. IsSome e.returned → Contains v.entries e) calls v.whole y.0 y.1
-            (was x.returned y.0.returned (m.own y.0 x y.2).returned so)) in
+            let here = in_entries v y.0 y.1 (was x.returned y.0.returned (m.own y.0 x y.2).returned so) in
             contains_from_in entries x (p.whole x (in_filter_map_from cut y.0 x v.entries here y.2) so));
         in_order = all_from_pairs (λ x y. ReturnsBefore y x → ⊥) entries
             (pairs_pick (λ x y. ReturnsBefore y x → ⊥) p.flags all
             (pairs_filter_map (λ x y. ReturnsBefore y x → ⊥) (λ x y. ReturnsBefore y x → ⊥) cut v.entries
-            (λ x y a b i j h f g. in_time a b x y (m.own x a f) (m.own y b g) h) in_order));
+            (λ x y a b i j h f g. in_time a b x y (m.own x a f) (m.own y b g) h) (in_time_order v)));
         replies = p.replies;
       },
     )

@@ -1,5 +1,5 @@
 -- Calls that overlap the first one of a suffix: those that certainly left a value in a register, and the others.
-use Rattle.std.proofs.Common.{◌≡◌, ◌≢◌, ◌⊎◌, inl, inr, ℕ, ℤ, ◌<◌, nat_lt, Bool, true, false, cond, List, [], ◌∷◌}
+use Rattle.std.proofs.Common.{rules, ◌≡◌, ◌≢◌, ◌⊎◌, inl, inr, ℕ, ℤ, ◌<◌, nat_lt, Bool, true, false, cond, List, [], ◌∷◌}
 use Rattle.std.proofs.Common.{◌++◌, Option, Some, None, IfSome, IsSome, map, refl, ap, sym, ◌∙◌, subst, arith}
 use Rattle.std.specs.Prelude.{option_map}
 use Rattle.std.specs.Option.{option_map_or}
@@ -7,83 +7,34 @@ use Rattle.std.proofs.lemmas.Option.{same_Some}
 use Rattle.model.specs.declared.Kind.{Kind}
 use Rattle.model.specs.declared.Kind.TheVariants.{Register}
 use Rattle.model.specs.declared.AnyOp.{AnyOp}
-use Rattle.model.specs.declared.AnyOp.TheVariants.{Enqueue, Dequeue, Push, Pop, Insert, ExtractMin, Write, Read}
-use Rattle.model.specs.declared.AnyOp.TheVariants.{Cas, Put, Get, Del, Acquire, Release}
-use Rattle.model.specs.declared.AnyOp.TheVariants.{Clear, Create, PutIfAbsent, Replace, Assoc, Dissoc, Add, Remove, Has}
-use Rattle.model.specs.declared.AnyOp.TheVariants.{FetchAdd, GetCount, LockBy, UnlockBy}
+use Rattle.model.specs.declared.AnyOp.TheVariants.{Write, Read}
+use Rattle.model.specs.declared.AnyOp.TheVariants.{Cas}
+use Rattle.model.specs.declared.AnyOp.TheVariants.{Create}
 use Rattle.model.specs.declared.AnyReply.{AnyReply}
-use Rattle.model.specs.declared.AnyReply.TheVariants.{Value, Swapped, NotSwapped, Flag}
-use Rattle.model.specs.Objects.{Content, queue, stack, heap, register, table, mutex, elements, count, owner, empty}
-use Rattle.model.specs.Objects.{contains_value, next, kind_of}
+use Rattle.model.specs.declared.AnyReply.TheVariants.{Value, Swapped, Flag}
+use Rattle.model.specs.Objects.{Content, register, empty}
+use Rattle.model.specs.Objects.{next, kind_of}
 use Rattle.model.specs.Orders.{Call, Return, ReturnsBefore, RepliesAlong}
 use Rattle.model.proofs.Lists.{In}
 use Rattle.projection.specs.Parts.{ended_before, written_before, write_call, pending_call, overlapping, call_later}
 use Rattle.projection.specs.Parts.{returned_call}
 use Rattle.projection.specs.Kinds.Starts.{key_of, leaves, written}
 use Rattle.projection.proofs.Booleans.{less_by_test}
-use Rattle.projection.proofs.Steps.{adds, frees}
 
 -- ---- what was written
 
 written_facts : (op : AnyOp) (reply : AnyReply) (v : ℤ) → written op reply ≡ Some v
     → (key_of (Write v) ≡ key_of op) × (kind_of op ≡ Register)
-written_facts (Write w) reply v e = (refl, refl)
-written_facts (Cas a b) (Swapped c d) v e = (refl, refl)
-written_facts op reply v e = absurd (cc e)
+written_facts op reply v e = search rules
 
 pub before_facts : (first : Option (AnyOp × AnyReply)) (op : AnyOp) (reply : AnyReply) (v : ℤ)
     → written_before first op reply ≡ Some v → (key_of (Write v) ≡ key_of op) × (kind_of op ≡ Register)
-before_facts None op reply v e = absurd (cc e)
-before_facts (Some first) op reply v e = written_facts op reply v e
+before_facts first op reply v e = grind arith
 
 -- a write would have left the same
 wrote : (c : Content) (op : AnyOp)
     → IfSome (next c op) (λ p. (v : ℤ) → written op p.1 ≡ Some v → next c (Write v) ≡ Some (p.0, Value (Some v)))
-wrote (register c) (Write w) =
-    λ v e. ap (λ (z : ℤ). next (register c) (Write z)) (sym (same_Some w v e))
-    ∙ ap (λ (z : ℤ). Some (register (Some w), Value (Some z))) (same_Some w v e)
-wrote (register c) Read = λ v e. absurd (cc e)
-wrote (register c) (Cas a b) = go (contains_value c a)
-  where
-    go : (t : Bool) → IfSome {T = Content × AnyReply}
-        (cond t (Some (register (Some b), Swapped a b)) (Some (register c, NotSwapped)))
-        (λ p. (v : ℤ) → written (Cas a b) p.1 ≡ Some v → next (register c) (Write v) ≡ Some (p.0, Value (Some v)))
-    go true = λ v e. ap (λ (z : ℤ). next (register c) (Write z)) (sym (same_Some b v e))
-        ∙ ap (λ (z : ℤ). Some (register (Some b), Value (Some z))) (same_Some b v e)
-    go false = λ v e. absurd (cc e)
-wrote (queue vs) (Enqueue v) = λ w e. absurd (cc e)
-wrote (queue []) Dequeue = λ w e. absurd (cc e)
-wrote (queue (v ∷ vs)) Dequeue = λ w e. absurd (cc e)
-wrote (stack vs) (Push v) = λ w e. absurd (cc e)
-wrote (stack []) Pop = λ w e. absurd (cc e)
-wrote (stack (v ∷ vs)) Pop = λ w e. absurd (cc e)
-wrote (heap vs) (Insert v) = λ w e. absurd (cc e)
-wrote (heap []) ExtractMin = λ w e. absurd (cc e)
-wrote (heap (v ∷ vs)) ExtractMin = λ w e. absurd (cc e)
-wrote (table m) (Put k v) = λ w e. absurd (cc e)
-wrote (table m) (Get k) = λ w e. absurd (cc e)
-wrote (table m) (Del k) = λ w e. absurd (cc e)
-wrote (mutex false) Acquire = λ w e. absurd (cc e)
-wrote (mutex true) Release = λ w e. absurd (cc e)
-wrote (register c) Clear = λ v e. absurd (cc e)
-wrote (register None) (Create w) = λ v e. absurd (cc e)
-wrote (register (Some u)) (Create w) = λ v e. absurd (cc e)
-wrote (table m) (PutIfAbsent k v) = λ w e. absurd (cc e)
-wrote (table m) (Replace k u v) = λ w e. absurd (cc e)
-wrote (table m) (Assoc k v) = λ w e. absurd (cc e)
-wrote (table m) (Dissoc k) = λ w e. absurd (cc e)
-wrote (elements s) (Add v) = λ w e. absurd (cc e)
-wrote (elements s) (Remove v) = λ w e. absurd (cc e)
-wrote (elements s) (Has v) = λ w e. absurd (cc e)
-wrote (count c) (FetchAdd n) =
-    adds (λ p. (v : ℤ) → written (FetchAdd n) p.1 ≡ Some v → next (count c) (Write v) ≡ Some (p.0, Value (Some v))) c
-    n (λ does v e. absurd (cc e))
-wrote (count c) GetCount = λ v e. absurd (cc e)
-wrote (owner None) (LockBy o) = λ v e. absurd (cc e)
-wrote (owner (Some p)) (UnlockBy o) =
-    frees (λ q. (v : ℤ) → written (UnlockBy o) q.1 ≡ Some v → next (owner (Some p)) (Write v)
-    ≡ Some (q.0, Value (Some v))) p o (λ does v e. absurd (cc e))
-wrote c op = tt
+wrote c op = search rules
 
 -- ---- along calls
 
@@ -164,10 +115,7 @@ cut_of first at y = whole (nat_lt at y.number)
 pub in_time : (x z y w : Call) → IsTimed x y → IsTimed z w → (ReturnsBefore w y → ⊥) → ReturnsBefore z x → ⊥
 in_time x z y w a b h r =
     let u = b.returned r.0 r.1 in
-    h (u.0, u.1, less u.0.at r.0.at x.number y.number u.2 a.number r.2)
-  where
-    less : (p q m n : ℕ) → p ≡ q → m ≡ n → q < m → p < n
-    less p q m n e f l = omega arith
+    h (u.0, u.1, let n = a.number in let t = u.2 in let l = r.2 in omega arith)
 
 pub in_time_cut : (x z y w : Call) → IsCutOf x y → IsCutOf z w → (ReturnsBefore w y → ⊥) → ReturnsBefore z x → ⊥
 in_time_cut x z y w a b h r =
@@ -288,29 +236,8 @@ pub first_write : (op : AnyOp) (reply : AnyReply) (p : AnyOp × AnyReply) → le
 first_write (Write w) reply p e k = (w, sym (same_Some (Write w, Value (Some w)) p (same_Some _ _ e)))
 first_write Read (Value (Some w)) p e k = (w, sym (same_Some (Write w, Value (Some w)) p (same_Some _ _ e)))
 first_write (Cas a b) (Swapped c d) p e k = (b, sym (same_Some (Write b, Value (Some b)) p (same_Some _ _ e)))
-first_write Dequeue (Value None) p e k = absurd (cc k)
-first_write Pop (Value None) p e k = absurd (cc k)
-first_write ExtractMin (Value None) p e k = absurd (cc k)
-first_write Read (Value None) p e k = absurd (cc (same_Some None (Some p) e))
-first_write (Put x y) reply p e k = absurd (cc k)
-first_write (Get x) reply p e k = absurd (cc k)
-first_write (Del x) reply p e k = absurd (cc k)
-first_write Acquire reply p e k = absurd (cc k)
-first_write Release reply p e k = absurd (cc k)
-first_write Clear reply p e k = absurd (cc (same_Some None (Some p) e))
 first_write (Create w) (Flag true) p e k = (w, sym (same_Some (Write w, Value (Some w)) p (same_Some _ _ e)))
-first_write (PutIfAbsent x y) reply p e k = absurd (cc k)
-first_write (Replace x y z) reply p e k = absurd (cc k)
-first_write (Assoc x y) reply p e k = absurd (cc k)
-first_write (Dissoc x) reply p e k = absurd (cc k)
-first_write (Add x) reply p e k = absurd (cc k)
-first_write (Remove x) reply p e k = absurd (cc k)
-first_write (Has x) reply p e k = absurd (cc k)
-first_write (FetchAdd n) reply p e k = absurd (cc k)
-first_write GetCount reply p e k = absurd (cc k)
-first_write (LockBy o) reply p e k = absurd (cc k)
-first_write (UnlockBy o) reply p e k = absurd (cc k)
-first_write op reply p e k = absurd (cc e)
+first_write op reply p e k = search rules
 
 abbrev pub IsWrite : Call → Type 0
 IsWrite x = (number at : ℕ) × (v : ℤ) × (x ≡ write_call number at v)

@@ -1,6 +1,6 @@
 -- The part at a cell has a valid order where the object has one: while the cell contains what is kept, the part
 -- contains the same. Each call's step is that of its touch; a call with no touch leaves the cell as it was.
-use Rattle.std.proofs.Common.{◌≡◌, inl, inr, ℕ, ℤ, Bool, true, false, cond, List, Option, Some, None, IfSome}
+use Rattle.std.proofs.Common.{rules, arith, ◌≡◌, inl, inr, ℕ, ℤ, Bool, false, List, Option, Some, None, IfSome}
 use Rattle.std.proofs.Common.{refl, ap, sym, ◌∙◌, subst}
 use Rattle.std.specs.Prelude.{option_map}
 use Rattle.std.specs.List.{filter_map}
@@ -20,12 +20,10 @@ use Rattle.events.specs.Operations.{calls_of, ObjectCalls, IsObjectHistory}
 use Rattle.projection.specs.declared.kinds.Place.{Place}
 use Rattle.projection.specs.declared.kinds.Place.TheVariants.{OfRegister, OfKey}
 use Rattle.projection.specs.declared.touches.Need.{Need}
-use Rattle.projection.specs.declared.touches.Need.TheVariants.{Any, Is, IsNot}
 use Rattle.projection.specs.declared.touches.Leave.{Leave}
-use Rattle.projection.specs.declared.touches.Leave.TheVariants as leave
 use Rattle.projection.specs.declared.touches.Touch.{Touch}
 use Rattle.projection.specs.Kinds.{keeps_none, kind_at, kind_of_part, own_call, touch_at}
-use Rattle.projection.specs.Kinds.Register.{setting, replacing, finding}
+use Rattle.projection.specs.Kinds.Register.{setting, replacing}
 use Rattle.projection.specs.Cells.{keeps_content, change, cut_touch, touched_call, touched_op}
 use Rattle.projection.specs.Cells.{done_at, open_at, call_at, calls_at}
 use Rattle.projection.specs.Cuts.{IsPart}
@@ -35,6 +33,7 @@ use Rattle.projection.proofs.Recasts.{IsInto, DoneOf, OpenOf, Steps, recast_maps
 use Rattle.projection.proofs.Recasts.{recast_lives}
 use Rattle.projection.proofs.Mapped.{mapped_valid}
 use Rattle.projection.proofs.OwnKind.{same_kind}
+use Rattle.projection.proofs.Booleans.{some_at}
 use Rattle.projection.proofs.RegisterTouches.{in_register, register_touches, register_touch_kind}
 use Rattle.projection.proofs.MapTouches.{in_map, map_touches, map_touch_kind}
 use Rattle.projection.proofs.Touched.{Did, MayDo, OwnDid, IsSeen, DoneTo, OpenTo, touch_returned, touch_pending}
@@ -66,10 +65,6 @@ part_of_kind (OfKey key) k e = refl
 no_content : (place : Place) → content_at place (empty (kind_at place)) ≡ None
 no_content OfRegister = refl
 no_content (OfKey key) = map.get-empty int_cmp key
-
-some_at : {T : Type 0} (P : T → Type 0) (o : Option T) → ((p : T) → o ≡ Some p → P p) → IfSome o P
-some_at P None f = tt
-some_at P (Some p) f = f p refl
 
 -- ---- steps
 
@@ -169,50 +164,18 @@ abbrev IsOfRegister : AnyOp × AnyReply → Type 0
 IsOfRegister f = kind_of f.0 ≡ kind.Register
 
 setting_kind : (c : Option ℤ) → IsOfRegister (setting c)
-setting_kind None = refl
-setting_kind (Some v) = refl
+setting_kind c = search rules
 
 replacing_kind : (a c : Option ℤ) → IsOfRegister (replacing a c)
-replacing_kind None (Some b) = refl
-replacing_kind (Some a) (Some b) = refl
-replacing_kind None None = refl
-replacing_kind (Some a) None = refl
+replacing_kind a c = search rules
 
 change_kind : (keeps : Option ℤ → Bool) (own : Option (AnyOp × AnyReply)) (need : Need) (c : Option ℤ)
     → IfSome own IsOfRegister → IsOfRegister (change keeps own need c)
-change_kind keeps (Some f) Any c k = k
-change_kind keeps None Any c k = setting_kind c
-change_kind keeps (Some f) (IsNot a) c k = setting_kind c
-change_kind keeps None (IsNot a) c k = setting_kind c
-change_kind keeps (Some f) (Is a) c k = go (keeps a)
-  where
-    go : (b : Bool) → IsOfRegister (cond b f (setting c))
-    go true = k
-    go false = setting_kind c
-change_kind keeps None (Is a) c k = go (keeps a)
-  where
-    go : (b : Bool) → IsOfRegister (cond b (replacing a c) (setting c))
-    go true = replacing_kind a c
-    go false = setting_kind c
+change_kind keeps own need c k = grind (arith, setting_kind, replacing_kind)
 
 cut_kind : (keeps : Option ℤ → Bool) (other : ℤ) (kept : Bool) (own : Option (AnyOp × AnyReply)) (need : Need)
     (l : Leave) → IfSome own IsOfRegister → IfSome (cut_touch keeps other kept own need l) IsOfRegister
-cut_kind keeps other kept own need (leave.Content c) k = go (keeps c) kept
-  where
-    go : (b kept : Bool) → IfSome (cond b (Some (change keeps own need c))
-        (cond kept (Some (change keeps None need (Some other))) None)) IsOfRegister
-    go true kept = change_kind keeps own need c k
-    go false true = change_kind keeps None need (Some other) tt
-    go false false = tt
-cut_kind keeps other kept own (Is a) leave.AsItWas k = go kept (keeps a)
-  where
-    go : (kept b : Bool)
-        → IfSome (cond kept (cond b (Some (finding a)) (Some (setting (Some other)))) None) IsOfRegister
-    go true true = refl
-    go true false = refl
-    go false b = tt
-cut_kind keeps other kept own Any leave.AsItWas k = tt
-cut_kind keeps other kept own (IsNot a) leave.AsItWas k = tt
+cut_kind keeps other kept own need l k = grind (arith, change_kind, setting_kind)
 
 pub into_part : (place : Place) (keeps : ℤ → Bool) (other : ℤ)
     → IsInto (done_at place keeps other) (open_at place keeps other) (λ op. kind_of_part place (kind_of op))

@@ -1,6 +1,6 @@
 -- Calls that become calls of other operations, with the same numbers, have a valid order where they had one, if each
 -- step has its step.
-use Rattle.std.proofs.Common.{◌≡◌, ◌≢◌, ◌⊎◌, inl, inr, ℕ, Bool, Option, Some, None, IfSome, refl, ap, sym, ◌∙◌, subst}
+use Rattle.std.proofs.Common.{arith, ◌≡◌, ◌≢◌, ◌⊎◌, inl, inr, ℕ, Bool, Option, Some, None, IfSome, refl, ap, sym, ◌∙◌, subst}
 use Rattle.std.specs.Prelude.{option_map}
 use Rattle.std.proofs.lemmas.Option.{same_Some}
 use Rattle.model.specs.declared.Kind.{Kind}
@@ -11,7 +11,7 @@ use Rattle.model.specs.Orders.{Call, Return}
 use Rattle.events.specs.declared.operations.End.{End}
 use Rattle.events.specs.declared.operations.End.TheVariants.{Returned, Pending, Failed}
 use Rattle.events.specs.declared.operations.Invocation.{Invocation}
-use Rattle.events.specs.Operations.{call_with, call_of}
+use Rattle.events.specs.Operations.{call_of}
 use Rattle.projection.specs.Recasts.{recast}
 use Rattle.projection.specs.CutOperations.{as_pending, as_returned, recast_end}
 use Rattle.projection.specs.Parts.{pending_call, returned_call}
@@ -143,41 +143,9 @@ recast_operation done pending into is kept o p e = go o.«end» refl e
 
 pub recast_lives : (done : Done) (pending : Open) (kept : Bool) (o p : Invocation)
     → recast_end (done kept) pending o.number o.op o.«end» ≡ Some p → p.«end» ≢ Failed
-recast_lives done pending kept o p e = go o.«end» e
-  where
-    finished : (at : ℕ) (f : Option (AnyOp × AnyReply)) → option_map (as_returned o.number at) f ≡ Some p
-        → p.«end» ≢ Failed
-    finished at None e = absurd (cc e)
-    finished at (Some f) e =
-        subst (λ (z : Invocation). z.«end» ≢ Failed) (same_Some (as_returned o.number at f) p e) (λ q. absurd (cc q))
-
-    unfinished : (f : Option AnyOp) → option_map (as_pending o.number) f ≡ Some p → p.«end» ≢ Failed
-    unfinished None e = absurd (cc e)
-    unfinished (Some op) e =
-        subst (λ (z : Invocation). z.«end» ≢ Failed) (same_Some (as_pending o.number op) p e) (λ q. absurd (cc q))
-
-    go : (h : End) → recast_end (done kept) pending o.number o.op h ≡ Some p → p.«end» ≢ Failed
-    go (Returned at r) e = finished at (done kept o.op r) e
-    go Pending e = unfinished (pending o.op) e
-    go Failed e = absurd (cc e)
+recast_lives done pending kept o p e = grind arith
 
 pub recast_call : (done : Done) (pending : Open) (kept : ℕ → Bool) (o : Invocation)
     → bind (recast_end (done (kept o.number)) pending o.number o.op o.«end») call_of
     ≡ bind (call_of o) (λ e. recast (done (kept e.number)) pending e.number e.op e.returned)
-recast_call done pending kept o = go o.«end»
-  where
-    finished : (at : ℕ) (f : Option (AnyOp × AnyReply))
-        → bind (option_map (as_returned o.number at) f) call_of ≡ option_map (returned_call o.number at) f
-    finished at None = refl
-    finished at (Some f) = refl
-
-    unfinished : (f : Option AnyOp)
-        → bind (option_map (as_pending o.number) f) call_of ≡ option_map (pending_call o.number) f
-    unfinished None = refl
-    unfinished (Some op) = refl
-
-    go : (h : End) → bind (recast_end (done (kept o.number)) pending o.number o.op h) call_of
-        ≡ bind (call_with o.number o.op h) (λ e. recast (done (kept e.number)) pending e.number e.op e.returned)
-    go (Returned at r) = finished at (done (kept o.number) o.op r)
-    go Pending = unfinished (pending o.op)
-    go Failed = refl
+recast_call done pending kept o = grind arith

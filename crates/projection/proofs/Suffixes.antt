@@ -1,12 +1,11 @@
 -- What a valid order has from a call on after which it is known what the object contains is a valid order of the
 -- suffix.
-use Rattle.std.proofs.Common.{◌≡◌, ◌≢◌, ◌⊎◌, inl, inr, ℕ, ℤ, pos, ◌<◌, ◌==◌, nat_lt, Bool, true, false, cond, List}
+use Rattle.std.proofs.lemmas.Bool.Decides.{nat_tests}
+use Rattle.std.proofs.Common.{◌≡◌, ◌≢◌, ◌⊎◌, inl, inr, ℕ, ℤ, pos, ◌<◌, Bool, true, false, List}
 use Rattle.std.proofs.Common.{[], ◌∷◌, ◌++◌, Option, Some, None}
 use Rattle.std.proofs.Common.{IfSome, IsSome, is_some, map, All, Contains, refl, ap, sym, ◌∙◌, subst, arith}
-use Rattle.std.specs.Prelude.{option_map}
 use Rattle.std.specs.List.{filter_map}
 use Rattle.std.proofs.lemmas.Option.{same_Some}
-use Rattle.std.proofs.lemmas.Bool.{eq-eqb, ne_eqb, eqb-false}
 use Rattle.model.proofs.Orders.{same_pos}
 use Rattle.model.specs.declared.Kind.{Kind}
 use Rattle.model.specs.declared.Kind.TheVariants.{Register}
@@ -18,10 +17,11 @@ use Rattle.model.specs.Objects.{Content, empty, next, kind_of}
 use Rattle.model.specs.Orders.{Call, Return, ReturnsBefore, RepliesAlong, IsValidOrder}
 use Rattle.model.proofs.Lists.{In, Pairs, in_append, in_left, in_right, in_split, in_map, in_map_from}
 use Rattle.model.proofs.Lists.{in_from_contains, contains_from_in}
-use Rattle.model.proofs.Lists.{all_from_in, all_at, all_from_pairs, pairs_from_all, pairs_weaker, pairs_map}
-use Rattle.model.proofs.Lists.{pairs_from_map, pairs_append}
+use Rattle.model.proofs.Lists.{all_from_in, all_at, all_from_pairs, pairs_weaker, pairs_map}
+use Rattle.model.proofs.Lists.{pairs_append}
 use Rattle.projection.specs.Parts.{reply_of, IsStart, ended_before, call_later, returned_call, call_from, calls_from}
 use Rattle.projection.specs.Kinds.Starts.{key_of, leaves}
+use Rattle.projection.proofs.Ordered.{in_calls, in_entries, numbers_apart, in_time_order}
 use Rattle.projection.proofs.Simulation.{pick, in_pick, pairs_pick, Replied, Choice, choose}
 use Rattle.projection.proofs.Contents.{IsShadow}
 use Rattle.projection.proofs.Fitting.{MayStep, all_step, closed_simulates}
@@ -29,7 +29,6 @@ use Rattle.projection.proofs.Freshness.{on_key, is_free, free_keeps, all_fit, Be
 use Rattle.projection.proofs.Sequences.{in_filter_map, in_filter_map_from, pairs_at, pairs_filter_map}
 use Rattle.projection.proofs.Overlaps.{later_replies, IsCutOf, cut_of, in_time_cut, front_call, IsFront}
 use Rattle.projection.proofs.Overlaps.{front_facts, late_facts, first_write, IsWrite, front_replies}
-use Rattle.projection.proofs.Booleans.{less_by_test}
 
 -- ---- replies
 
@@ -114,49 +113,21 @@ joined_some kind from at first d front es does writes reg h = record {
 
 call_from_other : (from at : ℕ) (first : Option (AnyOp × AnyReply)) (y : Call) → y.number ≢ from
     → ended_before from y.returned ≡ false → call_from from at first y ≡ Some (call_later first at y)
-call_from_other from at first y ne e =
-    ap (λ b. cond b (option_map (returned_call from at) first)
-    (cond (ended_before from y.returned) None (Some (call_later first at y)))) (ne_eqb y.number from ne)
-    ∙ ap (λ b. cond b None (Some (call_later first at y))) e
+call_from_other from at first y n e = grind (arith, nat_tests)
 
 call_from_own : (from at : ℕ) (first : Option (AnyOp × AnyReply)) (y : Call) (p : AnyOp × AnyReply) → y.number ≡ from
     → first ≡ Some p → call_from from at first y ≡ Some (returned_call from at p)
-call_from_own from at first y p e f =
-    ap (λ b. cond b (option_map (returned_call from at) first)
-    (cond (ended_before from y.returned) None (Some (call_later first at y)))) (eq-eqb y.number from e)
-    ∙ ap (option_map (returned_call from at)) f
+call_from_own from at first y p n e = grind (arith, nat_tests)
 
 pub call_from_cases : (from at : ℕ) (first : Option (AnyOp × AnyReply)) (y x : Call)
     → call_from from at first y ≡ Some x
     → ((p : AnyOp × AnyReply) × (first ≡ Some p) × (x ≡ returned_call from at p))
     ⊎ ((y.number ≢ from) × (x ≡ call_later first at y) × (ended_before from y.returned ≡ false))
-call_from_cases from at first y x e = go (y.number == from) refl e
-  where
-    own : (o : Option (AnyOp × AnyReply)) → option_map (returned_call from at) o ≡ Some x
-        → (p : AnyOp × AnyReply) × (o ≡ Some p) × (x ≡ returned_call from at p)
-    own None e = absurd (cc e)
-    own (Some p) e = (p, refl, sym (same_Some (returned_call from at p) x e))
-
-    other : (b : Bool) → ended_before from y.returned ≡ b → cond b None (Some (call_later first at y)) ≡ Some x
-        → (x ≡ call_later first at y) × (ended_before from y.returned ≡ false)
-    other true n e = absurd (cc e)
-    other false n e = (sym (same_Some (call_later first at y) x e), n)
-
-    go : (b : Bool) → (y.number == from) ≡ b
-        → cond b (option_map (returned_call from at) first)
-        (cond (ended_before from y.returned) None (Some (call_later first at y))) ≡ Some x
-        → ((p : AnyOp × AnyReply) × (first ≡ Some p) × (x ≡ returned_call from at p))
-        ⊎ ((y.number ≢ from) × (x ≡ call_later first at y) × (ended_before from y.returned ≡ false))
-    go true q e = inl (own first e)
-    go false q e = let r = other (ended_before from y.returned) refl e in inr (eqb-false y.number from q, r.0, r.1)
+call_from_cases from at first y x e = grind (arith, nat_tests)
 
 not_ended : (from : ℕ) (o : Option Return) → ((r : Return) → o ≡ Some r → r.at < from → ⊥) → ended_before from o ≡ false
 not_ended from None h = refl
-not_ended from (Some r) h = go (nat_lt r.at from) refl
-  where
-    go : (b : Bool) → nat_lt r.at from ≡ b → b ≡ false
-    go true e = absurd (h r refl (less_by_test r.at from e))
-    go false e = refl
+not_ended from (Some r) h = let late = h r refl in grind (arith, nat_tests)
 
 front_cut : (from at : ℕ) (first : Option (AnyOp × AnyReply)) (y x : Call) → front_call from at first y ≡ Some x
     → IsCutOf x y
@@ -214,15 +185,10 @@ suffix_valid kind calls e r first order stands kinds ret fr on v =
     let number : Call → ℤ = λ x. pos x.number in
     let from : ℕ = e.number in
     let at : ℕ = r.at in
-    let known : (x : Call) → In x v.entries → In x calls =
-    λ x i. in_from_contains calls x (all_at (Contains calls) v.entries v.known x i) in
-    let in_calls = in_from_contains calls e stands in
-    let there : (x : Call) → In x calls → IsSome x.returned → In x v.entries =
-    λ x i so. in_from_contains v.entries x
-    (all_at (λ e. IsSome e.returned → Contains v.entries e) calls v.whole x i so) in
+    let in_calls_of = in_from_contains calls e stands in
     let of_kind : (x : Call) → In x calls → kind_of x.op ≡ kind =
     λ x i. all_at (λ f. kind_of f.op ≡ kind) calls kinds x i in
-    let s = in_split e v.entries (there e in_calls (ap is_some ret)) in
+    let s = in_split e v.entries (in_entries v e in_calls_of (ap is_some ret)) in
     let earlier : List Call = s.0 in
     let later : List Call = s.1 in
     let b = replies_after earlier e later (empty kind) (subst (RepliesAlong (empty kind)) s.2 v.replies) in
@@ -230,7 +196,7 @@ suffix_valid kind calls e r first order stands kinds ret fr on v =
     let told = subst (λ (o : Option (Content × AnyReply)). IfSome o
     (λ p. IfSome (leaves e.op p.1) (λ f. Begins (on_key (key_of e.op)) (kind_of e.op) f p.0))) b.does
     (tells b.before e.op) in
-    let begins = subst (λ k. Begins (on_key (key_of e.op)) k first b.after) (of_kind e in_calls)
+    let begins = subst (λ k. Begins (on_key (key_of e.op)) k first b.after) (of_kind e in_calls_of)
     (subst (λ (o : Option (Option (AnyOp × AnyReply))). IfSome o
     (λ f. Begins (on_key (key_of e.op)) (kind_of e.op) f b.after)) (ap (leaves e.op) (sym same) ∙ fr) told) in
     let cut : Call → Call = call_later first at in
@@ -243,25 +209,20 @@ suffix_valid kind calls e r first order stands kinds ret fr on v =
     let m = chosen kind (key_of e.op) from at first front es b.after
     (λ x i. let y = in_map cut x later i in
     ap (λ (z : Call). key_of z.op) y.2 ∙ (cut_of first at y.0).key
-    ∙ all_at (λ f. key_of f.op ≡ key_of e.op) calls on y.0 (known y.0 (in_later y.0 y.1)))
+    ∙ all_at (λ f. key_of f.op ≡ key_of e.op) calls on y.0 (in_calls v y.0 (in_later y.0 y.1)))
     (λ x i. let y = in_filter_map (front_call from at first) x earlier i in
     let f = front_facts from at first y.0 x y.2 in
-    (f.began, (y.0.number, f.when, f.value, f.write), sym (of_kind y.0 (known y.0 (in_earlier y.0 y.1))) ∙ f.kind))
+    (f.began, (y.0.number, f.when, f.value, f.write), sym (of_kind y.0 (in_calls v y.0 (in_earlier y.0 y.1))) ∙ f.kind))
     (λ p q k. first_write e.op r.reply p (fr ∙ ap (λ (z : Option (AnyOp × AnyReply)). Some z) q)
-    (of_kind e in_calls ∙ k))
+    (of_kind e in_calls_of ∙ k))
     begins (later_replies first at later b.after b.replies) in
     let j = m.joined in
     let picked : List Call = pick m.flags es in
     let entries : List Call = m.entries in
-    let numbers_apart : Pairs (λ x y. x.number ≢ y.number) v.entries =
-    pairs_weaker (λ x y. number x ≢ number y) (λ x y. x.number ≢ y.number) v.entries (λ x y i k ne q. ne (ap pos q))
-    (pairs_from_map (λ x y. x ≢ y) number v.entries
-    (subst (Pairs (λ x y. x ≢ y)) v.numbers (pairs_from_all (λ x y. x ≢ y) order v.once))) in
     let apart = pairs_at (λ x y. x.number ≢ y.number) earlier e later
-    (subst (Pairs (λ x y. x.number ≢ y.number)) s.2 numbers_apart) in
+    (subst (Pairs (λ x y. x.number ≢ y.number)) s.2 (numbers_apart v)) in
     let in_time = pairs_at (λ x y. ReturnsBefore y x → ⊥) earlier e later
-    (subst (Pairs (λ x y. ReturnsBefore y x → ⊥)) s.2
-    (pairs_from_all (λ x y. ReturnsBefore y x → ⊥) v.entries v.in_order)) in
+    (subst (Pairs (λ x y. ReturnsBefore y x → ⊥)) s.2 (in_time_order v)) in
     let from_later : (x : Call) → In x picked → (y : Call) × In y later × IsCutOf x y × (x ≡ cut y) = λ x i. let y =
     in_map cut x later (in_pick m.flags es x i) in
     (y.0, y.1, subst (λ (z : Call). IsCutOf z y.0) (sym y.2) (cut_of first at y.0), y.2) in
@@ -275,17 +236,17 @@ suffix_valid kind calls e r first order stands kinds ret fr on v =
         numbers = refl;
         known = all_from_in (Contains (calls_from from at first calls)) entries
             (λ x i. contains_from_in (calls_from from at first calls) x (elim (j.from_where x i) [
-              | inl q ↦ in_filter_map_from (call_from from at first) e x calls in_calls
+              | inl q ↦ in_filter_map_from (call_from from at first) e x calls in_calls_of
                   (call_from_own from at first e q.0 refl q.1 ∙ ap (λ (z : Call). Some z) (sym q.2))
               | inr k ↦ elim k [
                 | inl w ↦
                     let y = from_front x w in
-                    in_filter_map_from (call_from from at first) y.0 x calls (known y.0 (in_earlier y.0 y.1))
+                    in_filter_map_from (call_from from at first) y.0 x calls (in_calls v y.0 (in_earlier y.0 y.1))
                     (call_from_other from at first y.0 (apart.0 y.0 y.1) y.3.not_over
                     ∙ ap (λ (z : Call). Some z) y.3.is_later)
                 | inr w ↦
                     let y = from_later x w in
-                    in_filter_map_from (call_from from at first) y.0 x calls (known y.0 (in_later y.0 y.1))
+                    in_filter_map_from (call_from from at first) y.0 x calls (in_calls v y.0 (in_later y.0 y.1))
                     (call_from_other from at first y.0 (λ q. apart.1 y.0 y.1 (sym q))
                     (not_ended from y.0.returned (λ t q l. in_time.1 y.0 y.1 (t, q, l)))
                     ∙ ap (λ (z : Call). Some z) (sym y.3))
@@ -314,7 +275,7 @@ suffix_valid kind calls e r first order stands kinds ret fr on v =
               | inl q ↦ subst (λ (z : Call). In z entries) (sym q.2) (j.own q.0 q.1)
               | inr q ↦
                   let l = late_facts from at first y.0 (subst (λ (z : Call). IsSome z.returned) q.1 so) in
-                  elim (in_append y.0 earlier (e ∷ later) (subst (In y.0) s.2 (there y.0 y.1 (ap is_some l.was)))) [
+                  elim (in_append y.0 earlier (e ∷ later) (subst (In y.0) s.2 (in_entries v y.0 y.1 (ap is_some l.was)))) [
                     | inl k ↦ elim l.either [
                       | inl w ↦ absurd (in_time.0 y.0 k (r, ret, w))
                       | inr f ↦ j.fronts x (subst (λ (z : Call). In z front) (sym q.1)
