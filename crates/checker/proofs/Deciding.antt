@@ -1,4 +1,5 @@
--- What the walk answers: a valid order, or its first fault.
+-- What the walk answers: a valid order, made of the calls that it names, or its first fault. None is before the place,
+-- and each of a lesser rank at the place contradicts what the walk knows there.
 use Rattle.std.proofs.Common.{◌≡◌, ◌≢◌, ℕ, ℤ, pos, ◌≤ℤ◌, ◌<◌, ◌≤◌, inl, inr, List, [], ◌∷◌, map, take, Option, Some}
 use Rattle.std.proofs.Common.{None, IfSome, IsSome, Contains, slice_get, refl, ap, sym, ◌∙◌, subst, arith}
 use Rattle.std.proofs.lemmas.Int.{ints}
@@ -11,7 +12,7 @@ use Rattle.model.specs.Orders.{Call, Return, ReturnsBefore, RepliesAlong, IsVali
 use Rattle.model.proofs.Lists.{In, Pairs, in_from_contains, contains_from_in, all_from_in, all_from_pairs}
 use Rattle.checker.specs.declared.refusal.OrderFault.{OrderFault}
 use Rattle.checker.specs.declared.refusal.OrderFault.TheVariants.{UnknownOperation, Repeated, TooLate, NotPossible}
-use Rattle.checker.specs.declared.refusal.OrderFault.TheVariants.{WrongReply, Omitted}
+use Rattle.checker.specs.declared.refusal.OrderFault.TheVariants.{WrongReply}
 use Rattle.checker.specs.Faults.{call_with_number, IsGreatest, IsFaultAt, rank, IsFirstAtPlace}
 use Rattle.checker.proofs.Walking.{named, InOrder, ReplyIs, Along, SoFar, found_number, found_known, along_content}
 use Rattle.checker.proofs.Walking.{none_before}
@@ -122,12 +123,7 @@ unknown_first kind calls o i z d s at none =
     }
   where
     least : (f : OrderFault) → IsFaultAt kind calls o i f → 1 ≤ rank f
-    least (UnknownOperation z) h = omega arith
-    least (Repeated z) h = omega arith
-    least (TooLate z by) h = omega arith
-    least (NotPossible z) h = omega arith
-    least (WrongReply z gives) h = omega arith
-    least (Omitted n) h = omega arith
+    least f h = grind arith
 
 no_unknown : (kind : Kind) (calls : List Call) (o : List ℤ) (i : ℕ) (z y : ℤ) (c : Call) → slice_get o i ≡ Some z
     → call_with_number calls z ≡ Some c → IsFaultAt kind calls o i (UnknownOperation y) → ⊥
@@ -182,11 +178,7 @@ repeated_first kind calls o i z c d s at found twice =
   where
     least : (f : OrderFault) → IsFaultAt kind calls o i f → 2 ≤ rank f
     least (UnknownOperation y) h = absurd (no_unknown kind calls o i z y c at found h)
-    least (Repeated z) h = omega arith
-    least (TooLate z by) h = omega arith
-    least (NotPossible z) h = omega arith
-    least (WrongReply z gives) h = omega arith
-    least (Omitted n) h = omega arith
+    least f h = omega arith
 
 pub late_first : (kind : Kind) (calls : List Call) (o : List ℤ) (i : ℕ) (z : ℤ) (c : Call) (d : Content) (r : Return)
     (by : ℕ)
@@ -203,10 +195,7 @@ late_first kind calls o i z c d r by s ret l top =
     least : (f : OrderFault) → IsFaultAt kind calls o i f → 3 ≤ rank f
     least (UnknownOperation y) h = absurd (no_unknown kind calls o i z y c s.here s.named h)
     least (Repeated y) h = absurd (no_repeat kind calls o i z y s.here s.fresh h)
-    least (TooLate z by) h = omega arith
-    least (NotPossible z) h = omega arith
-    least (WrongReply z gives) h = omega arith
-    least (Omitted n) h = omega arith
+    least f h = omega arith
 
 pub impossible_first : (kind : Kind) (calls : List Call) (o : List ℤ) (i : ℕ) (z : ℤ) (c : Call) (d : Content)
     → Reaches kind calls o i z c d
@@ -229,9 +218,7 @@ impossible_first kind calls o i z c d s early never =
     least (UnknownOperation y) h = absurd (no_unknown kind calls o i z y c s.here s.named h)
     least (Repeated y) h = absurd (no_repeat kind calls o i z y s.here s.fresh h)
     least (TooLate y by) h = absurd (no_late kind calls o i z y by c s.here s.named early h)
-    least (NotPossible z) h = omega arith
-    least (WrongReply z gives) h = omega arith
-    least (Omitted n) h = omega arith
+    least f h = omega arith
 
 pub wrong_first : (kind : Kind) (calls : List Call) (o : List ℤ) (i : ℕ) (z : ℤ) (c : Call) (d after : Content)
     (r : Return) (gives : AnyReply)
@@ -259,5 +246,4 @@ wrong_first kind calls o i z c d after r gives s early ret can ne = record {
     least (Repeated y) h = absurd (no_repeat kind calls o i z y s.here s.fresh h)
     least (TooLate y by) h = absurd (no_late kind calls o i z y by c s.here s.named early h)
     least (NotPossible y) h = absurd (no_impossible kind calls o i z y c d after gives s.so_far s.here s.named can h)
-    least (WrongReply z gives) h = omega arith
-    least (Omitted n) h = omega arith
+    least f h = omega arith

@@ -1,4 +1,5 @@
--- The answers of the walk, from what it knows.
+-- The answers of the walk, from what it knows: each is a lemma of `Deciding` at the entry at hand, or at the end of the
+-- order, where the operations that were passed are marked.
 use Rattle.std.proofs.Common.{◌≡◌, ℕ, ℤ, pos, ◌+◌, ◌<◌, ◌≤◌, ◌↔◌, max, Bool, true, false, inl, inr, List, [], ◌∷◌}
 use Rattle.std.proofs.Common.{◌++◌, length, take, set, Option}
 use Rattle.std.proofs.Common.{Some, None, IsSome, is_some, AllPairs, Contains, IsTrue, slice_get, get_or, Result}

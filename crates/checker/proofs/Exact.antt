@@ -1,4 +1,4 @@
--- A valid order has no fault.
+-- A valid order has no fault: it is right so far at its end (`SoFar`), which excludes each fault.
 use Rattle.std.proofs.Common.{◌≡◌, ◌≢◌, ℤ, pos, ◌<◌, ◌==◌, cond, inl, inr, List, [], ◌∷◌, map, Option, Some, None}
 use Rattle.std.proofs.Common.{IfSome, IsSome, Contains, refl, ap, sym, ◌∙◌, subst, arith}
 use Rattle.std.specs.List.{find}
@@ -11,8 +11,7 @@ use Rattle.model.specs.Orders.{Call, Return, ReturnsBefore, RepliesAlong, IsVali
 use Rattle.model.proofs.Lists.{In, Pairs, in_map, in_map_from, in_from_contains, contains_from_in, all_at}
 use Rattle.model.proofs.Lists.{pairs_from_all}
 use Rattle.checker.specs.declared.refusal.OrderFault.{OrderFault}
-use Rattle.checker.specs.declared.refusal.OrderFault.TheVariants.{UnknownOperation, Repeated, TooLate, NotPossible}
-use Rattle.checker.specs.declared.refusal.OrderFault.TheVariants.{WrongReply, Omitted}
+use Rattle.checker.specs.declared.refusal.OrderFault.TheVariants.{Omitted}
 use Rattle.checker.specs.Faults.{call_with_number, IsFirstFault}
 use Rattle.checker.proofs.Walking.{SoFar, InOrder, ReplyIs, Along, no_fault}
 
@@ -90,16 +89,6 @@ valid_so_far kind calls order u v =
 -- so an order with a first fault is not valid
 pub fault_refutes : (kind : Kind) (calls : List Call) (order : List ℤ) (f : OrderFault) → Rising calls
     → IsFirstFault kind calls order f → IsValidOrder kind calls order → ⊥
-fault_refutes kind calls order (UnknownOperation z) u h v =
-    let s = valid_so_far kind calls order u v in no_fault kind calls order s.0 s.1 h.place (UnknownOperation z) h.stands
-fault_refutes kind calls order (Repeated z) u h v =
-    let s = valid_so_far kind calls order u v in no_fault kind calls order s.0 s.1 h.place (Repeated z) h.stands
-fault_refutes kind calls order (TooLate z by) u h v =
-    let s = valid_so_far kind calls order u v in no_fault kind calls order s.0 s.1 h.place (TooLate z by) h.stands
-fault_refutes kind calls order (NotPossible z) u h v =
-    let s = valid_so_far kind calls order u v in no_fault kind calls order s.0 s.1 h.place (NotPossible z) h.stands
-fault_refutes kind calls order (WrongReply z gives) u h v =
-    let s = valid_so_far kind calls order u v in no_fault kind calls order s.0 s.1 h.place (WrongReply z gives) h.stands
 fault_refutes kind calls order (Omitted n) u h v =
     let stands = in_from_contains v.entries h.call
     (all_at (λ c. IsSome c.returned → Contains v.entries c) calls v.whole h.call
@@ -109,3 +98,5 @@ fault_refutes kind calls order (Omitted n) u h v =
     (subst (In (pos h.call.number)) (sym v.numbers)
     (in_map_from (λ (c : Call). pos c.number) h.call v.entries stands)) in
     h.left_out (contains_from_in order (pos n) there)
+fault_refutes kind calls order f u h v =
+    let s = valid_so_far kind calls order u v in no_fault kind calls order s.0 s.1 h.place f h.stands

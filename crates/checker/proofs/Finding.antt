@@ -1,4 +1,5 @@
--- Finding the operation with a number among operations whose numbers rise.
+-- Finding the operation with a number among operations whose numbers rise: these are sorted by the comparison with it,
+-- so what stands where the search ends names the call, or there is none.
 use Rattle.std.proofs.Common.{◌≡◌, ◌≢◌, ℕ, ℤ, pos, ◌<◌, ◌≤◌, ◌<ℤ◌, ◌⊎◌, inl, inr, List, [], ◌∷◌, length, Option}
 use Rattle.std.proofs.Common.{Some, None, AllPairs, get_or, refl, ap, sym, ◌∙◌, subst, arith}
 use Rattle.std.proofs.lemmas.Int.{ints}
@@ -25,20 +26,7 @@ use Rattle.model.proofs.Orders.{same_pos}
 
 -- the greater of two numbers compares no less with a third
 index_rises : (a b : ℕ) (z : ℤ) → a ≤ b → ordering_index (int_cmp (pos a) z) ≤ ordering_index (int_cmp (pos b) z)
-index_rises a b z l = go (int_cmp (pos a) z) (int_cmp (pos b) z) (int_ranked (pos a) z _ refl)
-    (int_ranked (pos b) z _ refl)
-  where
-    go : (r s : Ordering) → MatchOrdering r (pos a <ℤ z) (pos a ≡ z) (z <ℤ pos a)
-        → MatchOrdering s (pos b <ℤ z) (pos b ≡ z) (z <ℤ pos b) → ordering_index r ≤ ordering_index s
-    go Less Less p q = omega arith
-    go Less Equal p q = omega arith
-    go Less Greater p q = omega arith
-    go Equal Less p q = absurd (omega (arith, ints))
-    go Equal Equal p q = omega arith
-    go Equal Greater p q = omega arith
-    go Greater Less p q = absurd (omega (arith, ints))
-    go Greater Equal p q = absurd (omega (arith, ints))
-    go Greater Greater p q = omega arith
+index_rises a b z l = grind (arith, ints)
 
 -- so operations whose numbers rise can be searched
 pub search_rises : (ops : List Invocation) (z : ℤ) → AllPairs (λ a b. a.number < b.number) ops

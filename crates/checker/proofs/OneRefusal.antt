@@ -1,4 +1,5 @@
--- An order has one first fault at most, and a list of certificates one first refusal.
+-- An order has one first fault at most, and a list of certificates one first refusal: of two, neither comes before the
+-- other, and what the order and the certificates say at that place makes them the same.
 use Rattle.std.proofs.Common.{◌≡◌, ◌≢◌, ℕ, ℤ, pos, ◌≤ℤ◌, ◌<◌, ◌≤◌, inl, inr, List, take, Some, IsSome, IfErr}
 use Rattle.std.proofs.Common.{Contains, AllPairs, slice_get, refl, ap, sym, ◌∙◌, subst, arith}
 use Rattle.std.specs.declared.result.Result.{Result}
@@ -110,56 +111,9 @@ module _ (kind : Kind) (calls : List Call) (order : List ℤ) where
 
   pub one_fault : (f g : OrderFault) → IsFirstFault kind calls order f → IsFirstFault kind calls order g → f ≡ g
   one_fault (Omitted n) (Omitted m) a b = ap Omitted (same_omitted n m a b)
-  one_fault (Omitted n) (UnknownOperation z) a b = at_no_place (UnknownOperation z) n b a
-  one_fault (Omitted n) (Repeated z) a b = at_no_place (Repeated z) n b a
-  one_fault (Omitted n) (TooLate z by) a b = at_no_place (TooLate z by) n b a
-  one_fault (Omitted n) (NotPossible z) a b = at_no_place (NotPossible z) n b a
-  one_fault (Omitted n) (WrongReply z gives) a b = at_no_place (WrongReply z gives) n b a
-  one_fault (UnknownOperation z) g a b = go g b
-    where
-      go : (g : OrderFault) → IsFirstFault kind calls order g → UnknownOperation z ≡ g
-      go (Omitted n) b = at_no_place (UnknownOperation z) n a b
-      go (UnknownOperation y) b = same_place (UnknownOperation z) (UnknownOperation y) a b
-      go (Repeated y) b = same_place (UnknownOperation z) (Repeated y) a b
-      go (TooLate y k) b = same_place (UnknownOperation z) (TooLate y k) a b
-      go (NotPossible y) b = same_place (UnknownOperation z) (NotPossible y) a b
-      go (WrongReply y says) b = same_place (UnknownOperation z) (WrongReply y says) a b
-  one_fault (Repeated z) g a b = go g b
-    where
-      go : (g : OrderFault) → IsFirstFault kind calls order g → Repeated z ≡ g
-      go (Omitted n) b = at_no_place (Repeated z) n a b
-      go (UnknownOperation y) b = same_place (Repeated z) (UnknownOperation y) a b
-      go (Repeated y) b = same_place (Repeated z) (Repeated y) a b
-      go (TooLate y k) b = same_place (Repeated z) (TooLate y k) a b
-      go (NotPossible y) b = same_place (Repeated z) (NotPossible y) a b
-      go (WrongReply y says) b = same_place (Repeated z) (WrongReply y says) a b
-  one_fault (TooLate z by) g a b = go g b
-    where
-      go : (g : OrderFault) → IsFirstFault kind calls order g → TooLate z by ≡ g
-      go (Omitted n) b = at_no_place (TooLate z by) n a b
-      go (UnknownOperation y) b = same_place (TooLate z by) (UnknownOperation y) a b
-      go (Repeated y) b = same_place (TooLate z by) (Repeated y) a b
-      go (TooLate y k) b = same_place (TooLate z by) (TooLate y k) a b
-      go (NotPossible y) b = same_place (TooLate z by) (NotPossible y) a b
-      go (WrongReply y says) b = same_place (TooLate z by) (WrongReply y says) a b
-  one_fault (NotPossible z) g a b = go g b
-    where
-      go : (g : OrderFault) → IsFirstFault kind calls order g → NotPossible z ≡ g
-      go (Omitted n) b = at_no_place (NotPossible z) n a b
-      go (UnknownOperation y) b = same_place (NotPossible z) (UnknownOperation y) a b
-      go (Repeated y) b = same_place (NotPossible z) (Repeated y) a b
-      go (TooLate y k) b = same_place (NotPossible z) (TooLate y k) a b
-      go (NotPossible y) b = same_place (NotPossible z) (NotPossible y) a b
-      go (WrongReply y says) b = same_place (NotPossible z) (WrongReply y says) a b
-  one_fault (WrongReply z gives) g a b = go g b
-    where
-      go : (g : OrderFault) → IsFirstFault kind calls order g → WrongReply z gives ≡ g
-      go (Omitted n) b = at_no_place (WrongReply z gives) n a b
-      go (UnknownOperation y) b = same_place (WrongReply z gives) (UnknownOperation y) a b
-      go (Repeated y) b = same_place (WrongReply z gives) (Repeated y) a b
-      go (TooLate y k) b = same_place (WrongReply z gives) (TooLate y k) a b
-      go (NotPossible y) b = same_place (WrongReply z gives) (NotPossible y) a b
-      go (WrongReply y says) b = same_place (WrongReply z gives) (WrongReply y says) a b
+  one_fault (Omitted n) g a b = at_no_place g n b a
+  one_fault f (Omitted n) a b = at_no_place f n a b
+  one_fault f g a b = same_place f g a b
 
 -- ---- of a list of certificates
 
@@ -169,8 +123,6 @@ module _ (es : List Event) (certificates : List Certificate)
   same_refusal : (x : ℕ) (r s : Refusal) → IsRefusalAt es certificates x r → IsRefusalAt es certificates x s → r ≡ s
   same_refusal x (NoCertificate y) (NoCertificate z) a b = ap NoCertificate (a.0 ∙ sym b.0)
   same_refusal x (NoCertificate y) (BadOrder z g) a b = absurd (a.1 b.1)
-  same_refusal x (NoCertificate y) (StrangeObject z) a b = absurd b
-  same_refusal x (NoCertificate y) NoMemory a b = absurd b
   same_refusal x (BadOrder y f) (NoCertificate z) a b = absurd (b.1 a.1)
   same_refusal x (BadOrder y f) (BadOrder z g) a b =
       let same = same_orders certificates d x b.1 a.1 in
@@ -178,10 +130,9 @@ module _ (es : List Event) (certificates : List Certificate)
       same b.2 in
       let fault = one_fault (kind_at es x) (calls_on x (denoted es)) a.1.certificate.order.items f g a.2 there in
       ap (λ y. BadOrder y f) (a.0 ∙ sym b.0) ∙ ap (BadOrder z) fault
-  same_refusal x (BadOrder y f) (StrangeObject z) a b = absurd b
-  same_refusal x (BadOrder y f) NoMemory a b = absurd b
-  same_refusal x (StrangeObject y) s a b = absurd a
-  same_refusal x NoMemory s a b = absurd a
+  same_refusal x (NoCertificate y) s a b = absurd b
+  same_refusal x (BadOrder y f) s a b = absurd b
+  same_refusal x r s a b = absurd a
 
   same_least : (r s : Refusal) → IsLeastRefusal es certificates r → IsLeastRefusal es certificates s → r ≡ s
   same_least r s a b = elim (cases_lt a.object b.object) [
@@ -221,14 +172,9 @@ module _ (es : List Event) (certificates : List Certificate)
   one_refusal NoMemory s n m a b = absurd (n refl)
   one_refusal r NoMemory n m a b = absurd (m refl)
   one_refusal (StrangeObject x) (StrangeObject y) n m a b = ap StrangeObject (same_strange x y a b)
-  one_refusal (StrangeObject x) (NoCertificate y) n m a b = not_strange (NoCertificate y) x b a
-  one_refusal (StrangeObject x) (BadOrder y g) n m a b = not_strange (BadOrder y g) x b a
-  one_refusal (NoCertificate x) (StrangeObject y) n m a b = not_strange (NoCertificate x) y a b
-  one_refusal (NoCertificate x) (NoCertificate y) n m a b = same_least (NoCertificate x) (NoCertificate y) a b
-  one_refusal (NoCertificate x) (BadOrder y g) n m a b = same_least (NoCertificate x) (BadOrder y g) a b
-  one_refusal (BadOrder x f) (StrangeObject y) n m a b = not_strange (BadOrder x f) y a b
-  one_refusal (BadOrder x f) (NoCertificate y) n m a b = same_least (BadOrder x f) (NoCertificate y) a b
-  one_refusal (BadOrder x f) (BadOrder y g) n m a b = same_least (BadOrder x f) (BadOrder y g) a b
+  one_refusal (StrangeObject x) s n m a b = not_strange s x b a
+  one_refusal r (StrangeObject y) n m a b = not_strange r y a b
+  one_refusal r s n m a b = same_least r s a b
 
   pub one_answer : (a b : Result Unit Refusal) → IsCheckAnswer es certificates a → IsCheckAnswer es certificates b
       → IfErr a (λ r. r ≢ NoMemory) → IfErr b (λ s. s ≢ NoMemory) → a ≡ b

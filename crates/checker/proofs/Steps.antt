@@ -1,4 +1,5 @@
--- Operations as calls, what the walk knows after some entries, and one entry more.
+-- Operations as calls, what the walk knows after some entries (`Walk`), and that one more entry keeps it: by cases of
+-- whether an operation is that of the entry.
 use Rattle.std.proofs.Common.{◌≡◌, ◌≢◌, ℕ, ℤ, pos, negsuc, ◌≤ℤ◌, zero, suc, ◌<◌, ◌≤◌, ◌==◌, ◌||◌, max, Bool, true}
 use Rattle.std.proofs.Common.{false, inl, inr, List, [], ◌∷◌}
 use Rattle.std.proofs.Common.{◌++◌, length, set, Option, Some, None, AllPairs, get_or, refl, ap, sym, ◌∙◌, subst, arith}
@@ -7,7 +8,6 @@ use Rattle.std.specs.Option.{option_map_or}
 use Rattle.std.specs.List.{list_any, cons_option}
 use Rattle.std.proofs.lemmas.Option.{same_Some}
 use Rattle.std.proofs.lemmas.List.{length-set, get_or-set_same, get_or-set_other, get_or_default}
-use Rattle.std.proofs.Math.Bool.{or_assoc}
 use Rattle.std.proofs.lemmas.Bool.{eqb-true, ne_eqb, eq-eqb, or_cases, or_left, or_right, cases_eq, cases_order}
 use Rattle.model.specs.declared.Kind.{Kind}
 use Rattle.model.specs.Objects.{Content, kind_with}
@@ -22,14 +22,6 @@ use Rattle.checker.specs.Faults.{call_with_number, IsGreatest}
 use Rattle.checker.specs.Ends.{IsEarly}
 use Rattle.checker.proofs.Walking.{IsStep, SoFar, found_number, more}
 use Rattle.model.proofs.Orders.{max_either}
-
-or_false : (b : Bool) → (b || false) ≡ (false || b)
-or_false true = refl
-or_false false = refl
-
-or_nothing : (a b : Bool) → b ≡ false → (a || b) ≡ a
-or_nothing true b e = refl
-or_nothing false b e = e
 
 at_most : (n : ℕ) (z : ℤ) → z ≡ pos n → z ≤ℤ pos n
 at_most n z e = omega (arith, ints)
@@ -82,9 +74,8 @@ pub stands_false : (n : ℕ) (o : List ℤ) → stands_in n o ≡ false → In (
 stands_false n o e i = let t = stands_from n o i in absurd (cc (e, t))
 
 stands_push : (n m : ℕ) (o : List ℤ) → stands_in n (o ++ pos m ∷ []) ≡ (stands_in n o || (m == n))
-stands_push n m [] = or_false (m == n)
-stands_push n m (z ∷ o) =
-    ap (λ b. is_number n z || b) (stands_push n m o) ∙ sym (or_assoc (is_number n z) (stands_in n o) (m == n))
+stands_push n m [] = grind arith
+stands_push n m (z ∷ o) = let rest = stands_push n m o in grind arith
 
 -- the greatest number of an order, if there is one
 abbrev pub TopIs : Option ℕ → List ℤ → Type 0
@@ -103,21 +94,7 @@ pub record Walk (kind : Kind) (ops : List Invocation) (o : List ℤ) (seen : Lis
 -- the operation of a call
 pub call_parts : (o : Invocation) (c : Call) → call_of o ≡ Some c
     → (o.number ≡ c.number) × (o.op ≡ c.op) × (return_of o.«end» ≡ c.returned)
-call_parts o c e = go o.«end» e
-  where
-    go : (f : End) → call_with o.number o.op f ≡ Some c
-        → (o.number ≡ c.number) × (o.op ≡ c.op) × (return_of f ≡ c.returned)
-    go (Returned at r) q =
-        let s = same_Some (record {
-          number = o.number;
-          op = o.op;
-          returned = Some (record { at = at; reply = r });
-        }) c q in
-        (ap (λ (x : Call). x.number) s, ap (λ (x : Call). x.op) s, ap (λ (x : Call). x.returned) s)
-    go Pending q =
-        let s = same_Some (record { number = o.number; op = o.op; returned = None }) c q in
-        (ap (λ (x : Call). x.number) s, ap (λ (x : Call). x.op) s, ap (λ (x : Call). x.returned) s)
-    go Failed q = absurd (cc q)
+call_parts o c e = grind arith
 
 -- an operation that did not fail is a call
 pub call_from : (o : Invocation) → o.«end» ≢ Failed → (c : Call) × (call_of o ≡ Some c)
@@ -253,6 +230,9 @@ walk_more kind ops o seen content after greatest z k c d top up w h fresh early 
       top = subst (λ y. IsGreatest (pos top) (o ++ y ∷ [])) (sym is_z) (top_more greatest o x.number top w.top new_top);
     }
   where
+    nothing : (a b : Bool) → b ≡ false → (a || b) ≡ a
+    nothing a b e = grind arith
+
     mark : (j : ℕ) (e : Invocation) → j < length ops
         → get_or (set seen k true) j false ≡ stands_in (get_or ops j e).number (o ++ pos (get_or ops k d).number ∷ [])
     mark j e m = elim (cases_eq j k) [
@@ -272,6 +252,6 @@ walk_more kind ops o seen content after greatest z k c d top up w h fresh early 
           numbers_apart ops k j d e up h.within m (λ q. ne (sym q)) in
           get_or-set_other seen k j true false ne
           ∙ (w.marks j e m ∙ sym (stands_push (get_or ops j e).number (get_or ops k d).number o
-          ∙ or_nothing (stands_in (get_or ops j e).number o) ((get_or ops k d).number == (get_or ops j e).number)
+          ∙ nothing (stands_in (get_or ops j e).number o) ((get_or ops k d).number == (get_or ops j e).number)
           (ne_eqb (get_or ops k d).number (get_or ops j e).number other)))
     ]

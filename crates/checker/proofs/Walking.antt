@@ -1,12 +1,13 @@
--- An order that is right so far, and its first fault.
-use Rattle.std.proofs.Common.{◌≡◌, ◌≢◌, ℕ, ℤ, pos, negsuc, ◌≤ℤ◌, zero, suc, ◌<◌, ◌==◌, Bool, true, false, cond, inl}
+-- An order is right so far (`SoFar`) if its entries are known, stand once, are in order, and are steps along the order.
+-- One more entry keeps this, and each kind of fault contradicts one of its parts: so no place before it has a fault.
+use Rattle.std.proofs.Common.{◌≡◌, ◌≢◌, ℕ, ℤ, pos, negsuc, ◌≤ℤ◌, zero, suc, ◌<◌, inl}
 use Rattle.std.proofs.Common.{inr, List, [], ◌∷◌, ◌++◌, take}
 use Rattle.std.proofs.Common.{Option, Some, option_map, Contains, slice_get, refl, ap, sym, ◌∙◌, subst, arith}
 use Rattle.std.proofs.lemmas.Int.{ints}
 use Rattle.std.specs.List.{filter_map}
 use Rattle.std.proofs.lemmas.Option.{same_Some}
 use Rattle.std.proofs.lemmas.List.{take-take}
-use Rattle.std.proofs.lemmas.Bool.{eqb-true}
+use Rattle.std.proofs.lemmas.Bool.Decides.{nat_tests}
 use Rattle.model.specs.declared.Kind.{Kind}
 use Rattle.model.specs.declared.AnyReply.{AnyReply}
 use Rattle.model.specs.Objects.{Content, empty, next}
@@ -71,22 +72,12 @@ pub record SoFar (kind : Kind) (calls : List Call) (o : List ℤ) (content : Con
 pub found_number : (calls : List Call) (z : ℤ) (c : Call) → call_with_number calls z ≡ Some c → z ≡ pos c.number
 found_number calls (negsuc n) c h = absurd (cc h)
 found_number [] (pos n) c h = absurd (cc h)
-found_number (d ∷ calls) (pos n) c h = go (d.number == n) refl h (found_number calls (pos n) c)
-  where
-    go : (b : Bool) → (d.number == n) ≡ b → cond b (Some d) (call_with_number calls (pos n)) ≡ Some c
-        → (call_with_number calls (pos n) ≡ Some c → pos n ≡ pos c.number) → pos n ≡ pos c.number
-    go true q k f = ap pos (sym (eqb-true d.number n q) ∙ ap (λ (x : Call). x.number) (same_Some d c k))
-    go false q k f = f k
+found_number (d ∷ calls) (pos n) c h = let rest = found_number calls (pos n) c in grind (arith, nat_tests)
 
 pub found_known : (calls : List Call) (z : ℤ) (c : Call) → call_with_number calls z ≡ Some c → In c calls
 found_known calls (negsuc n) c h = absurd (cc h)
 found_known [] (pos n) c h = absurd (cc h)
-found_known (d ∷ calls) (pos n) c h = go (d.number == n) h (found_known calls (pos n) c)
-  where
-    go : (b : Bool) → cond b (Some d) (call_with_number calls (pos n)) ≡ Some c
-        → (call_with_number calls (pos n) ≡ Some c → In c calls) → In c (d ∷ calls)
-    go true k f = inl (sym (same_Some d c k))
-    go false k f = inr (f k)
+found_known (d ∷ calls) (pos n) c h = let rest = found_known calls (pos n) c in grind (arith, nat_tests)
 
 -- a step leaves the content that follows the call
 pub after_step : (calls : List Call) (c after : Content) (z : ℤ) (e : Call) → call_with_number calls z ≡ Some e
