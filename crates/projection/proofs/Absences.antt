@@ -1,5 +1,5 @@
 -- Where a value definitely is not in an object before some number, an order is valid without what was done with it
--- before.
+-- before: along the order the part contains all other values, and the balance of this one holds (`Conserved`).
 use Rattle.std.proofs.Common.{rules, ◌≡◌, ◌≢◌, ◌⊎◌, inl, inr, ℕ, ℤ, pos, ◌<◌, ◌≤◌, ◌+◌, nat_lt, Bool, true, false, not}
 use Rattle.std.proofs.Common.{◌&&◌, ◌||◌, cond, List, [], ◌∷◌, ◌++◌}
 use Rattle.std.proofs.Common.{Option, Some, None, AllPairs, Contains, IfSome, IsSome, length, map, filter, refl, ap}
@@ -24,10 +24,8 @@ use Rattle.projection.proofs.Conserved.{one, tally, count_tally, kept_size, size
 use Rattle.projection.proofs.Conserved.{count_among}
 use Rattle.projection.proofs.Contents.{IsRising, filter_in, filter_out, after_in, after_out, with_value_in}
 use Rattle.projection.proofs.Contents.{with_value_out, rising_with_value}
-use Rattle.projection.proofs.Booleans.{some_at, false_is_not_true, true_or_false}
-
-neither : ((false ≡ true) ⊎ (false ≡ true)) → ⊥
-neither k = elim k [ inl e ↦ false_is_not_true e | inr e ↦ false_is_not_true e ]
+use Rattle.std.proofs.lemmas.Bool.{or_parts}
+use Rattle.projection.proofs.Booleans.{both_true, some_at, false_is_not_true, true_or_false}
 
 -- ---- contents
 
@@ -144,29 +142,17 @@ no_put_takes keeps op r e = search rules
 and_le : (a b : Bool) → one (a && b) ≤ one a
 and_le a b = search rules
 
-and_true : (a b : Bool) → (a && b) ≡ true → (a ≡ true) × (b ≡ true)
-and_true true b e = (refl, e)
-and_true false b e = absurd (false_is_not_true e)
-
-or_false : (a b : Bool) → (a || b) ≡ false → (a ≡ false) × (b ≡ false)
-or_false false b e = (refl, e)
-or_false true b e = absurd (false_is_not_true (sym e))
-
 or_true : (a b : Bool) → (a || b) ≡ true → (a ≡ true) ⊎ (b ≡ true)
 or_true a b e = search rules
 
-and_false_right : (a b : Bool) → a ≡ true → (a && b) ≡ false → b ≡ false
-and_false_right true b p e = e
-and_false_right false b p e = absurd (false_is_not_true p)
-
 early_put : (v : ℤ) (number : ℕ) (e : Call) → is_put_before v number e ≡ true
     → (puts_in (int_eq v) e.op ≡ true) × (nat_lt e.number number ≡ true)
-early_put v number e h = and_true (puts_in (int_eq v) e.op) (nat_lt e.number number) h
+early_put v number e h = both_true (puts_in (int_eq v) e.op) (nat_lt e.number number) h
 
 early_removal : (v : ℤ) (number : ℕ) (e : Call) → is_taken_before v number e ≡ true
     → (takes_out (int_eq v) e.op (reply_of e.returned) ≡ true) × (ended_before number e.returned ≡ true)
 early_removal v number e h =
-    and_true (takes_out (int_eq v) e.op (reply_of e.returned)) (ended_before number e.returned) h
+    both_true (takes_out (int_eq v) e.op (reply_of e.returned)) (ended_before number e.returned) h
 
 -- a call that had returned before the number returned before a call that was invoked at it or later
 returned_first : (v : ℤ) (number : ℕ) (y e : Call) → is_taken_before v number y ≡ true
@@ -215,20 +201,12 @@ owed v number (e ∷ es) c h p =
     let rest = owed v number es h.0 h.4 p.1 in
     let fewer = and_le (takes_out (int_eq v) e.op (reply_of e.returned)) (ended_before number e.returned) in
     elim (put_cases v number e) [
-      | inl early ↦ sums _ _ _ _ _ _ _ _ _ t.balance t.fewer fewer early rest
+      | inl early ↦ omega arith
       | inr late ↦
           let none_here = ap one (no_put_takes (int_eq v) e.op (reply_of e.returned) late.0) in
           let none_later = none_after v number e es late.1 p.0 in
-          nothing _ _ _ _ _ fewer none_here none_later
+          omega arith
     ]
-  where
-    sums : (after took size put told here early gone more : ℕ) → after + took ≡ size + put → told ≤ took → here ≤ told
-        → put ≡ early → gone ≤ after + more
-        → here + gone ≤ size + (early + more)
-    sums after took size put told here early gone more a b d e f = omega arith
-
-    nothing : (here told gone size more : ℕ) → here ≤ told → told ≡ 0 → gone ≡ 0 → here + gone ≤ size + more
-    nothing here told gone size more a b d = omega arith
 
 -- ---- along the order
 
@@ -236,7 +214,7 @@ abbrev stays : ℤ → ℕ → Call → Bool
 stays v number e = not (is_put_before v number e || is_taken_before v number e)
 
 filter_here : {X : Type 0} (p : X → Bool) (x : X) (xs : List X) → p x ≡ true → filter p (x ∷ xs) ≡ x ∷ filter p xs
-filter_here p x xs e = ap (λ b. cond b (x ∷ filter p xs) (filter p xs)) e
+filter_here p x xs e = grind arith
 
 filter_away : {X : Type 0} (p : X → Bool) (x : X) (xs : List X) → p x ≡ false → filter p (x ∷ xs) ≡ filter p xs
 filter_away p x xs e = ap (λ b. cond b (x ∷ filter p xs) (filter p xs)) e
@@ -250,24 +228,15 @@ all_stay : (v : ℤ) (number : ℕ) (es : List Call) (c d : Content) → IsOther
     → IsSpent v number c es
     → tally (is_taken_before v number) es ≡ 0 → RepliesAlong d (filter (stays v number) es)
 all_stay v number es c d s h spent none =
-    let put : tally (is_put_before v number) es ≡ 0 = second _ _ _ spent none in
-    let same = same_content v c d s (first _ _ _ spent none) in
+    let put : tally (is_put_before v number) es ≡ 0 = omega arith in
+    let same = same_content v c d s (omega arith) in
     let whole = filter_all (stays v number) es
-    (λ e i. keep (is_put_before v number e) (is_taken_before v number e)
-    (none_tallied (is_put_before v number) es put e i) (none_tallied (is_taken_before v number) es none e i)) in
+    (λ e i.
+    let no_put = none_tallied (is_put_before v number) es put e i in
+    let no_removal = none_tallied (is_taken_before v number) es none e i in
+    grind arith) in
     subst (λ (z : Content). RepliesAlong z (filter (stays v number) es)) (sym same)
     (subst (RepliesAlong c) (sym whole) h)
-  where
-    first : (size put taken : ℕ) → size + put ≤ taken → taken ≡ 0 → size ≡ 0
-    first size put taken l e = omega arith
-
-    second : (size put taken : ℕ) → size + put ≤ taken → taken ≡ 0 → put ≡ 0
-    second size put taken l e = omega arith
-
-    keep : (a b : Bool) → a ≡ false → b ≡ false → not (a || b) ≡ true
-    keep false false e f = refl
-    keep true b e f = absurd (false_is_not_true (sym e))
-    keep false true e f = absurd (false_is_not_true (sym f))
 
 -- how an early call changes what is there
 early_spent : (v : ℤ) (number : ℕ) (e : Call) (es : List Call) (c after : Content) (reply : AnyReply)
@@ -282,31 +251,17 @@ early_spent v number e es c after reply t early spent =
           let no_take = ap one (no_put_takes (int_eq v) e.op (Some reply) (early_put v number e put).0) in
           let none_here = and_le (takes_out (int_eq v) e.op (reply_of e.returned)) (ended_before number e.returned) in
           let none_told = ap one (no_put_takes (int_eq v) e.op (reply_of e.returned) (early_put v number e put).0) in
-          put_sums _ _ _ _ _ _ _ _ _ t.balance puts here no_take none_here none_told spent
+          omega arith
       | inr taken ↦
           let told = ap one (early_removal v number e taken).0 in
           let here = ap one taken in
-          take_sums (one (takes_out (int_eq v) e.op (Some reply))) _ _ _ _ _ _ _ t.balance t.fewer told here
-          (and_le (puts_in (int_eq v) e.op) (nat_lt e.number number))
-          (no_put e.op (reply_of e.returned) (early_removal v number e taken).0) spent
+          let fewer = and_le (puts_in (int_eq v) e.op) (nat_lt e.number number) in
+          let none_put = no_put e.op (reply_of e.returned) (early_removal v number e taken).0 in
+          omega arith
     ]
   where
-    put_sums : (after took size put early told here more gone : ℕ) → after + took ≡ size + put → put ≡ 1 → early ≡ 1
-        → took ≡ 0 → here ≤ told → told ≡ 0
-        → size + (early + more) ≤ here + gone → after + more ≤ gone
-    put_sums after took size put early told here more gone a b d e f g h = omega arith
-
     no_put : (op : AnyOp) (r : Option AnyReply) → takes_out (int_eq v) op r ≡ true → one (puts_in (int_eq v) op) ≡ 0
-    no_put op r k = elim (true_or_false (puts_in (int_eq v) op)) [
-      | inl put ↦ absurd (false_is_not_true (sym (no_put_takes (int_eq v) op r put) ∙ k))
-      | inr none ↦ ap one none
-    ]
-
-    take_sums : (took after size put told here early more : ℕ) → after + took ≡ size + put → told ≤ took → told ≡ 1
-        → here ≡ 1 → early ≤ put → put ≡ 0
-        → size + (early + more) ≤ here + tally (is_taken_before v number) es
-        → after + more ≤ tally (is_taken_before v number) es
-    take_sums took after size put told here early more a b d e f g h = omega arith
+    no_put op r k = let never = no_put_takes (int_eq v) op r in grind arith
 
 without_early : (v : ℤ) (number : ℕ) (es : List Call) (c d : Content) → IsOthers v c d → RepliesAlong c es
     → Pairs (λ x y. ReturnsBefore y x → ⊥) es
@@ -321,28 +276,35 @@ without_early v number (e ∷ es) c d s h p spent =
           subst (RepliesAlong d) (sym (filter_away (stays v number) e es (ap not early)))
           (without_early v number es h.0 d skipped h.4 p.1 (early_spent v number e es c h.0 h.1 t early spent))
       | inr late ↦
-          let no_early = or_false (is_put_before v number e) (is_taken_before v number e) late in
+          let no_early = or_parts (is_put_before v number e) (is_taken_before v number e) late in
           elim (true_or_false (puts_in (int_eq v) e.op)) [
             | inl put ↦
-                let later = and_false_right (puts_in (int_eq v) e.op) (nat_lt e.number number) put no_early.0 in
-                all_stay v number (e ∷ es) c d s h spent
-                (zero _ _ (ap one no_early.1) (none_after v number e es later p.0))
+                let later = latter (puts_in (int_eq v) e.op) (nat_lt e.number number) put no_early.0 in
+                let none_here = ap one no_early.1 in
+                let none_later = none_after v number e es later p.0 in
+                all_stay v number (e ∷ es) c d s h spent (omega arith)
             | inr no_put ↦ elim (true_or_false (takes_out (int_eq v) e.op (Some h.1))) [
-              | inl took ↦ absurd (too_many _ _ _ _ _ _ _ _ t.balance (ap one took) (ap one no_put)
-                  (ap one no_early.1) spent (owed v number es h.0 h.4 p.1))
+              | inl took ↦
+                  let some_took = ap one took in
+                  let none_put = ap one no_put in
+                  let none_here = ap one no_early.1 in
+                  let owing = owed v number es h.0 h.4 p.1 in
+                  absurd (omega arith)
               | inr no_take ↦
                   let g = subst (λ z. IfSome z (λ p. IsApart v e.op p.1 → Goes v e.op d p.0 p.1)) h.2
                   (goes v c d e.op s) (no_put, no_take) in
-                  let still = unchanged _ _ _ _ _ _ _ _ t.balance (ap one no_take) (ap one no_put)
-                  (ap one no_early.1) spent in
+                  let none_took = ap one no_take in
+                  let none_put = ap one no_put in
+                  let none_here = ap one no_early.1 in
+                  let still : IsSpent v number h.0 es = omega arith in
                   subst (RepliesAlong d) (sym (filter_here (stays v number) e es (ap not late)))
                   (g.0, h.1, g.1, h.3, without_early v number es h.0 g.0 g.2 h.4 p.1 still)
             ]
           ]
     ]
   where
-    zero : (here gone : ℕ) → here ≡ 0 → gone ≡ 0 → here + gone ≡ 0
-    zero here gone a b = omega arith
+    latter : (a b : Bool) → a ≡ true → (a && b) ≡ false → b ≡ false
+    latter a b p e = grind arith
 
     touched : (reply : AnyReply) → (is_put_before v number e || is_taken_before v number e) ≡ true
         → one (takes_out (int_eq v) e.op (reply_of e.returned)) ≤ one (takes_out (int_eq v) e.op (Some reply))
@@ -354,19 +316,7 @@ without_early v number (e ∷ es) c d s h p spent =
     ]
       where
         more : (a b : Bool) → a ≡ true → one a ≤ one b → b ≡ true
-        more a true q l = refl
-        more true false q l = absurd (omega arith)
-        more false false q l = absurd (false_is_not_true q)
-
-    too_many : (after took size put here early more gone : ℕ) → after + took ≡ size + put → took ≡ 1 → put ≡ 0
-        → here ≡ 0
-        → size + (early + more) ≤ here + gone → gone ≤ after + more → ⊥
-    too_many after took size put here early more gone a b d e f g = absurd (omega arith)
-
-    unchanged : (after took size put here early more gone : ℕ) → after + took ≡ size + put → took ≡ 0 → put ≡ 0
-        → here ≡ 0
-        → size + (early + more) ≤ here + gone → after + more ≤ gone
-    unchanged after took size put here early more gone a b d e f = omega arith
+        more a b q l = grind arith
 
 -- ---- the law
 
@@ -382,8 +332,10 @@ without_valid kind calls v number order rising absent valid =
     (λ e i q. in_calls valid e i) in
     let takes = count_among (is_taken_before v number) calls entries (calls_apart calls rising)
     (λ e i q. in_entries valid e i (returned e.returned (early_removal v number e q).1)) in
-    let spent = sums _ _ _ _ _ _ _ (size_empty (int_eq v) kind) puts takes
-    (count_tally (is_put_before v number) calls) (count_tally (is_taken_before v number) calls) absent.taken in (
+    let none_at_first = size_empty (int_eq v) kind in
+    let all_puts = count_tally (is_put_before v number) calls in
+    let all_taken = count_tally (is_taken_before v number) calls in
+    let spent : IsSpent v number (empty kind) entries = omega arith in (
       map named (filter p entries),
       record {
         entries = filter p entries;
@@ -407,8 +359,3 @@ without_valid kind calls v number order rising absent valid =
     returned : (o : Option Return) → ended_before number o ≡ true → IsSome o
     returned None e = absurd (false_is_not_true e)
     returned (Some r) e = refl
-
-    sums : (size put all_put all_took took counted_put counted_took : ℕ) → size ≡ 0 → put ≤ all_put → all_took ≤ took
-        → all_put ≡ counted_put → all_took ≡ counted_took
-        → counted_put ≤ counted_took → size + put ≤ took
-    sums size put all_put all_took took counted_put counted_took a b d e f g = omega arith

@@ -1,5 +1,6 @@
--- The operations without what was done early with a value that is absent.
-use Rattle.std.proofs.Common.{rules, ◌≡◌, ℕ, ℤ, ◌≤◌, nat_le, Bool, true, not, ◌&&◌, ◌||◌, cond, List}
+-- The operations without what was done early with a value that is absent are a part: their calls are those of the law
+-- in `Absences`, and a test that compares two counts of operations compares those of their calls.
+use Rattle.std.proofs.Common.{rules, ◌≡◌, ℕ, ℤ, nat_le, Bool, true, not, ◌&&◌, ◌||◌, cond, List}
 use Rattle.std.proofs.Common.{None, count_by, filter, refl, ap, sym, ◌∙◌, subst, arith}
 use Rattle.std.proofs.lemmas.Bool.Decides.{nat_tests}
 use Rattle.model.specs.Orders.{Call, IsValidOrder}
@@ -65,21 +66,19 @@ pub absent_from : (v : ℤ) (before : ℕ) (ops : List Invocation) (put taken : 
     → put ≡ count_by (λ o. is_put_before_end v before o.number o.op o.«end») ops
     → taken ≡ count_by (λ o. is_taken_before_end v before o.op o.«end») ops → nat_le put taken ≡ true
     → IsAbsent v before (calls_of ops)
-absent_from v before ops put taken e f le =
-    record { taken = less _ _ _ _ (e ∙ put_counts v before ops) (f ∙ taken_counts v before ops) le }
-  where
-    less : (a b p q : ℕ) → a ≡ p → b ≡ q → nat_le a b ≡ true → p ≤ q
-    less a b p q e f le = grind (arith, nat_tests)
+absent_from v before ops put taken e f le = record {
+  taken = let p = put_counts v before ops in let t = taken_counts v before ops in grind (arith, nat_tests);
+}
 
 pub absent_to : (v : ℤ) (before : ℕ) (ops : List Invocation) (put taken : ℕ)
     → put ≡ count_by (λ o. is_put_before_end v before o.number o.op o.«end») ops
     → taken ≡ count_by (λ o. is_taken_before_end v before o.op o.«end») ops → IsAbsent v before (calls_of ops)
     → nat_le put taken ≡ true
 absent_to v before ops put taken e f h =
-    less _ _ _ _ (e ∙ put_counts v before ops) (f ∙ taken_counts v before ops) h.taken
-  where
-    less : (a b p q : ℕ) → a ≡ p → b ≡ q → p ≤ q → nat_le a b ≡ true
-    less a b p q e f le = grind (arith, nat_tests)
+    let p = put_counts v before ops in
+    let t = taken_counts v before ops in
+    let fewer = h.taken in
+    grind (arith, nat_tests)
 
 pub late_shows : (v : ℤ) (before : ℕ) (h : ObjectCalls) → IsObjectHistory h → IsAbsent v before (calls_of h.ops)
     → IsPart h (record { object = h.object; kind = h.kind; ops = filter (is_late v before) h.ops })

@@ -1,5 +1,6 @@
--- What definitely was ahead of what a removal found was taken out before it.
-use Rattle.std.proofs.Common.{◌≡◌, ◌≢◌, ◌⊎◌, inl, inr, ℕ, ℤ, ◌<◌, ◌≤◌, ◌+◌, ◌==◌, nat_lt, min}
+-- What definitely was ahead of what a removal found was taken out before it: the order is split at the removal, and
+-- counts of its front are compared. A queue and a stack that gave a value have cases of their own (`InFront`).
+use Rattle.std.proofs.Common.{◌≡◌, ◌≢◌, ◌⊎◌, inl, inr, ℕ, ℤ, ◌<◌, ◌≤◌, ◌==◌, nat_lt, min}
 use Rattle.std.proofs.Common.{Bool, true, false, not, ◌&&◌, ◌||◌, cond, List, [], ◌∷◌, ◌++◌, Option}
 use Rattle.std.proofs.Common.{Some, None, All, AllPairs, Contains, IfSome, IsSome, count_by, refl}
 use Rattle.std.proofs.Common.{ap, sym, ◌∙◌, subst, arith}
@@ -149,25 +150,21 @@ taken_early : (kind : Kind) (calls : List Call) (n : Call) (s : Split kind calls
     → tally (may_by keeps) s.earlier ≤ count_by (may_precede keeps n.number r.at) calls
 taken_early kind calls n s keeps r returned =
     let late : (e : Call) → In e s.earlier → may_by keeps e ≡ true → may_precede keeps n.number r.at e ≡ true =
-    λ e i p. and_from (may_by keeps e) (not (e.number == n.number || nat_lt r.at e.number)) p
-    (other e.number n.number r.at (pairs_to (λ x y. x.number ≢ y.number) s.earlier n s.later s.apart e i)
-    (λ w. pairs_to (λ x y. ReturnsBefore y x → ⊥) s.earlier n s.later s.in_time e i (r, returned, w))) in
+    λ e i p.
+    let other = pairs_to (λ x y. x.number ≢ y.number) s.earlier n s.later s.apart e i in
+    let in_time = pairs_to (λ x y. ReturnsBefore y x → ⊥) s.earlier n s.later s.in_time e i in
+    and_from (may_by keeps e) (not (e.number == n.number || nat_lt r.at e.number)) p
+    (elsewhere e.number n.number r.at other (λ w. in_time (r, returned, w))) in
     let front = pairs_weaker (λ x y. x.number ≢ y.number) (λ x y. x ≢ y) s.earlier
     (λ x y i j ne e. ne (ap (λ (z : Call). z.number) e))
     (pairs_front (λ x y. x.number ≢ y.number) s.earlier (n ∷ s.later) s.apart) in
     let a = tally_le (may_by keeps) (may_precede keeps n.number r.at) s.earlier late in
     let b = count_among (may_precede keeps n.number r.at) s.earlier calls front (λ e i p. s.known e i) in
     let d = count_tally (may_precede keeps n.number r.at) calls in
-    sums _ _ _ _ a b d
+    omega arith
   where
-    other : (a number at : ℕ) → a ≢ number → (at < a → ⊥) → not (a == number || nat_lt at a) ≡ true
-    other a number at f g = grind (arith, nat_tests)
-
-    sums : (a b c d : ℕ) → a ≤ b → b ≤ c → c ≡ d → a ≤ d
-    sums a b c d l m e = omega arith
-
-chained : (a b c d e : ℕ) → a ≡ e → a ≤ b → b ≤ c → c ≤ d → e ≤ d
-chained a b c d e q l m n = omega arith
+    elsewhere : (a number at : ℕ) → a ≢ number → (at < a → ⊥) → not (a == number || nat_lt at a) ≡ true
+    elsewhere a number at f g = grind (arith, nat_tests)
 
 plain_case : (kind : Kind) (calls : List Call) (n : Call) (s : Split kind calls n) (r : Return)
     (o : Option ℤ) (from before : ℕ) → is_removal n.op ≡ true → n.returned ≡ Some r → r.reply ≡ Value o
@@ -181,7 +178,8 @@ plain_case kind calls n s r o from before removal returned value d u l =
     let puts = tally_le (is_put_ahead keeps from before) (put_by keeps) s.earlier
     (λ e i p. (put_parts keeps from before e p).0) in
     let here = spent n r o s.earlier s.later kind removal returned value d u s.replies in
-    chained _ _ _ _ _ (count_tally (is_put_ahead keeps from before) calls) more puts here
+    let counted = count_tally (is_put_ahead keeps from before) calls in
+    omega arith
 
 queue_case : (kind : Kind) (calls : List Call) (n : Call) (s : Split kind calls n) (r : Return) (b : ℤ)
     (from before : ℕ) → kind ≡ variant.Queue → n.op ≡ Dequeue → n.returned ≡ Some r → r.reply ≡ Value (Some b)
@@ -207,8 +205,9 @@ queue_case kind calls n s r b from before is_queue dequeue returned value l firs
     let more = count_among (is_put_ahead every from before) calls (until_put b s.earlier) s.distinct ahead in
     let puts = tally_le (is_put_ahead every from before) (put_by every) (until_put b s.earlier)
     (λ e i p. (put_parts every from before e p).0) in
-    chained _ _ _ _ _ (count_tally (is_put_ahead every from before) calls) more puts
-    (subst (λ (z : ℕ). z ≤ tally (may_by every) s.earlier) (sym (fresh_until b s.earlier)) here)
+    let counted = count_tally (is_put_ahead every from before) calls in
+    let fresh = fresh_until b s.earlier in
+    omega arith
   where
     reach : (a before number : ℕ) → a < before → before ≤ number → a < number
     reach a before number l m = omega arith
@@ -246,7 +245,8 @@ stack_case kind calls n s r b from before is_stack pop returned value l settled 
     let puts = tally_le (is_put_ahead every from before) (put_by every) (since_put b s.earlier)
     (λ e i p. (put_parts every from before e p).0) in
     let fewer = since_tally (may_by every) b s.earlier in
-    sums _ _ _ _ _ _ _ (count_tally (is_put_ahead every from before) calls) more puts here fewer
+    let counted = count_tally (is_put_ahead every from before) calls in
+    omega arith
   where
     either : (a c : Bool) → a ≡ true → (not a || c) ≡ true → c ≡ true
     either true c e h = h
@@ -257,9 +257,6 @@ stack_case kind calls n s r b from before is_stack pop returned value l settled 
 
     turned : (a b : ℕ) → a < b → b < a → ⊥
     turned a b l m = omega arith
-
-    sums : (a b c d f e : ℕ) (g : ℕ) → a ≡ e → a ≤ b → b ≤ c → d + c ≤ f → f ≤ g → e ≤ g
-    sums a b c d f e g q l m n o = omega arith
 
 -- Either the general case, or a queue's or a stack's removal of a value.
 removal_cases : (o : Option ℤ) (op : AnyOp) → ((op ≡ Dequeue → o ≡ None) × (op ≡ Pop → o ≡ None)) ⊎
@@ -305,8 +302,10 @@ ahead_bounded kind calls n at from found order of_kind rising ends stands told s
             let q = queue_case kind calls n s r c.0 from (min n.number (first_put c.0 calls))
             (of_op Dequeue c.2) c.2 w.returned
             (w.value ∙ ap Value c.1) (least_of n.number (first_put c.0 calls)).0
-            (λ p i e. le_trans _ _ _ (least_of n.number (first_put c.0 calls)).1
-            (first_least c.0 calls (pairs_from_all (λ a b. a.number < b.number) calls rising) p i e)) ends in
+            (λ p i e.
+            let below = (least_of n.number (first_put c.0 calls)).1 in
+            let first = first_least c.0 calls (pairs_from_all (λ a b. a.number < b.number) calls rising) p i e in
+            omega arith) ends in
             moved kind calls n s from n.op Dequeue found c.0 c.2 c.1 q
         | inr c ↦
             let all : is_settled (Some c.0) Pop from calls ≡ true = subst
@@ -317,7 +316,5 @@ ahead_bounded kind calls n at from found order of_kind rising ends stands told s
             moved kind calls n s from n.op Pop found c.0 c.2 c.1 q
       ]
     ] in
-    le_trans _ _ _ here (taken_early kind calls n s (is_value_ahead found n.op) r w.returned)
-  where
-    le_trans : (a b c : ℕ) → a ≤ b → b ≤ c → a ≤ c
-    le_trans a b c l m = omega arith
+    let taken = taken_early kind calls n s (is_value_ahead found n.op) r w.returned in
+    omega arith

@@ -1,4 +1,5 @@
--- Prefixes: what `operation_before` makes of the operations gives `calls_before`, and is a part.
+-- Prefixes: what `operation_before` makes of the operations gives `calls_before`, and is a part. By cases of how an
+-- operation ends, and then by the law of prefixes.
 use Rattle.std.proofs.Common.{arith, ◌≡◌, ◌≢◌, ℕ, nat_lt, Bool, true, false, cond, List, Option, Some, None, refl, sym}
 use Rattle.std.proofs.Common.{◌∙◌, subst}
 use Rattle.std.specs.List.{filter_map}

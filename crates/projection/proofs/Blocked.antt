@@ -1,5 +1,6 @@
--- What definitely was ahead of what a removal found, counted over the operations of an object.
-use Rattle.std.proofs.Common.{MatchBool, ◌≡◌, ℕ, ℤ, ◌<◌, ◌≤◌, ◌==◌, nat_lt, Bool, true, false}
+-- What definitely was ahead of what a removal found, counted over the operations of an object: each count is that of
+-- the calls, so the law of `Ahead` holds of it.
+use Rattle.std.proofs.Common.{rules, MatchBool, ◌≡◌, ℕ, ℤ, ◌<◌, ◌≤◌, ◌==◌, nat_lt, Bool, true, false}
 use Rattle.std.proofs.Common.{not, ◌&&◌, ◌||◌, cond, List, [], ◌∷◌, Option, Some, None, All}
 use Rattle.std.proofs.Common.{AllPairs, count_by, refl, ap, sym, ◌∙◌, subst, arith}
 use Rattle.std.proofs.lemmas.Bool.Decides.{nat_tests}
@@ -7,18 +8,13 @@ use Rattle.std.specs.Ordering.{int_eq}
 use Rattle.std.specs.Option.{option_map_or}
 use Rattle.std.specs.List.{find, list_all, cons_option}
 use Rattle.model.specs.declared.AnyOp.{AnyOp}
-use Rattle.model.specs.declared.AnyOp.TheVariants.{Enqueue, Dequeue, Push, Pop, Insert, ExtractMin}
-use Rattle.model.specs.declared.AnyOp.TheVariants.{Write, Read, Cas, Put, Get, Del, Acquire}
-use Rattle.model.specs.declared.AnyOp.TheVariants.{Release, Clear, Create, PutIfAbsent, Replace, Assoc}
-use Rattle.model.specs.declared.AnyOp.TheVariants.{Dissoc, Add, Remove, Has, FetchAdd, GetCount}
-use Rattle.model.specs.declared.AnyOp.TheVariants.{LockBy, UnlockBy}
+use Rattle.model.specs.declared.AnyOp.TheVariants.{Pop}
 use Rattle.model.specs.Objects.{kind_of}
 use Rattle.model.specs.Orders.{Call}
 use Rattle.model.proofs.Lists.{in_from_contains, contains_from_in, all_at, all_from_in, pairs_from_all}
 use Rattle.projection.specs.Parts.{ended_before}
 use Rattle.projection.specs.Kinds.Containers.{puts_in}
 use Rattle.events.specs.declared.operations.End.{End}
-use Rattle.events.specs.declared.operations.End.TheVariants.{Returned, Pending, Failed}
 use Rattle.events.specs.declared.operations.Invocation.{Invocation}
 use Rattle.events.specs.Operations.{call_with, call_of, calls_of, return_of, ObjectCalls, IsObjectHistory}
 use Rattle.search.specs.Outcomes.{IsNoneValid}
@@ -55,30 +51,17 @@ may_count keeps number at ops = count_calls (may_precede_end keeps number at) (m
     go : (o : Invocation) (e : End)
         → (may_take_end keeps o.op e && not (o.number == number || nat_lt at o.number)) ≡ passes
         (may_precede keeps number at) (call_with o.number o.op e)
-    go o (Returned at r) = refl
-    go o Pending = refl
-    go o Failed = refl
+    go o e = search rules
 
 first_calls : (b : ℤ) (ops : List Invocation) → first_put_end b ops ≡ first_put b (calls_of ops)
 first_calls b [] = refl
 first_calls b (o ∷ os) = go o.«end» (first_calls b os)
   where
-    here : (t : Bool) (c : Call) → o.number ≡ c.number → first_put_end b os ≡ first_put b (calls_of os)
-        → option_map_or (λ (o : Invocation). o.number)
-        (cond t (Some o) (find (λ o. is_put (int_eq b) o.op o.«end») os)) 0
-        ≡ option_map_or (λ (e : Call). e.number)
-        (cond t (Some c) (find (λ e. puts_in (int_eq b) e.op) (calls_of os))) 0
-    here true c e h = e
-    here false c e h = h
-
     go : (e : End) → first_put_end b os ≡ first_put b (calls_of os)
         → option_map_or (λ (o : Invocation). o.number)
         (cond (is_put (int_eq b) o.op e) (Some o) (find (λ o. is_put (int_eq b) o.op o.«end») os)) 0
         ≡ first_put b (cons_option (call_with o.number o.op e) (calls_of os))
-    go (Returned at r) h = here (puts_in (int_eq b) o.op)
-        (record { number = o.number; op = o.op; returned = Some (record { at = at; reply = r }) }) refl h
-    go Pending h = here (puts_in (int_eq b) o.op) (record { number = o.number; op = o.op; returned = None }) refl h
-    go Failed h = h
+    go e h = grind arith
 
 before_calls : (found : Option ℤ) (op : AnyOp) (number : ℕ) (ops : List Invocation)
     → ahead_before_end found op number ops ≡ ahead_before found op number (calls_of ops)
@@ -101,40 +84,13 @@ settled_calls (Some b) Pop from ops = each ops
         → ((not (is_put (int_eq b) o.op e) || is_over from e) && t) ≡ list_all
         (λ e. not (puts_in (int_eq b) e.op) || ended_before from e.returned)
         (cons_option (call_with o.number o.op e) es)
-    one_more o es (Returned at r) t h = ap (λ z. (not (puts_in (int_eq b) o.op) || nat_lt at from) && z) h
-    one_more o es Pending t h = ap (λ z. (not (puts_in (int_eq b) o.op) || false) && z) h
-    one_more o es Failed t h = h
+    one_more o es e t h = grind arith
 
     each : (ops : List Invocation) → list_all (is_settled_end b from) ops ≡ list_all
         (λ e. not (puts_in (int_eq b) e.op) || ended_before from e.returned) (calls_of ops)
     each [] = refl
     each (o ∷ os) = one_more o (calls_of os) o.«end» (list_all (is_settled_end b from) os) (each os)
-settled_calls (Some b) Dequeue from ops = refl
-settled_calls (Some b) ExtractMin from ops = refl
-settled_calls (Some b) (Enqueue v) from ops = refl
-settled_calls (Some b) (Push v) from ops = refl
-settled_calls (Some b) (Insert v) from ops = refl
-settled_calls (Some b) (Write v) from ops = refl
-settled_calls (Some b) Read from ops = refl
-settled_calls (Some b) (Cas x y) from ops = refl
-settled_calls (Some b) (Put k v) from ops = refl
-settled_calls (Some b) (Get k) from ops = refl
-settled_calls (Some b) (Del k) from ops = refl
-settled_calls (Some b) Acquire from ops = refl
-settled_calls (Some b) Release from ops = refl
-settled_calls (Some b) Clear from ops = refl
-settled_calls (Some b) (Create v) from ops = refl
-settled_calls (Some b) (PutIfAbsent k v) from ops = refl
-settled_calls (Some b) (Replace k v w) from ops = refl
-settled_calls (Some b) (Assoc k v) from ops = refl
-settled_calls (Some b) (Dissoc k) from ops = refl
-settled_calls (Some b) (Add v) from ops = refl
-settled_calls (Some b) (Remove v) from ops = refl
-settled_calls (Some b) (Has v) from ops = refl
-settled_calls (Some b) (FetchAdd v) from ops = refl
-settled_calls (Some b) GetCount from ops = refl
-settled_calls (Some b) (LockBy v) from ops = refl
-settled_calls (Some b) (UnlockBy v) from ops = refl
+settled_calls (Some b) op from ops = refl
 
 -- the removal of a number, as a call
 blocked_from : (ops : List Invocation) (number from : ℕ) (op : AnyOp) (at : ℕ) (found : Option ℤ)

@@ -1,4 +1,5 @@
--- A content is taken away no more often than it was there before and was set.
+-- A content is taken away no more often than it was there before and was set: each step keeps the balance, by cases of
+-- the operations, and the steps of an order are added up.
 use Rattle.std.proofs.Common.{rules, ◌≡◌, inl, inr, ℕ, ℤ, ◌<◌, ◌≤◌, ◌+◌, ◌==◌, nat_lt, Bool}
 use Rattle.std.proofs.Common.{true, false, not, ◌&&◌, cond}
 use Rattle.std.proofs.Common.{List, [], ◌∷◌, length, Option, Some, None, All, AllPairs, IfSome, IsSome}

@@ -1,6 +1,6 @@
 -- What is made of an object's operations one by one is an object's history, and its calls are made of the calls one
 -- by one.
-use Rattle.std.proofs.Common.{◌≡◌, ◌≢◌, ℕ, ◌<◌, Bool, true, false, cond, List, [], ◌∷◌, Option, Some, None, map}
+use Rattle.std.proofs.Common.{◌≡◌, ◌≢◌, ℕ, ◌<◌, Bool, false, cond, List, [], ◌∷◌, Option, Some, None, map}
 use Rattle.std.proofs.Common.{filter, All, AllPairs, refl, ap, sym, ◌∙◌, subst, arith}
 use Rattle.std.specs.List.{filter_map, cons_option}
 use Rattle.std.proofs.lemmas.Option.{same_Some}
@@ -13,7 +13,7 @@ use Rattle.model.proofs.Lists.{In, all_from_in, all_at, all_from_pairs, pairs_fr
 use Rattle.events.specs.declared.operations.End.{End}
 use Rattle.events.specs.declared.operations.End.TheVariants.{Returned, Pending, Failed}
 use Rattle.events.specs.declared.operations.Invocation.{Invocation}
-use Rattle.events.specs.Operations.{call_with, call_of, calls_of, return_of, EndsAfter, ObjectCalls, IsObjectHistory}
+use Rattle.events.specs.Operations.{call_of, calls_of, return_of, EndsAfter, ObjectCalls, IsObjectHistory}
 use Rattle.projection.specs.Cuts.{IsPart, NoneFailed}
 use Rattle.projection.specs.CutOperations.{has_failed}
 use Rattle.projection.proofs.Sequences.{in_filter_map, pairs_filter_map}
@@ -32,13 +32,7 @@ filter_map-cons f (Some x) xs = refl
 pub filter_map-filter : {X Y : Type 0} (p : X → Bool) (f : X → Y) (xs : List X)
     → filter_map (λ x. cond (p x) (Some (f x)) None) xs ≡ map f (filter p xs)
 filter_map-filter p f [] = refl
-filter_map-filter {X} {Y} p f (x ∷ xs) = go (p x) (filter_map-filter p f xs)
-  where
-    go : (b : Bool) → filter_map (λ x. cond (p x) (Some (f x)) None) xs ≡ map f (filter p xs)
-        → cons_option (cond b (Some (f x)) None) (filter_map (λ x. cond (p x) (Some (f x)) None) xs)
-        ≡ map f (cond b (x ∷ filter p xs) (filter p xs))
-    go true h = ap (λ (ys : List Y). f x ∷ ys) h
-    go false h = h
+filter_map-filter p f (x ∷ xs) = grind (arith, filter_map-filter p f xs)
 
 pub map-same : {X : Type 0} (xs : List X) → map (λ x. x) xs ≡ xs
 map-same [] = refl
@@ -122,17 +116,7 @@ cut_calls cut_operation part (o ∷ ops) f =
 
 pub call_cases : (o : Invocation) (c : Call) → call_of o ≡ Some c
     → (c.number ≡ o.number) × (c.op ≡ o.op) × (c.returned ≡ return_of o.«end»)
-call_cases o c e = go o.«end» e
-  where
-    go : (h : End) → call_with o.number o.op h ≡ Some c
-        → (c.number ≡ o.number) × (c.op ≡ o.op) × (c.returned ≡ return_of h)
-    go (Returned at r) e =
-        let q = same_Some _ c e in
-        (ap (λ (z : Call). z.number) (sym q), ap (λ (z : Call). z.op) (sym q), ap (λ (z : Call). z.returned) (sym q))
-    go Pending e =
-        let q = same_Some _ c e in
-        (ap (λ (z : Call). z.number) (sym q), ap (λ (z : Call). z.op) (sym q), ap (λ (z : Call). z.returned) (sym q))
-    go Failed e = absurd (cc e)
+call_cases o c e = grind arith
 
 pub rising_calls : (ops : List Invocation) → AllPairs (λ a b. a.number < b.number) ops
     → AllPairs (λ a b. a.number < b.number) (calls_of ops)

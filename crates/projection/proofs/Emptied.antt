@@ -1,4 +1,5 @@
--- What is put in before a removal that finds nothing, or the least value of a heap, is taken out before it.
+-- What is put in before a removal that finds nothing, or the least value of a heap, is taken out before it: the balance
+-- of `Conserved` holds along the calls before it, and where they end the object contains none of these values.
 use Rattle.std.proofs.Common.{rules, ◌≡◌, inl, inr, ℤ, ◌≤◌, ◌≤ℤ◌, ◌+◌, int_lt, Bool, true, false}
 use Rattle.std.proofs.Common.{List, [], ◌∷◌, ◌++◌, length, Option, Some, None, IfSome, filter}
 use Rattle.std.proofs.Common.{refl, sym, ◌∙◌, subst, arith}
@@ -9,7 +10,7 @@ use Rattle.model.specs.declared.AnyOp.{AnyOp}
 use Rattle.model.specs.declared.AnyOp.TheVariants.{Dequeue, Pop, Insert, ExtractMin}
 use Rattle.model.specs.declared.AnyReply.{AnyReply}
 use Rattle.model.specs.declared.AnyReply.TheVariants.{Value}
-use Rattle.model.specs.Objects.{Content, heap, owner}
+use Rattle.model.specs.Objects.{Content, heap}
 use Rattle.model.specs.Objects.{empty, next}
 use Rattle.model.specs.Orders.{Call, Return, RepliesAlong}
 use Rattle.model.proofs.Lists.{In, Pairs, in_left, in_middle}
@@ -102,14 +103,6 @@ least_first v b vs s e = subst (λ (z : ℤ). length (filter (λ w. int_lt w z) 
 
 pub same_value : (x y : Option ℤ) → Value x ≡ Value y → x ≡ y
 same_value x y e = cc
-
-some_none : (v : ℤ) → Some v ≡ None → ⊥
-some_none v e = absurd (cc e)
-
--- a lock has no removals
-no_removal : (P : Content × AnyReply → Type 0) (x : Option ℤ) (op : AnyOp) → is_removal op ≡ true
-    → IfSome (next (owner x) op) P
-no_removal P x op t = search rules
 
 -- where a removal finds nothing, the object is empty, and where a heap's finds a value, it contains no lesser one
 emptied : (c : Content) (op : AnyOp) (o : Option ℤ) → IsSound c → (op ≡ Dequeue → o ≡ None)

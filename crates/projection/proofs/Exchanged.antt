@@ -1,4 +1,5 @@
--- A part of a valid order in which the pending removals of kept values are those that were invoked first.
+-- A part of a valid order in which the pending removals of kept values are those that were invoked first: along the
+-- order, where one of them took a kept value, the next by number is done in its place.
 use Rattle.std.proofs.Common.{rules, ◌≡◌, ◌≢◌, ◌⊎◌, inl, inr, zero, suc, ℕ, ℤ, ◌<◌, ◌≤◌, ◌+◌, nat_lt, Bool, true, false}
 use Rattle.std.proofs.Common.{◌&&◌, List, [], ◌∷◌, length}
 use Rattle.std.proofs.Common.{Option, Some, None, IfSome, IsSome, is_some, refl, ap, sym, ◌∙◌, subst, arith}
@@ -14,20 +15,10 @@ use Rattle.projection.specs.Kinds.Containers.{is_removal}
 use Rattle.projection.specs.Kinds.Keeping.{fits}
 use Rattle.projection.proofs.Simulation.{Stepped}
 use Rattle.projection.proofs.Contents.{IsShadow, TookNone, shown, step_at}
-use Rattle.projection.proofs.Conserved.{one, tally, puts, taken, kept_size, and_false, turn, conserved, count_among}
+use Rattle.projection.proofs.Conserved.{one, tally, puts, taken, kept_size, turn, conserved, count_among}
 use Rattle.projection.proofs.Sequences.{one_number}
 use Rattle.projection.proofs.Fitting.{reply_shown}
 use Rattle.projection.proofs.Booleans.{false_is_not_true, true_or_false}
-
-and_true : (b : Bool) → (b && true) ≡ b
-and_true true = refl
-and_true false = refl
-
-before : (a b : ℕ) → a < b → nat_lt a b ≡ true
-before a b l = grind (arith, nat_tests)
-
-not_before : (a b : ℕ) → b ≤ a → nat_lt a b ≡ false
-not_before a b l = grind (arith, nat_tests)
 
 is_before : (a b : ℕ) → nat_lt a b ≡ true → a < b
 is_before a b e = grind (arith, nat_tests)
@@ -62,27 +53,22 @@ nth : (calls : List Call) → Pairs (λ a b. a.number < b.number) calls → (i :
 nth [] h i lt = absurd (omega arith)
 nth (e ∷ es) h i lt = go (nth es h.1) (is_open e) refl i lt
   where
-    shift : (b : Bool) (n j : ℕ) → is_open e ≡ b → nat_lt e.number n ≡ true → rank es n ≡ j
-        → rank (e ∷ es) n ≡ one b + j
-    shift b n j q t r = let here = ap one (ap (λ z. is_open e && z) t ∙ and_true (is_open e) ∙ q) in omega arith
+    shift : (b : Bool) (n j : ℕ) → is_open e ≡ b → e.number < n → rank es n ≡ j → rank (e ∷ es) n ≡ one b + j
+    shift b n j q t r = grind (arith, nat_tests)
 
     first : rank (e ∷ es) e.number ≡ zero
-    first =
-        let rest = none_before e.number es h.0 in
-        let here = ap one (ap (λ z. is_open e && z) (not_before e.number e.number (omega arith))
-        ∙ and_false (is_open e)) in
-        omega arith
+    first = let rest = none_before e.number es h.0 in grind (arith, nat_tests)
 
     go : ((j : ℕ) → j < tally is_open es → Nth es j) → (b : Bool) → is_open e ≡ b → (i : ℕ)
         → i < one b + tally is_open es → Nth (e ∷ es) i
     go again true q zero lt = record { call = e; known = inl refl; pending = q; at = first }
     go again true q (suc j) lt =
         let r = again j (omega arith) in
-        let s = shift true r.call.number j q (before e.number r.call.number (h.0 r.call r.known)) r.at in
+        let s = shift true r.call.number j q (h.0 r.call r.known) r.at in
         record { call = r.call; known = inr r.known; pending = r.pending; at = omega arith }
     go again false q i lt =
         let r = again i (omega arith) in
-        let s = shift false r.call.number i q (before e.number r.call.number (h.0 r.call r.known)) r.at in
+        let s = shift false r.call.number i q (h.0 r.call r.known) r.at in
         record { call = r.call; known = inr r.known; pending = r.pending; at = omega arith }
 
 -- one was invoked at this number or later, or all were before it
@@ -118,15 +104,11 @@ one_late calls xs i p many apart pending known = elim (late p.call.number xs) [
   | inl w ↦ w
   | inr all ↦
       let test : Call → Bool = λ e. is_open e && nat_lt e.number p.call.number in
-      let passes = all_pass test xs
-      (λ x j. ap (λ z. is_open x && z) (before x.number p.call.number (all x j)) ∙ and_true (is_open x)
-      ∙ pending x j) in
+      let passes = all_pass test xs (λ x j. let l = all x j in let o = pending x j in grind (arith, nat_tests)) in
       let fewer = count_among test xs calls (apart_calls xs apart) (λ x j q. known x j) in
-      absurd (sums _ _ _ passes fewer p.at many)
+      let ranked = p.at in
+      absurd (omega arith)
 ]
-  where
-    sums : (a b l : ℕ) → a ≡ l → a ≤ b → b ≡ i → l ≡ i + 1 → ⊥
-    sums a b l e f g h = absurd (omega arith)
 
 -- some pending removal stands at each place that i + 1 of them show
 place : (calls xs : List Call) (i : ℕ) → Pairs (λ a b. a.number < b.number) calls → length xs ≡ i + 1
@@ -135,10 +117,7 @@ place : (calls xs : List Call) (i : ℕ) → Pairs (λ a b. a.number < b.number)
 place calls xs i rising many apart pending known =
     let passes = all_pass is_open xs pending in
     let fewer = count_among is_open xs calls (apart_calls xs apart) (λ x j q. known x j) in
-    nth calls rising i (sums _ _ _ passes fewer many)
-  where
-    sums : (a b l : ℕ) → a ≡ l → a ≤ b → l ≡ i + 1 → i < b
-    sums a b l e f g = omega arith
+    nth calls rising i (omega arith)
 
 -- ---- facts of removals
 
@@ -347,12 +326,8 @@ walk calls kind all keeps kept s (e ∷ es) i xs c d r h t =
       later_known = λ x a. t.later_known x (inr a);
       later_apart = t.later_apart.1;
       in_time = t.in_time.1;
-      owed = sums _ _ _ _ _ _ _ _ _ (turn keeps e c h.0 h.1 h.2 h.3).balance q t.owed;
+      owed = let u = turn keeps e c h.0 h.1 h.2 h.3 in omega arith;
     }
-      where
-        sums : (after took size put told gone more a b : ℕ) → after + took ≡ size + put → told ≡ took
-            → size + (put + more) + i + a ≤ b + (told + gone) → after + more + i + a ≤ b + gone
-        sums after took size put told gone more a b f g l = omega arith
 
     -- a pending removal took a kept value, and one more may be done
     fewer : is_some e.returned ≡ false → (j : ℕ) (ys : List Call) → length ys ≡ j
@@ -371,12 +346,8 @@ walk calls kind all keeps kept s (e ∷ es) i xs c d r h t =
       later_known = λ x a. t.later_known x (inr a);
       later_apart = t.later_apart.1;
       in_time = t.in_time.1;
-      owed = let u = turn keeps e c h.0 h.1 h.2 h.3 in sums _ _ _ _ _ _ _ _ _ u.balance (u.open_call none) le t.owed;
+      owed = let u = turn keeps e c h.0 h.1 h.2 h.3 in let none_told = u.open_call none in omega arith;
     }
-      where
-        sums : (after took size put told gone more a b : ℕ) → after + took ≡ size + put → told ≡ 0 → j ≤ i + took
-            → size + (put + more) + i + a ≤ b + (told + gone) → after + more + j + a ≤ b + gone
-        sums after took size put told gone more a b f g k l = omega arith
 
     own_told : is_open e ≡ false
         → one (takes_out keeps e.op (reply_of e.returned)) ≡ one (takes_out keeps e.op (Some h.1))
@@ -448,14 +419,13 @@ walk calls kind all keeps kept s (e ∷ es) i xs c d r h t =
         kept_one : kept p.call.number ≡ true
         kept_one = elim (true_or_false (kept p.call.number)) [
           | inl kept_so ↦ kept_so
-          | inr left_out ↦ absurd
-              (sums _ _ _ _ _ _ (s.pending p.call p.known p.pending left_out) p.at turned.owed
-              (conserved keeps es h.0 h.4))
+          | inr left_out ↦
+              let due = s.pending p.call p.known p.pending left_out in
+              let ranked = p.at in
+              let now = turned in
+              let gone = conserved keeps es h.0 h.4 in
+              absurd (omega arith)
         ]
-          where
-            sums : (put took ranked size more gone : ℕ) → put ≤ took + ranked → ranked ≡ i
-                → size + more + (i + 1) + took ≤ put + gone → gone ≤ size + more → ⊥
-            sums put took ranked size more gone a b f g = absurd (omega arith)
 
     go : ((j : ℕ) (ys : List Call) (b : Content) → IsShadow keeps h.0 b → IsTurn calls keeps j ys es h.0
         → Exchanged calls kept j b es)

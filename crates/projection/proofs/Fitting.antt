@@ -1,5 +1,5 @@
--- Steps of a part that keeps each call, or leaves out none that took a kept value.
-use Rattle.std.proofs.Common.{◌≡◌, inl, inr, ℕ, ℤ, Bool, true, List, [], ◌∷◌, Option, Some, None, IfSome, is_some}
+-- Steps of a part that keeps each call, or leaves out none that took a kept value: they are steps of `Contents`.
+use Rattle.std.proofs.Common.{arith, ◌≡◌, inl, inr, ℕ, ℤ, Bool, true, List, [], ◌∷◌, Option, IfSome, is_some}
 use Rattle.std.proofs.Common.{refl, ap, sym, ◌∙◌, subst}
 use Rattle.model.specs.declared.AnyReply.{AnyReply}
 use Rattle.model.specs.Objects.{Content}
@@ -13,8 +13,7 @@ use Rattle.projection.proofs.Booleans.{false_is_not_true}
 
 pub reply_shown : (o : Option Return) (reply : AnyReply) → IfSome o (λ r. r.reply ≡ reply)
     → reply_of o ≡ shown (is_some o) reply
-reply_shown None reply h = refl
-reply_shown (Some r) reply h = ap (λ (z : AnyReply). Some z) h
+reply_shown o reply h = grind arith
 
 -- a call, with the reply that it had along the order, may be kept or left out, as it is
 pub record MayStep (all : Bool) (keeps : ℤ → Bool) (kept : ℕ → Bool) (e : Call) (reply : AnyReply) : Type 0 where

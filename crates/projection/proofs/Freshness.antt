@@ -1,4 +1,5 @@
--- After some calls it is known what an object contains.
+-- After some calls it is known what an object contains: by cases of the operations, one call leaves the same, on its
+-- key, in an object that was empty.
 use Rattle.std.proofs.Common.{rules, ◌≡◌, ℤ, pos, ◌+ℤ◌, Bool, true, false, not, cond, [], Option, Some, None}
 use Rattle.std.proofs.Common.{IfSome, refl, ap, sym, ◌∙◌, subst, arith}
 use Rattle.std.proofs.lemmas.Int.{ints}
@@ -63,6 +64,11 @@ tells_get : (m : map.FinMap int_cmp ℤ) (k : ℤ) (o : Option ℤ) → map.get 
 tells_get m k None e = at_key m map.empty k (map.get-empty {X = ℤ} int_cmp k ∙ sym e)
 tells_get m k (Some v) e =
     (table (map.insert map.empty k v), begun_put k v, at_key m (map.insert map.empty k v) k (grind (arith, ints, got)))
+
+-- a removal
+tells_gone : (m : map.FinMap int_cmp ℤ) (k : ℤ) → IsShadow (on_key (Some k)) (table (map.remove m k)) (table map.empty)
+tells_gone m k =
+    at_key (map.remove m k) map.empty k (map.get-empty {X = ℤ} int_cmp k ∙ grind (arith, ints, gone))
 
 -- a put that took place, and one that did not
 tells_put : (m : map.FinMap int_cmp ℤ) (k v : ℤ)
@@ -132,7 +138,7 @@ tells (register c) (Cas a b) = go (contains_value c a)
     go false = tt
 tells (table m) (Put k v) = tells_put m k v
 tells (table m) (Get k) = tells_get m k (map.get m k) refl
-tells (table m) (Del k) = at_key (map.remove m k) map.empty k (map.get-empty {X = ℤ} int_cmp k ∙ grind (arith, ints, gone))
+tells (table m) (Del k) = tells_gone m k
 tells (mutex false) Acquire = (mutex true, refl, refl)
 tells (mutex true) Release = refl
 tells (register c) Clear = refl
@@ -140,7 +146,7 @@ tells (register None) (Create v) = (register (Some v), refl, λ k. refl)
 tells (table m) (PutIfAbsent k v) = tells_absent m k v (is_absent m k)
 tells (table m) (Replace k v w) = tells_replace m k v w (has_value m k v)
 tells (table m) (Assoc k v) = tells_put m k v
-tells (table m) (Dissoc k) = at_key (map.remove m k) map.empty k (map.get-empty {X = ℤ} int_cmp k ∙ grind (arith, ints, gone))
+tells (table m) (Dissoc k) = tells_gone m k
 tells (elements s) (Add v) = tells_there (set.insert s v) v (grind (arith, ints, added))
 tells (elements s) (Remove v) = at_element (set.remove s v) set.empty v (without v ∙ grind (arith, ints, taken))
 tells (elements s) (Has v) = tells_has s v (set.contains s v) refl

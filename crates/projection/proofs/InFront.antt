@@ -1,4 +1,5 @@
--- What is in front of a value in a queue, or on top of it in a stack, is taken out before it.
+-- What is in front of a value in a queue, or on top of it in a stack, is taken out before it. By induction over the
+-- calls: each puts in behind it, or takes out one that is in front.
 use Rattle.std.proofs.Common.{◌≡◌, inl, inr, ℕ, ℤ, ◌<◌, ◌≤◌, ◌+◌, Bool, true, false, ◌||◌}
 use Rattle.std.proofs.Common.{cond, List, [], ◌∷◌, ◌++◌, Some, IfSome, refl, ap, sym, ◌∙◌, subst}
 use Rattle.std.proofs.Common.{arith}

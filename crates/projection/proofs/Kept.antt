@@ -1,4 +1,5 @@
--- Closed projections: the checks of `keeping.rt` establish that the part is closed.
+-- Closed projections: the checks of `keeping.rt` establish that the part is closed. What they count over operations is
+-- counted over calls, and what they find first is found by induction over the operations.
 use Rattle.std.proofs.Common.{rules, ◌≡◌, ◌≢◌, not, inl, inr, zero, ℕ, ℤ, ◌<◌, ◌≤◌, ◌+◌, ◌-◌, ◌==◌, nat_lt, Bool}
 use Rattle.std.proofs.Common.{true, false, ◌&&◌, ◌||◌, cond, List, [], ◌∷◌}
 use Rattle.std.proofs.Common.{Option, Some, None, AllPairs, count_by, filter, length, get_or, drop, refl, ap, sym}
@@ -17,7 +18,7 @@ use Rattle.events.specs.Operations.{call_with, call_of, calls_of, return_of, Obj
 use Rattle.projection.specs.Parts.{reply_of, takes_out, is_pending_removal, put_count, taken_count, pending_before}
 use Rattle.projection.specs.Parts.{kept_calls, IsClosed}
 use Rattle.projection.specs.Kinds.Keeping.{fits}
-use Rattle.projection.specs.Kinds.Containers.{puts_in, is_removal}
+use Rattle.projection.specs.Kinds.Containers.{puts_in}
 use Rattle.projection.specs.declared.keeping.Values.{Values}
 use Rattle.projection.specs.declared.keeping.Values.TheVariants as values
 use Rattle.projection.specs.Cuts.{keeps_all, keeps_value, IsPart, NoneFailed}
@@ -151,7 +152,7 @@ first_kept kept most (y ∷ ops) h k x i o n = go (λ m e j. first_kept kept m o
         let opened = ap (λ (u : Invocation). is_open u) (sym w) ∙ o in
         grind (arith, nat_tests)
     go again true q e (inr j) =
-        let l = again (most - 1) (both_true _ _ e).1 j in
+        let l = again (most - 1) (both_true (most == 0 || kept y.number) (keeps_first kept (most - 1) ops) e).1 j in
         let m = open_more y x ops true q (h.0 x j) in
         omega arith
     go again false q e (inr j) =
@@ -217,23 +218,11 @@ closed_calls vs kept ops rising first h = record {
     go : (number : ℕ) (op : AnyOp) (e : End) (c : Call) → call_with number op e ≡ Some c
         → fits_end (keeps_all vs) (keeps_value vs) (kept number) op e ≡ true
         → fits (keeps_all vs) (keeps_value vs) (kept number) op (reply_of (return_of e)) ≡ true
-    go number op (Returned at r) c e f = f
-    go number op Pending c e f = f
-    go number op Failed c e f = absurd (cc e)
-
-    not_both : (b : Bool) → (b && false) ≡ true → ⊥
-    not_both true e = false_is_not_true e
-    not_both false e = false_is_not_true e
-
-    alone : (b : Bool) → (b && true) ≡ true → b ≡ true
-    alone true e = refl
-    alone false e = e
+    go number op e c q f = grind arith
 
     was : (number : ℕ) (op : AnyOp) (e : End) (c : Call) → call_with number op e ≡ Some c
         → is_pending_removal op (return_of e) ≡ true → is_open_removal op e ≡ true
-    was number op (Returned at r) c e f = absurd (not_both (is_removal op) f)
-    was number op Pending c e f = alone (is_removal op) f
-    was number op Failed c e f = absurd (cc e)
+    was number op e c q f = grind arith
 
     sums : (p q r s m n : ℕ) → p ≡ q → r ≡ s → m ≡ n → p - r ≤ m → q ≤ s + n
     sums p q r s m n a b d l = omega arith

@@ -1,4 +1,5 @@
--- Suffixes: what `operation_from` makes of the operations gives `calls_from`, and is a part.
+-- Suffixes: what `operation_from` makes of the operations gives `calls_from`, and is a part. By cases of how an
+-- operation ends, and then by the law of suffixes.
 use Rattle.std.proofs.Common.{arith, rules, ◌≡◌, ◌≢◌, inl, inr, ℕ, ℤ, ◌<◌, ◌==◌, nat_lt, Bool, true, false, cond, List}
 use Rattle.std.proofs.Common.{Option, Some, None, IfSome, All, Contains, refl, ap, sym, ◌∙◌, subst}
 use Rattle.std.specs.Prelude.{option_map}
@@ -6,7 +7,6 @@ use Rattle.std.specs.Option.{option_map_or}
 use Rattle.std.specs.List.{filter_map}
 use Rattle.std.proofs.lemmas.Option.{same_Some}
 use Rattle.std.proofs.lemmas.Bool.{eqb-true}
-use Rattle.model.specs.declared.Kind.TheVariants.{Counter}
 use Rattle.model.specs.declared.AnyOp.{AnyOp}
 use Rattle.model.specs.declared.AnyReply.{AnyReply}
 use Rattle.model.specs.Objects.{kind_of}
@@ -17,7 +17,7 @@ use Rattle.events.specs.declared.operations.End.TheVariants.{Returned, Pending, 
 use Rattle.events.specs.declared.operations.Invocation.{Invocation}
 use Rattle.events.specs.Operations.{call_with, call_of, calls_of, return_of, ObjectCalls, IsObjectHistory}
 use Rattle.projection.specs.Parts.{IsStart, written_before}
-use Rattle.projection.specs.Kinds.Starts.{leaves, leaves_count, key_of}
+use Rattle.projection.specs.Kinds.Starts.{leaves, key_of}
 use Rattle.projection.specs.Parts.{call_from, calls_from}
 use Rattle.projection.specs.Cuts.{IsPart, IsSuffix}
 use Rattle.projection.specs.CutOperations.{has_failed, IsOnKey, is_over, as_returned, as_write, as_pending}
@@ -29,9 +29,6 @@ use Rattle.projection.proofs.CutOperations.{bind, IsCutOperation, cut_history, c
 use Rattle.projection.proofs.CutOperations.{all_calls, call_cases}
 
 -- ---- cut_operations
-
-count_kind : (n : ℤ) → IfSome (leaves_count n) (λ f. IfSome f (λ p. kind_of p.0 ≡ Counter))
-count_kind n = grind arith
 
 pub leaves_kind : (op : AnyOp) (reply : AnyReply)
     → IfSome (leaves op reply) (λ f. IfSome f (λ p. kind_of p.0 ≡ kind_of op))
@@ -170,13 +167,10 @@ operation_is h from at first said is s o p i e = failed (has_failed o.«end») e
           returned = λ when reply e. (
             said,
             ap (λ (z : Invocation). z.«end») own ∙ s.ended
-                ∙ ap (λ (z : ℕ). Returned z said) (same_at at x.1 when reply e),
+                ∙ ap (λ (z : ℕ). Returned z said) (let same : at ≡ when = cc e in same),
           );
         } in
         subst (IsCutOperation o) (same_Some (as_returned from at x) p e) cut_operation
-      where
-        same_at : (a : ℕ) (r : AnyReply) (b : ℕ) (t : AnyReply) → Returned a r ≡ Returned b t → a ≡ b
-        same_at a r b t e = cc
 
     over : (b : Bool) → cond b None (Some (operation_later first at o)) ≡ Some p → IsCutOperation o p
     over true e = absurd (cc e)
@@ -199,10 +193,6 @@ operation_lives : (from at : ℕ) (first : Option (AnyOp × AnyReply)) (o p : In
 operation_lives from at first o p e = grind (arith, did_not_fail)
 
 -- ---- calls
-
--- the call of an operation that did not fail
-abbrev as_call : Invocation → Call
-as_call o = record { number = o.number; op = o.op; returned = return_of o.«end» }
 
 operation_call : (from at : ℕ) (first : Option (AnyOp × AnyReply)) (o : Invocation)
     → bind (operation_from from at first o) call_of ≡ bind (call_of o) (call_from from at first)

@@ -36,9 +36,6 @@ picked : (R : Content → Content → Type 0) (cut : Call → Option Call) → M
 picked R cut m [] c d r h = record { flags = []; replies = tt; whole = λ x i so. absurd i }
 picked R cut m (e ∷ es) c d r h = go (λ b s. picked R cut m es h.0 b s h.4) (cut e) (m.step e c d h.0 h.1 r h.2 h.3)
   where
-    open_call : (x f : Call) → x ≡ f → f.returned ≡ None → IsSome x.returned → ⊥
-    open_call x f q n so = false_is_not_true (sym (ap is_some (ap (λ (z : Call). z.returned) q ∙ n)) ∙ so)
-
     go : ((b : Content) → R h.0 b → Picked b (filter_map cut es)) → (o : Option Call) → StepOf R o d h.0
         → Picked d (cons_option o (filter_map cut es))
     go again None s = again d s
@@ -48,7 +45,10 @@ picked R cut m (e ∷ es) c d r h = go (λ b s. picked R cut m es h.0 b s h.4) (
           record {
             flags = false ∷ rest.flags;
             replies = rest.replies;
-            whole = λ x i so. elim i [ inl q ↦ absurd (open_call x f q skip.0 so) | inr j ↦ rest.whole x j so ];
+            whole = λ x i so. elim i [
+              | inl q ↦ absurd (let none = ap (λ (z : Call). z.returned) q ∙ skip.0 in cc (none, so))
+              | inr j ↦ rest.whole x j so
+            ];
           }
       | inr take ↦
           let rest = again take.0 take.4 in
@@ -80,7 +80,8 @@ mapped_valid R cut calls kind into m start order v =
             (pairs_map (λ x y. x ≢ y) number entries
             (pairs_pick (λ x y. number x ≢ number y) p.flags all
             (pairs_filter_map (λ x y. number x ≢ number y) (λ x y. number x ≢ number y) cut v.entries
-            (λ x y a b i j ne f g q. ne (ap pos (sym (m.own x a f).number) ∙ q ∙ ap pos (m.own y b g).number)) (named_apart v))));
+            (λ x y a b i j ne f g q. ne (ap pos (sym (m.own x a f).number) ∙ q ∙ ap pos (m.own y b g).number))
+            (named_apart v))));
         whole = all_from_in (λ x. IsSome x.returned → Contains entries x) (filter_map cut calls) (λ x i so.
             let y = in_filter_map cut x calls i in
             let here = in_entries v y.0 y.1 (was x.returned y.0.returned (m.own y.0 x y.2).returned so) in

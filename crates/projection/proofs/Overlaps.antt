@@ -1,4 +1,5 @@
--- Calls that overlap the first one of a suffix: those that certainly left a value in a register, and the others.
+-- Calls that overlap the first one of a suffix: those that certainly left a value in a register become writes of it,
+-- which would have left the same, by cases of the operations. The others become pending.
 use Rattle.std.proofs.Common.{rules, ◌≡◌, ◌≢◌, ◌⊎◌, inl, inr, ℕ, ℤ, ◌<◌, nat_lt, Bool, true, false, cond, List, [], ◌∷◌}
 use Rattle.std.proofs.Common.{◌++◌, Option, Some, None, IfSome, IsSome, map, refl, ap, sym, ◌∙◌, subst, arith}
 use Rattle.std.specs.Prelude.{option_map}
@@ -22,10 +23,6 @@ use Rattle.projection.specs.Kinds.Starts.{key_of, leaves, written}
 use Rattle.projection.proofs.Booleans.{less_by_test}
 
 -- ---- what was written
-
-written_facts : (op : AnyOp) (reply : AnyReply) (v : ℤ) → written op reply ≡ Some v
-    → (key_of (Write v) ≡ key_of op) × (kind_of op ≡ Register)
-written_facts op reply v e = search rules
 
 pub before_facts : (first : Option (AnyOp × AnyReply)) (op : AnyOp) (reply : AnyReply) (v : ℤ)
     → written_before first op reply ≡ Some v → (key_of (Write v) ≡ key_of op) × (kind_of op ≡ Register)

@@ -1,6 +1,7 @@
 -- Calls that become calls of other operations, with the same numbers, have a valid order where they had one, if each
 -- step has its step.
-use Rattle.std.proofs.Common.{arith, ◌≡◌, ◌≢◌, ◌⊎◌, inl, inr, ℕ, Bool, Option, Some, None, IfSome, refl, ap, sym, ◌∙◌, subst}
+use Rattle.std.proofs.Common.{◌≡◌, ◌≢◌, ◌⊎◌, inl, inr, ℕ, Bool, Option, Some, None, IfSome, refl, ap, sym, ◌∙◌, subst}
+use Rattle.std.proofs.Common.{arith}
 use Rattle.std.specs.Prelude.{option_map}
 use Rattle.std.proofs.lemmas.Option.{same_Some}
 use Rattle.model.specs.declared.Kind.{Kind}
@@ -122,11 +123,8 @@ recast_operation done pending into is kept o p e = go o.«end» refl e
         (record {
           number = refl;
           kind = l;
-          returned = λ when reply w. (r, q ∙ ap (λ (z : ℕ). Returned z r) (same_at at f.1 when reply w));
+          returned = λ when reply w. (r, q ∙ ap (λ (z : ℕ). Returned z r) (let same : at ≡ when = cc w in same));
         })
-      where
-        same_at : (a : ℕ) (r : AnyReply) (b : ℕ) (t : AnyReply) → Returned a r ≡ Returned b t → a ≡ b
-        same_at a r b t e = cc
 
     unfinished : (f : Option AnyOp) → IfSome f (λ f. kind_of f ≡ into o.op)
         → option_map (as_pending o.number) f ≡ Some p → IsCutOperationOf (into o.op) o p

@@ -1,8 +1,7 @@
 -- The calls of a register that a part has are possible, by computing each.
-use Rattle.std.proofs.Common.{◌≡◌, ℤ, Bool, true, cond, Option, Some, None, refl, ap, arith}
+use Rattle.std.proofs.Common.{rules, ◌≡◌, ℤ, true, Option, Some, arith}
 use Rattle.std.proofs.lemmas.Int.{ints}
 use Rattle.std.specs.Ordering.{int_eq}
-use Rattle.model.specs.declared.AnyReply.TheVariants.{Swapped, NotSwapped}
 use Rattle.model.specs.Objects.{register, next}
 use Rattle.projection.specs.Kinds.Register.{setting, replacing}
 
@@ -10,12 +9,7 @@ pub own_int : (a : ℤ) → int_eq a a ≡ true
 own_int a = grind (arith, ints)
 
 pub sets : (y c : Option ℤ) → next (register y) (setting c).0 ≡ Some (register c, (setting c).1)
-sets y None = refl
-sets y (Some v) = refl
+sets y c = search rules
 
 pub replaces : (a c : Option ℤ) → next (register a) (replacing a c).0 ≡ Some (register c, (replacing a c).1)
-replaces None (Some b) = refl
-replaces (Some a) (Some b) =
-    ap (λ (t : Bool). cond t (Some (register (Some b), Swapped a b)) (Some (register (Some a), NotSwapped))) (own_int a)
-replaces None None = refl
-replaces (Some a) None = refl
+replaces a c = grind (arith, ints)

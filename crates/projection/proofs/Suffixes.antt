@@ -275,7 +275,8 @@ suffix_valid kind calls e r first order stands kinds ret fr on v =
               | inl q ↦ subst (λ (z : Call). In z entries) (sym q.2) (j.own q.0 q.1)
               | inr q ↦
                   let l = late_facts from at first y.0 (subst (λ (z : Call). IsSome z.returned) q.1 so) in
-                  elim (in_append y.0 earlier (e ∷ later) (subst (In y.0) s.2 (in_entries v y.0 y.1 (ap is_some l.was)))) [
+                  let there = subst (In y.0) s.2 (in_entries v y.0 y.1 (ap is_some l.was)) in
+                  elim (in_append y.0 earlier (e ∷ later) there) [
                     | inl k ↦ elim l.either [
                       | inl w ↦ absurd (in_time.0 y.0 k (r, ret, w))
                       | inr f ↦ j.fronts x (subst (λ (z : Call). In z front) (sym q.1)
