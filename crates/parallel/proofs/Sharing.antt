@@ -6,7 +6,8 @@ use Rattle.std.proofs.Common.{subst, arith}
 use Rattle.std.proofs.Math.Nat.{lt_of_mul-lt-mul_right, mul-lt-mul_of_pos_right, mod-lt, mod-add-div'}
 use Rattle.std.proofs.lemmas.Bool.{cases_order}
 use Rattle.std.proofs.lemmas.List.{get_or_default, take_all}
-use Rattle.model.proofs.Lists.{In, in_append, in_left, in_right, in_from_contains, contains_from_in, all_from_in}
+use Rattle.std.proofs.lemmas.List.Elements.{All-push, Contains-push, Contains-append_left}
+use Rattle.model.proofs.Lists.{In, all_from_in}
 use Rattle.model.proofs.Lists.{all_at}
 use Rattle.events.specs.declared.event.Event.{Event}
 use Rattle.events.specs.Operations.{ObjectCalls, calls_of}
@@ -109,15 +110,6 @@ abbrev pub IsLeastOf : List (Result (Unit {0}) RefusedObject) → Option Refused
 IsLeastOf rs None = All IsOk rs
 IsLeastOf rs (Some f) = Contains rs (Err f) × All (IsNotBefore f) rs
 
-all_more : {X : Type 0} (P : X → Type 0) (xs : List X) (x : X) → All P xs → P x → All P (xs ++ x ∷ [])
-all_more P xs x h p = all_from_in P (xs ++ x ∷ []) (λ y i. elim (in_append y xs (x ∷ []) i) [
-  | inl j ↦ all_at P xs h y j
-  | inr j ↦ elim j [
-    | inl e ↦ subst P (sym e) p
-    | inr n ↦ absurd n
-  ]
-])
-
 all_weaker : (f g : RefusedObject) (rs : List (Result (Unit {0}) RefusedObject)) → g.place < f.place
     → All (IsNotBefore f) rs → All (IsNotBefore g) rs
 all_weaker f g rs l h = all_from_in (IsNotBefore g) rs (λ r i. weaker r (all_at (IsNotBefore f) rs h r i))
@@ -133,27 +125,21 @@ all_ok g rs h = all_from_in (IsNotBefore g) rs (λ r i. go r (all_at IsOk rs h r
     go (Ok u) k = tt
     go (Err e) k = cc k
 
-stands_last : {X : Type 0} (xs : List X) (x : X) → Contains (xs ++ x ∷ []) x
-stands_last xs x = contains_from_in (xs ++ x ∷ []) x (in_right x xs (x ∷ []) (inl refl))
-
-stands_still : {X : Type 0} (xs : List X) (x y : X) → Contains xs x → Contains (xs ++ y ∷ []) x
-stands_still xs x y h = contains_from_in (xs ++ y ∷ []) x (in_left x xs (y ∷ []) (in_from_contains xs x h))
-
 pub one_more_found : (rs : List (Result (Unit {0}) RefusedObject)) (r : Result (Unit {0}) RefusedObject)
     (least next : Option RefusedObject)
     → IsLeastOf rs least → IsEarlier least r next → IsLeastOf (rs ++ r ∷ []) next
-one_more_found rs (Ok u) None next h is = subst (IsLeastOf (rs ++ Ok u ∷ [])) (sym is) (all_more IsOk rs (Ok u) h refl)
+one_more_found rs (Ok u) None next h is = subst (IsLeastOf (rs ++ Ok u ∷ [])) (sym is) (All-push IsOk rs (Ok u) h refl)
 one_more_found rs (Ok u) (Some f) next h is =
     subst (IsLeastOf (rs ++ Ok u ∷ [])) (sym is)
-    (stands_still rs (Err f) (Ok u) h.0, all_more (IsNotBefore f) rs (Ok u) h.1 tt)
+    (Contains-append_left rs (Ok u ∷ []) (Err f) h.0, All-push (IsNotBefore f) rs (Ok u) h.1 tt)
 one_more_found rs (Err g) None next h is =
     subst (IsLeastOf (rs ++ Err g ∷ [])) (sym is)
-    (stands_last rs (Err g), all_more (IsNotBefore g) rs (Err g) (all_ok g rs h) (omega arith))
+    (Contains-push rs (Err g), All-push (IsNotBefore g) rs (Err g) (all_ok g rs h) (omega arith))
 one_more_found rs (Err g) (Some f) next h is = elim is [
   | inl e ↦ subst (IsLeastOf (rs ++ Err g ∷ [])) (sym e.1)
-      (stands_still rs (Err f) (Err g) h.0, all_more (IsNotBefore f) rs (Err g) h.1 e.0)
+      (Contains-append_left rs (Err g ∷ []) (Err f) h.0, All-push (IsNotBefore f) rs (Err g) h.1 e.0)
   | inr e ↦ subst (IsLeastOf (rs ++ Err g ∷ [])) (sym e.1)
-      (stands_last rs (Err g), all_more (IsNotBefore g) rs (Err g) (all_weaker f g rs e.0 h.1) (omega arith))
+      (Contains-push rs (Err g), All-push (IsNotBefore g) rs (Err g) (all_weaker f g rs e.0 h.1) (omega arith))
 ]
 
 pub none_found : (rs : List (Result (Unit {0}) RefusedObject)) (least : Option RefusedObject) → IsLeastOf rs least

@@ -1,10 +1,12 @@
--- Counting the invocations of a history.
+-- Counting the invocations of a history, by induction: one invocation more adds its kind and its object where they are
+-- new. What is counted is what the history has, since each event that invokes is an invocation.
 use Rattle.std.proofs.Common.{◌≡◌, ℕ, suc, ◌==◌, ◌+◌, ◌<◌, ◌&&◌, Bool, true, false, not, cond}
 use Rattle.std.proofs.Common.{List, [], ◌∷◌, ◌++◌, length, take, get_or, map, filter}
 use Rattle.std.proofs.Common.{Option, Some, None, refl, ap, sym, ◌∙◌, subst, arith, length-append}
 use Rattle.std.specs.Prelude.{nat_eq, ◌||◌}
 use Rattle.std.specs.List.{list_any, cons_option}
-use Rattle.std.proofs.lemmas.Bool.{eqb-true, eqb-false, eq-eqb, ne_eqb}
+use Rattle.std.proofs.lemmas.Bool.Decides.{nat_tests}
+use Rattle.std.proofs.lemmas.Bool.{eqb-true}
 use Rattle.std.proofs.lemmas.List.{take_more, map-append, append-nil}
 use Rattle.std.proofs.lemmas.List.Elements.{filter-append}
 use Rattle.std.proofs.lemmas.List.Sums.{fold-append}
@@ -12,7 +14,7 @@ use Rattle.model.specs.declared.Kind.{Kind}
 use Rattle.model.specs.Objects.{kind_of}
 use Rattle.model.specs.Orders.{Numbered, ProcessCall, calls_in}
 use Rattle.events.specs.declared.event.Action.{Action}
-use Rattle.events.specs.declared.event.Action.TheVariants.{Invoke, Ok, Fail, Info}
+use Rattle.events.specs.declared.event.Action.TheVariants.{Invoke}
 use Rattle.events.specs.declared.event.Event.{Event}
 use Rattle.events.specs.Events.{denoted, denoted_by, fails, next_event}
 use Rattle.report.specs.Counts.{Use, use_by, uses, with_new, first_seen, same_kind, objects_in}
@@ -40,16 +42,8 @@ named_push k xs e = ap (λ is. first_seen nat_eq (map (λ (i : Invoked). i.objec
     go false = ap (λ is. first_seen nat_eq (map (λ (i : Invoked). i.object) is)) (append-nil (filter (is_of k) xs))
 
 any_push : (p : ℕ → Bool) (xs : List ℕ) (y : ℕ) → list_any p (xs ++ y ∷ []) ≡ (list_any p xs || p y)
-any_push p [] y = or_false (p y)
-  where
-    or_false : (b : Bool) → (b || false) ≡ b
-    or_false true = refl
-    or_false false = refl
-any_push p (x ∷ xs) y = ap (λ b. p x || b) (any_push p xs y) ∙ or_assoc (p x) (list_any p xs) (p y)
-  where
-    or_assoc : (a b c : Bool) → (a || (b || c)) ≡ ((a || b) || c)
-    or_assoc true b c = refl
-    or_assoc false b c = refl
+any_push p [] y = grind arith
+any_push p (x ∷ xs) y = grind (arith, any_push p xs y)
 
 -- one object more: it is among those that were seen, or new
 with_object : (old new : ℕ → Bool) (n more o : ℕ) (seen : List ℕ) → ((x : ℕ) → new x ≡ cond (o == x) true (old x))
@@ -63,18 +57,7 @@ with_object old new n more o seen among is h = go (list_any (nat_eq o) seen) ref
     known q x false e = h.objects x
 
     fresh : (x : ℕ) (b : Bool) → (o == x) ≡ b → cond b true (old x) ≡ (list_any (nat_eq x) seen || (x == o))
-    fresh x true e = sym (ap (λ b. list_any (nat_eq x) seen || b) (eq-eqb x o (sym (eqb-true o x e)))
-        ∙ or_true (list_any (nat_eq x) seen))
-      where
-        or_true : (b : Bool) → (b || true) ≡ true
-        or_true true = refl
-        or_true false = refl
-    fresh x false e = h.objects x ∙ sym (ap (λ b. list_any (nat_eq x) seen || b)
-        (ne_eqb x o (λ q. eqb-false o x e (sym q))) ∙ or_false (list_any (nat_eq x) seen))
-      where
-        or_false : (b : Bool) → (b || false) ≡ b
-        or_false true = refl
-        or_false false = refl
+    fresh x b e = let before = h.objects x in grind (arith, nat_tests)
 
     go : (b : Bool) → list_any (nat_eq o) seen ≡ b → AreSeen new (n + more) (cond b seen (seen ++ o ∷ []))
     go true q =
@@ -136,9 +119,7 @@ of_invoked i = record { object = i.object; kind = i.kind }
 uses_step : (x : ℕ) (a : Action) (failed : Bool) (us : List Use) (later : List Invoked) → us ≡ map of_invoked later
     → cons_option (use_by x a) us ≡ map of_invoked (invocation_by x a failed ++ later)
 uses_step x (Invoke op) failed us later h = ap (λ vs. record { object = x; kind = kind_of op } ∷ vs) h
-uses_step x (Ok r) failed us later h = h
-uses_step x Fail failed us later h = h
-uses_step x Info failed us later h = h
+uses_step x a failed us later h = h
 
 pub uses_are : (es : List Event) → uses es ≡ map of_invoked (invocations es)
 uses_are [] = refl
@@ -149,16 +130,10 @@ map-map : {X Y Z : Type 0} (f : X → Y) (g : Y → Z) (xs : List X) → map g (
 map-map f g [] = refl
 map-map f g (x ∷ xs) = ap (λ zs. g (f x) ∷ zs) (map-map f g xs)
 
-one_of_mapped : {X Y : Type 0} (f : X → Y) (x : X) (ys : List Y) (xs : List X) (b : Bool) → ys ≡ map f xs
-    → cond b (f x ∷ ys) ys ≡ map f (cond b (x ∷ xs) xs)
-one_of_mapped f x ys xs true h = ap (λ zs. f x ∷ zs) h
-one_of_mapped f x ys xs false h = h
-
 filter-map : {X Y : Type 0} (f : X → Y) (p : Y → Bool) (xs : List X) → filter p (map f xs)
     ≡ map f (filter (λ x. p (f x)) xs)
 filter-map f p [] = refl
-filter-map f p (x ∷ xs) = one_of_mapped f x (filter p (map f xs)) (filter (λ y. p (f y)) xs) (p (f x))
-    (filter-map f p xs)
+filter-map f p (x ∷ xs) = grind (arith, filter-map f p xs)
 
 pub filter-everything : {X : Type 0} (xs : List X) → filter (λ x. true) xs ≡ xs
 filter-everything [] = refl
@@ -191,30 +166,15 @@ is_call_of (Some k) c = same_kind k (kind_of c.call.op)
 abbrev counted : Option Kind → Invoked → Bool
 counted k i = is_of k i && not i.failed
 
--- one invocation that did not fail, and its call
-happened : (b : Bool) (i : Invoked) (c : ProcessCall) (is : List Invoked) (cs : List ProcessCall) → length is
-    ≡ length cs → length (cond (b && true) (i ∷ is) is) ≡ length (cond b (c ∷ cs) cs)
-happened true i c is cs h = ap suc h
-happened false i c is cs h = h
-
--- one that failed
-missed : (b : Bool) (i : Invoked) (is : List Invoked) → cond (b && false) (i ∷ is) is ≡ is
-missed true i is = refl
-missed false i is = refl
-
 count_step : (k : Option Kind) (n p x : ℕ) (a : Action) (failed : Bool) (rest : List Numbered) (later : List Invoked)
     → length (filter (counted k) later) ≡ length (filter (is_call_of k) (calls_in rest))
     → length (filter (counted k) (invocation_by x a failed ++ later))
     ≡ length (filter (is_call_of k) (calls_in (denoted_by n p x a failed ++ rest)))
 count_step None n p x (Invoke op) true rest later h = h
 count_step None n p x (Invoke op) false rest later h = ap suc h
-count_step (Some k) n p x (Invoke op) true rest later h = ap length
-    (missed (same_kind k (kind_of op)) _ (filter (counted (Some k)) later)) ∙ h
-count_step (Some k) n p x (Invoke op) false rest later h = happened (same_kind k (kind_of op)) _ _
-    (filter (counted (Some k)) later) (filter (is_call_of (Some k)) (calls_in rest)) h
-count_step k n p x (Ok r) failed rest later h = h
-count_step k n p x Fail failed rest later h = h
-count_step k n p x Info failed rest later h = h
+count_step (Some k) n p x (Invoke op) true rest later h = grind arith
+count_step (Some k) n p x (Invoke op) false rest later h = grind arith
+count_step k n p x a failed rest later h = h
 
 count_is : (k : Option Kind) (es : List Event) → operation_count k (invocations es)
     ≡ length (filter (is_call_of k) (calls_in (denoted es)))
