@@ -1,11 +1,11 @@
 -- The calls of a part, alone, are a history, and its calls are these. It is linearizable exactly where they have a
 -- valid order. The same holds of the operations at the numbers of a part.
-use Rattle.std.proofs.Common.{◌≡◌, ◌≢◌, ◌⊎◌, inl, inr, ℕ, ◌<◌, ◌==◌, ◌&&◌, nat_lt, Bool, true, false, cond}
+use Rattle.std.proofs.Common.{◌≡◌, ◌≢◌, ◌⊎◌, inl, inr, ℕ, ◌<◌, ◌==◌, nat_lt, Bool, true, false, cond}
 use Rattle.std.proofs.Common.{List, [], ◌∷◌, Option, Some, None, map, filter, AllPairs, All}
 use Rattle.std.proofs.Common.{refl, ap, sym, ◌∙◌, subst, arith}
 use Rattle.std.specs.Option.{option_or}
 use Rattle.std.proofs.lemmas.Option.{same_Some}
-use Rattle.std.proofs.lemmas.Bool.{eqb-true, eqb-false, ne_eqb, eq-eqb, and_from}
+use Rattle.std.proofs.lemmas.Bool.{eqb-true, eqb-false, eq-eqb, and_from}
 use Rattle.std.proofs.lemmas.Bool.Decides.{nat_tests}
 use Rattle.model.specs.declared.Kind.{Kind}
 use Rattle.model.specs.declared.AnyOp.{AnyOp}
@@ -52,12 +52,7 @@ lt_false a b e ne = grind (arith, nat_tests)
 
 in_placed : (m y : Numbered) (later : List Numbered) → In y (placed m later) → (y ≡ m) ⊎ In y later
 in_placed m y [] i = i
-in_placed m y (n ∷ later) i = go (nat_lt n.number m.number) i (in_placed m y later)
-  where
-    go : (b : Bool) → In y (cond b (n ∷ placed m later) (m ∷ n ∷ later))
-        → (In y (placed m later) → (y ≡ m) ⊎ In y later) → (y ≡ m) ⊎ In y (n ∷ later)
-    go true i f = elim i [ inl q ↦ inr (inl q) | inr j ↦ elim (f j) [ inl q ↦ inl q | inr k ↦ inr (inr k) ] ]
-    go false i f = i
+in_placed m y (n ∷ later) i = grind (arith, in_placed m y later)
 
 abbrev Rise : List Numbered → Type 0
 Rise h = Pairs (λ a b. a.number < b.number) h
@@ -93,35 +88,23 @@ IsFree p h = (m : Numbered) → In m h → process_of m.event ≢ p
 by_free : (p : ℕ) (h : List Numbered) → IsFree p h → by_process p (events h) ≡ []
 by_free p [] f = refl
 by_free p (m ∷ h) f =
-    ap (λ b. cond b (m.event ∷ by_process p (events h)) (by_process p (events h)))
-    (ne_eqb (process_of m.event) p (f m (inl refl)))
-    ∙ by_free p h (λ n i. f n (inr i))
+    let here = f m (inl refl) in
+    let rest = by_free p h (λ n i. f n (inr i)) in
+    grind (arith, nat_tests)
 
 by_placed_other : (p : ℕ) (m : Numbered) (later : List Numbered) → process_of m.event ≢ p
     → by_process p (events (placed m later)) ≡ by_process p (events later)
-by_placed_other p m [] ne = ap (λ b. cond b (m.event ∷ []) []) (ne_eqb (process_of m.event) p ne)
-by_placed_other p m (n ∷ later) ne = go (nat_lt n.number m.number) (by_placed_other p m later ne)
-  where
-    go : (b : Bool) → by_process p (events (placed m later)) ≡ by_process p (events later)
-        → by_process p (events (cond b (n ∷ placed m later) (m ∷ n ∷ later))) ≡ by_process p (events (n ∷ later))
-    go true h = ap (λ es. cond (process_of n.event == p) (n.event ∷ es) es) h
-    go false h = ap (λ b. cond b (m.event ∷ by_process p (events (n ∷ later))) (by_process p (events (n ∷ later))))
-        (ne_eqb (process_of m.event) p ne)
+by_placed_other p m [] ne = grind (arith, nat_tests)
+by_placed_other p m (n ∷ later) ne = grind (arith, nat_tests, by_placed_other p m later)
 
 by_placed_own : (p : ℕ) (m : Numbered) (later : List Numbered) → process_of m.event ≡ p → IsFree p later
     → by_process p (events (placed m later)) ≡ m.event ∷ []
-by_placed_own p m [] e f = ap (λ b. cond b (m.event ∷ []) []) (eq-eqb (process_of m.event) p e)
-by_placed_own p m (n ∷ later) e f = go (nat_lt n.number m.number) (by_placed_own p m later e (λ k i. f k (inr i)))
-  where
-    go : (b : Bool) → by_process p (events (placed m later)) ≡ m.event ∷ []
-        → by_process p (events (cond b (n ∷ placed m later) (m ∷ n ∷ later))) ≡ m.event ∷ []
-    go true h =
-        ap (λ b. cond b (n.event ∷ by_process p (events (placed m later))) (by_process p (events (placed m later))))
-        (ne_eqb (process_of n.event) p (f n (inl refl))) ∙ h
-    go false h =
-        ap (λ b. cond b (m.event ∷ by_process p (events (n ∷ later))) (by_process p (events (n ∷ later))))
-        (eq-eqb (process_of m.event) p e)
-        ∙ ap (λ es. m.event ∷ es) (by_free p (n ∷ later) f)
+by_placed_own p m [] e f = grind (arith, nat_tests)
+by_placed_own p m (n ∷ later) e f =
+    let here = f n (inl refl) in
+    let rest = by_placed_own p m later e (λ k i. f k (inr i)) in
+    let none = by_free p (n ∷ later) f in
+    grind (arith, nat_tests)
 
 -- ---- calls and responses
 
@@ -136,43 +119,29 @@ abbrev own_call : ℕ → Call → ProcessCall
 own_call x e = record { process = e.number; object = x; call = e }
 
 response_other : (p x n : ℕ) (v : Event) → process_of v ≢ p → response_in p x n v ≡ None
-response_other p x n (Inv q y op) ne = refl
-response_other p x n (Res q y r) ne = ap (λ b. cond (b && (x == y)) (Some (record { at = n; reply = r })) None)
-    (ne_eqb p q (λ e. ne (sym e)))
+response_other p x n v ne = grind (arith, nat_tests)
 
 response_free : (p x : ℕ) (h : List Numbered) → IsFree p h → response_of p x h ≡ None
 response_free p x [] f = refl
 response_free p x (m ∷ h) f =
-    ap (λ o. option_or o (response_of p x h)) (response_other p x m.number m.event (f m (inl refl)))
-    ∙ response_free p x h (λ n i. f n (inr i))
+    let here = response_other p x m.number m.event (f m (inl refl)) in
+    let rest = response_free p x h (λ n i. f n (inr i)) in
+    grind arith
 
 response_placed_other : (p x : ℕ) (m : Numbered) (later : List Numbered) → process_of m.event ≢ p
     → response_of p x (placed m later) ≡ response_of p x later
-response_placed_other p x m [] ne = ap (λ o. option_or o None) (response_other p x m.number m.event ne)
-response_placed_other p x m (n ∷ later) ne = go (nat_lt n.number m.number) (response_placed_other p x m later ne)
-  where
-    go : (b : Bool) → response_of p x (placed m later) ≡ response_of p x later
-        → response_of p x (cond b (n ∷ placed m later) (m ∷ n ∷ later)) ≡ response_of p x (n ∷ later)
-    go true h = ap (option_or (response_in p x n.number n.event)) h
-    go false h = ap (λ o. option_or o (response_of p x (n ∷ later))) (response_other p x m.number m.event ne)
+response_placed_other p x m [] ne = let other = response_other p x m.number m.event ne in grind arith
+response_placed_other p x m (n ∷ later) ne =
+    let other = response_other p x m.number m.event ne in
+    grind (arith, response_placed_other p x m later)
 
 response_placed_own : (p x : ℕ) (r : Return) (later : List Numbered) → IsFree p later
     → response_of p x (placed (response p x r) later) ≡ Some r
-response_placed_own p x r later f = place later f
-  where
-    own : (rest : List Numbered) → response_of p x (response p x r ∷ rest) ≡ Some r
-    own rest = ap (λ b. option_or (cond b (Some r) None) (response_of p x rest))
-        (and_from (p == p) (x == x) (eq-eqb p p refl) (eq-eqb x x refl))
-
-    place : (later : List Numbered) → IsFree p later → response_of p x (placed (response p x r) later) ≡ Some r
-    place [] f = own []
-    place (n ∷ later) f = go (nat_lt n.number r.at) (place later (λ k i. f k (inr i)))
-      where
-        go : (b : Bool) → response_of p x (placed (response p x r) later) ≡ Some r
-            → response_of p x (cond b (n ∷ placed (response p x r) later) (response p x r ∷ n ∷ later)) ≡ Some r
-        go true h = ap (λ o. option_or o (response_of p x (placed (response p x r) later)))
-            (response_other p x n.number n.event (f n (inl refl))) ∙ h
-        go false h = own (n ∷ later)
+response_placed_own p x r [] f = grind (arith, nat_tests)
+response_placed_own p x r (n ∷ later) f =
+    let other = response_other p x n.number n.event (f n (inl refl)) in
+    let rest = response_placed_own p x r later (λ k i. f k (inr i)) in
+    grind (arith, nat_tests)
 
 -- a response changes no call that another process invoked
 calls_placed : (p x : ℕ) (r : Return) (later : List Numbered) → IsFree p later
@@ -209,12 +178,7 @@ record IsOf (x : ℕ) (calls : List Call) (m : Numbered) : Type 0 where
 in_return : (p x : ℕ) (o : Option Return) (y : Numbered) (later : List Numbered) → In y (with_return p x o later)
     → ((r : Return) × (o ≡ Some r) × (y ≡ record { number = r.at; event = Res p x r.reply })) ⊎ In y later
 in_return p x None y later i = inr i
-in_return p x (Some r) y later i = elim
-    (in_placed (record { number = r.at; event = Res p x r.reply }) y later i) [
-      | inl q ↦ inl
-          (r, refl, q)
-      | inr j ↦ inr j
-    ]
+in_return p x (Some r) y later i = grind (arith, in_placed)
 
 in_alone : (x : ℕ) (calls : List Call) (m : Numbered) → In m (alone x calls) → IsOf x calls m
 in_alone x [] m i = absurd i
@@ -241,11 +205,11 @@ in_alone x (e ∷ es) m i = elim i [
 
 -- the process of the first call makes no other
 free_later : (x : ℕ) (e : Call) (es : List Call) → AreApart (e ∷ es) → IsFree e.number (alone x es)
-free_later x e es h m i q = let o = in_alone x es m i in let g =
-    (h.pairs.0 o.call o.known).0 in let p = o.process in risen e.number o.call.number g (sym q ∙ p)
-  where
-    risen : (a b : ℕ) → a < b → a ≡ b → ⊥
-    risen a b l e = omega arith
+free_later x e es h m i q =
+    let o = in_alone x es m i in
+    let g = (h.pairs.0 o.call o.known).0 in
+    let p = o.process in
+    omega arith
 
 alone_rise : (x : ℕ) (calls : List Call) → AreApart calls → Rise (alone x calls)
 alone_rise x [] h = tt
@@ -300,11 +264,7 @@ of_object : (x : ℕ) (calls : List Call)
     (filter (λ (o : ProcessCall). o.object == x)
     (map (own_call x) calls)) ≡ calls
 of_object x [] = refl
-of_object x (e ∷ es) =
-    let os : List ProcessCall = filter (λ (o : ProcessCall). o.object == x)
-    (map (own_call x) es) in
-    ap (λ b. map (λ (o : ProcessCall). o.call) (cond b (own_call x e ∷ os) os))
-    (eq-eqb x x refl) ∙ ap (λ cs. e ∷ cs) (of_object x es)
+of_object x (e ∷ es) = grind (arith, nat_tests, of_object x es)
 
 pub alone_calls : (x : ℕ) (calls : List Call) → AreApart calls → calls_on x (alone x calls) ≡ calls
 alone_calls x calls h = ap (λ os. map (λ (o : ProcessCall). o.call) (filter (λ (o : ProcessCall). o.object == x) os))
@@ -352,20 +312,7 @@ response_event p x [] r e = absurd (cc e)
 response_event p x (m ∷ h) r e = go (response_in p x m.number m.event) refl e (response_event p x h r)
   where
     here : (v : Event) → response_in p x m.number v ≡ Some r → (m.number ≡ r.at) × (v ≡ Res p x r.reply)
-    here (Inv q y op) e = absurd (cc e)
-    here (Res q y s) e = both (p == q) refl (x == y) refl e
-      where
-        both : (b : Bool) → (p == q) ≡ b → (c : Bool) → (x == y) ≡ c
-            → cond (b && c) (Some (record { at = m.number; reply = s })) None ≡ Some r
-            → (m.number ≡ r.at) × (Res q y s ≡ Res p x r.reply)
-        both true b true c e =
-            let k = same_Some (record { at = m.number; reply = s }) r e in (
-              ap (λ (z : Return). z.at) k,
-              ap (λ n. Res n y s) (sym (eqb-true p q b)) ∙ ap (λ n. Res p n s) (sym (eqb-true x y c))
-                  ∙ ap (λ (z : Return). Res p x z.reply) k,
-            )
-        both true b false c e = absurd (cc e)
-        both false b c d e = absurd (cc e)
+    here v e = grind (arith, nat_tests)
 
     go : (o : Option Return) → response_in p x m.number m.event ≡ o → option_or o (response_of p x h) ≡ Some r
         → (response_of p x h ≡ Some r → (k : Numbered) × In k h × (k.number ≡ r.at) × (k.event ≡ Res p x r.reply))
@@ -422,10 +369,10 @@ call_events (m ∷ h) e up i = go m.event refl i (call_events h e up.1)
 either_way : {X : Type 0} (R : X → X → Type 0) (xs : List X) (a b : X) → Pairs R xs → In a xs → In b xs
     → (a ≡ b) ⊎ (R a b ⊎ R b a)
 either_way R [] a b h i j = absurd i
-either_way R (x ∷ xs) a b h i j = elim i [
-  | inl p ↦ elim j [ inl q ↦ inl (p ∙ sym q) | inr l ↦ inr (inl (subst (λ z. R z b) (sym p) (h.0 b l))) ]
-  | inr k ↦ elim j [ inl q ↦ inr (inr (subst (λ z. R z a) (sym q) (h.0 a k))) | inr l ↦ either_way R xs a b h.1 k l ]
-]
+either_way R (x ∷ xs) a b h i j =
+    let before = h.0 a in
+    let after = h.0 b in
+    grind (arith, either_way R xs a b h.1)
 
 -- of two operations no event of the one has the number of an event of the other
 calls_apart : (h : List Numbered) (a b : ProcessCall) → IsHistory h → In a (calls_in h) → In b (calls_in h)

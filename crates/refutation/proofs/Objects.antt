@@ -1,6 +1,6 @@
 -- An object of which no order is valid, against locality.
 use Rattle.std.proofs.Common.{◌≡◌, ◌≢◌, ◌↔◌, ℕ, ◌<◌, ◌+◌, take, List, [], ◌∷◌, ◌++◌, length, get_or, map, true}
-use Rattle.std.proofs.Common.{false, All, Any, Contains, inl, inr, refl, ap, sym, ◌∙◌, subst}
+use Rattle.std.proofs.Common.{All, Any, Contains, inl, inr, refl, ap, sym, ◌∙◌, subst}
 use Rattle.std.specs.Prelude.{Result, Ok, Err, IfOk}
 use Rattle.std.specs.List.{AllZip}
 use Rattle.std.proofs.lemmas.List.{take_more}
@@ -146,7 +146,7 @@ answer_is es objects reason r kinds calls named on other = go r refl
     go OtherObject e = record {
       on = subst (IsAnswerOn (kind_at es reason.object) (calls_on reason.object (denoted es)) reason) (sym e)
           (record {
-            impossible = λ q. absurd (unlike q);
+            impossible = λ q. absurd (cc q);
             part = tt;
             shown = tt;
             not_shown = tt;
@@ -155,9 +155,6 @@ answer_is es objects reason r kinds calls named on other = go r refl
       other_object = unknown;
       own_object = known;
     }
-      where
-        unlike : false ≡ true → ⊥
-        unlike e = absurd (cc e)
 
 -- no order is valid of the object that was answered
 pub refuted_among : (objects : List ObjectCalls) (reason : Reason) (r : Refutation)
@@ -165,8 +162,5 @@ pub refuted_among : (objects : List ObjectCalls) (reason : Reason) (r : Refutati
     × IsAnswerOn o.kind (calls_of o.ops) reason r)
     → is_impossible r ≡ true → Any (λ o. IsNoneValid o.kind (calls_of o.ops)) objects
 refuted_among objects reason r on so =
-    let a = on (λ q. unlike (sym (ap is_impossible q) ∙ so)) in
+    let a = on (λ q. let not = ap is_impossible q in absurd (cc (not, so))) in
     (a.1.0, a.0, a.1.1, a.1.2, a.3.impossible so)
-  where
-    unlike : false ≡ true → ⊥
-    unlike e = absurd (cc e)

@@ -1,4 +1,5 @@
--- The lines that are written for reasons spell forms that denote them.
+-- The lines that are written for reasons spell forms that denote them: the text of each form is the line, the form is
+-- well-formed and can be read back, and what it denotes is the reason. Each by cases of what a reason is made of.
 use Rattle.std.proofs.Common.{◌≡◌, ℕ, ◌≤◌, ◌==◌, Bool, true, false, suc, List, [], ◌∷◌, ◌++◌, map}
 use Rattle.std.proofs.Common.{Option, Some, None, lit<, refl, ap, sym, ◌∙◌, subst, append_assoc}
 use Rattle.std.proofs.Common.{arith, get_or}
@@ -347,15 +348,12 @@ counted_fits counted.Free n = (
 lacks_search : (k : List ℕ) (first : TryFirst) (steps : Option ℕ) → (k ≡ codes "search" → ⊥)
     → Lacks k (search_entries first steps)
 lacks_search k LeastNumber None other = tt
-lacks_search k LeastReturn None other = (other, tt)
-lacks_search k LeastNumber (Some n) other = (other, tt)
-lacks_search k LeastReturn (Some n) other = (other, tt)
+lacks_search k first steps other = (other, tt)
 
 lacks_basis : (k : List ℕ) (e : Basis) → (k ≡ codes "count" → ⊥) → (k ≡ codes "search" → ⊥)
     → Lacks k (basis_entries e)
 lacks_basis k (Search trial) count search = lacks_search k trial.first trial.steps search
-lacks_basis k (Counting c) count search = (count, tt)
-lacks_basis k (Ahead number from) count search = (count, tt)
+lacks_basis k e count search = (count, tt)
 
 first_is_not_steps : codes "first" ≡ codes "steps" → ⊥
 first_is_not_steps h = let first : 102 ≡ 115 = ap (λ k. get_or k 0 0) h in absurd (omega (arith, first))
