@@ -17,8 +17,7 @@ use Rattle.verifying.specs.declared.claim.Claim.{Claim}
 use Rattle.verifying.specs.declared.claim.Claim.TheVariants as claim
 use Rattle.verifying.specs.Denotes.{object_of}
 use Rattle.verifying.specs.declared.decision.Decision.{Decision}
-use Rattle.verifying.specs.declared.decision.Decision.TheVariants.{Order, Impossible, OutOfSteps}
-use Rattle.verifying.specs.declared.decision.Decision.TheVariants.{NoMemory, Open}
+use Rattle.verifying.specs.declared.decision.Decision.TheVariants.{Order, Impossible}
 use Rattle.verifying.specs.Decisions.{certificate_in, IfImpossible, IsDecision, IsOrderOf, IsShownReason, IsUntrue}
 use Rattle.verifying.specs.Decisions.{LacksOrder, Searches, is_impossible, is_order}
 
@@ -29,27 +28,18 @@ IsDecided claims limit object kind calls d = IsDecision claims limit object kind
 -- what is found is certified
 pub certifies : (claims : List Claim) (limit : ℕ) → Certifies certificate_in (IsDecided claims limit)
 certifies claims limit x kind calls (Order d) c h e = subst (IsCertificateOf x kind calls) (same_Some d c e) h.order.0
-certifies claims limit x kind calls (Impossible f) c h e = absurd (cc e)
-certifies claims limit x kind calls (OutOfSteps n) c h e = absurd (cc e)
-certifies claims limit x kind calls NoMemory c h e = absurd (cc e)
-certifies claims limit x kind calls Open c h e = absurd (cc e)
+certifies claims limit x kind calls d c h e = absurd (cc e)
 
 none_valid : (x : ℕ) (kind : Kind) (calls : List Call) (d : Decision)
     → IfImpossible d (IsShownReason x kind calls) → is_impossible d ≡ true → IsNoneValid kind calls
-none_valid x kind calls (Order c) h e = absurd (cc e)
 none_valid x kind calls (Impossible f) h e = h.impossible
-none_valid x kind calls (OutOfSteps n) h e = absurd (cc e)
-none_valid x kind calls NoMemory h e = absurd (cc e)
-none_valid x kind calls Open h e = absurd (cc e)
+none_valid x kind calls d h e = absurd (cc e)
 
 -- what is decided impossible is refuted
 refutes : {claims : List Claim} {limit x : ℕ} {kind : Kind} {calls : List Call} (d : Decision)
     → IsDecision claims limit x kind calls d → IfImpossible d (IsShownReason x kind calls)
-refutes (Order c) h = tt
 refutes (Impossible f) h = h.impossible.0
-refutes (OutOfSteps n) h = tt
-refutes NoMemory h = tt
-refutes Open h = tt
+refutes d h = tt
 
 -- an object of which no order is valid, against locality
 pub not_linearizable : (es : List Event) (claims : List Claim) (limit : ℕ) (answers : List (ℕ × Decision))
@@ -87,12 +77,8 @@ lacks : (claims : List Claim) (limit x : ℕ) (kind : Kind) (calls : List Call) 
 lacks claims limit x kind calls (Order c) e h = absurd (cc e)
 lacks claims limit x kind calls (Impossible f) e h =
     λ i d less on. by_none kind calls (get_or claims i d) h.impossible.0.impossible
-lacks claims limit x kind calls (OutOfSteps n) e h =
-    λ i d less. by_refusal kind calls x (get_or claims i d) (h.unshown refl i d less)
-lacks claims limit x kind calls NoMemory e h =
-    λ i d less. by_refusal kind calls x (get_or claims i d) (h.unshown refl i d less)
-lacks claims limit x kind calls Open e h =
-    λ i d less. by_refusal kind calls x (get_or claims i d) (h.unshown refl i d less)
+lacks claims limit x kind calls d e h =
+    λ i a less. by_refusal kind calls x (get_or claims i a) (h.unshown refl i a less)
 
 -- an element that does not pass, where not all do
 fails : {X : Type 0} (p : X → Bool) (xs : List X) → list_all p xs ≡ false → (x : X) × In x xs × (p x ≡ false)

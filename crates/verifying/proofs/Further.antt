@@ -1,7 +1,7 @@
 -- What one more claim makes of the decision on an object.
 use Rattle.std.proofs.Common.{◌≡◌, ◌≢◌, ◌∙◌, ◌⊎◌, ℕ, true, false, List, [], ◌∷◌, ◌++◌, Any, Contains, refl, ap, sym}
-use Rattle.std.proofs.Common.{subst, arith}
-use Rattle.std.proofs.lemmas.List.Elements.{All-push, Contains-append_left, Contains-append_right}
+use Rattle.std.proofs.Common.{subst}
+use Rattle.std.proofs.lemmas.List.Elements.{All-push, Contains-append_left, Contains-push}
 use Rattle.model.specs.declared.Kind.{Kind}
 use Rattle.model.specs.Orders.{Call}
 use Rattle.certificate.specs.declared.Certificate.{Certificate}
@@ -19,35 +19,23 @@ use Rattle.verifying.specs.Decisions.{is_open, is_shown}
 any_more : {X : Type 0} (P : X → Type 0) (xs : List X) (y : X) → Any P xs → Any P (xs ++ y ∷ [])
 any_more P xs y a = let c = Contains-append_left xs (y ∷ []) a.1 (a.0, a.2, a.3) in (c.0, a.1, c.1, c.2, a.4)
 
-last : {X : Type 0} (xs : List X) (y : X) → Contains (xs ++ y ∷ []) y
-last xs y = Contains-append_right xs (y ∷ []) y (0, omega arith, refl)
-
 any_last : {X : Type 0} (P : X → Type 0) (xs : List X) (y : X) → P y → Any P (xs ++ y ∷ [])
-any_last P xs y p = let c = last xs y in (c.0, y, c.1, c.2, p)
+any_last P xs y p = let c = Contains-push xs y in (c.0, y, c.1, c.2, p)
 
 -- ---- the cases of a decision
 
 if_order : (d : Decision) (P Q : Certificate → Type 0) → ((c : Certificate) → P c → Q c) → IfOrder d P → IfOrder d Q
 if_order (Order c) P Q f h = f c h
-if_order (Impossible r) P Q f h = tt
-if_order (OutOfSteps n) P Q f h = tt
-if_order NoMemory P Q f h = tt
-if_order Open P Q f h = tt
+if_order d P Q f h = tt
 
 if_impossible : (d : Decision) (P Q : ShownReason → Type 0) → ((r : ShownReason) → P r → Q r) → IfImpossible d P
     → IfImpossible d Q
-if_impossible (Order c) P Q f h = tt
 if_impossible (Impossible r) P Q f h = f r h
-if_impossible (OutOfSteps n) P Q f h = tt
-if_impossible NoMemory P Q f h = tt
-if_impossible Open P Q f h = tt
+if_impossible d P Q f h = tt
 
 if_out_of_steps : (d : Decision) (P Q : ℕ → Type 0) → ((n : ℕ) → P n → Q n) → IfOutOfSteps d P → IfOutOfSteps d Q
-if_out_of_steps (Order c) P Q f h = tt
-if_out_of_steps (Impossible r) P Q f h = tt
 if_out_of_steps (OutOfSteps n) P Q f h = f n h
-if_out_of_steps NoMemory P Q f h = tt
-if_out_of_steps Open P Q f h = tt
+if_out_of_steps d P Q f h = tt
 
 module _ (cs : List Claim) (e : Claim) (limit x : ℕ) (kind : Kind) (calls : List Call) where
   -- what was decided stays where one more claim on the object does not contradict it
@@ -98,4 +86,4 @@ module _ (cs : List Claim) (e : Claim) (limit x : ℕ) (kind : Kind) (calls : Li
     where
       subst_claim : (r : ShownReason) → e ≡ claim.Reason r.reason r.note
           → Contains (cs ++ e ∷ []) (claim.Reason r.reason r.note)
-      subst_claim r same = subst (λ (k : Claim). Contains (cs ++ e ∷ []) k) same (last cs e)
+      subst_claim r same = subst (λ (k : Claim). Contains (cs ++ e ∷ []) k) same (Contains-push cs e)

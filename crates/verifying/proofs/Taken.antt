@@ -29,19 +29,7 @@ use Rattle.verifying.proofs.Further.{other_stays}
 -- ---- objects whose numbers rise can be searched
 
 index_rises : (a b n : ℕ) → a ≤ b → ordering_index (nat_cmp a n) ≤ ordering_index (nat_cmp b n)
-index_rises a b n l = go (nat_cmp a n) (nat_cmp b n) (ranked a n _ refl) (ranked b n _ refl)
-  where
-    go : (r s : Ordering) → MatchOrdering r (a < n) (a ≡ n) (n < a) → MatchOrdering s (b < n) (b ≡ n) (n < b)
-        → ordering_index r ≤ ordering_index s
-    go Less Less p q = omega arith
-    go Less Equal p q = omega arith
-    go Less Greater p q = omega arith
-    go Equal Less p q = absurd (omega (arith, l, p, q))
-    go Equal Equal p q = omega arith
-    go Equal Greater p q = omega arith
-    go Greater Less p q = absurd (omega (arith, l, p, q))
-    go Greater Equal p q = absurd (omega (arith, l, p, q))
-    go Greater Greater p q = omega arith
+index_rises a b n l = grind arith
 
 pub search_rises : (os : List ObjectCalls) (n : ℕ) → AllPairs (λ a b. a.object < b.object) os
     → IsNonDecreasingBy (λ o. ordering_index (nat_cmp o.object n)) os

@@ -15,30 +15,30 @@ pub returns-in-Impossible : goal.returns-in-Impossible
 returns-in-Impossible c =
     let h = c.args.history.now in
     let r = c.args.reason in
+    let calls = calls_of h.ops in
+    let part = c.in-Impossible.part in
+    let found = c.in-Impossible.is in
     let e = c.in_ok-part.ensures in
-    let cuts = r.cuts.items in
-    let named = subst (λ (v : Refutation). IfPart v (IsNamedPart cuts h.object h.kind (calls_of h.ops)))
-    c.in-Impossible.is e.part in
-    let own = subst (λ (x : ℕ). IsNamedPart cuts x h.kind (calls_of h.ops) c.in-Impossible.part) (sym c.requires)
-    named in
-    let shown = subst (λ (v : Refutation). IfImpossible v (λ part. IsShownBy r.basis part × HasNoValidOrder part))
-    c.in-Impossible.is e.shown in
-    let none = e.impossible (ap (λ (v : Refutation). is_impossible v) c.in-Impossible.is) in
-    subst (λ (x : ℕ). IsAnswer x h.kind (calls_of h.ops) c.args.limit (claim.Reason r c.args.note)
-    (decision.Impossible record { reason = r; part = c.in-Impossible.part; note = c.args.note })) c.requires
-    (is_shown_by h.kind (calls_of h.ops) c.args.limit r c.args.note c.in-Impossible.part own shown.0 shown.1 none)
+    let named = subst (λ (v : Refutation). IfPart v (IsNamedPart r.cuts.items h.object h.kind calls)) found e.part in
+    let own = subst (λ (x : ℕ). IsNamedPart r.cuts.items x h.kind calls part) (sym c.requires) named in
+    let why : Refutation → Type 0 = λ v. IfImpossible v (λ part. IsShownBy r.basis part × HasNoValidOrder part) in
+    let shown = subst why found e.shown in
+    let none = e.impossible (ap is_impossible found) in
+    let answer = is_shown_by h.kind calls c.args.limit r c.args.note part own shown.0 shown.1 none in
+    let given = decision.Impossible (record { reason = r; part = part; note = c.args.note }) in
+    subst (λ (x : ℕ). IsAnswer x h.kind calls c.args.limit (claim.Reason r c.args.note) given) c.requires answer
 
 pub returns-in-NotShown : goal.returns-in-NotShown
 returns-in-NotShown c =
     let h = c.args.history.now in
     let r = c.args.reason in
+    let calls = calls_of h.ops in
+    let part = c.in-NotShown.part in
+    let found = c.in-NotShown.is in
     let e = c.in_ok-part.ensures in
-    let named = subst (λ (v : Refutation). IfPart v (IsNamedPart r.cuts.items h.object h.kind (calls_of h.ops)))
-    c.in-NotShown.is e.part in
-    let own = subst (λ (x : ℕ). IsNamedPart r.cuts.items x h.kind (calls_of h.ops) c.in-NotShown.part) (sym c.requires)
-    named in
-    let doubt = subst (λ (v : Refutation). IfNotShown v (IsDoubt r.basis)) c.in-NotShown.is e.not_shown in
-    subst (λ (x : ℕ). IsAnswer x h.kind (calls_of h.ops) c.args.limit (claim.Reason r c.args.note)
-    c.decide_by_doubt.result)
-    c.requires
-    (c.decide_by_doubt.ensures h.kind (calls_of h.ops) c.args.note c.in-NotShown.part own doubt)
+    let named = subst (λ (v : Refutation). IfPart v (IsNamedPart r.cuts.items h.object h.kind calls)) found e.part in
+    let own = subst (λ (x : ℕ). IsNamedPart r.cuts.items x h.kind calls part) (sym c.requires) named in
+    let doubt = subst (λ (v : Refutation). IfNotShown v (IsDoubt r.basis)) found e.not_shown in
+    let answer = c.decide_by_doubt.ensures h.kind calls c.args.note part own doubt in
+    let given = c.decide_by_doubt.result in
+    subst (λ (x : ℕ). IsAnswer x h.kind calls c.args.limit (claim.Reason r c.args.note) given) c.requires answer
