@@ -32,19 +32,7 @@ find_none p (x ∷ xs) h = ap (λ b. cond b (Some x) (find p xs)) (h 0 x (omega 
 
 -- the greater of two numbers compares no less with a third
 index_rises : (a b n : ℕ) → a ≤ b → ordering_index (nat_cmp a n) ≤ ordering_index (nat_cmp b n)
-index_rises a b n l = go (nat_cmp a n) (nat_cmp b n) (ranked a n _ refl) (ranked b n _ refl)
-  where
-    go : (r s : Ordering) → MatchOrdering r (a < n) (a ≡ n) (n < a) → MatchOrdering s (b < n) (b ≡ n) (n < b)
-        → ordering_index r ≤ ordering_index s
-    go Less Less p q = omega arith
-    go Less Equal p q = omega arith
-    go Less Greater p q = omega arith
-    go Equal Less p q = absurd (omega (arith, l, p, q))
-    go Equal Equal p q = omega arith
-    go Equal Greater p q = omega arith
-    go Greater Less p q = absurd (omega (arith, l, p, q))
-    go Greater Equal p q = absurd (omega (arith, l, p, q))
-    go Greater Greater p q = omega arith
+index_rises a b n l = grind arith
 
 -- so events whose numbers rise can be searched
 pub search_rises : (es : List Event) (n : ℕ) → AllPairs (λ a b. a.number < b.number) es
