@@ -1,6 +1,6 @@
 -- How a desk begins: the first state, a new client, and a client's first step.
 use Rattle.std.proofs.Common.{◌≡◌, ◌≢◌, ℕ, zero, suc, ◌+◌, ◌<◌, ◌≤◌, true, false, List, [], ◌∷◌, ◌++◌, length}
-use Rattle.std.proofs.Common.{replicate, get_or, set, Some, refl, sym, ap, ◌∙◌, subst, ◌⊎◌, ⊎_elim, inl, inr, arith}
+use Rattle.std.proofs.Common.{replicate, get_or, set, Some, refl, sym, ap, ◌∙◌, subst, ◌⊎◌, inl, inr, arith}
 use mathlib.Core.Option as maybe
 use mathlib.Core.Option.{some, some-ne-none}
 use lib.ListN.{get_elem?, length-map}
@@ -20,8 +20,8 @@ use Rattle.desk_invariant.specs.declared.board.Held.TheVariants as held
 use Rattle.desk_invariant.specs.declared.board.PutBack.{PutBack}
 use Rattle.desk_invariant.specs.declared.board.Role.TheVariants as role
 use Rattle.desk_invariant.specs.declared.board.DeskView.{DeskView}
-use Rattle.desk_model.specs.World.{AnyRequest, absent, idle, posted, picked, World, initial_world, kind_at}
-use Rattle.desk_model.specs.World.{entries_of, request_of}
+use Rattle.desk_model.specs.World.{AnyRequest, absent, idle, posted, picked, World, initial_world, kind_at, entries_of}
+use Rattle.desk_model.specs.World.{request_of}
 use Rattle.desk_model.specs.Transitions.{changed, staged}
 use Rattle.desk_model.proofs.Changed.{changed_here, changed_else}
 use Rattle.desk_model.proofs.Initial.{sound_initial, sound_coming}
@@ -80,31 +80,37 @@ module _ {S O R : Type 0} (content : S → Content) (op_in : O → AnyOp) (reply
         at_last = λ e. absurd (cc);
       };
     };
-    seats = λ j v e. ⊎_elim (λ (t : get_elem? [] j ≡ some v). absurd (some-ne-none v (sym t)))
-        (λ (t : first_maker kinds lists ≡ v). subst (λ z. ViewOk kinds lists initial_world (λ _. 0) j z) t record {
-          seen = λ x. ([], ap (λ z. z ++ []) (sym (get_or-replicate_same [] 16 x)));
-          received = λ x. ([], refl);
-          left = All-nil (HasLeft initial_world);
-          client = λ is. absurd (cc);
-          unmade = λ is c l. (refl, refl, refl, λ x f. cc);
-          maker_kinds = λ is. refl;
-          lists_are = λ is. refl;
-          maker_lists = λ is. refl;
-        }) (at_snoc [] (first_maker kinds lists) v j e);
+    seats = λ j v e. elim (at_snoc [] (first_maker kinds lists) v j e) [
+      | inl t ↦ absurd (some-ne-none v (sym t))
+      | inr t ↦ subst (λ z. ViewOk kinds lists initial_world (λ _. 0) j z) t record {
+        seen = λ x. ([], ap (λ z. z ++ []) (sym (get_or-replicate_same [] 16 x)));
+        received = λ x. ([], refl);
+        left = All-nil (HasLeft initial_world);
+        client = λ is. absurd (cc);
+        unmade = λ is c l. (refl, refl, refl, λ x f. cc);
+        maker_kinds = λ is. refl;
+        lists_are = λ is. refl;
+        maker_lists = λ is. refl;
+      }
+    ];
     makers = record {
       made = λ j v e is i u f. (
-        (λ tc. ⊎_elim (λ (t : get_elem? [] i ≡ some u). absurd (some-ne-none u (sym t)))
-            (λ (t : first_maker kinds lists ≡ u). let g =
-            ap (λ z. z.role) t in absurd (cc)) (at_snoc [] (first_maker kinds lists) u i f)),
-        λ tm. ⊎_elim (λ (t : get_elem? [] i ≡ some u). absurd (some-ne-none u (sym t)))
-            (λ (t : (i ≡ 0) × (first_maker kinds lists ≡ u)).
-            ⊎_elim (λ (h : get_elem? [] j ≡ some v). absurd (some-ne-none v (sym h)))
-            (λ (h : (j ≡ 0) × (first_maker kinds lists ≡ v)). t.0 ∙ sym h.0)
-            (at_end [] (first_maker kinds lists) v j e)) (at_end [] (first_maker kinds lists) u i f),
+        (λ tc. elim (at_snoc [] (first_maker kinds lists) u i f) [
+          | inl t ↦ absurd (some-ne-none u (sym t))
+          | inr t ↦ absurd cc
+        ]),
+        λ tm. elim (at_end [] (first_maker kinds lists) u i f) [
+          | inl t ↦ absurd (some-ne-none u (sym t))
+          | inr t ↦ elim (at_end [] (first_maker kinds lists) v j e) [
+            | inl h ↦ absurd (some-ne-none v (sym h))
+            | inr h ↦ t.0 ∙ sym h.0
+          ]
+        ],
       );
-      numbers = λ j v e is. ⊎_elim (λ (t : get_elem? [] j ≡ some v). absurd (some-ne-none v (sym t)))
-          (λ (t : first_maker kinds lists ≡ v). let g =
-          ap (λ z. z.role) t in absurd (cc)) (at_snoc [] (first_maker kinds lists) v j e);
+      numbers = λ j v e is. elim (at_snoc [] (first_maker kinds lists) v j e) [
+        | inl t ↦ absurd (some-ne-none v (sym t))
+        | inr t ↦ absurd cc
+      ];
     };
   }
 
@@ -124,9 +130,9 @@ module _ {S O R : Type 0} (content : S → Content) (op_in : O → AnyOp) (reply
         come = k.come;
         sound = k.sound;
         tied = k.tied;
-        seats = λ j u e. ⊎_elim
-            (λ (t : get_elem? (set s.views id l) j ≡ some u). ⊎_elim
-            (λ (h : (j ≡ id) × (l ≡ u)). subst (λ z. ViewOk kinds k.lists w so' j z) h.1 record {
+        seats = λ j u e. elim (at_end (set s.views id l) new u j e) [
+          | inl t ↦ elim (at_set s.views id j l u t) [
+            | inl h ↦ subst (λ z. ViewOk kinds k.lists w so' j z) h.1 record {
               seen = old.seen;
               received = old.received;
               left = old.left;
@@ -135,8 +141,8 @@ module _ {S O R : Type 0} (content : S → Content) (op_in : O → AnyOp) (reply
               maker_kinds = λ _. old.maker_kinds is;
               lists_are = λ _. old.maker_lists is;
               maker_lists = λ _. old.maker_lists is;
-            })
-            (λ (h : (j ≢ id) × (get_elem? s.views j ≡ some u)). let b = k.seats j u h.1 in record {
+            }
+            | inr h ↦ let b = k.seats j u h.1 in record {
               seen = b.seen;
               received = b.received;
               left = b.left;
@@ -146,68 +152,69 @@ module _ {S O R : Type 0} (content : S → Content) (op_in : O → AnyOp) (reply
               maker_kinds = b.maker_kinds;
               lists_are = b.lists_are;
               maker_lists = b.maker_lists;
-            })
-            (at_set s.views id j l u t))
-            (λ (t : (j ≡ here) × (new ≡ u)). subst (λ z. ViewOk kinds k.lists w so' j z) t.1 record {
-              seen = λ x. (w.log x, ap (λ z. z ++ w.log x) (sym (unseen v.kinds v.lists c x)));
-              received = λ x. (w.log x, refl);
-              left = All-nil (HasLeft w);
-              client = λ _. (
-                changed_here k.seat_of c here ∙ sym t.0,
-                record {
-                  number = refl;
-                  small = omega arith;
-                  kinds_are = old.maker_kinds is;
-                  done = sym none_yet.1;
-                  own = none_yet.0;
-                  ready = λ f. absurd (cc);
-                  wide_seen = refl;
-                  seen = λ x. (w.log x, ap (λ z. z ++ w.log x) (sym (unseen v.kinds v.lists c x)));
-                  covers = λ x. ([], ap (entries_of c) (unseen v.kinds v.lists c x));
-                  held = none_yet.3;
-                  ended = none_yet.2;
-                  retired = All-nil (λ d. w.ended d ≡ true);
-                  back = All-nil (λ (b : PutBack). (w.stage b.row ≡ posted b.request)
-                      × (w.holder b.request.object ≡ Some c));
-                },
-              );
-              unmade = λ f. absurd (cc);
-              maker_kinds = λ f. absurd (cc);
-              lists_are = λ _. old.maker_lists is;
-              maker_lists = λ f. absurd (cc);
-            })
-            (at_end (set s.views id l) new u j e);
+            }
+          ]
+          | inr t ↦ subst (λ z. ViewOk kinds k.lists w so' j z) t.1 record {
+            seen = λ x. (w.log x, ap (λ z. z ++ w.log x) (sym (unseen v.kinds v.lists c x)));
+            received = λ x. (w.log x, refl);
+            left = All-nil (HasLeft w);
+            client = λ _. (
+              changed_here k.seat_of c here ∙ sym t.0,
+              record {
+                number = refl;
+                small = omega arith;
+                kinds_are = old.maker_kinds is;
+                done = sym none_yet.1;
+                own = none_yet.0;
+                ready = λ f. absurd (cc);
+                wide_seen = refl;
+                seen = λ x. (w.log x, ap (λ z. z ++ w.log x) (sym (unseen v.kinds v.lists c x)));
+                covers = λ x. ([], ap (entries_of c) (unseen v.kinds v.lists c x));
+                held = none_yet.3;
+                ended = none_yet.2;
+                retired = All-nil (λ d. w.ended d ≡ true);
+                back = All-nil (λ (b : PutBack). (w.stage b.row ≡ posted b.request)
+                    × (w.holder b.request.object ≡ Some c));
+              },
+            );
+            unmade = λ f. absurd (cc);
+            maker_kinds = λ f. absurd (cc);
+            lists_are = λ _. old.maker_lists is;
+            maker_lists = λ f. absurd (cc);
+          }
+        ];
         makers = record {
           made = λ j u e f i y g.
               let known : (a : ℕ) (z : DeskView) → get_elem? (set s.views id l ++ new ∷ []) a ≡ some z
               → ((a ≡ id) × (l ≡ z))
-              ⊎ (((a ≢ id) × (get_elem? s.views a ≡ some z)) ⊎ (new ≡ z)) = λ a z q. ⊎_elim
-              (λ (t : get_elem? (set s.views id l) a ≡ some z). ⊎_elim (λ (h : (a ≡ id) × (l ≡ z)). inl h)
-              (λ (h : (a ≢ id) × (get_elem? s.views a ≡ some z)). inr (inl h)) (at_set s.views id a l z t))
-              (λ (t : (a ≡ here) × (new ≡ z)). inr (inr t.1)) (at_end (set s.views id l) new z a q) in
+              ⊎ (((a ≢ id) × (get_elem? s.views a ≡ some z)) ⊎ (new ≡ z)) =
+              λ a z q. elim (at_end (set s.views id l) new z a q) [
+                | inl t ↦ elim (at_set s.views id a l z t) [ inl h ↦ inl h | inr h ↦ inr (inl h) ]
+                | inr t ↦ inr (inr t.1)
+              ] in
               let at_id : (a : ℕ) (z : DeskView) → get_elem? (set s.views id l ++ new ∷ []) a ≡ some z
               → z.role ≡ role.Maker → (a ≡ id)
-              × (z.made ≡ c + 1) = λ a z q tm. ⊎_elim (λ (h : (a ≡ id) × (l ≡ z)). (h.0, ap (λ p. p.made) (sym h.1)))
-              (λ (h : ((a ≢ id) × (get_elem? s.views a ≡ some z)) ⊎ (new ≡ z)). ⊎_elim
-              (λ (r : (a ≢ id) × (get_elem? s.views a ≡ some z)). absurd
-              (r.0 ((k.makers.made id v at is a z r.1).1 tm)))
-              (λ (r : new ≡ z). let o = ap (λ p. p.role) r in absurd (cc)) h) (known a z q) in
+              × (z.made ≡ c + 1) = λ a z q tm. elim (known a z q) [
+                | inl h ↦ (h.0, ap (λ p. p.made) (sym h.1))
+                | inr h ↦ elim h [
+                  | inl r ↦ absurd (r.0 ((k.makers.made id v at is a z r.1).1 tm))
+                  | inr r ↦ absurd cc
+                ]
+              ] in
               let a = at_id j u e f in (
-                (λ tc. ⊎_elim (λ (h : (i ≡ id) × (l ≡ y)). let o = ap (λ p. p.role) h.1 in absurd (cc))
-                    (λ (h : ((i ≢ id) × (get_elem? s.views i ≡ some y)) ⊎ (new ≡ y)). ⊎_elim
-                    (λ (r : (i ≢ id) × (get_elem? s.views i ≡ some y)). let o =
-                    (k.makers.made id v at is i y r.1).0 tc in let b = a.1 in
-                    omega arith) (λ (r : new ≡ y). let o = ap (λ p. p.number) r in let b = a.1 in omega arith) h)
-                    (known i y g)),
+                (λ tc. elim (known i y g) [
+                  | inl h ↦ absurd cc
+                  | inr h ↦ elim h [
+                    | inl r ↦ let o = (k.makers.made id v at is i y r.1).0 tc in let b = a.1 in omega arith
+                    | inr r ↦ let o = ap (λ p. p.number) r in let b = a.1 in omega arith
+                  ]
+                ]),
                 λ tm. (at_id i y g tm).0 ∙ sym a.0,
               );
-          numbers = λ j u e is'. ⊎_elim
-              (λ (t : get_elem? (set s.views id l) j ≡ some u). ⊎_elim
-              (λ (h : (j ≡ id) × (l ≡ u)). let o = ap (λ p. p.role) h.1 in absurd (cc))
-              (λ (h : (j ≢ id) × (get_elem? s.views j ≡ some u)). k.makers.numbers j u h.1 is')
-              (at_set s.views id j l u t))
-              (λ (t : (j ≡ here) × (new ≡ u)). let o = ap (λ p. p.number) t.1 in omega arith)
-              (at_end (set s.views id l) new u j e);
+          numbers = λ j u e is'. elim (at_end (set s.views id l) new u j e) [
+            | inl t ↦ elim (at_set s.views id j l u t) [ inl h ↦ absurd cc | inr h ↦ k.makers.numbers j u h.1 is' ]
+            | inr t ↦ let o = ap (λ p. p.number) t.1 in omega arith
+          ];
         };
       }
 
@@ -221,7 +228,7 @@ module _ {S O R : Type 0} (content : S → Content) (op_in : O → AnyOp) (reply
       (mine content op_in reply_in kinds clients quota s k id m.0 cl at) in
       let v' : DeskView = with_own own.Idle m.0 in
       let was : w.stage c ≡ absent = subst (λ o. OwnOk o (w.stage c)) is ok.own in let word = k.tied.rows c low in
-      let before : (p : AnyRequest) → w.stage c ≢ picked p = λ p e. let g = sym was ∙ e in absurd (cc) in
+      let before : (p : AnyRequest) → w.stage c ≢ picked p = λ p e. absurd cc in
       let message : get_elem? s.homes (16 + c) ≡ some (some slot.Nothing) =
       subst (CallAt content op_in reply_in (get_elem? s.homes (16 + c))) was (k.tied.calls c low) in
       let journal = (k.tied.journals c low).at_first was in (
@@ -238,11 +245,10 @@ module _ {S O R : Type 0} (content : S → Content) (op_in : O → AnyOp) (reply
               (ok.ended ∙ going) (word ∙ ap row_word was) (λ home. tt) k.tied;
           leave = row_leaves w c idle (ap request_of was);
           others = λ d other. later_gone w w.clock c d idle w.done before
-              (λ p e. let g = sym was ∙ e in absurd (cc)) refl (λ e. other (e ∙ sym number));
+              (λ p e. absurd cc) refl (λ e. other (e ∙ sym number));
           own = subst (λ z. SeatOk kinds (staged w c idle) z v') (sym number)
               (seat_unanswered kinds w w.clock c idle w.done m.0 own.Idle m.0.done
-              (λ p e. let g = sym was ∙ e in absurd (cc))
-              (λ p e. let g = sym was ∙ e in absurd (cc)) (λ p a e. let g = sym was ∙ e in absurd (cc)) refl ok.done
+              (λ p e. absurd cc) (λ p e. absurd cc) (λ p a e. absurd cc) refl ok.done
               (covers_own kinds w c m.0 own.Absent is ok) ok);
         },
         λ d same. let e : c ≡ d = omega arith in

@@ -1,7 +1,6 @@
 -- The steps of a client's own call keep the rule: drawing tickets, posting, and taking the answer.
-use Rattle.std.proofs.Common.{◌≡◌, ◌≢◌, ℕ, ◌+◌, ◌%◌, ◌^◌, ◌<◌, eqb, false, List, [], ◌∷◌, ◌++◌, length, get_or, set}
-use Rattle.std.proofs.Common.{None, All, refl, sym, ap, subst}
-use Rattle.std.proofs.Common.{◌∙◌, ◌⊎◌, ⊎_elim, inl, arith, eq-eqb, ne_eqb, append-nil}
+use Rattle.std.proofs.Common.{inr, ◌≡◌, ◌≢◌, ℕ, ◌+◌, ◌%◌, ◌^◌, ◌<◌, eqb, false, List, [], ◌∷◌, ◌++◌, length, get_or}
+use Rattle.std.proofs.Common.{set, None, All, refl, sym, ap, subst, ◌∙◌, inl, arith, eq-eqb, ne_eqb, append-nil}
 use Rattle.std.proofs.lemmas.Bool.{false_from_ne_true}
 use mathlib.Core.Logic.{dite}
 use mathlib.Core.Option as maybe
@@ -25,9 +24,8 @@ use Rattle.desk_invariant.specs.declared.board.DeskView.{DeskView}
 use Rattle.desk_model.specs.declared.Request.{Request}
 use Rattle.desk_model.specs.declared.Answer.{Answer}
 use Rattle.desk_model.specs.World.{AnyEntry, AnyRequest, AnyAnswer, AnyDone, Stage, idle, drawn, posted, picked}
-use Rattle.desk_model.specs.World.{answered, taken, World, kind_at}
-use Rattle.desk_model.specs.World.{logged, logged_on, entries_of, served, served_now, request_of, calls_made}
-use Rattle.desk_model.specs.World.{journal_of, IsLegal, StartsWith}
+use Rattle.desk_model.specs.World.{answered, taken, World, kind_at, logged, logged_on, entries_of, served, served_now}
+use Rattle.desk_model.specs.World.{request_of, calls_made, journal_of, IsLegal, StartsWith}
 use Rattle.desk_model.specs.Transitions.{changed, staged, ticked}
 use Rattle.desk_model.specs.Images.{request_in, answer_in}
 use Rattle.desk_model.proofs.Changed.{changed_here, changed_else}
@@ -37,8 +35,8 @@ use Rattle.desk_invariant.specs.Views.{row_place, clock_place, seen_of, owed, af
 use Rattle.desk_invariant.specs.Views.{after_return, after_meet}
 use Rattle.desk_invariant.specs.Rule.{row_word, OwnOk, HeldOk, SeatOk, CallAt}
 use Rattle.desk_invariant.specs.Plays as play
-use Rattle.desk_invariant.proofs.Seats.{Later, Leaves, row_leaves, alike, kept_after, come_after, looks, mine}
-use Rattle.desk_invariant.proofs.Seats.{misses, Rule}
+use Rattle.desk_invariant.proofs.Seats.{Later, Leaves, row_leaves, alike, kept_after, come_after, looks, mine, misses}
+use Rattle.desk_invariant.proofs.Seats.{Rule}
 use Rattle.desk_invariant.proofs.Seeing.{all_covered, saw, seen_all}
 use Rattle.desk_invariant.proofs.Ties.{tied_row, tied_clock}
 use Rattle.desk_model.proofs.Tickets.{all_before}
@@ -67,7 +65,7 @@ later_gone w n c d t dones before apart same other = record {
 pub gone_leaves : (w : World) (n c : ℕ) (t : Stage) (dones : ℕ → List AnyDone) → w.ended c ≡ false
     → ((d : ℕ) → d ≢ c → dones d ≡ w.done d) → Leaves w (gone w n c t dones)
 gone_leaves w n c t dones going same d e =
-    let other : d ≢ c = λ f. let g = sym going ∙ (ap w.ended (sym f) ∙ e) in absurd (cc) in
+    let other : d ≢ c = λ f. absurd cc in
     (e, λ i. journal_of (same d other i) (request_of (changed_else w.stage c t d other i)))
 
 -- what the client holds, whose call is in no hand
@@ -148,9 +146,8 @@ module _ {S O R : Type 0} (content : S → Content) (op_in : O → AnyOp) (reply
       let q : AnyRequest = request_in op_in (record p { ticket = found }) in let t : Stage = drawn q in
       let v' : DeskView = with_own (own.Drawn q) m.0 in
       let was : w.stage c ≡ idle = subst (λ o. OwnOk o (w.stage c)) is ok.own in
-      let before : (r : AnyRequest) → w.stage c ≢ picked r = λ r e. let g = sym was ∙ e in absurd (cc) in
-      let never : (r : AnyRequest) (a : AnyAnswer) → w.stage c ≢ answered r a = λ r a e. let g = sym was ∙ e in
-      absurd (cc) in
+      let before : (r : AnyRequest) → w.stage c ≢ picked r = λ r e. absurd cc in
+      let never : (r : AnyRequest) (a : AnyAnswer) → w.stage c ≢ answered r a = λ r a e. absurd cc in
       let ticket : found ≡ w.clock = k.tied.clock in let over = ok.done in
       let few' : calls_made (w.done c) None < quota = subst (λ z. calls_made z None < quota) over (omega arith) in (
         v',
@@ -167,10 +164,10 @@ module _ {S O R : Type 0} (content : S → Content) (op_in : O → AnyOp) (reply
           leave = gone_leaves w (w.clock + 1) c t (changed w.done c (w.done c)) (ok.ended ∙ going)
               (changed_else w.done c (w.done c));
           others = λ d other. later_gone w (w.clock + 1) c d t (changed w.done c (w.done c)) before
-              (λ r e. let g = sym was ∙ e in absurd (cc)) (changed_else w.done c (w.done c) d other) other;
+              (λ r e. absurd cc) (changed_else w.done c (w.done c) d other) other;
           own = seat_unanswered kinds w (w.clock + 1) c t (changed w.done c (w.done c)) m.0
               (own.Drawn q) m.0.done before
-              (λ r e. let g = sym was ∙ e in absurd (cc)) never refl (over ∙ sym (changed_here w.done c (w.done c)))
+              (λ r e. absurd cc) never refl (over ∙ sym (changed_here w.done c (w.done c)))
               (covers_own kinds w c m.0 own.Idle is ok) ok;
         },
         λ i' p' tl' carried'. ap
@@ -205,9 +202,8 @@ module _ {S O R : Type 0} (content : S → Content) (op_in : O → AnyOp) (reply
       (mine content op_in reply_in kinds clients quota s k id m.0 cl at) in let t : Stage = posted q in
       let v' : DeskView = with_own (own.Waiting q) m.0 in
       let was : w.stage c ≡ drawn q = subst (λ o. OwnOk o (w.stage c)) is ok.own in
-      let before : (r : AnyRequest) → w.stage c ≢ picked r = λ r e. let g = sym was ∙ e in absurd (cc) in
-      let never : (r : AnyRequest) (a : AnyAnswer) → w.stage c ≢ answered r a = λ r a e. let g = sym was ∙ e in
-      absurd (cc) in (
+      let before : (r : AnyRequest) → w.stage c ≢ picked r = λ r e. absurd cc in
+      let never : (r : AnyRequest) (a : AnyAnswer) → w.stage c ≢ answered r a = λ r a e. absurd cc in (
         v',
         gives,
         tt,
@@ -227,10 +223,10 @@ module _ {S O R : Type 0} (content : S → Content) (op_in : O → AnyOp) (reply
                   (λ e. absurd (cc)) (ap request_of (sym was)) word (p, refl, same) k.tied;
               leave = row_leaves w c t (ap request_of was);
               others = λ d other. later_gone w w.clock c d t w.done before
-                  (λ r e. let g = sym was ∙ e in absurd (cc)) refl (λ e. other (e ∙ sym number));
+                  (λ r e. absurd cc) refl (λ e. other (e ∙ sym number));
               own = subst (λ z. SeatOk kinds (staged w c t) z v') (sym number)
                   (seat_unanswered kinds w w.clock c t w.done m.0 (own.Waiting q) m.0.done before
-                  (λ r e. let g = sym was ∙ e in absurd (cc)) never
+                  (λ r e. absurd cc) never
                   (inl refl) ok.done (covers_own kinds w c m.0 (own.Drawn q) is ok) ok);
             }),
         λ r is'. ap (λ (z : AnyRequest). (with_own (own.Waiting z) m.0, rest m.1))
@@ -239,9 +235,10 @@ module _ {S O R : Type 0} (content : S → Content) (op_in : O → AnyOp) (reply
 
   is_answered : (o : Own) (t : Stage) (q : AnyRequest) → o ≡ own.Waiting q → q.object < 16 → OwnOk o t
       → row_word t ≡ 33 → (a : AnyAnswer) × (t ≡ answered q a)
-  is_answered o t q is low ok e = ⊎_elim (λ (b : t ≡ posted q). let f = ap row_word b in absurd (omega arith))
-      (λ (b : (t ≡ picked q) ⊎ ((a : AnyAnswer) × (t ≡ answered q a))). ⊎_elim
-      (λ (c : t ≡ picked q). let f = ap row_word c in absurd (omega arith)) (λ c. c) b) (subst (λ z. OwnOk z t) is ok)
+  is_answered o t q is low ok e = elim (subst (λ z. OwnOk z t) is ok) [
+    | inl b ↦ let f = ap row_word b in absurd (omega arith)
+    | inr b ↦ elim b [ inl c ↦ let f = ap row_word c in absurd (omega arith) | inr c ↦ c ]
+  ]
 
   -- what the client has seen of each object, with the answer, after it has taken it
   covers_taken : (kinds : List Kind) (w : World) (c : ℕ) (v : DeskView) (q : AnyRequest) (a : AnyAnswer)
@@ -301,7 +298,7 @@ module _ {S O R : Type 0} (content : S → Content) (op_in : O → AnyOp) (reply
       let b : Answer R = home.0 in
       let a : AnyAnswer = f.0 in let image : answer_in reply_in b ≡ a = home.2 in
       let t : Stage = taken q a in let v' : DeskView = after_take q (answer_in reply_in b) l m.0 in
-      let before : (p : AnyRequest) → w.stage c ≢ picked p = λ p e. let g = sym was ∙ e in absurd (cc) in
+      let before : (p : AnyRequest) → w.stage c ≢ picked p = λ p e. absurd cc in
       let calls : entries_of c l ≡ served x c m.0.done ++ logged_on x c q a =
       k.sound.counted c x ∙ λ i. served x c (sym ok.done i) ++ served_now x c (was i) in
       let begins = saw kinds w c x m.0 l low (starts_same l)
@@ -322,11 +319,11 @@ module _ {S O R : Type 0} (content : S → Content) (op_in : O → AnyOp) (reply
                   (λ y _. refl) (λ e. absurd (cc)) (ap request_of (sym was)) refl tt k.tied;
               leave = row_leaves w c t (ap request_of was);
               others = λ d other. later_gone w w.clock c d t w.done before
-                  (λ r e. let g = sym was ∙ e in absurd (cc)) refl (λ e. other (e ∙ sym number));
+                  (λ r e. absurd cc) refl (λ e. other (e ∙ sym number));
               own = subst (λ z. SeatOk kinds (staged w c t) z v') (sym number)
                   (subst (λ z. SeatOk kinds (staged w c t) c (after_take q z l m.0)) (sym image)
                   (seat_gone kinds w w.clock c t w.done (after_meet x l m.0) (own.Taken q a) m.0.done before
-                  (λ p e. let g = sym was ∙ e in absurd (cc))
+                  (λ p e. absurd cc)
                   refl ok.done (covers_taken kinds w c m.0 q a l is (omega arith) calls ok) begins));
             }),
         λ d p own_row here is'. let row : c ≡ d = omega arith in let same = ap (request_known q) (sym is ∙ is') in (
@@ -374,9 +371,8 @@ module _ {S O R : Type 0} (content : S → Content) (op_in : O → AnyOp) (reply
       let d : AnyDone = record { request = q; answer = a; returned = found } in
       let ds : List AnyDone = w.done c ++ d ∷ [] in let v' : DeskView = after_return q a found m.0 in
       let was : w.stage c ≡ taken q a = subst (λ o. OwnOk o (w.stage c)) is ok.own in
-      let before : (r : AnyRequest) → w.stage c ≢ picked r = λ r e. let g = sym was ∙ e in absurd (cc) in
-      let never : (r : AnyRequest) (a : AnyAnswer) → w.stage c ≢ answered r a = λ r a e. let g = sym was ∙ e in
-      absurd (cc) in
+      let before : (r : AnyRequest) → w.stage c ≢ picked r = λ r e. absurd cc in
+      let never : (r : AnyRequest) (a : AnyAnswer) → w.stage c ≢ answered r a = λ r a e. absurd cc in
       let prefix = ok.seen q.object in (
         v',
         keeps,
@@ -392,10 +388,10 @@ module _ {S O R : Type 0} (content : S → Content) (op_in : O → AnyOp) (reply
           leave = gone_leaves w (w.clock + 1) c idle (changed w.done c ds) (ok.ended ∙ going)
               (changed_else w.done c ds);
           others = λ e other. later_gone w (w.clock + 1) c e idle (changed w.done c ds) before
-              (λ r f. let g = sym was ∙ f in absurd (cc)) (changed_else w.done c ds e other) other;
+              (λ r f. absurd cc) (changed_else w.done c ds e other) other;
           own = seat_unanswered kinds w (w.clock + 1) c idle (changed w.done c ds) m.0 own.Idle
               (m.0.done ++ d ∷ []) before
-              (λ r e. let g = sym was ∙ e in absurd (cc)) never refl
+              (λ r e. absurd cc) never refl
               (ap (λ z. z ++ d ∷ []) ok.done ∙ sym (changed_here w.done c ds))
               (λ y. subst (StartsWith (entries_of c (seen_of m.0 y)))
               (sym (append-nil (served y c (m.0.done ++ d ∷ [])) ∙ served_more y c found m.0.done q a))

@@ -1,6 +1,6 @@
 -- The end of a client, and the sight of another's.
-use Rattle.std.proofs.Common.{◌≡◌, ◌≢◌, ℕ, ◌+◌, ◌<◌, Bool, true, false, List, ◌∷◌, map, length, get_or, set, Some}
-use Rattle.std.proofs.Common.{refl, sym, ap, ◌∙◌, subst, ◌⊎◌, ⊎_elim, arith}
+use Rattle.std.proofs.Common.{All, inr, inl, ◌≡◌, ◌≢◌, ℕ, ◌+◌, ◌<◌, Bool, true, false, List, ◌∷◌, map, length, get_or}
+use Rattle.std.proofs.Common.{set, Some, refl, sym, ap, ◌∙◌, subst, arith}
 use mathlib.Core.Logic.{dite}
 use mathlib.Core.Option as maybe
 use native.Mathlib.Decide.{ℕ_discrete}
@@ -18,7 +18,7 @@ use Rattle.desk_invariant.specs.declared.board.Own.TheVariants as own
 use Rattle.desk_invariant.specs.declared.board.Held.TheVariants as held
 use Rattle.desk_invariant.specs.declared.board.Role.TheVariants as role
 use Rattle.desk_invariant.specs.declared.board.DeskView.{DeskView}
-use Rattle.desk_model.specs.World.{AnyAnswer, Stage, absent, posted, picked, answered, World, request_of, journal_of}
+use Rattle.desk_model.specs.World.{Stage, absent, World, request_of, journal_of}
 use Rattle.desk_model.specs.Transitions.{changed, ended_by}
 use Rattle.desk_model.specs.Images.{event_in}
 use Rattle.desk_model.proofs.Changed.{changed_here, changed_else, changed_all}
@@ -47,6 +47,15 @@ later_ended w c d other = record {
   ended = changed_else w.ended c true d other;
 }
 
+-- the client itself, which ends
+seat_ended : (kinds : List Kind) (w : World) (c : ℕ) (v : DeskView) → SeatOk kinds w c v
+    → SeatOk kinds (ended_by w c) c (after_end v)
+seat_ended kinds w c v ok =
+    let over = changed_here w.ended c true in
+    let told : All (λ d. changed w.ended c true d ≡ true) v.retired =
+    λ i d l. still_ended w c (get_or v.retired i d) (ok.retired i d l) in
+    assumption
+
 is_ended : (b : Bool) → end_word b ≡ 1 → b ≡ true
 is_ended true e = refl
 is_ended false e = absurd (omega arith)
@@ -57,16 +66,16 @@ own_is own.Absent t is = ap request_of (sym is)
 own_is own.Idle t is = ap request_of (sym is)
 own_is (own.Drawn q) t is = ap request_of (sym is)
 own_is (own.Waiting q) t is =
-    ⊎_elim (λ (e : t ≡ posted q). ap request_of (sym e))
-    (λ (f : (t ≡ picked q) ⊎ ((a : AnyAnswer) × (t ≡ answered q a))).
-    ⊎_elim (λ (e : t ≡ picked q). ap request_of (sym e))
-    (λ (e : (a : AnyAnswer) × (t ≡ answered q a)). ap request_of (sym e.1)) f) is
+    elim is [
+      | inl e ↦ ap request_of (sym e)
+      | inr f ↦ elim f [ inl e ↦ ap request_of (sym e) | inr e ↦ ap request_of (sym e.1) ]
+    ]
 own_is (own.Taken q a) t is = ap request_of (sym is)
 
 -- a client at rest has come
 has_come : (o : Own) (t : Stage) → IsAtRest o → OwnOk o t → t ≢ absent
 has_come own.Absent t calm is gone = absurd calm
-has_come own.Idle t calm is gone = let e = sym is ∙ gone in absurd (cc)
+has_come own.Idle t calm is gone = absurd cc
 has_come (own.Drawn q) t calm is gone = absurd calm
 has_come (own.Waiting q) t calm is gone =
     let e : Some q ≡ request_of absent = own_is (own.Waiting q) t is ∙ ap request_of gone in absurd (cc)
@@ -110,21 +119,7 @@ module _ {S O R : Type 0} (content : S → Content) (op_in : O → AnyOp) (reply
                   (has_come m.0.own (w.stage c) calm ok.own) says' k.tied;
               leave = λ d e. (still_ended w c d e, refl);
               others = λ d other. later_ended w c d (λ e. other (e ∙ sym number));
-              own = subst (λ z. SeatOk kinds (ended_by w c) z v') (sym number) record {
-                number = ok.number;
-                small = ok.small;
-                kinds_are = ok.kinds_are;
-                done = ok.done;
-                own = ok.own;
-                ready = ok.ready;
-                wide_seen = ok.wide_seen;
-                seen = ok.seen;
-                covers = ok.covers;
-                held = ok.held;
-                ended = changed_here w.ended c true;
-                retired = λ i d l. still_ended w c (get_or m.0.retired i d) (ok.retired i d l);
-                back = ok.back;
-              };
+              own = subst (λ z. SeatOk kinds (ended_by w c) z v') (sym number) (seat_ended kinds w c m.0 ok);
             }),
         refl,
       )

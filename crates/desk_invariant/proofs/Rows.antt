@@ -1,7 +1,7 @@
 -- Picking a request up, putting it back and answering it keep the rule.
-use Rattle.std.proofs.Common.{◌≡◌, ◌≢◌, ℕ, ◌+◌, ◌<◌, eqb, Bool, true, ◌&&◌, ◌||◌, List, [], ◌∷◌, ◌++◌, length}
-use Rattle.std.proofs.Common.{get_or, set, filter, not, cond, Option}
-use Rattle.std.proofs.Common.{Some, None, All, refl, sym, ap, subst, ◌∙◌, ◌⊎◌, ⊎_elim, inl, inr, arith, eq-eqb, ne_eqb}
+use Rattle.std.proofs.Common.{◌≡◌, ◌≢◌, ℕ, ◌+◌, ◌<◌, eqb, Bool, true, ◌&&◌, ◌||◌, List, [], ◌∷◌, ◌++◌, length, get_or}
+use Rattle.std.proofs.Common.{set, filter, not, cond, Option, Some, None, All, refl, sym, ap, subst, ◌∙◌, ⊎_elim}
+use Rattle.std.proofs.Common.{inl, inr, arith, eq-eqb, ne_eqb}
 use mathlib.Core.Logic.{dite}
 use mathlib.Core.Option as maybe
 use mathlib.Core.Option.{some}
@@ -45,22 +45,17 @@ use Rattle.desk_invariant.proofs.Ties.{tied_row}
 use Rattle.desk_invariant.proofs.Locks.{held_log, held_object}
 
 is_posted : (t : Stage) (x : ℕ) → x < 16 → row_word t ≡ 1 + x → (q : AnyRequest) × (t ≡ posted q) × (q.object ≡ x)
-is_posted absent x small e = absurd (omega arith)
-is_posted idle x small e = absurd (omega arith)
-is_posted (drawn q) x small e = absurd (omega arith)
-is_posted (posted q) x small e = (q, refl, omega arith)
-is_posted (picked q) x small e = absurd (omega arith)
-is_posted (answered q a) x small e = absurd (omega arith)
-is_posted (taken q a) x small e = absurd (omega arith)
+is_posted t x h e = grind arith
 
 -- the stage of a call that waits
 abbrev Waits : AnyRequest → Stage → Type 0
 Waits q t = OwnOk (own.Waiting q) t
 
 waits_request : (q : AnyRequest) (t : Stage) → Waits q t → request_of t ≡ Some q
-waits_request q t e = ⊎_elim (λ (a : t ≡ posted q). ap request_of a)
-    (λ (b : (t ≡ picked q) ⊎ ((a : AnyAnswer) × (t ≡ answered q a))). ⊎_elim (λ (c : t ≡ picked q). ap request_of c)
-    (λ (c : (a : AnyAnswer) × (t ≡ answered q a)). ap request_of c.1) b) e
+waits_request q t e = elim e [
+  | inl a ↦ ap request_of a
+  | inr b ↦ elim b [ inl c ↦ ap request_of c | inr c ↦ ap request_of c.1 ]
+]
 
 -- the own call that is posted is the one that waits
 own_posted : (p q : AnyRequest) (o : Own) (t : Stage) → OwnOk o t → o ≡ own.Waiting p → t ≡ posted q → q ≡ p
@@ -70,9 +65,10 @@ own_posted p q o t ok mine at =
 -- what no waiting call's stage is
 not_waiting : (q : AnyRequest) (t u : Stage) → Waits q t → t ≡ u → u ≢ posted q → u ≢ picked q
     → ((a : AnyAnswer) → u ≢ answered q a) → ⊥
-not_waiting q t u e is a b c = ⊎_elim (λ (f : t ≡ posted q). a (sym is ∙ f))
-    (λ (g : (t ≡ picked q) ⊎ ((a : AnyAnswer) × (t ≡ answered q a))). ⊎_elim (λ (f : t ≡ picked q). b (sym is ∙ f))
-    (λ (f : (a : AnyAnswer) × (t ≡ answered q a)). c f.0 (sym is ∙ f.1)) g) e
+not_waiting q t u e is a b c = elim e [
+  | inl f ↦ a (sym is ∙ f)
+  | inr g ↦ elim g [ inl f ↦ b (sym is ∙ f) | inr f ↦ c f.0 (sym is ∙ f.1) ]
+]
 
 -- what a client knows of its own call stays true while the call goes on waiting
 own_waits : (o : Own) (q : AnyRequest) (t u : Stage) → Waits q t → Waits q u → OwnOk o t → OwnOk o u
@@ -180,10 +176,13 @@ noted kinds quota c x w own.Absent k free miss e ok = absurd (cc)
 noted kinds quota c x w own.Idle k free miss e ok = absurd (cc)
 noted kinds quota c x w (own.Drawn q) k free miss e ok = absurd (cc)
 noted kinds quota c x w (own.Waiting q) k free miss e ok = let at : q.object ≡ x = eqb-true q.object x e in
-    ⊎_elim (λ (b : w.stage c ≡ posted q). absurd (miss (ap row_word b ∙ ap (λ z. 1 + z) at)))
-    (λ (b : (w.stage c ≡ picked q) ⊎ ((a : AnyAnswer) × (w.stage c ≡ answered q a))). ⊎_elim
-    (λ (d : w.stage c ≡ picked q). let f = sym free ∙ (ap w.hand (sym at) ∙ k.picked_up c q d) in absurd (cc))
-    (λ (d : (a : AnyAnswer) × (w.stage c ≡ answered q a)). (q, d.0, d.1)) b) ok
+    elim ok [
+      | inl b ↦ absurd (miss (ap row_word b ∙ ap (λ z. 1 + z) at))
+      | inr b ↦ elim b [
+        | inl d ↦ let f = sym free ∙ (ap w.hand (sym at) ∙ k.picked_up c q d) in absurd (cc)
+        | inr d ↦ (q, d.0, d.1)
+      ]
+    ]
 noted kinds quota c x w (own.Taken q a) k free miss e ok = absurd (cc)
 
 noting_ok : (kinds : List Kind) (quota c x r : ℕ) (w : World) (v : DeskView) (l : List AnyEntry)
@@ -270,7 +269,7 @@ module _ {S O R : Type 0} (content : S → Content) (op_in : O → AnyOp) (reply
       let b = is_posted (w.stage r) x low (sym word ∙ hit) in let q : AnyRequest = b.0 in let t : Stage = picked q in
       let from : Waits q (w.stage r) = inl b.1 in let to : Waits q t = inr (inl refl) in
       let never : (p : AnyRequest) (a : AnyAnswer)
-      → w.stage r ≢ answered p a = λ p a e. let f = sym b.1 ∙ e in absurd (cc) in
+      → w.stage r ≢ answered p a = λ p a e. absurd cc in
       let home = subst (CallAt content op_in reply_in (get_elem? s.homes (16 + r))) b.1 (k.tied.calls r inside) in
       let v' : DeskView = after_pick x l r q m.0 in let bs : List PutBack = v'.back in
       let fits = k.sound.fitting r q (ap request_of b.1) in (
@@ -283,14 +282,14 @@ module _ {S O R : Type 0} (content : S → Content) (op_in : O → AnyOp) (reply
             (kept_after content op_in reply_in kinds clients quota s k id m.0 v' at cl alike record {
               world = handed w x (Some r) r t;
               holders = k.holders;
-              come = come_after clients w r t (k.come r (λ e. let f = sym b.1 ∙ e in absurd (cc))) k.come;
+              come = come_after clients w r t (k.come r (λ e. absurd cc)) k.come;
               sound = sound_picked kinds quota w x r c q b.1 b.2 h.1 h.2 k.sound;
               tied = tied_row content op_in reply_in kinds k.lists w r (17 + x) t
                   (changed w.hand x (Some r)) w.log s.words s.homes maybe.none inside
                   (λ y _. refl) (λ e. absurd (cc)) (ap request_of (sym b.1)) (ap (λ z. 17 + z) (sym b.2)) tt k.tied;
               leave = row_leaves w r t (ap request_of b.1);
               others = λ d other. later_row w x r c d q t (Some r) w.log from to never (λ y. starts_same (w.log y))
-                  (λ y _. refl) (λ y p _ _ e. let f = sym b.1 ∙ e in absurd (cc))
+                  (λ y _. refl) (λ y p _ _ e. absurd cc)
                   (λ p e f. let g : posted q ≡ posted p = sym b.1 ∙ f in let same : q ≡ p = cc in
                   other (sym (same_Some c d (sym h.1 ∙ (ap w.holder (sym b.2 ∙ ap (λ z. z.object) same) ∙ e)))))
                   h.1 other;
@@ -351,9 +350,9 @@ module _ {S O R : Type 0} (content : S → Content) (op_in : O → AnyOp) (reply
       subst (HeldOk (length kinds) w c) hand ok.held in let t : Stage = posted q in
       let from : Waits q (w.stage r) = inr (inl h.6) in let to : Waits q t = inl refl in
       let never : (p : AnyRequest) (a : AnyAnswer)
-      → w.stage r ≢ answered p a = λ p a e. let f = sym h.6 ∙ e in absurd (cc) in
+      → w.stage r ≢ answered p a = λ p a e. absurd cc in
       let v' : DeskView = after_put_back x l r q m.0 in let bs : List PutBack = v'.back in
-      let unposted : (p : AnyRequest) → w.stage r ≢ posted p = λ p e. let f = sym h.6 ∙ e in absurd (cc) in (
+      let unposted : (p : AnyRequest) → w.stage r ≢ posted p = λ p e. absurd cc in (
         v',
         gives,
         tt,
@@ -365,7 +364,7 @@ module _ {S O R : Type 0} (content : S → Content) (op_in : O → AnyOp) (reply
             (kept_after content op_in reply_in kinds clients quota s k id m.0 v' at cl alike record {
               world = handed w x None r t;
               holders = k.holders;
-              come = come_after clients w r t (k.come r (λ e. let f = sym h.6 ∙ e in absurd (cc))) k.come;
+              come = come_after clients w r t (k.come r (λ e. absurd cc)) k.come;
               sound = sound_put_back kinds quota w x r c q h.6 on h.1 h.2 k.sound;
               tied = tied_row content op_in reply_in kinds k.lists w r n t
                   (changed w.hand x None) w.log s.words s.homes (some (slot.Request p)) h.5
@@ -398,11 +397,10 @@ module _ {S O R : Type 0} (content : S → Content) (op_in : O → AnyOp) (reply
       → SeatOk kinds (served_by w x r q a) c (record v { held = o; ready = v.ready || eqb r v.number })
   seat_answered w c x r q a v o is ok now =
       let from : Waits q (w.stage r) = inr (inl is) in let to : Waits q (answered q a) = inr (inr (a, refl)) in
-      let never : (p : AnyRequest) (b : AnyAnswer) → w.stage r ≢ answered p b = λ p b e. let f = sym is ∙ e in
-      absurd (cc) in
+      let never : (p : AnyRequest) (b : AnyAnswer) → w.stage r ≢ answered p b = λ p b e. absurd cc in
       let base = seat_row kinds w c r q (answered q a) (changed w.hand x None)
       (changed w.log x (w.log x ++ logged r q a)) v o v.back
-      (rows_stay w c r (answered q a) v.back (λ p e. let f = sym is ∙ e in absurd (cc)) ok.back) from to never
+      (rows_stay w c r (answered q a) v.back (λ p e. absurd cc) ok.back) from to never
       (grows w x (logged r q a)) ok now in
       let now : eqb r v.number ≡ true
       → (p : AnyRequest) × (b : AnyAnswer) × (changed w.stage r (answered q a) c ≡ answered p b) = λ b. (
@@ -436,7 +434,7 @@ module _ {S O R : Type 0} (content : S → Content) (op_in : O → AnyOp) (reply
       let more : List AnyEntry = logged r q a in
       let from : Waits q (w.stage r) = inr (inl h.6) in let to : Waits q t = inr (inr (a, refl)) in
       let never : (p : AnyRequest) (a : AnyAnswer)
-      → w.stage r ≢ answered p a = λ p a e. let f = sym h.6 ∙ e in absurd (cc) in
+      → w.stage r ≢ answered p a = λ p a e. absurd cc in
       let legal' : IsLegal (kind_at kinds x) (w.log x ++ more) =
       subst (λ (z : List Kind × List AnyEntry). IsLegal (kind_at z.0 x) (z.1 ++ more))
       (λ i. (ok.kinds_are i, sym h.3 i)) legal in (
@@ -452,18 +450,18 @@ module _ {S O R : Type 0} (content : S → Content) (op_in : O → AnyOp) (reply
             (after_answer r x (l ++ more) m.0) at cl alike record {
               world = served_by w x r q a;
               holders = k.holders;
-              come = come_after clients w r t (k.come r (λ e. let f = sym h.6 ∙ e in absurd (cc))) k.come;
+              come = come_after clients w r t (k.come r (λ e. absurd cc)) k.come;
               sound = sound_served kinds quota w x r c q a h.6 on h.1 h.2 legal' k.sound;
               tied = tied_row content op_in reply_in kinds k.lists w r 33 t (changed w.hand x None)
                   (changed w.log x (w.log x ++ more)) s.words s.homes (some (slot.Answer b)) h.5
                   (λ y e. changed_else w.log x (w.log x ++ more) y
-                  (λ same. let f = sym h.1 ∙ (ap w.holder (sym same) ∙ e) in absurd (cc)))
+                  (λ same. absurd cc))
                   (λ e. absurd (cc)) (ap request_of (sym h.6)) refl (b, refl, refl) k.tied;
               leave = row_leaves w r t (ap request_of h.6);
               others = λ d other. later_row w x r c d q t None (changed w.log x (w.log x ++ more)) from to never
                   (grows w x more)
                   (λ y away. changed_else w.log x (w.log x ++ more) y away) (apart w x r c d q h.6 on h.1 other k.sound)
-                  (λ p _ e. let f = sym h.6 ∙ e in absurd (cc)) h.1 other;
+                  (λ p _ e. absurd cc) h.1 other;
               own = seat_answered w c x r q a m.0 (held.Pass x (l ++ more)) h.6 ok (
                 h.0,
                 h.1,

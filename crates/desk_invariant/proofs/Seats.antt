@@ -1,6 +1,6 @@
 -- What a step of one client leaves of what the others know.
-use Rattle.std.proofs.Common.{◌≡◌, ◌≢◌, ℕ, ◌+◌, ◌<◌, ◌≤◌, Bool, true, false, List, [], length, get_or, set, Some}
-use Rattle.std.proofs.Common.{All, refl, sym, ap, subst, ◌∙◌, ⊎_elim, arith}
+use Rattle.std.proofs.Common.{inr, inl, ◌≡◌, ◌≢◌, ℕ, ◌+◌, ◌<◌, ◌≤◌, Bool, true, false, List, [], length, get_or, set}
+use Rattle.std.proofs.Common.{Some, All, refl, sym, ap, subst, ◌∙◌, arith}
 use mathlib.Core.Option as maybe
 use mathlib.Core.Option.{some}
 use lib.ListN.{get_elem?}
@@ -21,8 +21,8 @@ use Rattle.desk_invariant.specs.declared.board.Leaving.{Leaving}
 use Rattle.desk_invariant.specs.declared.board.PutBack.{PutBack}
 use Rattle.desk_invariant.specs.declared.board.Role.TheVariants as role
 use Rattle.desk_invariant.specs.declared.board.DeskView.{DeskView}
-use Rattle.desk_model.specs.World.{AnyEntry, AnyRequest, AnyAnswer, AnyDone, Stage, absent, posted, picked}
-use Rattle.desk_model.specs.World.{answered, World, request_of, journal_of, journal_in, StartsWith}
+use Rattle.desk_model.specs.World.{AnyEntry, AnyRequest, AnyAnswer, AnyDone, Stage, absent, posted, picked, answered}
+use Rattle.desk_model.specs.World.{World, request_of, journal_of, journal_in, StartsWith}
 use Rattle.desk_model.specs.Transitions.{changed}
 use Rattle.desk_model.specs.Sound.{Sound}
 use Rattle.desk_model.proofs.Changed.{changed_all}
@@ -145,21 +145,7 @@ pub seat_knowing : {kinds : List Kind} {w : World} {c : ℕ} {v : DeskView} {rea
       retired = retired;
       still_there = still_there;
     })
-seat_knowing ready retired ok = record {
-  number = ok.number;
-  small = ok.small;
-  kinds_are = ok.kinds_are;
-  done = ok.done;
-  own = ok.own;
-  ready = ready;
-  wide_seen = ok.wide_seen;
-  seen = ok.seen;
-  covers = ok.covers;
-  held = ok.held;
-  ended = ok.ended;
-  retired = retired;
-  back = ok.back;
-}
+seat_knowing ready retired ok = assumption
 
 -- after a step to w', in which the client's view v becomes v', each view is true
 seats_after : (kinds : List Kind) (lists : List TableId) (clients : ℕ) (w w' : World) (so : ℕ → ℕ)
@@ -179,31 +165,33 @@ seats_after kinds lists clients w w' so vs id v v' at cl alike makers before lea
     → (w'.stage c ≡ absent) × (w'.done c ≡ []) × (w'.ended c ≡ false) × ((x : ℕ) → w'.holder x ≢ Some c) =
     λ c apart b. let o = others c apart in
     (o.own own.Absent b.0, o.done ∙ b.1, o.ended ∙ b.2, λ x f. b.3 x (o.holds x f)) in
-    ⊎_elim (λ (t : (j ≡ id) × (v' ≡ u)). subst (λ (z : ℕ × DeskView). ViewOk kinds lists w' so z.0 z.1)
-    (λ i. (sym t.0 i, t.1 i)) record {
-      seen = ok.seen;
-      received = λ x. subst (λ z. StartsWith (w'.log x) (get_or z x [])) (sym alike.received)
-          (starts_longer (w'.log x) (w.log x) (received_of v x) (logs x) ((before id v at).received x));
-      left = subst (All (HasLeft w')) (sym alike.left) (left_stays w w' v.left leave (before id v at).left);
-      client = λ _. (ap so alike.number ∙ here.0, subst (λ z. SeatOk kinds w' z v') (sym alike.number) ok);
-      unmade = λ is c l. let is' : v.role ≡ role.Maker = sym alike.role ∙ is in
-          let l' : v.made ≤ c = subst (λ z. z ≤ c) alike.made l in
-          unmade c (is_made c v id at is' l') ((before id v at).unmade is' c l');
-      maker_kinds = λ is. ok.kinds_are;
-      lists_are = λ is. alike.lists ∙ (before id v at).lists_are cl;
-      maker_lists = λ is. alike.lists ∙ (before id v at).lists_are cl;
-    })
-    (λ (t : (j ≢ id) × (get_elem? vs j ≡ some u)). let b = before j u t.1 in record {
-      seen = λ x. starts_longer (w'.log x) (w.log x) (seen_of u x) (logs x) (b.seen x);
-      received = λ x. starts_longer (w'.log x) (w.log x) (received_of u x) (logs x) (b.received x);
-      left = left_stays w w' u.left leave b.left;
-      client = λ is. let c = b.client is in
-          (c.0, seat_stays kinds w w' u.number u leave (others u.number (λ g. t.0 (sym c.0 ∙ (ap so g ∙ here.0)))) c.1);
-      unmade = λ is c l. unmade c (is_made c u j t.1 is l) (b.unmade is c l);
-      maker_kinds = b.maker_kinds;
-      lists_are = b.lists_are;
-      maker_lists = b.maker_lists;
-    }) (at_set vs id j v' u e)
+    elim (at_set vs id j v' u e) [
+      | inl t ↦ subst (λ (z : ℕ × DeskView). ViewOk kinds lists w' so z.0 z.1)
+          (λ i. (sym t.0 i, t.1 i)) record {
+            seen = ok.seen;
+            received = λ x. subst (λ z. StartsWith (w'.log x) (get_or z x [])) (sym alike.received)
+                (starts_longer (w'.log x) (w.log x) (received_of v x) (logs x) ((before id v at).received x));
+            left = subst (All (HasLeft w')) (sym alike.left) (left_stays w w' v.left leave (before id v at).left);
+            client = λ _. (ap so alike.number ∙ here.0, subst (λ z. SeatOk kinds w' z v') (sym alike.number) ok);
+            unmade = λ is c l. let is' : v.role ≡ role.Maker = sym alike.role ∙ is in
+                let l' : v.made ≤ c = subst (λ z. z ≤ c) alike.made l in
+                unmade c (is_made c v id at is' l') ((before id v at).unmade is' c l');
+            maker_kinds = λ is. ok.kinds_are;
+            lists_are = λ is. alike.lists ∙ (before id v at).lists_are cl;
+            maker_lists = λ is. alike.lists ∙ (before id v at).lists_are cl;
+          }
+      | inr t ↦ let b = before j u t.1 in record {
+        seen = λ x. starts_longer (w'.log x) (w.log x) (seen_of u x) (logs x) (b.seen x);
+        received = λ x. starts_longer (w'.log x) (w.log x) (received_of u x) (logs x) (b.received x);
+        left = left_stays w w' u.left leave b.left;
+        client = λ is. let c = b.client is in
+            (c.0, seat_stays kinds w w' u.number u leave (others u.number (λ g. t.0 (sym c.0 ∙ (ap so g ∙ here.0)))) c.1);
+        unmade = λ is c l. unmade c (is_made c u j t.1 is l) (b.unmade is c l);
+        maker_kinds = b.maker_kinds;
+        lists_are = b.lists_are;
+        maker_lists = b.maker_lists;
+      }
+    ]
 
 pub makers_stay : (clients : ℕ) (vs : List DeskView) (id : ℕ) (v v' : DeskView) → get_elem? vs id ≡ some v
     → v'.role ≡ v.role → v'.number ≡ v.number
@@ -211,14 +199,16 @@ pub makers_stay : (clients : ℕ) (vs : List DeskView) (id : ℕ) (v v' : DeskVi
 makers_stay clients vs id v v' at role number made before =
     let back : (a : ℕ) (z : DeskView) → get_elem? (set vs id v') a ≡ some z
     → (y : DeskView) × (get_elem? vs a ≡ some y) × (z.role ≡ y.role) × (z.number ≡ y.number) × (z.made ≡ y.made)
-    = λ a z g. ⊎_elim (λ (h : (a ≡ id) × (v' ≡ z)). (
-      v,
-      ap (get_elem? vs) h.0 ∙ at,
-      ap (λ q. q.role) (sym h.1) ∙ role,
-      ap (λ q. q.number) (sym h.1) ∙ number,
-      ap (λ q. q.made) (sym h.1) ∙ made,
-    ))
-    (λ (h : (a ≢ id) × (get_elem? vs a ≡ some z)). (z, h.1, refl, refl, refl)) (at_set vs id a v' z g) in
+    = λ a z g. elim (at_set vs id a v' z g) [
+      | inl h ↦ (
+        v,
+        ap (get_elem? vs) h.0 ∙ at,
+        ap (λ q. q.role) (sym h.1) ∙ role,
+        ap (λ q. q.number) (sym h.1) ∙ number,
+        ap (λ q. q.made) (sym h.1) ∙ made,
+      )
+      | inr h ↦ (z, h.1, refl, refl, refl)
+    ] in
     record {
       made = λ j u e is i t f. let a = back j u e in let b = back i t f in
           let low = before.made j a.0 a.1 (sym a.2 ∙ is) i b.0 b.1 in let n₁ = b.3 in let n₂ = a.4 in

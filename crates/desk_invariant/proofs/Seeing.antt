@@ -1,8 +1,7 @@
 -- A client sees more of a log.
-use Rattle.std.proofs.Common.{◌≡◌, ◌≢◌, ℕ, ◌<◌, true, false, cond, eqb, ◌⊎◌, ⊎_elim, inl, inr, length-append, List}
-use Rattle.std.proofs.Common.{[], ◌∷◌, ◌++◌, length, get_or}
-use Rattle.std.proofs.Common.{set, refl, sym, ap, subst, ◌∙◌, arith, append_assoc, append-nil, length-set}
-use Rattle.std.proofs.Common.{get_or-set_other, get_or-set_same}
+use Rattle.std.proofs.Common.{◌≡◌, ◌≢◌, ℕ, ◌<◌, true, false, cond, eqb, ◌⊎◌, inl, inr, length-append, List, [], ◌∷◌}
+use Rattle.std.proofs.Common.{◌++◌, length, get_or, set, refl, sym, ap, subst, ◌∙◌, arith, append_assoc, append-nil}
+use Rattle.std.proofs.Common.{length-set, get_or-set_other, get_or-set_same}
 use mathlib.Core.Logic.{dite}
 use native.Mathlib.Decide.{ℕ_discrete}
 use Rattle.model.specs.declared.Kind.{Kind}
@@ -11,7 +10,7 @@ use Rattle.desk_invariant.specs.declared.board.Own.TheVariants as own
 use Rattle.desk_invariant.specs.declared.board.DeskView.{DeskView}
 use Rattle.std.proofs.lemmas.List.{append_cancel_left, nil_from_length}
 use Rattle.desk_model.specs.declared.Answer.TheVariants.{Reply, Refused}
-use Rattle.desk_model.specs.World.{AnyEntry, AnyRequest, AnyAnswer, AnyDone, Stage, posted, picked, answered, World}
+use Rattle.desk_model.specs.World.{AnyEntry, AnyRequest, AnyAnswer, AnyDone, Stage, World}
 use Rattle.desk_model.specs.World.{logged, logged_on, entries_of, served, served_now, StartsWith}
 use Rattle.desk_model.specs.Sound.{Sound}
 use Rattle.desk_model.proofs.Entries.{entries-append}
@@ -52,22 +51,13 @@ seen_all P seen x l low here others y = dite (ℕ_discrete y x)
 pub saw : (kinds : List Kind) (w : World) (c x : ℕ) (v : DeskView) (l : List AnyEntry) → x < 16
     → StartsWith (w.log x) l → StartsWith (entries_of c l) (served x c v.done ++ owed x c v.own)
     → SeatOk kinds w c v → SeatOk kinds w c (after_meet x l v)
-saw kinds w c x v l low begins covers ok = let wide = ok.wide_seen in record {
-  number = ok.number;
-  small = ok.small;
-  kinds_are = ok.kinds_are;
-  done = ok.done;
-  own = ok.own;
-  ready = ok.ready;
-  wide_seen = length-set v.seen x l ∙ wide;
-  seen = seen_all (λ y z. StartsWith (w.log y) z) v.seen x l (omega arith) begins (λ y _. ok.seen y);
-  covers = seen_all (λ y z. StartsWith (entries_of c z) (served y c v.done ++ owed y c v.own)) v.seen x l
-      (omega arith) covers (λ y _. ok.covers y);
-  held = ok.held;
-  ended = ok.ended;
-  retired = ok.retired;
-  back = ok.back;
-}
+saw kinds w c x v l low begins covers ok =
+    let wide = ok.wide_seen in
+    let length_kept = length-set v.seen x l ∙ wide in
+    let begin = seen_all (λ y z. StartsWith (w.log y) z) v.seen x l (omega arith) begins (λ y _. ok.seen y) in
+    let cover = seen_all (λ y z. StartsWith (entries_of c z) (served y c v.done ++ owed y c v.own)) v.seen x l
+    (omega arith) covers (λ y _. ok.covers y) in
+    assumption
 
 -- the front of a list of one element at most is empty or whole
 one_front : {A : Type 0} (l xs ys : List A) → length l < 2 → l ≡ xs ++ ys → (xs ≡ []) ⊎ (xs ≡ l)
@@ -90,16 +80,23 @@ held_now : (x c : ℕ) (o : Own) (t : Stage) (now more : List AnyEntry) → IsAt
     → served_now x c t ≡ now ++ more → MayHold x c o now
 held_now x c own.Absent t now more rest ok e = absurd rest
 held_now x c own.Idle t now more rest ok e =
-    ⊎_elim (λ f. f) (λ f. f) (one_front [] now more (omega arith) (ap (served_now x c) (sym ok) ∙ e))
+    elim (one_front [] now more (omega arith) (ap (served_now x c) (sym ok) ∙ e)) [ inl f ↦ f | inr f ↦ f ]
 held_now x c (own.Drawn q) t now more rest ok e = absurd rest
 held_now x c (own.Waiting q) t now more rest ok e =
-    ⊎_elim (λ (f : t ≡ posted q). inl
-    (⊎_elim (λ g. g) (λ g. g) (one_front [] now more (omega arith) (ap (served_now x c) (sym f) ∙ e))))
-    (λ (g : (t ≡ picked q) ⊎ ((a : AnyAnswer) × (t ≡ answered q a))). ⊎_elim
-    (λ (f : t ≡ picked q). inl
-    (⊎_elim (λ g. g) (λ g. g) (one_front [] now more (omega arith) (ap (served_now x c) (sym f) ∙ e))))
-    (λ (f : (a : AnyAnswer) × (t ≡ answered q a)). ⊎_elim (λ h. inl h) (λ h. inr (f.0, h))
-    (one_front (logged_on x c q f.0) now more (short_logged x c q f.0) (ap (served_now x c) (sym f.1) ∙ e))) g) ok
+    elim ok [
+      | inl f ↦ inl
+          (elim (one_front [] now more (omega arith) (ap (served_now x c) (sym f) ∙ e)) [ inl g ↦ g | inr g ↦ g ])
+      | inr g ↦ elim g [
+        | inl f ↦ inl
+            (elim (one_front [] now more (omega arith) (ap (served_now x c) (sym f) ∙ e)) [ inl g ↦ g | inr g ↦ g ])
+        | inr f ↦
+            let short = short_logged x c q f.0 in
+            elim (one_front (logged_on x c q f.0) now more short (ap (served_now x c) (sym f.1) ∙ e)) [
+              | inl h ↦ inl h
+              | inr h ↦ inr (f.0, h)
+            ]
+      ]
+    ]
 held_now x c (own.Taken q a) t now more rest ok e = absurd rest
 
 -- a list that the client has seen has of its own calls what it is to have

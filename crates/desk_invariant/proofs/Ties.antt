@@ -1,6 +1,6 @@
 -- Words and slots stay tied to the world where one word and the slot that it guards change with it.
-use Rattle.std.proofs.Common.{◌≡◌, ◌≢◌, ℕ, ◌+◌, ◌<◌, Bool, true, false, List, map, length, get_or, set, Option}
-use Rattle.std.proofs.Common.{None, sym, ap, subst, ◌∙◌, arith, length-set, get_or-set_other, get_or-set_same}
+use Rattle.std.proofs.Common.{◌≡◌, ◌≢◌, ℕ, ◌+◌, ◌<◌, Bool, true, false, List, map, length, get_or, set, Option, None}
+use Rattle.std.proofs.Common.{sym, ap, subst, ◌∙◌, arith, length-set, get_or-set_other, get_or-set_same}
 use mathlib.Core.Option as maybe
 use mathlib.Core.Option.{some}
 use lib.ListN.{get_elem?}
@@ -121,7 +121,7 @@ module _ {S O R : Type 0} (content : S → Content) (op_in : O → AnyOp) (reply
         (λ l. ok (get_elem? homes (16 + c))) (λ j _. k.calls j);
     journals = λ d. changed_all
         (λ d u. d < 32 → Journaled (get_elem? homes (48 + d)) u (changed w.done c ds d) (w.ended d)) w.stage c t
-        (λ l. record { at_first = λ e. absurd (come e); at_last = λ e. let f = sym going ∙ e in absurd (cc) })
+        (λ l. record { at_first = λ e. absurd (come e); at_last = λ e. absurd cc })
         (λ d other l. subst (λ z. Journaled (get_elem? homes (48 + d)) (w.stage d) z (w.ended d))
         (sym (changed_else w.done c ds d other)) (k.journals d l)) d;
   }
@@ -187,7 +187,7 @@ module _ {S O R : Type 0} (content : S → Content) (op_in : O → AnyOp) (reply
             (sym (away (16 + j) (λ e. omega arith) (λ e. other (omega arith)))) (k.calls j l));
         journals = changed_all (λ d u. d < 32
             → Journaled (get_elem? (set first (16 + c) maybe.none) (48 + d)) u (w.done d) (w.ended d)) w.stage c t
-            (λ l. record { at_first = λ e. absurd (come e); at_last = λ e. let f = sym going ∙ e in absurd (cc) })
+            (λ l. record { at_first = λ e. absurd (come e); at_last = λ e. absurd cc })
             (λ d other l. subst (λ z. Journaled z (w.stage d) (w.done d) (w.ended d))
             (sym (away (48 + d) (λ e. other (omega arith)) (λ e. omega arith))) (k.journals d l));
       }
