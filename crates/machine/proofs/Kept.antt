@@ -1,9 +1,8 @@
 -- A transition of the machine's world leaves a machine.
-use Rattle.std.proofs.Common.{◌≡◌, ◌≢◌, ℕ, zero, suc, ◌+◌, ◌<◌, List, [], ◌∷◌, ◌++◌, length, Option, Some, None}
-use Rattle.std.proofs.Common.{IsSome, true, set, get_or, map, refl, ap, sym, ◌∙◌, subst, arith}
+use Rattle.std.proofs.Common.{◌≡◌, ◌≢◌, ℕ, zero, suc, ◌+◌, ◌<◌, List, [], ◌∷◌, ◌++◌, length, Option, Some, None, IsSome}
+use Rattle.std.proofs.Common.{true, set, get_or, map, refl, ap, sym, ◌∙◌, subst, arith, slice_get}
 use Rattle.std.proofs.lemmas.List.{length-set, get_or-set_same, get_or-set_other}
 use Rattle.model.specs.declared.Kind.{Kind}
-use Rattle.std.proofs.Common.{slice_get}
 use Rattle.std.proofs.lemmas.Option.{same_Some}
 use mathlib.Core.Logic.{dite}
 use native.Mathlib.Decide.{ℕ_discrete}
@@ -11,11 +10,11 @@ use Rattle.model.specs.Objects.{Content, empty, next, kind_of, kind_with}
 use Rattle.desk_model.specs.World as world
 use Rattle.model.specs.declared.AnyOp.{AnyOp}
 use Rattle.desk_model.specs.declared.JournalEvent.TheVariants.{Returned}
-use Rattle.desk_model.specs.World.{AnyRequest, AnyAnswer, AnyDone, AnyEvent, World, Stage, AnyEntry, kind_at}
-use Rattle.desk_model.specs.World.{logged, Serves, request_of, invoked, calls_made, journal_of, journal_in, Replays}
+use Rattle.desk_model.specs.World.{AnyRequest, AnyAnswer, AnyDone, AnyEvent, World, Stage, AnyEntry, kind_at, logged}
+use Rattle.desk_model.specs.World.{Serves, request_of, invoked, calls_made, journal_of, journal_in, Replays}
 use Rattle.desk_model.specs.Transitions.{Step, Takes, Transition, MayEnd, HoldsNothing, changed, staged, ticked}
-use Rattle.desk_model.specs.Transitions.{held_by, handed, ended_by, served_by}
-use Rattle.desk_model.specs.Transitions.{draw_call, draw_return, answer, win, release, end}
+use Rattle.desk_model.specs.Transitions.{held_by, handed, ended_by, served_by, draw_call, draw_return, answer, win}
+use Rattle.desk_model.specs.Transitions.{release, end}
 use Rattle.desk_model.proofs.Changed.{changed_here, changed_else, changed_all}
 use Rattle.machine.specs.declared.step.Stage.TheVariants.{Idle, Drawn, Posted, Picked, Answered, Taken}
 use Rattle.machine.specs.Machines.{State, AnyStage, HasRun, IsMachine, clients_of, world_of, stage_of, done_in}
@@ -62,12 +61,7 @@ run_taken s s' c w run t =
 
 -- a client that is there has come
 named : (t : AnyStage) → stage_of t ≢ world.absent
-named Idle e = absurd (cc)
-named (Drawn q) e = absurd (cc)
-named (Posted q) e = absurd (cc)
-named (Picked q) e = absurd (cc)
-named (Answered q a) e = absurd (cc)
-named (Taken q a) e = absurd (cc)
+named t e = grind arith
 
 is_there : (ts : List AnyStage) (c : ℕ) → c < length ts → get_or (map stage_of ts) c world.absent ≢ world.absent
 is_there [] c low e = absurd (omega arith)
@@ -149,16 +143,7 @@ module _ (contents : List Content) (s : State) (m : IsMachine contents s) (c : �
       let s' : State = record s { stages = set s.stages c t } in
       let is : world_of s' ≡ staged (world_of s) c (stage_of t) = world-staged s c t go.0 in
       kept contents s' w
-      (record {
-        kinds = refl;
-        quota = refl;
-        logs = refl;
-        holders = refl;
-        hands = refl;
-        stages = length-set s.stages c t;
-        journals = refl;
-        ended = refl;
-      })
+      (assumption (length-set s.stages c t))
       (subst (Takes s.kinds s.quota w (world_of s) c) (sym is) takes)
       (record {
         kinds = m.kinds;
@@ -180,16 +165,7 @@ module _ (contents : List Content) (s : State) (m : IsMachine contents s) (c : �
       let s' : State = record s { holders = set s.holders x h } in
       let is : world_of s' ≡ held_by (world_of s) x h = world-held s x h low in
       kept contents s' w
-      (record {
-        kinds = refl;
-        quota = refl;
-        logs = refl;
-        holders = length-set s.holders x h;
-        hands = refl;
-        stages = refl;
-        journals = refl;
-        ended = refl;
-      })
+      (assumption (length-set s.holders x h))
       (subst (Takes s.kinds s.quota w (world_of s) c) (sym is) takes)
       (record {
         kinds = m.kinds;
@@ -250,19 +226,10 @@ module _ (contents : List Content) (s : State) (m : IsMachine contents s) (c : �
       let low = go.0 in let long = m.ended in let within : c < length s.ended = omega arith in
       let is : world_of s' ≡ ended_by (world_of s) c = world-ended s c within in
       kept contents s' end
-      (record {
-        kinds = refl;
-        quota = refl;
-        logs = refl;
-        holders = refl;
-        hands = refl;
-        stages = refl;
-        journals = refl;
-        ended = length-set s.ended c true;
-      })
+      (assumption (length-set s.ended c true))
       (subst (Takes s.kinds s.quota end (world_of s) c) (sym is)
       (record { may_end = may; holds_nothing = nothing; after = refl }))
-      (record { kinds = m.kinds; fits = m.fits; journals_are = m.journals_are; single = m.single })
+      assumption
 
   -- what a draw leaves: each journal is that of the world
   ticked_now : (t : AnyStage) (js : List AnyEvent) (w : Step)
@@ -275,16 +242,7 @@ module _ (contents : List Content) (s : State) (m : IsMachine contents s) (c : �
       let low = go.0 in let long = m.journals in let within : c < length s.journals = omega arith in
       let is : world_of s' ≡ ticked (world_of s) c (stage_of t) (done_in js) = world-ticked s c t js go.0 within in
       kept contents s' w
-      (record {
-        kinds = refl;
-        quota = refl;
-        logs = refl;
-        holders = refl;
-        hands = refl;
-        stages = length-set s.stages c t;
-        journals = length-set s.journals c js;
-        ended = refl;
-      })
+      (assumption (length-set s.stages c t, length-set s.journals c js))
       (subst (Takes s.kinds s.quota w (world_of s) c) (sym is) takes)
       (record { kinds = m.kinds; fits = m.fits; single = m.single; journals_are = λ j. each s' is within j })
     where
@@ -363,16 +321,7 @@ module _ (contents : List Content) (s : State) (m : IsMachine contents s) (c : �
       let long = m.hands in
       let is : world_of s' ≡ handed (world_of s) x h r (stage_of t) = world-handed s x h r t (omega arith) within in
       kept contents s' w
-      (record {
-        kinds = refl;
-        quota = refl;
-        logs = refl;
-        holders = refl;
-        hands = length-set s.hands x h;
-        stages = length-set s.stages r t;
-        journals = refl;
-        ended = refl;
-      })
+      (assumption (length-set s.hands x h, length-set s.stages r t))
       (subst (Takes s.kinds s.quota w (world_of s) c) (sym is) takes)
       (record {
         kinds = m.kinds;
@@ -407,17 +356,11 @@ module _ (contents : List Content) (s : State) (m : IsMachine contents s) (c : �
       let replays : Replays (empty (kind_at s.kinds x)) (get_or s.logs x []) before =
       subst (λ (k : Kind). Replays (empty k) (get_or s.logs x []) before) (sym kind) (m.fits x before at) in
       kept (set contents x after) s' answer
-      (record {
-        kinds = refl;
-        quota = refl;
-        logs = length-set s.logs x (get_or s.logs x [] ++ logged r q a);
-        holders = refl;
-        hands =
-            length-set s.hands x None;
-        stages = length-set s.stages r (Answered q a);
-        journals = refl;
-        ended = refl;
-      })
+      (assumption (
+        length-set s.logs x (get_or s.logs x [] ++ logged r q a),
+        length-set s.hands x None,
+        length-set s.stages r (Answered q a),
+      ))
       (subst (Takes s.kinds s.quota answer (world_of s) c) (sym is)
       (record {
         object = x;

@@ -13,10 +13,10 @@ use Rattle.desk_model.proofs.Changed.{changed_here, changed_else}
 pub none_past : {A : Type 0} (xs : List (Option A)) (n : ℕ) (v : A) → length xs ≡ n
     → ((x : ℕ) → x < n → get_or xs x None ≢ Some v) → (x : ℕ) → get_or xs x None ≢ Some v
 none_past xs n v long none x e = elim (cases_order x n) [
-  | inl same ↦ let past = get_or_past xs x None (omega arith) in let f = sym past ∙ e in absurd (cc)
+  | inl same ↦ let past = get_or_past xs x None (omega arith) in absurd cc
   | inr o ↦ elim o [
     | inl low ↦ none x low e
-    | inr high ↦ let past = get_or_past xs x None (omega arith) in let f = sym past ∙ e in absurd (cc)
+    | inr high ↦ let past = get_or_past xs x None (omega arith) in absurd cc
   ]
 ]
 

@@ -1,7 +1,6 @@
 -- What a look at the machine's fields says of its state.
 use Rattle.std.proofs.Common.{◌≡◌, ◌≢◌, ℕ, zero, suc, ◌*◌, ◌<◌, inl, inr, List, [], ◌∷◌, length, Option, Some, None}
-use Rattle.std.proofs.Common.{IsSome, IfSome, get_or, map, refl, ap, sym, ◌∙◌, subst, arith}
-use Rattle.std.proofs.Common.{slice_get}
+use Rattle.std.proofs.Common.{IsSome, IfSome, get_or, map, refl, ap, sym, ◌∙◌, subst, arith, slice_get}
 use Rattle.std.specs.declared.vec.Vec.{Vec}
 use Rattle.std.proofs.lemmas.List.{length-map, get_or-map, get_or_past}
 use Rattle.std.proofs.lemmas.Bool.{cases_order}
@@ -68,7 +67,7 @@ module _ (contents : List Content) (s : State) (m : IsMachine contents s) where
       (b.0, b.1, b.2, (k.fitting r b.0 (ap request_of b.1)).0 ∙ ap (kind_at s.kinds) b.2)
 
   pub row_there : (x r : ℕ) → (world_of s).hand x ≡ Some r → r < clients_of s
-  row_there x r held = let q = in_row x r held in stage_there s r (λ none. let e = sym q.1 ∙ none in absurd (cc))
+  row_there x r held = let q = in_row x r held in stage_there s r (λ none. absurd cc)
 
   -- Whether the object can do an operation is told by what it contains.
   pub can_do : (x : ℕ) (c : Content) (op : AnyOp) → slice_get contents x ≡ Some c → kind_at s.kinds x ≡ kind_with c

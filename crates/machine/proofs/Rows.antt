@@ -1,19 +1,18 @@
 -- What a client does on its own row, by the fields of the machine.
 use Rattle.std.proofs.Common.{◌≡◌, ℕ, ◌+◌, ◌<◌, List, [], ◌∷◌, ◌++◌, length, Option, Some, None, IsSome, true, set}
-use Rattle.std.proofs.Common.{get_or, map, refl, ap, sym, ◌∙◌, subst, arith}
+use Rattle.std.proofs.Common.{get_or, map, refl, ap, sym, ◌∙◌, subst, arith, slice_get}
 use Rattle.std.proofs.lemmas.List.{map-set, length-map, get_or-map, get_or-set_same}
 use Rattle.desk_model.specs.declared.Request.{Request}
 use Rattle.desk_model.specs.declared.Answer.{Answer}
 use Rattle.model.specs.declared.AnyOp.{AnyOp}
 use Rattle.model.specs.declared.AnyReply.{AnyReply}
-use Rattle.std.proofs.Common.{slice_get}
 use Rattle.model.specs.declared.Kind.TheVariants.{Queue}
 use Rattle.model.specs.Objects.{Content, kind_of, kind_with, next}
 use Rattle.recorder.specs.Records.{items_of}
 use Rattle.desk_model.specs.World as world
 use Rattle.desk_model.specs.World.{AnyRequest, AnyAnswer, kind_at, calls_made, logged, Serves, request_of}
-use Rattle.desk_model.specs.Transitions.{Step, Takes, MayEnd, HoldsNothing, staged, draw_call, draw_return, post}
-use Rattle.desk_model.specs.Transitions.{take, win, release, end, pick, put_back, answer}
+use Rattle.desk_model.specs.Transitions.{Step, Takes, MayEnd, HoldsNothing, staged, draw_call, draw_return, post, take}
+use Rattle.desk_model.specs.Transitions.{win, release, end, pick, put_back, answer}
 use Rattle.desk_model.specs.Images.{request_in, answer_in, entry_in, event_in}
 use Rattle.desk_model.specs.declared.LogEntry.{LogEntry}
 use Rattle.desk_model.specs.declared.JournalEvent.{JournalEvent}
@@ -97,53 +96,35 @@ module _ {S O R : Type 0} (content : S → Content) (op_in : O → AnyOp) (reply
   -- which stages of the code stand for which of the world
   pub drawn_is : (t : Stage O R) (q : AnyRequest) → stage_of (stage_in op_in reply_in t) ≡ world.drawn q
       → (p : Request O) × (t ≡ Drawn p)
-  drawn_is Idle q e = absurd (cc)
   drawn_is (Drawn p) q e = (p, refl)
-  drawn_is (Posted p) q e = absurd (cc)
-  drawn_is (Picked p) q e = absurd (cc)
-  drawn_is (Answered p a) q e = absurd (cc)
-  drawn_is (Taken p a) q e = absurd (cc)
+  drawn_is t q e = absurd cc
 
   pub answered_is : (t : Stage O R) (q : AnyRequest) (a : AnyAnswer)
       → stage_of (stage_in op_in reply_in t) ≡ world.answered q a
       → (p : Request O) × (b : Answer R) × (t ≡ Answered p b)
-  answered_is Idle q a e = absurd (cc)
-  answered_is (Drawn p) q a e = absurd (cc)
-  answered_is (Posted p) q a e = absurd (cc)
-  answered_is (Picked p) q a e = absurd (cc)
   answered_is (Answered p b) q a e = (p, b, refl)
-  answered_is (Taken p b) q a e = absurd (cc)
+  answered_is t q a e = absurd cc
 
   -- Below, `now` is the machine's state under another name.
   module _ (m : Inside S O R) (is : IsMachine (map content m.objects.items) (state_in m)) (now : State)
       (same : state_in m ≡ now) (c : ℕ) where
+    -- a step to s' is taken
+    abbrev pub Took : Step → State → Type 0
+    Took w s' = IsMachine (map content m.objects.items) s' × IsTaken now c w s'
+
     pub win_done : (x : ℕ) → IsGoing now c → x < length now.kinds → (world_of now).holder x ≡ None
         → HoldsNothing (world_of now) c
-        → IsMachine (map content m.objects.items) (record (state_in m) { holders = set m.holders.items x (Some c) })
-        × IsTaken now c (win x) (record (state_in m) { holders = set m.holders.items x (Some c) })
-    win_done x = subst (λ (z : State). IsGoing z c → x < length z.kinds → (world_of z).holder x ≡ None
-        → HoldsNothing (world_of z) c
-        → IsMachine (map content m.objects.items) (record (state_in m) { holders = set m.holders.items x (Some c) })
-        × IsTaken z c (win x) (record (state_in m) { holders = set m.holders.items x (Some c) }))
-        same (λ go low free nothing. win_now (map content m.objects.items) (state_in m) is c go x low free nothing)
+        → Took (win x) (record (state_in m) { holders = set m.holders.items x (Some c) })
+    win_done x = rw (← same) (λ go. win_now (map content m.objects.items) (state_in m) is c go x)
 
     pub release_done : (x : ℕ) → IsGoing now c → x < length now.kinds → (world_of now).holder x ≡ Some c
         → (world_of now).hand x ≡ None
-        → IsMachine (map content m.objects.items) (record (state_in m) { holders = set m.holders.items x None })
-        × IsTaken now c release (record (state_in m) { holders = set m.holders.items x None })
-    release_done x = subst (λ (z : State). IsGoing z c → x < length z.kinds → (world_of z).holder x ≡ Some c
-        → (world_of z).hand x ≡ None
-        → IsMachine (map content m.objects.items) (record (state_in m) { holders = set m.holders.items x None })
-        × IsTaken z c release (record (state_in m) { holders = set m.holders.items x None }))
-        same (λ go low held hand. release_now (map content m.objects.items) (state_in m) is c go x low held hand)
+        → Took release (record (state_in m) { holders = set m.holders.items x None })
+    release_done x = rw (← same) (λ go. release_now (map content m.objects.items) (state_in m) is c go x)
 
     pub end_done : IsGoing now c → MayEnd ((world_of now).stage c) → HoldsNothing (world_of now) c
-        → IsMachine (map content m.objects.items) (record (state_in m) { ended = set m.ended.items c true })
-        × IsTaken now c end (record (state_in m) { ended = set m.ended.items c true })
-    end_done = subst (λ (z : State). IsGoing z c → MayEnd ((world_of z).stage c) → HoldsNothing (world_of z) c
-        → IsMachine (map content m.objects.items) (record (state_in m) { ended = set m.ended.items c true })
-        × IsTaken z c end (record (state_in m) { ended = set m.ended.items c true }))
-        same (λ go may nothing. end_now (map content m.objects.items) (state_in m) is c go may nothing)
+        → Took end (record (state_in m) { ended = set m.ended.items c true })
+    end_done = rw (← same) (end_now (map content m.objects.items) (state_in m) is c)
 
     -- the hand of x and the stage of the row r are written
     abbrev pub state_handed : ℕ → Option ℕ → ℕ → Stage O R → State
@@ -165,14 +146,8 @@ module _ {S O R : Type 0} (content : S → Content) (op_in : O → AnyOp) (reply
     pub pick_done : (x r : ℕ) (q : Request O) → IsGoing now c → x < length now.kinds → r < clients_of now
         → (world_of now).holder x ≡ Some c
         → (world_of now).hand x ≡ None → (world_of now).stage r ≡ world.posted (request_in op_in q) → q.object ≡ x
-        → IsMachine (map content m.objects.items) (state_handed x (Some r) r (Picked q))
-        × IsTaken now c (pick r) (state_handed x (Some r) r (Picked q))
-    pick_done x r q = subst
-        (λ (z : State). IsGoing z c → x < length z.kinds → r < clients_of z → (world_of z).holder x ≡ Some c
-        → (world_of z).hand x ≡ None → (world_of z).stage r ≡ world.posted (request_in op_in q) → q.object ≡ x
-        → IsMachine (map content m.objects.items) (state_handed x (Some r) r (Picked q))
-        × IsTaken z c (pick r) (state_handed x (Some r) r (Picked q)))
-        same (λ go low within held hand at on.
+        → Took (pick r) (state_handed x (Some r) r (Picked q))
+    pick_done x r q = rw (← same) (λ go low within held hand at on.
         subst (λ (z : State). IsMachine (map content m.objects.items) z × IsTaken (state_in m) c (pick r) z)
         (handed_alike x (Some r) r (Picked q))
         (handed_now (map content m.objects.items) (state_in m) is c go x (Some r) r
@@ -189,14 +164,8 @@ module _ {S O R : Type 0} (content : S → Content) (op_in : O → AnyOp) (reply
 
     pub put_back_done : (x r : ℕ) (q : Request O) → IsGoing now c → IsInHand now c x r (request_in op_in q)
         → HasContent now x → (CanDo now x (op_in q.op) → ⊥)
-        → IsMachine (map content m.objects.items) (state_handed x None r (Posted q))
-        × IsTaken now c put_back (state_handed x None r (Posted q))
-    put_back_done x r q = subst
-        (λ (z : State). IsGoing z c → IsInHand z c x r (request_in op_in q) → HasContent z x
-        → (CanDo z x (op_in q.op) → ⊥)
-        → IsMachine (map content m.objects.items) (state_handed x None r (Posted q))
-        × IsTaken z c put_back (state_handed x None r (Posted q)))
-        same (λ go h k never. subst
+        → Took put_back (state_handed x None r (Posted q))
+    put_back_done x r q = rw (← same) (λ go h k never. subst
         (λ (z : State). IsMachine (map content m.objects.items) z × IsTaken (state_in m) c put_back z)
         (handed_alike x None r (Posted q))
         (handed_now (map content m.objects.items) (state_in m) is c go x None r
@@ -245,17 +214,9 @@ module _ {S O R : Type 0} (content : S → Content) (op_in : O → AnyOp) (reply
         (get_or (items_of m.journals.items) c [] ++ Invoked m.clock x op ∷ []) → n ≡ m.clock + 1
         → IsGoing now c → (world_of now).stage c ≡ world.idle → calls_made ((world_of now).done c) None < now.quota
         → x < length now.kinds → kind_of (op_in op) ≡ kind_at now.kinds x
-        → IsMachine (map content m.objects.items)
-        (state_ticked js (Drawn (record { object = x; ticket = m.clock; op = op })) n)
-        × IsTaken now c (draw_call x (op_in op))
-        (state_ticked js (Drawn (record { object = x; ticket = m.clock; op = op })) n)
+        → Took (draw_call x (op_in op)) (state_ticked js (Drawn (record { object = x; ticket = m.clock; op = op })) n)
     call_done x op js n grew one = let t : Stage O R = Drawn (record { object = x; ticket = m.clock; op = op }) in
-        subst (λ (z : State). IsGoing z c → (world_of z).stage c ≡ world.idle
-        → calls_made ((world_of z).done c) None < z.quota → x < length z.kinds
-        → kind_of (op_in op) ≡ kind_at z.kinds x
-        → IsMachine (map content m.objects.items) (state_ticked js t n)
-        × IsTaken z c (draw_call x (op_in op)) (state_ticked js t n))
-        same (λ go idle few low kind. subst
+        rw (← same) (λ go idle few low kind. subst
         (λ (z : State). IsMachine (map content m.objects.items) z × IsTaken (state_in m) c (draw_call x (op_in op)) z)
         (ticked_alike js (Invoked m.clock x op) t n grew one)
         (call_now (map content m.objects.items) (state_in m) is c go x (op_in op) idle few low kind))
@@ -264,14 +225,8 @@ module _ {S O R : Type 0} (content : S → Content) (op_in : O → AnyOp) (reply
         → js ≡ set (items_of m.journals.items) c (get_or (items_of m.journals.items) c [] ++ Returned m.clock a ∷ [])
         → n ≡ m.clock + 1
         → IsGoing now c → (world_of now).stage c ≡ world.taken (request_in op_in q) (answer_in reply_in a)
-        → IsMachine (map content m.objects.items) (state_ticked js Idle n)
-        × IsTaken now c draw_return (state_ticked js Idle n)
-    return_done q a js n grew one =
-        subst (λ (z : State). IsGoing z c
-        → (world_of z).stage c ≡ world.taken (request_in op_in q) (answer_in reply_in a)
-        → IsMachine (map content m.objects.items) (state_ticked js Idle n)
-        × IsTaken z c draw_return (state_ticked js Idle n))
-        same (λ go taken. subst
+        → Took draw_return (state_ticked js Idle n)
+    return_done q a js n grew one = rw (← same) (λ go taken. subst
         (λ (z : State). IsMachine (map content m.objects.items) z × IsTaken (state_in m) c draw_return z)
         (ticked_alike js (Returned m.clock a) Idle n grew one)
         (return_now (map content m.objects.items) (state_in m) is c go (request_in op_in q)
@@ -321,10 +276,7 @@ module _ {S O R : Type 0} (content : S → Content) (op_in : O → AnyOp) (reply
         → IsMachine (map content (set m.objects.items x o)) (state_answered x r o l (Answered q a))
         × IsTaken now c answer (state_answered x r o l (Answered q a))
     answer_done x r q old o was l a read looked grew serves kind can =
-        subst (λ (z : State). IsGoing z c → IsInHand z c x r (request_in op_in q)
-        → IsMachine (map content (set m.objects.items x o)) (state_answered x r o l (Answered q a))
-        × IsTaken z c answer (state_answered x r o l (Answered q a)))
-        same (λ go h.
+        rw (← same) (λ go h.
         let low : x < length m.objects.items = simp length-map at h.object in
         let logs_long : length m.logs.items ≡ length m.objects.items = simp length-map at is.logs in
         let at = object_there m x old h.object read in
@@ -377,12 +329,8 @@ module _ {S O R : Type 0} (content : S → Content) (op_in : O → AnyOp) (reply
 
   pub taken_is : (t : Stage O R) (q : AnyRequest) (a : AnyAnswer)
       → stage_of (stage_in op_in reply_in t) ≡ world.taken q a → (p : Request O) × (b : Answer R) × (t ≡ Taken p b)
-  taken_is Idle q a e = absurd (cc)
-  taken_is (Drawn p) q a e = absurd (cc)
-  taken_is (Posted p) q a e = absurd (cc)
-  taken_is (Picked p) q a e = absurd (cc)
-  taken_is (Answered p b) q a e = absurd (cc)
   taken_is (Taken p b) q a e = (p, b, refl)
+  taken_is t q a e = absurd cc
 
   pub return_not : (m : Inside S O R) (c : ℕ) → IsGoing (state_in m) c → (found : Stage O R)
       → found ≡ get_or m.stages.items c found
