@@ -1,9 +1,8 @@
 -- What is linearizable is so as the text of Herlihy and Wing reads: an operation with both events in a history is one
 -- of its completion, since a completion drops no invocation that a response answers. By counting the events of a
 -- process.
-use Rattle.std.proofs.Common.{◌≡◌, ℕ, ◌<◌, ◌≤◌, ◌==◌, Bool, true, false, cond, List, [], ◌∷◌, ◌++◌, length}
-use Rattle.std.proofs.Common.{filter, refl, ap, sym, ◌∙◌, subst, arith}
-use Rattle.std.proofs.Common.{pos, zero, suc, ◌⊎◌, inl, inr, Some}
+use Rattle.std.proofs.Common.{◌≡◌, ℕ, ◌<◌, ◌≤◌, ◌==◌, Bool, true, false, cond, List, [], ◌∷◌, ◌++◌, length, filter}
+use Rattle.std.proofs.Common.{refl, ap, sym, ◌∙◌, subst, arith, pos, zero, suc, ◌⊎◌, inl, inr, Some}
 use Rattle.std.proofs.lemmas.Bool.{eqb-true, and_parts}
 use Rattle.std.proofs.lemmas.List.Elements.{All-from_recursion}
 use Rattle.model.specs.declared.Kind.TheVariants.{Queue}
@@ -40,8 +39,8 @@ responses_kept : (p : ℕ) (s : List Event) → IsSequential s → count (respon
 responses_kept p [] h = omega arith
 responses_kept p (Inv q x op ∷ []) h = omega arith
 responses_kept p (Res q x r ∷ []) h = absurd (cc h)
-responses_kept p (Res q x r ∷ f ∷ rest) h = let n = h.0 in absurd (cc n)
-responses_kept p (Inv q x op ∷ Inv q' y o ∷ rest) h = let n = h.0 in absurd (cc n)
+responses_kept p (Res q x r ∷ f ∷ rest) h = absurd cc
+responses_kept p (Inv q x op ∷ Inv q' y o ∷ rest) h = absurd cc
 responses_kept p (Inv q x op ∷ Res q' y r ∷ rest) h =
     let both = and_parts (q == q') (x == y) h.0 in
     let a : q ≡ q' = eqb-true q q' both.0 in

@@ -1,6 +1,6 @@
 -- What each process completed in a linearizable history, and the one line of it all.
-use Rattle.std.proofs.Common.{◌≡◌, ℕ, ◌==◌, Bool, true, false, cond, inl, inr, List, [], ◌∷◌, ◌++◌, map, filter}
-use Rattle.std.proofs.Common.{Some, None, refl, ap, sym, ◌∙◌, subst}
+use Rattle.std.proofs.Common.{◌≡◌, ℕ, ◌==◌, Bool, true, false, cond, inl, inr, List, [], ◌∷◌, ◌++◌, map, filter, Some}
+use Rattle.std.proofs.Common.{None, refl, ap, sym, ◌∙◌, subst}
 use Rattle.std.specs.List.{flat_map, AllByRecursion}
 use Rattle.std.proofs.lemmas.Option.{same_Some}
 use Rattle.std.proofs.lemmas.Bool.{eqb-true, eqb-false, ne_eqb, eq-eqb, and_parts}
@@ -67,7 +67,7 @@ last_ended p n x op [] r s = record {
       | inl e ↦ let no : None ≡ Some r = sym (ap (λ (y : ProcessCall). y.call.returned) e) ∙ q in cc no
       | inr j ↦ j
     ]
-last_ended p n x op (Inv q y o ∷ es) r s = let n = r.0 in absurd (cc n)
+last_ended p n x op (Inv q y o ∷ es) r s = absurd cc
 last_ended p n x op (Res q y v ∷ es) r s =
     let both = and_parts (p == q) (x == y) s.0 in
     let a : q ≡ p = sym (eqb-true p q both.0) in
@@ -200,8 +200,7 @@ lined_step e f s q o os head same mine pair below all owned =
 
 pub same_process : (e f : Event) → matches e f ≡ true → process_of f ≡ process_of e
 same_process (Inv p x op) (Res q y r) m = let both = and_parts (p == q) (x == y) m in sym (eqb-true p q both.0)
-same_process (Inv p x op) (Inv q y o) m = absurd (cc m)
-same_process (Res p x r) f m = absurd (cc m)
+same_process e f m = absurd (cc m)
 
 own_events : (e f : Event) (s : List Event) → process_of f ≡ process_of e
     → by_process (process_of e) (e ∷ f ∷ s) ≡ e ∷ f ∷ by_process (process_of e) s

@@ -1,30 +1,25 @@
 -- Cutting histories: to a process or an object, and at a moment.
-use Rattle.std.proofs.Common.{◌≡◌, ℕ, suc, ◌<◌, ◌≤◌, ◌==◌, ◌&&◌, ◌||◌, nat_lt, Bool, true, false, not, cond, inl}
-use Rattle.std.proofs.Common.{inr, List, [], ◌∷◌, ◌++◌, length}
-use Rattle.std.proofs.Common.{filter, Option, Some, None, is_some, refl, ap, sym, ◌∙◌, subst, arith}
+use Rattle.std.proofs.Common.{◌≡◌, ℕ, ◌<◌, ◌≤◌, ◌==◌, ◌&&◌, nat_lt, Bool, true, false, not, cond, inl, inr}
+use Rattle.std.proofs.Common.{List, [], ◌∷◌, ◌++◌, length, filter, Option, Some, None, is_some, refl, ap, sym, ◌∙◌}
+use Rattle.std.proofs.Common.{subst, arith}
 use Rattle.std.specs.List.{flat_map, list_any}
 use Rattle.std.proofs.lemmas.List.{append-nil}
 use Rattle.std.proofs.lemmas.List.Elements.{filter-append}
 use Rattle.std.proofs.lemmas.Bool.{eqb-true, eqb-false, ne_eqb, and_left, and_right, lt-ltb, le-ltb}
 use Rattle.model.specs.declared.AnyReply.{AnyReply}
-use Rattle.model.specs.Histories.{Event, Inv, Res, process_of, object_of, is_invocation, by_process, by_object}
-use Rattle.model.specs.Histories.{matches, is_pending, complete, invokes, responds}
+use Rattle.model.specs.Histories.{Event, Inv, Res, process_of, object_of, is_invocation, by_process, by_object, matches}
+use Rattle.model.specs.Histories.{complete, invokes, responds}
 use Rattle.model.specs.Orders.{Numbered, events, Return, ProcessCall}
-use Rattle.model.proofs.Lists.{In, Pairs, in_filter_passes, filter-filter, filter_same, filter_all, filter_none}
+use Rattle.model.proofs.Lists.{In, Pairs, in_filter_passes, filter-filter, filter_same, filter_none}
 use Rattle.model.proofs.Lists.{filter-flat_map, flat_map_same, flat_map_filter, in_right}
 use Rattle.locality.proofs.Entries.{done}
 use Rattle.locality.proofs.ProcessHistories.{part, late, added, dones}
 
 absorbs : (a b : Bool) → (a && (b && a)) ≡ (b && a)
-absorbs true true = refl
-absorbs true false = refl
-absorbs false true = refl
-absorbs false false = refl
+absorbs a b = grind arith
 
 absorbs_more : (a b c : Bool) → (a && ((b && a) && c)) ≡ ((b && a) && c)
-absorbs_more true b c = refl
-absorbs_more false true c = refl
-absorbs_more false false c = refl
+absorbs_more a b c = grind arith
 
 and_true : (a b : Bool) → b ≡ true → (a && b) ≡ a
 and_true true b e = e
@@ -53,34 +48,18 @@ filter_pieces {X} q s f xs all none =
 both_kept : (q : Event → Bool) (e : ProcessCall) (g : Option AnyReply) (b : Bool)
     → ((v : Event) → process_of v ≡ e.process → object_of v ≡ e.object → q v ≡ b)
     → filter q (done e g) ≡ cond b (done e g) []
-both_kept q e None true h = refl
-both_kept q e None false h = refl
-both_kept q e (Some r) true h =
-    filter_all q (done e (Some r)) (λ v i. elim i [
-      | inl s ↦ h v (ap process_of s) (ap object_of s)
-      | inr j ↦ elim j [ inl s ↦ h v (ap process_of s) (ap object_of s) | inr k ↦ absurd k ]
-    ])
-both_kept q e (Some r) false h =
-    filter_none q (done e (Some r)) (λ v i. elim i [
-      | inl s ↦ h v (ap process_of s) (ap object_of s)
-      | inr j ↦ elim j [ inl s ↦ h v (ap process_of s) (ap object_of s) | inr k ↦ absurd k ]
-    ])
+both_kept q e None b h = grind arith
+both_kept q e (Some r) b h =
+    let invoked = h (Inv e.process e.object e.call.op) refl refl in
+    let returned = h (Res e.process e.object r) refl refl in
+    grind arith
 
 late_kept : (q : Event → Bool) (e : ProcessCall) (o : Option Return) (g : Option AnyReply) (b : Bool)
     → ((v : Event) → process_of v ≡ e.process → object_of v ≡ e.object → q v ≡ b)
     → filter q (late e o g) ≡ cond b (late e o g) []
-late_kept q e (Some r) g true h = refl
-late_kept q e (Some r) g false h = refl
-late_kept q e None None true h = refl
-late_kept q e None None false h = refl
-late_kept q e None (Some r) true h = filter_all q (late e None (Some r)) (λ v i. elim i [
-  | inl s ↦ h v (ap process_of s) (ap object_of s)
-  | inr k ↦ absurd k
-])
-late_kept q e None (Some r) false h = filter_none q (late e None (Some r)) (λ v i. elim i [
-  | inl s ↦ h v (ap process_of s) (ap object_of s)
-  | inr k ↦ absurd k
-])
+late_kept q e (Some r) g b h = grind arith
+late_kept q e None None b h = grind arith
+late_kept q e None (Some r) b h = let returned = h (Res e.process e.object r) refl refl in grind arith
 
 pub dones_of_process : (p : ℕ) (give : ProcessCall → Option AnyReply) (os : List ProcessCall)
     → by_process p (dones give os) ≡ dones give (filter (λ e. e.process == p) os)
@@ -115,40 +94,16 @@ pub any_of_process : (p : ℕ) (e : Event) (h : List Event) → (process_of e ==
 any_of_process p e [] t = refl
 any_of_process p e (f ∷ h) t =
     let rest = any_of_process p e h t in
-    let here : (b : Bool) → (process_of f == p) ≡ b
-    → list_any (matches e) (cond b (f ∷ by_process p h) (by_process p h)) ≡ matches e f || list_any (matches e) h =
-    elim [
-      | true ↦ λ s. ap (λ b. matches e f || b) rest
-      | false ↦ λ s. rest ∙ sym (ap (λ b. b || list_any (matches e) h) (other_matches p e f t s))
-    ] in
-    here (process_of f == p) refl
+    let other = other_matches p e f t in
+    grind arith
 
 -- a process's part of a completed history is its completed part
 pub complete_of_process : (p : ℕ) (h : List Event) → by_process p (complete h) ≡ complete (by_process p h)
 complete_of_process p [] = refl
 complete_of_process p (e ∷ h) =
     let rest = complete_of_process p h in
-    let here : (b : Bool) → (process_of e == p) ≡ b → (c : Bool) → is_pending e h ≡ c
-    → by_process p (cond c (complete h) (e ∷ complete h)) ≡ complete (cond b (e ∷ by_process p h) (by_process p h)) =
-    elim [
-      | true ↦ λ s. elim [
-        | true ↦ λ d.
-            let d' : is_pending e (by_process p h) ≡ true =
-            ap (λ b. is_invocation e && not b) (any_of_process p e h s) ∙ d in
-            rest ∙ sym (ap (λ b. cond b (complete (by_process p h)) (e ∷ complete (by_process p h))) d')
-        | false ↦ λ d.
-            let d' : is_pending e (by_process p h) ≡ false =
-            ap (λ b. is_invocation e && not b) (any_of_process p e h s) ∙ d in
-            ap (λ b. cond b (e ∷ by_process p (complete h)) (by_process p (complete h))) s
-            ∙ (ap (λ es. e ∷ es) rest
-            ∙ sym (ap (λ b. cond b (complete (by_process p h)) (e ∷ complete (by_process p h))) d'))
-      ]
-      | false ↦ λ s. elim [
-        | true ↦ λ d. rest
-        | false ↦ λ d. ap (λ b. cond b (e ∷ by_process p (complete h)) (by_process p (complete h))) s ∙ rest
-      ]
-    ] in
-    here (process_of e == p) refl (is_pending e h) refl
+    let same = any_of_process p e h in
+    grind arith
 
 -- a numbered history is cut where its events are
 pub cut_numbered : (h : List Numbered) (a b : List Event) → events h ≡ a ++ b
@@ -162,10 +117,7 @@ cut_numbered (m ∷ h) (e ∷ a) b q =
 pub length_filter_events : (q : Event → Bool) (h : List Numbered)
     → length (filter q (events h)) ≡ length (filter (λ m. q m.event) h)
 length_filter_events q [] = refl
-length_filter_events q (m ∷ h) =
-    let rest = length_filter_events q h in
-    elim (q m.event) as (λ b. length (cond b (m.event ∷ filter q (events h)) (filter q (events h)))
-    ≡ length (cond b (m ∷ filter (λ m. q m.event) h) (filter (λ m. q m.event) h))) [ true ↦ ap suc rest | false ↦ rest ]
+length_filter_events q (m ∷ h) = let rest = length_filter_events q h in grind arith
 
 pairs_across : (R : Numbered → Numbered → Type 0) (a b : List Numbered) (x y : Numbered) → Pairs R (a ++ b) → In x a
     → In y b → R x y
@@ -211,20 +163,8 @@ pub invokes_dones : (p : ℕ) (give : ProcessCall → Option AnyReply) (os : Lis
 invokes_dones p give [] f = refl
 invokes_dones p give (e ∷ os) f =
     let rest = invokes_dones p give os (λ y i. f y (inr i)) in
-    let here : (g : Option AnyReply) → is_some g ≡ true
-    → length (filter (invokes p) (done e g ++ dones give os))
-    ≡ length (cond (e.process == p) (e ∷ filter (λ e. e.process == p) os) (filter (λ e. e.process == p) os)) =
-    elim [
-      | None ↦ λ s. absurd (cc s)
-      | Some r ↦ λ s. elim (e.process == p) as
-          (λ b. length (cond b (Inv e.process e.object e.call.op ∷ filter (invokes p) (dones give os))
-          (filter (invokes p) (dones give os)))
-          ≡ length (cond b (e ∷ filter (λ e. e.process == p) os) (filter (λ e. e.process == p) os))) [
-            | true ↦ ap suc rest
-            | false ↦ rest
-          ]
-    ] in
-    here (give e) (f e (inl refl))
+    let given = f e (inl refl) in
+    grind arith
 
 pub responds_dones : (p : ℕ) (give : ProcessCall → Option AnyReply) (os : List ProcessCall)
     → ((e : ProcessCall) → In e os → is_some (give e) ≡ true)
@@ -232,17 +172,5 @@ pub responds_dones : (p : ℕ) (give : ProcessCall → Option AnyReply) (os : Li
 responds_dones p give [] f = refl
 responds_dones p give (e ∷ os) f =
     let rest = responds_dones p give os (λ y i. f y (inr i)) in
-    let here : (g : Option AnyReply) → is_some g ≡ true
-    → length (filter (responds p) (done e g ++ dones give os))
-    ≡ length (cond (e.process == p) (e ∷ filter (λ e. e.process == p) os) (filter (λ e. e.process == p) os)) =
-    elim [
-      | None ↦ λ s. absurd (cc s)
-      | Some r ↦ λ s. elim (e.process == p) as
-          (λ b. length (cond b (Res e.process e.object r ∷ filter (responds p) (dones give os))
-          (filter (responds p) (dones give os)))
-          ≡ length (cond b (e ∷ filter (λ e. e.process == p) os) (filter (λ e. e.process == p) os))) [
-            | true ↦ ap suc rest
-            | false ↦ rest
-          ]
-    ] in
-    here (give e) (f e (inl refl))
+    let given = f e (inl refl) in
+    grind arith

@@ -1,35 +1,32 @@
 -- Valid orders of all objects make the history linearizable.
 use Rattle.std.proofs.Common.{◌≡◌, ◌≢◌, ℕ, ◌<◌, ◌≤◌, ◌==◌, ◌&&◌, nat_lt, Bool, true, false, not, inl, inr, List, []}
-use Rattle.std.proofs.Common.{◌∷◌, ◌++◌, length, filter}
-use Rattle.std.proofs.Common.{Option, Some, None, is_some, refl, ap, sym, ◌∙◌, subst, arith}
+use Rattle.std.proofs.Common.{◌∷◌, ◌++◌, length, filter, Option, Some, None, is_some, refl, ap, sym, ◌∙◌, subst, arith}
 use Rattle.std.proofs.lemmas.List.{append-nil}
 use Rattle.std.proofs.lemmas.List.Concat.{flat_map-append}
 use Rattle.std.proofs.lemmas.List.Elements.{filter-append}
+use Rattle.std.proofs.Math.Bool.{and_comm}
 use Rattle.std.proofs.lemmas.Bool.{eqb-true, eq-eqb, and_from, and_parts, ltb-true, lt-ltb}
 use Rattle.model.specs.Specification.{Specification}
 use Rattle.model.specs.declared.AnyReply.{AnyReply}
-use Rattle.model.specs.Histories.{Event, process_of, is_invocation, by_process, by_object, complete, invokes}
-use Rattle.model.specs.Histories.{responds, IsSequential, IsWellFormed, IsEquivalent, Operation, IsOperation}
-use Rattle.model.specs.Histories.{Precedes}
+use Rattle.model.specs.Histories.{Event, process_of, is_invocation, by_process, by_object, complete, invokes, responds}
+use Rattle.model.specs.Histories.{IsSequential, IsWellFormed, IsEquivalent, Operation, IsOperation, Precedes}
 use Rattle.model.specs.Linearizable.{RepliesFrom, IsLegal, IsLinearizableFor}
 use Rattle.model.specs.Orders.{Numbered, events, Return, ProcessCall, calls_in, IsHistory}
 use Rattle.model.proofs.Lists.{In, Pairs, in_filter, in_filter_passes, in_filter_from, pairs_filter, pairs_weaker}
-use Rattle.model.proofs.Lists.{filter-filter, filter_same}
-use Rattle.model.proofs.Lists.{flat_map_filter, below_split, length_filter_le, in_flat_map, all_from_in}
+use Rattle.model.proofs.Lists.{filter-filter, filter_same, flat_map_filter, below_split, length_filter_le, in_flat_map}
+use Rattle.model.proofs.Lists.{all_from_in}
 use Rattle.locality.specs.Locality.{HasValidOrderOf}
 use Rattle.locality.proofs.Merge.{ObjectOrders, line, line_in, line_of_object, line_of_process, line_points, one_number}
 use Rattle.locality.proofs.Entries.{number_of, point_in, give_in, point_own, points_rise, point_from, point_before}
-use Rattle.locality.proofs.Entries.{give_some, given_entry}
-use Rattle.locality.proofs.Entries.{give_recorded, done, replies_from, done_sequential, ValidEntries, valid_entries}
-use Rattle.locality.proofs.ProcessHistories.{part, events-part, calls_in-part, late, added, dones, completed}
-use Rattle.locality.proofs.ProcessHistories.{extended, Agrees, calls_rise}
-use Rattle.locality.proofs.ProcessHistories.{returns_after, Before, one_after_another, is_back, responses_before}
-use Rattle.locality.proofs.ProcessHistories.{invocations_before, turn_view, rise}
-use Rattle.locality.proofs.ProcessHistories.{up, part_up}
+use Rattle.locality.proofs.Entries.{give_some, given_entry, give_recorded, done, replies_from, done_sequential}
+use Rattle.locality.proofs.Entries.{ValidEntries, valid_entries}
+use Rattle.locality.proofs.ProcessHistories.{part, events-part, calls_in-part, late, added, dones, completed, extended}
+use Rattle.locality.proofs.ProcessHistories.{Agrees, calls_rise, returns_after, Before, one_after_another, is_back}
+use Rattle.locality.proofs.ProcessHistories.{responses_before, invocations_before, turn_view, rise, up, part_up}
 use Rattle.locality.proofs.Moments.{Moment, moment_from, precedes_from}
-use Rattle.locality.proofs.Cuts.{dones_of_process, dones_of_object, added_of_process, complete_of_process}
-use Rattle.locality.proofs.Cuts.{cut_numbered, length_filter_events}
-use Rattle.locality.proofs.Cuts.{filter_before, invokes_of_process, responds_in_part, invokes_dones, responds_dones}
+use Rattle.locality.proofs.Cuts.{dones_of_process, dones_of_object, added_of_process, complete_of_process, cut_numbered}
+use Rattle.locality.proofs.Cuts.{length_filter_events, filter_before, invokes_of_process, responds_in_part}
+use Rattle.locality.proofs.Cuts.{invokes_dones, responds_dones}
 
 -- what holds of each two holds of two in their order
 pairs_ordered : (R : ProcessCall → ProcessCall → Type 0) (os : List ProcessCall) (a b : ProcessCall)
@@ -55,21 +52,14 @@ back_from : (t : ℕ) (o : Option Return) → is_back t o ≡ true → (r : Retu
 back_from t None e = absurd (cc e)
 back_from t (Some r) e = (r, refl, ltb-true r.at t e)
 
-and_swap : (a b : Bool) → (b && a) ≡ (a && b)
-and_swap true true = refl
-and_swap true false = refl
-and_swap false true = refl
-and_swap false false = refl
-
 swap_filters : (p q : ProcessCall → Bool) (os : List ProcessCall) → filter p (filter q os) ≡ filter q (filter p os)
 swap_filters p q os = filter-filter p q os
-    ∙ (filter_same (λ x. q x && p x) (λ x. p x && q x) os (λ x i. and_swap (p x) (q x)) ∙ sym (filter-filter q p os))
+    ∙ (filter_same (λ x. q x && p x) (λ x. p x && q x) os (λ x i. and_comm (q x) (p x)) ∙ sym (filter-filter q p os))
 
 late_responds : (e : ProcessCall) (o : Option Return) (g : Option AnyReply) (v : Event) → In v (late e o g)
     → is_invocation v ≡ false
-late_responds e (Some r) g v i = absurd i
-late_responds e None None v i = absurd i
 late_responds e None (Some r) v i = elim i [ inl q ↦ ap is_invocation q | inr n ↦ absurd n ]
+late_responds e o g v i = absurd i
 
 -- what is added are responses
 added_responds : (give : ProcessCall → Option AnyReply) (os : List ProcessCall) (v : Event) → In v (added give os)

@@ -1,7 +1,7 @@
 -- An order of one kind's calls is valid for the kind's own specification exactly where it is valid in the contents of
 -- all kinds, since their steps agree; and so the laws of locality at the kinds.
-use Rattle.std.proofs.Common.{◌≡◌, ◌↔◌, ℕ, ℤ, Bool, true, false, List, [], ◌∷◌, Option, Some, None, if◌then◌else◌, All}
-use Rattle.std.proofs.Common.{refl, ap, subst, sym, ◌∙◌}
+use Rattle.std.proofs.Common.{◌≡◌, ◌↔◌, ℕ, ℤ, Bool, true, false, List, [], ◌∷◌, Option, Some, None}
+use Rattle.std.proofs.Common.{if◌then◌else◌, All, refl, ap, subst, sym, ◌∙◌}
 use Rattle.std.proofs.lemmas.Option.{same_Some}
 use Rattle.model.specs.declared.Kind.{Kind}
 use Rattle.model.specs.declared.Kind.TheVariants as kind
@@ -10,8 +10,7 @@ use Rattle.model.specs.declared.AnyOp.TheVariants as op
 use Rattle.model.specs.declared.AnyReply.{AnyReply}
 use Rattle.model.specs.declared.AnyReply.TheVariants.{Swapped, NotSwapped}
 use Rattle.model.specs.Objects.{Content, queue, stack, heap, register, table, mutex, elements, count, owner}
-use Rattle.model.specs.Objects.{contains_value, next_register}
-use Rattle.model.specs.Objects.{next, empty, specification, any, stepped}
+use Rattle.model.specs.Objects.{contains_value, next_register, next, empty, specification, any, stepped}
 use Rattle.model.specs.Linearizable.{IsLinearizable}
 use Rattle.model.specs.Orders.{Numbered, events, Call, ProcessCall, calls_in, calls_on, IsHistory, RepliesBy}
 use Rattle.model.specs.Orders.{IsValidOrderOf}
@@ -35,14 +34,7 @@ among kind.Lock c = owner c
 
 empty_among : (k : Kind) → empty k ≡ among k (specification k).empty
 empty_among kind.Queue = refl
-empty_among kind.Stack = refl
-empty_among kind.Heap = refl
-empty_among kind.Register = refl
-empty_among kind.Map = refl
-empty_among kind.Mutex = refl
-empty_among kind.Set = refl
-empty_among kind.Counter = refl
-empty_among kind.Lock = refl
+empty_among k = refl
 
 abbrev swap_by : Option ℤ → ℤ → ℤ → Bool → Option (Option ℤ × AnyReply)
 swap_by v a b it = if it then Some (Some b, Swapped a b) else Some (v, NotSwapped)
@@ -55,45 +47,13 @@ stepped_swap v a b false = refl
 
 register_among : (v : Option ℤ) (o : AnyOp) → next (register v) o ≡ stepped register (next_register v o)
 register_among v (op.Cas a b) = stepped_swap v a b (contains_value v a)
-register_among v (op.Enqueue w) = refl
-register_among v op.Dequeue = refl
-register_among v (op.Push w) = refl
-register_among v op.Pop = refl
-register_among v (op.Insert w) = refl
-register_among v op.ExtractMin = refl
-register_among v (op.Write w) = refl
-register_among v op.Read = refl
-register_among v (op.Put j w) = refl
-register_among v (op.Get j) = refl
-register_among v (op.Del j) = refl
-register_among v op.Acquire = refl
-register_among v op.Release = refl
-register_among v op.Clear = refl
-register_among v (op.Create w) = refl
-register_among v (op.PutIfAbsent j w) = refl
-register_among v (op.Replace j a b) = refl
-register_among v (op.Assoc j w) = refl
-register_among v (op.Dissoc j) = refl
-register_among v (op.Add w) = refl
-register_among v (op.Remove w) = refl
-register_among v (op.Has w) = refl
-register_among v (op.FetchAdd n) = refl
-register_among v op.GetCount = refl
-register_among v (op.LockBy o) = refl
-register_among v (op.UnlockBy o) = refl
+register_among v o = refl
 
 -- its steps are those of all kinds
 step_among : (k : Kind) (c : (specification k).Content) (o : AnyOp)
     → next (among k c) o ≡ stepped (among k) ((specification k).next c o)
-step_among kind.Queue c o = refl
-step_among kind.Stack c o = refl
-step_among kind.Heap c o = refl
 step_among kind.Register c o = register_among c o
-step_among kind.Map c o = refl
-step_among kind.Mutex c o = refl
-step_among kind.Set c o = refl
-step_among kind.Counter c o = refl
-step_among kind.Lock c o = refl
+step_among k c o = refl
 
 own_step : (k : Kind) (made : Option ((specification k).Content × AnyReply)) (after : Content) (reply : AnyReply)
     → stepped (among k) made ≡ Some (after, reply)

@@ -1,7 +1,6 @@
 -- The history of one process: its operations one after another, the last perhaps pending.
-use Rattle.std.proofs.Common.{◌≡◌, ℕ, suc, ◌<◌, ◌≤◌, ◌==◌, ◌&&◌, ◌||◌, nat_lt, Bool, true, false, not, cond, inl}
-use Rattle.std.proofs.Common.{inr, List, [], ◌∷◌, ◌++◌, length}
-use Rattle.std.proofs.Common.{filter, Option, Some, None, refl, ap, sym, ◌∙◌, subst, arith}
+use Rattle.std.proofs.Common.{◌≡◌, ℕ, suc, ◌<◌, ◌≤◌, ◌==◌, ◌&&◌, ◌||◌, nat_lt, Bool, true, false, not, cond, inl, inr}
+use Rattle.std.proofs.Common.{List, [], ◌∷◌, ◌++◌, length, filter, Option, Some, None, refl, ap, sym, ◌∙◌, subst, arith}
 use Rattle.std.specs.List.{flat_map, list_any}
 use Rattle.std.specs.Option.{option_or}
 use Rattle.std.proofs.lemmas.Bool.{eqb-true, eqb-false, ne_eqb, eq-eqb, and_from, and_parts}
@@ -37,8 +36,7 @@ turns_call p n m (Inv q x op) (Res q' y r) rest t e h =
     subst (λ k. Turns p (at n (Inv k x op) ∷ at m (Res q' y r) ∷ rest)) (sym e)
     (subst (λ k. Turns p (at n (Inv p x op) ∷ at m (Res k y r) ∷ rest)) (sym pq)
     (subst (λ k. Turns p (at n (Inv p x op) ∷ at m (Res p k r) ∷ rest)) (sym xy) (call n x op m r rest h)))
-turns_call p n m (Inv q x op) (Inv q' y o) rest t e h = absurd cc
-turns_call p n m (Res q x op) f rest t e h = absurd cc
+turns_call p n m e f rest t h k = absurd cc
 
 pub turns : (p : ℕ) (h : List Numbered) → IsSequential (events h) → ((m : Numbered) → In m h → process_of m.event ≡ p)
     → Turns p h
@@ -54,12 +52,7 @@ part p h = filter (λ m. process_of m.event == p) h
 
 pub events-part : (p : ℕ) (h : List Numbered) → events (part p h) ≡ by_process p (events h)
 events-part p [] = refl
-events-part p (m ∷ h) =
-    let rest = events-part p h in
-    let here : (b : Bool) → events (cond b (m ∷ part p h) (part p h))
-    ≡ cond b (m.event ∷ by_process p (events h)) (by_process p (events h)) =
-    elim [ true ↦ ap (λ es. m.event ∷ es) rest | false ↦ rest ] in
-    here (process_of m.event == p)
+events-part p (m ∷ h) = let rest = events-part p h in grind arith
 
 -- events of other processes are no responses of p
 response_in_other : (p x n : ℕ) (e : Event) → (process_of e == p) ≡ false → response_in p x n e ≡ None
@@ -72,48 +65,18 @@ response_of-part : (p x : ℕ) (h : List Numbered) → response_of p x (part p h
 response_of-part p x [] = refl
 response_of-part p x (m ∷ h) =
     let rest = response_of-part p x h in
-    let here : (b : Bool) → (process_of m.event == p) ≡ b
-    → response_of p x (cond b (m ∷ part p h) (part p h))
-    ≡ option_or (response_in p x m.number m.event) (response_of p x h) =
-    elim [
-      | true ↦ λ e. ap (option_or (response_in p x m.number m.event)) rest
-      | false ↦ λ e. rest ∙ sym (ap (λ r. option_or r (response_of p x h)) (response_in_other p x m.number m.event e))
-    ] in
-    here (process_of m.event == p) refl
+    let other = response_in_other p x m.number m.event in
+    grind arith
 
 begins-part : (p n : ℕ) (e : Event) (later : List Numbered)
     → calls_in (part p later) ≡ filter (λ o. o.process == p) (calls_in later)
     → calls_in (cond (process_of e == p) (at n e ∷ part p later) (part p later))
     ≡ filter (λ o. o.process == p) (begins n e later (calls_in later))
 begins-part p n (Inv q x op) later h =
-    let here : (b : Bool) → (q == p) ≡ b
-    → calls_in (cond b (at n (Inv q x op) ∷ part p later) (part p later))
-    ≡ cond b (record {
-      process = q;
-      object = x;
-      call = record { number = n; op = op; returned = response_of q x later };
-    }
-    ∷ filter (λ o. o.process == p) (calls_in later)) (filter (λ o. o.process == p) (calls_in later)) =
-    elim [
-      | true ↦ λ e.
-          let same : response_of q x (part p later) ≡ response_of q x later =
-          subst (λ k. response_of q x (part k later) ≡ response_of q x later) (eqb-true q p e)
-          (response_of-part q x later) in
-          ap (λ r. record { process = q; object = x; call = record { number = n; op = op; returned = r } }
-          ∷ calls_in (part p later)) same
-          ∙ ap (λ os. record {
-            process = q;
-            object = x;
-            call = record { number = n; op = op; returned = response_of q x later };
-          } ∷ os) h
-      | false ↦ λ e. h
-    ] in
-    here (q == p) refl
-begins-part p n (Res q x r) later h =
-    let here : (b : Bool) → calls_in (cond b (at n (Res q x r) ∷ part p later) (part p later))
-    ≡ filter (λ o. o.process == p) (calls_in later) =
-    elim [ true ↦ h | false ↦ h ] in
-    here (q == p)
+    let own = eqb-true q p in
+    let found = response_of-part q x later in
+    grind arith
+begins-part p n (Res q x r) later h = grind arith
 
 -- the operations of one process are those of its part
 pub calls_in-part : (p : ℕ) (h : List Numbered) → calls_in (part p h) ≡ filter (λ o. o.process == p) (calls_in h)
@@ -315,19 +278,7 @@ invocations_before p t (m ∷ h) = here m.event refl (invocations_before p t h)
         length (cond (invokes p v && nat_lt m.number t) (m ∷ filter (λ m. invokes p m.event && nat_lt m.number t) h)
         (filter (λ m. invokes p m.event && nat_lt m.number t) h))
         ≡ length (filter (λ e. (e.process == p) && nat_lt (number_of e) t) (begins m.number v h (calls_in h)))
-    here (Inv q x op) s f = elim ((q == p) && nat_lt m.number t) as
-        (λ b. length (cond b (m ∷ filter (λ m. invokes p m.event && nat_lt m.number t) h)
-        (filter (λ m. invokes p m.event && nat_lt m.number t) h))
-        ≡ length (cond b (record {
-          process = q;
-          object = x;
-          call = record { number = m.number; op = op; returned = response_of q x h };
-        }
-        ∷ filter (λ e. (e.process == p) && nat_lt (number_of e) t) (calls_in h))
-        (filter (λ e. (e.process == p) && nat_lt (number_of e) t) (calls_in h)))) [
-          | true ↦ ap suc f
-          | false ↦ f
-        ]
+    here (Inv q x op) s f = grind arith
     here (Res q x r) s f = f
 
 -- in a history: numbers rise, also those of a process and those of operations, and each process has its turns

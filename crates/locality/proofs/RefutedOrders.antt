@@ -1,7 +1,7 @@
 -- What is refused of the worked histories.
-use Rattle.std.proofs.Common.{◌&&◌, ◌≢◌, ◌≡◌, ℤ, pos, ◌<◌, ◌⊎◌, true, false, inl, inr, List, [], ◌∷◌, ◌++◌, map}
-use Rattle.std.proofs.Common.{Option, Some, None, IfSome, IsSome}
-use Rattle.std.proofs.Common.{Contains, lit<, refl, ap, sym, ◌∙◌, subst, arith, Bool, int_eq}
+use Rattle.std.proofs.Common.{◌&&◌, ◌≢◌, ◌≡◌, ℤ, pos, ◌<◌, ◌⊎◌, true, false, inl, inr, List, [], ◌∷◌, ◌++◌, map, Option}
+use Rattle.std.proofs.Common.{Some, None, IfSome, IsSome, Contains, lit<, refl, ap, sym, ◌∙◌, subst, arith, Bool}
+use Rattle.std.proofs.Common.{int_eq}
 use Rattle.std.specs.List.{AllByRecursion}
 use Rattle.std.proofs.lemmas.Bool.{and_from}
 use Rattle.std.proofs.lemmas.Cmp.{int_eq_equiv}
@@ -12,17 +12,15 @@ use Rattle.model.specs.declared.Kind.TheVariants.{Queue, Mutex}
 use Rattle.model.specs.declared.AnyOp.{AnyOp}
 use Rattle.model.specs.declared.AnyOp.TheVariants.{Enqueue, Dequeue}
 use Rattle.model.specs.declared.AnyReply.{AnyReply}
-use Rattle.model.specs.declared.AnyReply.TheVariants.{Value, Swapped, NotSwapped, Flag}
+use Rattle.model.specs.declared.AnyReply.TheVariants.{Value}
 use Rattle.model.specs.Objects.{Content, queue, next, empty}
 use Rattle.model.specs.Linearizable.{IsLinearizable}
 use Rattle.model.specs.Orders.{Numbered, events, Return, Call, calls_on, IsHistory, ReturnsBefore, RepliesAlong}
 use Rattle.model.specs.Orders.{IsValidOrder}
 use Rattle.model.proofs.Lists.{In, Pairs, in_from_contains, all_at, pairs_from_all, in_map_from, in_map}
 use Rattle.locality.specs.WorkedHistories.{invoke, invoked_while_pending, returned_unasked, returned_elsewhere}
-use Rattle.locality.specs.WorkedHistories.{numbered_backwards}
-use Rattle.locality.specs.WorkedHistories.{enqueued_then_dequeued, overlapping_enqueues, dequeued_out_of_turn}
-use Rattle.locality.specs.WorkedHistories.{pending_overtakes_returned}
-use Rattle.locality.specs.WorkedHistories.{mutex_passed_on}
+use Rattle.locality.specs.WorkedHistories.{numbered_backwards, enqueued_then_dequeued, overlapping_enqueues}
+use Rattle.locality.specs.WorkedHistories.{dequeued_out_of_turn, pending_overtakes_returned, mutex_passed_on}
 use Rattle.locality.proofs.OneKind.{orders_of_kinds}
 use Rattle.locality.proofs.WrittenOut.{history, linearizable, in_order, ordered}
 use Rattle.locality.proofs.WorkedOrders.{returned, pending}
@@ -63,7 +61,7 @@ first_out v vs (e ∷ es) d r op back f i h = elim (f e (inl refl)) [
       let s = step (queue (v ∷ vs)) e.op (Enqueue w.0)
       (queue (v ∷ (vs ++ w.0 ∷ [])), Value (Some w.0)) w.1 h.0 h.1 h.2 refl in
       elim i [
-        | inl q ↦ let clash : Dequeue ≡ Enqueue w.0 = sym op ∙ (ap (λ (c : Call). c.op) q ∙ w.1) in absurd (cc clash)
+        | inl q ↦ absurd cc
         | inr j ↦ first_out v (vs ++ w.0 ∷ []) es d r op back (λ e i. f e (inr i)) j
             (subst (λ c. RepliesAlong c es) s.0 h.4)
       ]
@@ -88,7 +86,7 @@ first_in_first_out calls a d v r s order a_op a_back d_op d_back a_in d_in first
     let s0 = step (queue []) a.op (Enqueue v) (queue (v ∷ []), Value (Some v)) a_op along.0 along.1 along.2 refl in
     let d_later : In d (a ∷ front.0) = subst (In d) front.1 (stands d r d_in d_back) in
     elim d_later [
-      | inl q ↦ let clash : Dequeue ≡ Enqueue v = sym d_op ∙ (ap (λ (c : Call). c.op) q ∙ a_op) in absurd (cc clash)
+      | inl q ↦ absurd cc
       | inr j ↦ first_out v [] front.0 d r d_op d_back
           (λ e i. other e (known e (subst (In e) (sym front.1) (inr i)))) j
           (subst (λ c. RepliesAlong c front.0) s0.0 along.4)
@@ -205,10 +203,7 @@ may_reply (e ∷ es) c = may_be (next c e.op) e.returned (may_reply es)
 
 value_itself : (r : AnyReply) → same_value r r ≡ true
 value_itself (Value (Some v)) = let e = int_eq_equiv in e.refl v
-value_itself (Value None) = refl
-value_itself (Swapped a b) = refl
-value_itself NotSwapped = refl
-value_itself (Flag so) = refl
+value_itself r = refl
 
 replied_so : (o : Option Return) (given : AnyReply) → IfSome o (λ r. r.reply ≡ given) → replied o given ≡ true
 replied_so None given h = refl
@@ -237,13 +232,12 @@ entries_are : (calls cs es : List Call) → Ordered calls → ((e : Call) → In
     → AllByRecursion (λ c. In c calls) cs
     → map (λ (e : Call). pos e.number) cs ≡ map (λ (e : Call). pos e.number) es → es ≡ cs
 entries_are calls [] [] up known these n = refl
-entries_are calls [] (e ∷ es) up known these n = absurd (cc n)
-entries_are calls (c ∷ cs) [] up known these n = absurd (cc n)
 entries_are calls (c ∷ cs) (e ∷ es) up known these n =
     let same : pos e.number ≡ pos c.number = cc n in
     let here : e ≡ c = one_call calls e c up (known e (inl refl)) these.0 (omega (arith, ints)) in
     let rest : es ≡ cs = entries_are calls cs es up (λ e i. known e (inr i)) these.1 (cc n) in
     cc (here, rest)
+entries_are calls cs es h k e n = absurd (cc n)
 
 -- an order whose calls could not reply so
 not_replied : (kind : Kind) (calls cs : List Call) → in_order calls ≡ true → AllByRecursion (λ c. In c calls) cs

@@ -1,34 +1,32 @@
 -- The order of an object in a linearization is valid.
-use Rattle.std.proofs.Common.{◌≡◌, ◌≢◌, ℕ, ℤ, pos, suc, ◌<◌, ◌≤◌, ◌==◌, ◌&&◌, nat_lt, Bool, true, false, cond, ◌⊎◌}
-use Rattle.std.proofs.Common.{inl, inr, List, [], ◌∷◌, ◌++◌}
-use Rattle.std.proofs.Common.{length, map, filter, Option, Some, None, IfSome, IsSome, Contains, refl, ap, sym, ◌∙◌}
-use Rattle.std.proofs.Common.{subst, arith}
+use Rattle.std.proofs.Common.{◌≡◌, ◌≢◌, ℕ, ℤ, pos, suc, ◌<◌, ◌≤◌, ◌==◌, ◌&&◌, nat_lt, Bool, true, false, cond, ◌⊎◌, inl}
+use Rattle.std.proofs.Common.{inr, List, [], ◌∷◌, ◌++◌, length, map, filter, Option, Some, None, IfSome, IsSome}
+use Rattle.std.proofs.Common.{Contains, refl, ap, sym, ◌∙◌, subst, arith}
 use Rattle.std.proofs.lemmas.List.{append-nil, append_assoc, length-append, map-append, length-map}
 use Rattle.std.proofs.lemmas.List.Concat.{flat_map-append}
 use Rattle.std.proofs.lemmas.List.Elements.{filter-append, recursion_from_All}
+use Rattle.std.proofs.lemmas.List.Sums.{length-filter, count_by-le-length}
 use Rattle.std.proofs.lemmas.Bool.{eqb-true, eq-eqb, lt-ltb, le-ltb}
 use Rattle.model.specs.Specification.{Specification}
 use Rattle.model.specs.Histories.{Event, Inv, Res, process_of, object_of, is_invocation, by_process, by_object}
 use Rattle.model.specs.Histories.{complete, invokes, responds, IsSequential, Operation, IsOperation}
 use Rattle.model.specs.Linearizable.{RepliesFrom, IsLinearizableFor}
-use Rattle.model.specs.Orders.{Numbered, events, Return, Call, ProcessCall, response_of, begins, calls_in, calls_on}
+use Rattle.model.specs.Orders.{Numbered, events, Return, Call, ProcessCall, begins, calls_in, calls_on}
 use Rattle.model.specs.Orders.{IsHistory, ReturnsBefore, RepliesBy}
 use Rattle.model.proofs.Lists.{In, Pairs, in_filter, in_filter_passes, in_filter_from, pairs_filter, pairs_map}
-use Rattle.model.proofs.Lists.{filter-filter, filter_all}
-use Rattle.model.proofs.Lists.{filter_none, in_map, in_map_from, contains_from_in, all_from_in, all_from_pairs}
-use Rattle.model.proofs.Lists.{in_left, in_middle, in_split}
+use Rattle.model.proofs.Lists.{filter-filter, filter_all, filter_none, in_map, in_map_from, contains_from_in}
+use Rattle.model.proofs.Lists.{all_from_in, all_from_pairs, in_left, in_middle, in_split}
 use Rattle.locality.specs.Locality.{HasValidOrderOf}
 use Rattle.locality.proofs.Merge.{one_number}
 use Rattle.locality.proofs.Entries.{number_of}
-use Rattle.locality.proofs.ProcessHistories.{part, events-part, calls_in-part, call_event, Before}
-use Rattle.locality.proofs.ProcessHistories.{one_after_another, is_back, returns_after}
-use Rattle.locality.proofs.ProcessHistories.{invocations_before, turn_view, rise, up, part_rise, responses_before}
-use Rattle.locality.proofs.ProcessHistories.{part_up}
+use Rattle.locality.proofs.ProcessHistories.{part, events-part, calls_in-part, call_event, Before, one_after_another}
+use Rattle.locality.proofs.ProcessHistories.{is_back, returns_after, invocations_before, turn_view, rise, up, part_rise}
+use Rattle.locality.proofs.ProcessHistories.{responses_before, part_up}
 use Rattle.locality.proofs.Cuts.{complete_of_process, length_filter_events, filter_before, invokes_of_process}
 use Rattle.locality.proofs.Cuts.{responds_in_part, filter_pieces}
 use Rattle.locality.proofs.Moments.{Moment, moment_from, precedes_from, count, count-append}
-use Rattle.locality.proofs.CompletedCalls.{Ended, two_events, ended_events, ops_of, Completed, Responses}
-use Rattle.locality.proofs.CompletedCalls.{completed_any, Lined, lined}
+use Rattle.locality.proofs.CompletedCalls.{Ended, two_events, ended_events, ops_of, Completed, Responses, completed_any}
+use Rattle.locality.proofs.CompletedCalls.{Lined, lined}
 use Rattle.model.proofs.Orders.{same_pos, returned_some}
 
 -- of two beginnings of a list one begins the other
@@ -55,28 +53,12 @@ pairs_by_parts {X} R front (x ∷ xs) h = (
 ended_invokes : (p : ℕ) (es : List Ended)
     → count (invokes p) (ended_events es) ≡ length (filter (λ e. e.made.process == p) es)
 ended_invokes p [] = refl
-ended_invokes p (e ∷ es) =
-    let rest = ended_invokes p es in
-    elim (e.made.process == p) as (λ b. length
-    (cond b (Inv e.made.process e.made.object e.made.call.op ∷ filter (invokes p) (ended_events es))
-    (filter (invokes p) (ended_events es)))
-    ≡ length (cond b (e ∷ filter (λ e. e.made.process == p) es) (filter (λ e. e.made.process == p) es))) [
-      | true ↦ ap suc rest
-      | false ↦ rest
-    ]
+ended_invokes p (e ∷ es) = let rest = ended_invokes p es in grind arith
 
 ended_responds : (p : ℕ) (es : List Ended)
     → count (responds p) (ended_events es) ≡ length (filter (λ e. e.made.process == p) es)
 ended_responds p [] = refl
-ended_responds p (e ∷ es) =
-    let rest = ended_responds p es in
-    elim (e.made.process == p) as (λ b. length
-    (cond b (Res e.made.process e.made.object e.reply ∷ filter (responds p) (ended_events es))
-    (filter (responds p) (ended_events es)))
-    ≡ length (cond b (e ∷ filter (λ e. e.made.process == p) es) (filter (λ e. e.made.process == p) es))) [
-      | true ↦ ap suc rest
-      | false ↦ rest
-    ]
+ended_responds p (e ∷ es) = let rest = ended_responds p es in grind arith
 
 ended_of_object : (x : ℕ) (es : List Ended)
     → by_object x (ended_events es) ≡ ended_events (filter (λ e. e.made.object == x) es)
@@ -97,14 +79,6 @@ not_less : (u v : List ProcessCall) (o e : ProcessCall) → Pairs (λ a b. numbe
 not_less [] v o e h i = elim i [ inl s ↦ omega (arith, ap number_of s) | inr j ↦ let g = h.0 e j in omega arith ]
 not_less (y ∷ u) v o e h i = not_less u v o e h.1 i
 
-filter_short : (q : ProcessCall → Bool) (u : List ProcessCall) → length (filter q u) ≤ length u
-filter_short q [] = omega arith
-filter_short q (x ∷ u) =
-    let rest = filter_short q u in elim (q x) as (λ b. length (cond b (x ∷ filter q u) (filter q u)) ≤ suc (length u)) [
-      | true ↦ omega arith
-      | false ↦ omega arith
-    ]
-
 -- in rising order, those below the number of one are those before it
 below_one : (u v : List ProcessCall) (o : ProcessCall) → Pairs (λ a b. number_of a < number_of b) (u ++ o ∷ v)
     → length (filter (λ e. nat_lt (number_of e) (number_of o)) (u ++ o ∷ v)) ≤ length u
@@ -114,16 +88,13 @@ below_one u v o h =
     filter_none q (o ∷ v) (λ e i. le-ltb (number_of e) (number_of o) (not_less u v o e h i)) in
     let all : length (filter q (u ++ o ∷ v)) ≡ length (filter q u) =
     ap length (filter-append q u (o ∷ v) ∙ (ap (λ es. filter q u ++ es) none_later ∙ append-nil (filter q u))) in
-    let few = filter_short q u in
+    let few = count_by-le-length q u in
+    let counted = length-filter q u in
     omega arith
 
 pub filter_responses : (q : Event → Bool) (es : List Event) → Responses es → Responses (filter q es)
 filter_responses q [] r = tt
-filter_responses q (e ∷ es) r =
-    let rest = filter_responses q es r.1 in elim (q e) as (λ b. Responses (cond b (e ∷ filter q es) (filter q es))) [
-      | true ↦ (r.0, rest)
-      | false ↦ rest
-    ]
+filter_responses q (e ∷ es) r = let rest = filter_responses q es r.1 in grind arith
 
 -- where each returns before the next begins and this one is back before t, so are those before it
 back_upto : (t : ℕ) (u v : List ProcessCall) (o : ProcessCall) (r : Return) → Pairs Before (u ++ o ∷ v)
@@ -178,17 +149,7 @@ invocations_all p (m ∷ h) = here m.event (invocations_all p h)
     here : (v : Event) → count (invokes p) (events h) ≡ length (filter (λ e. e.process == p) (calls_in h))
         → length (cond (invokes p v) (v ∷ filter (invokes p) (events h)) (filter (invokes p) (events h)))
         ≡ length (filter (λ e. e.process == p) (begins m.number v h (calls_in h)))
-    here (Inv q x op) f = elim (q == p) as
-        (λ b. length (cond b (Inv q x op ∷ filter (invokes p) (events h)) (filter (invokes p) (events h)))
-        ≡ length (cond b (record {
-          process = q;
-          object = x;
-          call = record { number = m.number; op = op; returned = response_of q x h };
-        }
-        ∷ filter (λ e. e.process == p) (calls_in h)) (filter (λ e. e.process == p) (calls_in h)))) [
-          | true ↦ ap suc f
-          | false ↦ f
-        ]
+    here (Inv q x op) f = grind arith
     here (Res q x r) f = f
 
 -- no moment of such a line has b returned and a not begun, where a stands before b
