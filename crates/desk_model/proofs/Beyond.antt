@@ -1,13 +1,12 @@
 -- Nothing is in the log of an object that there is not, or in the journal of a client that has not come.
-use Rattle.std.proofs.Common.{◌≡◌, ◌≢◌, ℕ, ◌<◌, ◌≤◌, List, [], ◌∷◌, ◌++◌, Option, Some, None, All, length, cond}
-use Rattle.std.proofs.Common.{eq-eqb, refl, sym, ap, subst, ◌∙◌, arith}
+use Rattle.std.proofs.Common.{◌≡◌, ◌≢◌, ℕ, ◌<◌, ◌≤◌, List, [], ◌∷◌, ◌++◌, Option, Some, None, All, length, cond, eq-eqb}
+use Rattle.std.proofs.Common.{refl, sym, ap, subst, ◌∙◌, arith}
 use Rattle.std.proofs.lemmas.List.Elements.{All-head, All-tail, All-contains, Contains-push}
 use Rattle.model.specs.declared.Kind.{Kind}
 use Rattle.desk_model.specs.declared.JournalEvent.TheVariants.{Returned}
 use Rattle.desk_model.specs.World.{AnyEntry, AnyRequest, AnyAnswer, AnyEvent, AnyDone, Stage, absent, idle, drawn}
-use Rattle.desk_model.specs.World.{posted, picked, answered, taken}
-use Rattle.desk_model.specs.World.{World, logged_on, entries_of, served, served_now, request_of, invoked}
-use Rattle.desk_model.specs.World.{journal_of, journal_in}
+use Rattle.desk_model.specs.World.{posted, picked, answered, taken, World, logged_on, entries_of, served, served_now}
+use Rattle.desk_model.specs.World.{request_of, invoked, journal_of, journal_in}
 use Rattle.desk_model.specs.Sound.{IsAmong, Sound}
 use Rattle.desk_model.proofs.Entries.{logged_else}
 use Rattle.desk_model.proofs.Tickets.{journal_begun}
@@ -33,13 +32,9 @@ asked_among kinds ds q all = (All-contains (IsAmong kinds) (journal_of ds None +
 
 nothing_now : (kinds : List Kind) (x c : ℕ) (ds : List AnyDone) (t : Stage) → length kinds ≤ x
     → All (IsAmong kinds) (journal_of ds (request_of t)) → served_now x c t ≡ []
-nothing_now kinds x c ds absent far all = refl
-nothing_now kinds x c ds idle far all = refl
-nothing_now kinds x c ds (drawn q) far all = refl
-nothing_now kinds x c ds (posted q) far all = refl
-nothing_now kinds x c ds (picked q) far all = refl
 nothing_now kinds x c ds (answered q a) far all = nothing_logged (length kinds) x c q a far (asked_among kinds ds q all)
 nothing_now kinds x c ds (taken q a) far all = nothing_logged (length kinds) x c q a far (asked_among kinds ds q all)
+nothing_now kinds x c ds t h k = refl
 
 no_entries : (l : List AnyEntry) → ((c : ℕ) → entries_of c l ≡ []) → l ≡ []
 no_entries [] none = refl

@@ -1,6 +1,6 @@
 -- A log and the calls that its entries are of, one beside the other.
-use Rattle.std.proofs.Common.{◌≡◌, ◌≢◌, ℕ, ℤ, pos, ◌<◌, ◌==◌, Bool, true, false, cond, inl, inr, List, [], ◌∷◌}
-use Rattle.std.proofs.Common.{◌++◌, map, IfSome, refl, ap, sym, ◌∙◌, subst, eq-eqb, arith}
+use Rattle.std.proofs.Common.{◌≡◌, ◌≢◌, ℕ, ℤ, pos, ◌<◌, ◌==◌, Bool, true, false, cond, inl, inr, List, [], ◌∷◌, ◌++◌}
+use Rattle.std.proofs.Common.{map, IfSome, refl, ap, sym, ◌∙◌, subst, eq-eqb, arith}
 use Rattle.model.specs.Objects.{Content, next}
 use Rattle.model.specs.Orders.{Call, RepliesAlong}
 use Rattle.model.proofs.Lists.{In, Pairs, pairs_weaker, pairs_map}
@@ -22,12 +22,11 @@ chosen P (e ∷ es) f =
 pub entry_beside : (P : AnyEntry → Call → Type 0) (es : List AnyEntry) (ks : List Call) → Along P es ks → (k : Call)
     → In k ks → (e : AnyEntry) × In e es × P e k
 entry_beside P [] [] a k i = absurd i
-entry_beside P [] (l ∷ ks) a k i = absurd a
-entry_beside P (e ∷ es) [] a k i = absurd a
 entry_beside P (e ∷ es) (l ∷ ks) a k i = elim i [
   | inl s ↦ (e, inl refl, subst (P e) (sym s) a.0)
   | inr j ↦ let r = entry_beside P es ks a.1 k j in (r.0, inr r.1, r.2)
 ]
+entry_beside P es ks a k i = absurd a
 
 pub call_beside : (P : AnyEntry → Call → Type 0) (es : List AnyEntry) (ks : List Call) → Along P es ks
     → (e : AnyEntry) → In e es → (k : Call) × In k ks × P e k
@@ -43,10 +42,9 @@ pub pairs_beside : (P : AnyEntry → Call → Type 0) (R : Call → Call → Typ
     → Along P es ks
     → Pairs (λ e f. (a b : Call) → P e a → P f b → R a b) es → Pairs R ks
 pairs_beside P R [] [] a h = tt
-pairs_beside P R [] (k ∷ ks) a h = absurd a
-pairs_beside P R (e ∷ es) [] a h = absurd a
 pairs_beside P R (e ∷ es) (k ∷ ks) a h =
     (λ l i. let f = entry_beside P es ks a.1 l i in h.0 f.0 f.1 k l a.0 f.2, pairs_beside P R es ks a.1 h.1)
+pairs_beside P R es ks a h = absurd a
 
 -- ---- the call beside an entry says the same as the entry
 
@@ -59,21 +57,19 @@ module _ (P : AnyEntry → Call → Type 0) (same : (e : AnyEntry) (k : Call) �
   pub numbers_beside : (es : List AnyEntry) (ks : List Call) → Along P es ks
       → map (λ (e : AnyEntry). pos e.ticket) es ≡ map (λ (k : Call). pos k.number) ks
   numbers_beside [] [] a = refl
-  numbers_beside [] (k ∷ ks) a = absurd a
-  numbers_beside (e ∷ es) [] a = absurd a
   numbers_beside (e ∷ es) (k ∷ ks) a =
       let s : pos e.ticket ≡ pos k.number = ap pos (sym (same e k a.0).number) in
       let rest = numbers_beside es ks a.1 in
       ap (λ z. z ∷ map (λ (e : AnyEntry). pos e.ticket) es) s ∙ ap (λ zs. pos k.number ∷ zs) rest
+  numbers_beside es ks a = absurd a
 
   pub replies_beside : (c after : Content) (es : List AnyEntry) (ks : List Call) → Replays c es after → Along P es ks
       → RepliesAlong c ks
   replies_beside c after [] [] h a = tt
-  replies_beside c after [] (k ∷ ks) h a = absurd a
-  replies_beside c after (e ∷ es) [] h a = absurd a
   replies_beside c after (e ∷ es) (k ∷ ks) h a =
       let s = same e k a.0 in
       (h.0, e.reply, ap (next c) s.op ∙ h.1, s.reply, replies_beside h.0 after es ks h.2 a.1)
+  replies_beside c after es ks h a = absurd a
 
 -- ---- the tickets of a log
 

@@ -8,11 +8,9 @@ use Rattle.std.proofs.lemmas.Option.{same_Some}
 use Rattle.model.specs.declared.Kind.{Kind}
 use Rattle.model.specs.Objects.{kind_of}
 use Rattle.desk_model.specs.declared.Answer.TheVariants.{Reply, Refused}
-use Rattle.desk_model.specs.World.{AnyEntry, AnyRequest, AnyAnswer, AnyDone, Stage, absent, idle, drawn, posted}
-use Rattle.desk_model.specs.World.{picked, answered, taken, World}
-use Rattle.desk_model.specs.World.{kind_at, logged, logged_on, entries_of, served, served_now, request_of}
-use Rattle.desk_model.specs.World.{calls_made, tickets_drawn, IsLegal}
-use Rattle.desk_model.specs.World.{StartsWith}
+use Rattle.desk_model.specs.World.{AnyEntry, AnyRequest, AnyAnswer, AnyDone, Stage, absent, idle, drawn, posted, picked}
+use Rattle.desk_model.specs.World.{answered, taken, World, kind_at, logged, logged_on, entries_of, served, served_now}
+use Rattle.desk_model.specs.World.{request_of, calls_made, tickets_drawn, IsLegal, StartsWith}
 use Rattle.desk_model.specs.Transitions.{changed, staged, ticked, held_by, handed, served_by, ended_by}
 use Rattle.desk_model.specs.Sound.{Sound, SoundJournals, total}
 use Rattle.desk_model.proofs.Changed.{changed_here, changed_else, changed_all}
@@ -26,34 +24,18 @@ module _ (kinds : List Kind) (quota : ℕ) where
   S = Sound kinds quota
 
   pub sound_held : (w : World) (x : ℕ) (h : Option ℕ) → (h ≡ None → w.hand x ≡ None) → S w → S (held_by w x h)
-  sound_held w x h free k = record {
-    legal = k.legal;
-    counted = k.counted;
-    in_hand = k.in_hand;
-    picked_up = k.picked_up;
-    empty_hand = changed_all (λ y g. g ≡ None → w.hand y ≡ None) w.holder x h free (λ y _. k.empty_hand y);
-    fitting = k.fitting;
-    early = k.early;
-    drawn = k.drawn;
-    within = k.within;
-    journals = journals_kept kinds w (held_by w x h) refl (λ c. refl) (λ c. refl) (λ c e. e)
-        (λ y. starts_same (w.log y)) k.journals;
-  }
+  sound_held w x h free k =
+      let empty_hand : (y : ℕ) → changed w.holder x h y ≡ None → w.hand y ≡ None =
+      changed_all (λ y g. g ≡ None → w.hand y ≡ None) w.holder x h free (λ y _. k.empty_hand y) in
+      let journals = journals_kept kinds w (held_by w x h) refl (λ c. refl) (λ c. refl) (λ c e. e)
+      (λ y. starts_same (w.log y)) k.journals in
+      assumption
 
   pub sound_ended : (w : World) (c : ℕ) → S w → S (ended_by w c)
-  sound_ended w c k = record {
-    legal = k.legal;
-    counted = k.counted;
-    in_hand = k.in_hand;
-    picked_up = k.picked_up;
-    empty_hand = k.empty_hand;
-    fitting = k.fitting;
-    early = k.early;
-    drawn = k.drawn;
-    within = k.within;
-    journals = journals_kept kinds w (ended_by w c) refl (λ c. refl) (λ c. refl) (λ c e. e)
-        (λ y. starts_same (w.log y)) k.journals;
-  }
+  sound_ended w c k =
+      let journals = journals_kept kinds w (ended_by w c) refl (λ c. refl) (λ c. refl) (λ c e. e)
+      (λ y. starts_same (w.log y)) k.journals in
+      assumption
 
   -- The stage of the row r changes, with the same request: what holds of requests goes on.
   same_fitting : (w : World) (r : ℕ) (t : Stage) → request_of t ≡ request_of (w.stage r) → S w
@@ -144,7 +126,7 @@ module _ (kinds : List Kind) (quota : ℕ) where
       let tickets : tickets_drawn (w.done c) (Some q) ≡ tickets_drawn (w.done c) (request_of (w.stage c)) + 1 =
       (let e : tickets_drawn (w.done c) (Some q) ≡ tickets_drawn (w.done c) None + 1 = omega arith in
       e ∙ ap (λ z. tickets_drawn (w.done c) (request_of z) + 1) (sym was)) in
-      sound_ticked w c (drawn q) (w.done c) low (λ r e. let g = sym was ∙ e in absurd (cc)) (λ r e. absurd (cc))
+      sound_ticked w c (drawn q) (w.done c) low (λ r e. absurd cc) (λ r e. absurd (cc))
       (λ x. ap (λ z. served x c (w.done c) ++ served_now x c z) (sym was))
       (λ r e. let same = same_Some q r e in
       subst (λ (z : AnyRequest). (kind_of z.op ≡ kind_at kinds z.object) × (z.ticket ≡ w.clock)) same (fits, ticket))
@@ -165,7 +147,7 @@ module _ (kinds : List Kind) (quota : ℕ) where
       let tickets : tickets_drawn ds None ≡ tickets_drawn (w.done c) (request_of (w.stage c)) + 1 =
       (let e : tickets_drawn ds None ≡ tickets_drawn (w.done c) (Some q) + 1 = omega arith in
       e ∙ ap (λ z. tickets_drawn (w.done c) (request_of z) + 1) (sym was)) in
-      sound_ticked w c idle ds low (λ r e. let g = sym was ∙ e in absurd (cc)) (λ r e. absurd (cc))
+      sound_ticked w c idle ds low (λ r e. absurd cc) (λ r e. absurd (cc))
       (λ x. append-nil (served x c ds)
       ∙ (served_more x c n (w.done c) q a ∙ ap (λ z. served x c (w.done c) ++ served_now x c z) (sym was)))
       (λ r e. absurd (cc)) tickets calls (journals_returned kinds quota w c n q a was now k) k
@@ -184,7 +166,7 @@ module _ (kinds : List Kind) (quota : ℕ) where
         (λ e. (q, ap (changed w.stage r (picked q)) (sym (same_Some r j e)) ∙ changed_here w.stage r (picked q), on))
         (λ y _ e. let b = k.in_hand y j e in (
           b.0,
-          changed_else w.stage r (picked q) j (λ g. let f = sym is ∙ (ap w.stage (sym g) ∙ b.1) in absurd (cc))
+          changed_else w.stage r (picked q) j (λ g. absurd cc)
               ∙ b.1,
           b.2,
         )) y;
@@ -195,7 +177,7 @@ module _ (kinds : List Kind) (quota : ℕ) where
         (λ j _ e. changed_else w.hand x (Some r) p.object
         (λ same. let g = sym free ∙ (ap w.hand (sym same) ∙ k.picked_up j p e) in absurd (cc)) ∙ k.picked_up j p e) j;
     empty_hand = λ y e. changed_else w.hand x (Some r) y
-        (λ same. let g = sym holds ∙ (ap w.holder (sym same) ∙ e) in absurd (cc)) ∙ k.empty_hand y e;
+        (λ same. absurd cc) ∙ k.empty_hand y e;
     fitting = same_fitting w r (picked q) (ap request_of (sym is)) k;
     early = k.early;
     drawn = same_totals w r (picked q) (ap request_of (sym is)) k;

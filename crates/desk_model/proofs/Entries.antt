@@ -1,6 +1,6 @@
 -- The entries of a client in a log that grows, and the replay of such a log.
-use Rattle.std.proofs.Common.{◌≡◌, ◌≢◌, ℕ, true, false, cond, eqb, eq-eqb, ne_eqb, List, [], ◌∷◌, ◌++◌, map, refl}
-use Rattle.std.proofs.Common.{sym, ap, subst, ◌∙◌, append_assoc, append-nil}
+use Rattle.std.proofs.Common.{arith, ◌≡◌, ◌≢◌, ℕ, true, false, cond, eqb, eq-eqb, ne_eqb, List, [], ◌∷◌, ◌++◌, map}
+use Rattle.std.proofs.Common.{refl, sym, ap, subst, ◌∙◌, append_assoc, append-nil}
 use Rattle.model.specs.declared.AnyOp.{AnyOp}
 use Rattle.model.specs.declared.AnyReply.{AnyReply}
 use Rattle.model.specs.declared.Kind.{Kind}
@@ -8,8 +8,8 @@ use Rattle.model.specs.Objects.{Content, empty, next}
 use Rattle.desk_model.specs.declared.Answer.TheVariants.{Reply, Refused}
 use Rattle.desk_model.specs.declared.JournalEvent.TheVariants.{Invoked, Returned}
 use Rattle.desk_model.specs.Images.{entry_in, event_in}
-use Rattle.desk_model.specs.World.{AnyEntry, AnyEvent, AnyRequest, AnyAnswer, AnyDone, logged, logged_on}
-use Rattle.desk_model.specs.World.{entries_of, served, Replays, IsLegal, StartsWith, Serves}
+use Rattle.desk_model.specs.World.{AnyEntry, AnyEvent, AnyRequest, AnyAnswer, AnyDone, logged, logged_on, entries_of}
+use Rattle.desk_model.specs.World.{served, Replays, IsLegal, StartsWith, Serves}
 
 pub starts_longer : (xs ys zs : List AnyEntry) → StartsWith xs ys → StartsWith ys zs → StartsWith xs zs
 starts_longer xs ys zs a b = (b.0 ++ a.0, a.1 ∙ (ap (λ l. l ++ a.0) b.1 ∙ append_assoc zs b.0 a.0))
@@ -19,11 +19,7 @@ starts_same xs = ([], sym (append-nil xs))
 
 pub entries-append : (c : ℕ) (xs ys : List AnyEntry) → entries_of c (xs ++ ys) ≡ entries_of c xs ++ entries_of c ys
 entries-append c [] ys = refl
-entries-append c (e ∷ es) ys =
-    elim (eqb e.client c) as
-    (λ b. cond b (e ∷ entries_of c (es ++ ys)) (entries_of c (es ++ ys))
-    ≡ cond b (e ∷ entries_of c es) (entries_of c es) ++ entries_of c ys)
-    [ true ↦ ap (λ z. e ∷ z) (entries-append c es ys) | false ↦ entries-append c es ys ]
+entries-append c (e ∷ es) ys = let rest = entries-append c es ys in grind arith
 
 pub own_entries : (c : ℕ) (q : AnyRequest) (a : AnyAnswer) → entries_of c (logged c q a) ≡ logged c q a
 own_entries c q (Reply p) = ap (λ b. cond b (logged c q (Reply p)) []) (eq-eqb c c refl)
@@ -72,9 +68,7 @@ legal_front kind log seen begins legal =
 -- ---- events and entries of operations of all kinds stand for themselves
 
 event_as_it_is : (e : AnyEvent) → event_in (λ (op : AnyOp). op) (λ (r : AnyReply). r) e ≡ e
-event_as_it_is (Invoked t x op) = refl
-event_as_it_is (Returned t (Reply r)) = refl
-event_as_it_is (Returned t Refused) = refl
+event_as_it_is e = grind arith
 
 pub events_as_they_are : (es : List AnyEvent) → map (event_in (λ (op : AnyOp). op) (λ (r : AnyReply). r)) es ≡ es
 events_as_they_are [] = refl

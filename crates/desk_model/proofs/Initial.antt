@@ -35,5 +35,5 @@ sound_initial kinds quota = record {
 pub sound_coming : (kinds : List Kind) (quota : ℕ) (w : World) (c : ℕ) → w.stage c ≡ absent → Sound kinds quota w
     → Sound kinds quota (staged w c idle)
 sound_coming kinds quota w c was =
-    sound_staged kinds quota w c idle (λ q e. let f = sym was ∙ e in absurd (cc)) (λ q e. absurd (cc))
+    sound_staged kinds quota w c idle (λ q e. absurd cc) (λ q e. absurd (cc))
     (ap request_of (sym was)) (λ e. absurd (cc)) (λ x. ap (served_now x c) (sym was))

@@ -1,6 +1,6 @@
 -- What the calls of a client have put into a log: of which calls it is, and that its tickets rise.
-use Rattle.std.proofs.Common.{◌≡◌, ℕ, ◌<◌, ◌==◌, Bool, true, false, cond, eqb-true, inl, inr, List, [], ◌∷◌, ◌++◌}
-use Rattle.std.proofs.Common.{map, Option, Some, None, IfSome, refl, ap, sym, ◌∙◌, subst, append_assoc, arith}
+use Rattle.std.proofs.Common.{◌≡◌, ℕ, ◌<◌, ◌==◌, Bool, true, false, cond, eqb-true, inl, inr, List, [], ◌∷◌, ◌++◌, map}
+use Rattle.std.proofs.Common.{Option, Some, None, IfSome, refl, ap, sym, ◌∙◌, subst, append_assoc, arith}
 use Rattle.std.proofs.lemmas.Option.{same_Some}
 use Rattle.model.specs.declared.AnyReply.{AnyReply}
 use Rattle.model.specs.Orders.{Return, Call, ProcessCall}
@@ -8,8 +8,8 @@ use Rattle.model.proofs.Lists.{In, Pairs, in_append, in_map_from, pairs_append}
 use Rattle.desk_model.specs.declared.Answer.TheVariants.{Reply, Refused}
 use Rattle.desk_model.specs.declared.JournalEvent.TheVariants.{Invoked}
 use Rattle.desk_model.specs.World.{AnyEntry, AnyRequest, AnyAnswer, AnyDone, AnyEvent, Stage, absent, idle, drawn}
-use Rattle.desk_model.specs.World.{posted, picked, answered, taken}
-use Rattle.desk_model.specs.World.{logged, logged_on, served, served_now, request_of, invoked, journal_of, ticket_of}
+use Rattle.desk_model.specs.World.{posted, picked, answered, taken, logged, logged_on, served, served_now, request_of}
+use Rattle.desk_model.specs.World.{invoked, journal_of, ticket_of}
 use Rattle.desk_model.proofs.Denoted.{ended, made}
 
 -- what the calls have put in: those that are over, and then the one that is not
@@ -47,13 +47,9 @@ is_put x c q a e = go (q.object == x) refl a
 -- what a stage has put in is of its call
 put_now : (x c : ℕ) (t : Stage) (e : AnyEntry) → In e (served_now x c t)
     → (q : AnyRequest) × (a : AnyAnswer) × (request_of t ≡ Some q) × IsPut x c q a e
-put_now x c absent e i = absurd i
-put_now x c idle e i = absurd i
-put_now x c (drawn q) e i = absurd i
-put_now x c (posted q) e i = absurd i
-put_now x c (picked q) e i = absurd i
 put_now x c (answered q a) e i = (q, a, refl, is_put x c q a e i)
 put_now x c (taken q a) e i = (q, a, refl, is_put x c q a e i)
+put_now x c t e i = absurd i
 
 -- the operation of an entry of the client c in the log of x, among these
 pub record HasCall (x c : ℕ) (e : AnyEntry) (ops : List ProcessCall) : Type 0 where
@@ -158,13 +154,9 @@ pairs_logged R x c q a = go (q.object == x) a
     go false a = tt
 
 pairs_now : (R : AnyEntry → AnyEntry → Type 0) (x c : ℕ) (t : Stage) → Pairs R (served_now x c t)
-pairs_now R x c absent = tt
-pairs_now R x c idle = tt
-pairs_now R x c (drawn q) = tt
-pairs_now R x c (posted q) = tt
-pairs_now R x c (picked q) = tt
 pairs_now R x c (answered q a) = pairs_logged R x c q a
 pairs_now R x c (taken q a) = pairs_logged R x c q a
+pairs_now R x c t = tt
 
 -- the entries' tickets rise where those of the journal do
 pub put_rises : (x c : ℕ) (ds : List AnyDone) (t : Stage)

@@ -1,10 +1,10 @@
 -- Journals and tickets: what holds of them goes on where no client draws a ticket, and where one client draws the next.
-use Rattle.std.proofs.Common.{◌≡◌, ◌≢◌, ◌⊎◌, ℕ, ◌+◌, ◌<◌, List, [], ◌∷◌, ◌++◌, Some, None, All, AllPairs, Contains}
-use Rattle.std.proofs.Common.{map, length, true, false, cond}
-use Rattle.std.proofs.Common.{eqb, refl, sym, ap, subst, ◌∙◌, ⊎_elim, inl, inr, arith, append_assoc}
+use Rattle.std.proofs.Common.{◌≡◌, ◌≢◌, ◌⊎◌, ℕ, ◌+◌, ◌<◌, List, [], ◌∷◌, ◌++◌, Some, None, All, AllPairs, Contains, map}
+use Rattle.std.proofs.Common.{length, true, false, cond, eqb, refl, sym, ap, subst, ◌∙◌, inl, inr, arith, append_assoc}
 use mathlib.Core.Logic.{dite}
 use native.Mathlib.Decide.{ℕ_discrete}
-use Rattle.std.proofs.lemmas.List.{length_push, length-append, get_or_push, get_or_append_left}
+use Rattle.std.proofs.lemmas.List.{length_push, length-append, get_or_push, get_or_append_left, map-append}
+use Rattle.std.proofs.lemmas.List.Quantifiers.{all_pairs_push}
 use Rattle.std.proofs.lemmas.List.Elements.{All-nil, All-push, All-weaker, All-contains, Contains-append_left}
 use Rattle.std.proofs.lemmas.List.Elements.{Contains-push, Contains-push_cases}
 use Rattle.model.specs.declared.Kind.{Kind}
@@ -12,9 +12,8 @@ use Rattle.model.specs.Objects.{kind_of}
 use Rattle.desk_model.specs.declared.Answer.TheVariants.{Reply, Refused}
 use Rattle.desk_model.specs.declared.JournalEvent.TheVariants.{Returned}
 use Rattle.desk_model.specs.World.{AnyEntry, AnyRequest, AnyAnswer, AnyEvent, AnyDone, Stage, absent, idle, drawn}
-use Rattle.desk_model.specs.World.{taken, World, kind_at, logged}
-use Rattle.desk_model.specs.World.{entries_of, served, served_now, request_of, invoked, journal_of, journal_in}
-use Rattle.desk_model.specs.World.{ticket_of, tickets_in, StartsWith}
+use Rattle.desk_model.specs.World.{taken, World, kind_at, logged, entries_of, served, served_now, request_of, invoked}
+use Rattle.desk_model.specs.World.{journal_of, journal_in, ticket_of, tickets_in, StartsWith}
 use Rattle.desk_model.specs.Transitions.{changed, ticked}
 use Rattle.desk_model.specs.Sound.{ShareOut, IsAmong, IsInTime, SoundJournals, Sound}
 use Rattle.desk_model.proofs.Entries.{logged_here}
@@ -51,8 +50,8 @@ splits_own x e l es (y ∷ s) later f = let rest : es ≡ s ++ e ∷ [] = cc in 
 
 -- where the last of a client's entries is e, the log has e
 splits_at : (c : ℕ) (l s : List AnyEntry) (e : AnyEntry) → entries_of c l ≡ s ++ e ∷ [] → Splits l e
-splits_at c [] [] e is = absurd (cc)
-splits_at c [] (y ∷ s) e is = absurd (cc)
+splits_at c [] [] e is = absurd cc
+splits_at c [] (y ∷ s) e is = absurd cc
 splits_at c (x ∷ l) s e is =
     elim (eqb x.client c) as (λ b. cond b (x ∷ entries_of c l) (entries_of c l) ≡ s ++ e ∷ [] → Splits (x ∷ l) e) [
       | true ↦ splits_own x e l (entries_of c l) s (λ s' f. splits_at c l s' e f)
@@ -111,15 +110,6 @@ module _ (kinds : List Kind) where
 
 -- ---- one client draws the next ticket
 
-rising_more : (xs : List ℕ) (n : ℕ) → AllPairs (λ t u. t < u) xs → All (λ t. t < n) xs
-    → AllPairs (λ t u. t < u) (xs ++ n ∷ [])
-rising_more xs n rising low i j d l within =
-    let long = length_push xs n in let first = get_or_append_left xs (n ∷ []) d i (omega arith) in
-    dite (ℕ_discrete j (length xs))
-    (λ last. let here = get_or_push xs n d j (sym last) in let below = low i d (omega arith) in omega arith)
-    (λ other. let second = get_or_append_left xs (n ∷ []) d j (omega arith) in
-    let pair = rising i j d l (omega arith) in omega arith)
-
 module _ (n : ℕ) (f g : ℕ → List ℕ) (c : ℕ) (here : g c ≡ f c ++ n ∷ []) (others : (d : ℕ) → d ≢ c → g d ≡ f d)
     (k : ShareOut n f) where
   -- each list is an old one, or that of the client with the new ticket
@@ -131,7 +121,7 @@ module _ (n : ℕ) (f g : ℕ → List ℕ) (c : ℕ) (here : g c ≡ f c ++ n �
   -- where a ticket came from
   came_from : (d t : ℕ) → Contains (g d) t → Contains (f d) t ⊎ ((d ≡ c) × (n ≡ t))
   came_from d t = either (λ d l. Contains l t → Contains (f d) t ⊎ ((d ≡ c) × (n ≡ t)))
-      (λ h. ⊎_elim (λ a. inl a) (λ e. inr (refl, e)) (Contains-push_cases (f c) n t h)) (λ d _ h. inl h) d
+      (λ h. elim (Contains-push_cases (f c) n t h) [ inl a ↦ inl a | inr e ↦ inr (refl, e) ]) (λ d _ h. inl h) d
 
   -- an old ticket is below n
   not_new : (d t : ℕ) → Contains (f d) t → n ≢ t
@@ -139,18 +129,19 @@ module _ (n : ℕ) (f g : ℕ → List ℕ) (c : ℕ) (here : g c ≡ f c ++ n �
 
   pub share_more : ShareOut (n + 1) g
   share_more = record {
-    rising = either (λ d l. AllPairs (λ t u. t < u) l) (rising_more (f c) n (k.rising c) (k.below c))
+    rising = either (λ d l. AllPairs (λ t u. t < u) l) (all_pairs_push (λ t u. t < u) (f c) n (k.rising c) (k.below c))
         (λ d _. k.rising d);
     below = either (λ d l. All (λ t. t < n + 1) l)
         (All-push (λ t. t < n + 1) (f c) n
         (All-weaker (λ t. t < n) (λ t. t < n + 1) (λ t l. omega arith) (f c) (k.below c)) (omega arith))
         (λ d _. All-weaker (λ t. t < n) (λ t. t < n + 1) (λ t l. omega arith) (f d) (k.below d));
-    apart = λ d e t a b. ⊎_elim
-        (λ one. ⊎_elim (λ two. k.apart d e t one two) (λ (two : (e ≡ c) × (n ≡ t)). absurd (not_new d t one two.1))
-        (came_from e t b))
-        (λ (one : (d ≡ c) × (n ≡ t)). ⊎_elim (λ two. absurd (not_new e t two one.1))
-        (λ (two : (e ≡ c) × (n ≡ t)). one.0 ∙ sym two.0) (came_from e t b))
-        (came_from d t a);
+    apart = λ d e t a b. elim (came_from d t a) [
+      | inl one ↦ elim (came_from e t b) [
+        | inl two ↦ k.apart d e t one two
+        | inr two ↦ absurd (not_new d t one two.1)
+      ]
+      | inr one ↦ elim (came_from e t b) [ inl two ↦ absurd (not_new e t two one.1) | inr two ↦ one.0 ∙ sym two.0 ]
+    ];
     each = λ t l. dite (ℕ_discrete t n)
         (λ same. (
           c,
@@ -163,10 +154,6 @@ module _ (n : ℕ) (f g : ℕ → List ℕ) (c : ℕ) (here : g c ≡ f c ++ n �
               (λ d _ h. h) b.0 b.1,
         ));
   }
-
-map_more : (es : List AnyEvent) (e : AnyEvent) → map ticket_of (es ++ e ∷ []) ≡ map ticket_of es ++ ticket_of e ∷ []
-map_more [] e = refl
-map_more (x ∷ es) e = ap (λ z. ticket_of x ∷ z) (map_more es e)
 
 module _ (kinds : List Kind) where
   pub journals_ticked : (w : World) (c : ℕ) (t : Stage) (ds : List AnyDone) (e : AnyEvent) → ticket_of e ≡ w.clock
@@ -181,7 +168,8 @@ module _ (kinds : List Kind) where
       λ d other i. journal_of (changed_else w.done c ds d other i)
       (request_of (changed_else w.stage c t d other i)) in record {
         tickets = share_more w.clock (tickets_in w) (tickets_in w') c
-            (ap (map ticket_of) here ∙ (map_more (journal_in w c) e ∙ ap (λ z. tickets_in w c ++ z ∷ []) ticket))
+            (ap (map ticket_of) here ∙ (map-append ticket_of (journal_in w c) (e ∷ [])
+            ∙ ap (λ z. tickets_in w c ++ z ∷ []) ticket))
             (λ d other. ap (map ticket_of) (others d other)) k.tickets;
         on_objects = λ d. dite (ℕ_discrete d c)
             (λ same. subst (λ z. All (IsAmong kinds) (journal_in w' z)) (sym same)

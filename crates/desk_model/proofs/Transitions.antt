@@ -3,12 +3,12 @@ use Rattle.std.proofs.Common.{◌≡◌, ℕ, ◌<◌, List, Some, None, refl, s
 use Rattle.model.specs.declared.Kind.{Kind}
 use Rattle.model.specs.Objects.{empty}
 use Rattle.desk_model.specs.World.{AnyRequest, posted, picked, taken, World, kind_at, served_now, request_of}
-use Rattle.desk_model.specs.Transitions.{Step, draw_call, draw_return, post, win, pick, answer, put_back, take}
-use Rattle.desk_model.specs.Transitions.{release, end, Takes, Transition}
+use Rattle.desk_model.specs.Transitions.{Step, draw_call, draw_return, post, win, pick, answer, put_back, take, release}
+use Rattle.desk_model.specs.Transitions.{end, Takes, Transition}
 use Rattle.desk_model.specs.Sound.{Sound}
 use Rattle.desk_model.proofs.Entries.{replays_more}
-use Rattle.desk_model.proofs.Effects.{sound_held, sound_ended, sound_staged, sound_called, sound_returned}
-use Rattle.desk_model.proofs.Effects.{sound_picked, sound_put_back, sound_served}
+use Rattle.desk_model.proofs.Effects.{sound_held, sound_ended, sound_staged, sound_called, sound_returned, sound_picked}
+use Rattle.desk_model.proofs.Effects.{sound_put_back, sound_served}
 
 module _ (kinds : List Kind) (quota : ℕ) where
   abbrev S : World → Type 0
@@ -29,7 +29,7 @@ module _ (kinds : List Kind) (quota : ℕ) where
       subst S (sym t.after) (sound_returned kinds quota w c w.clock t.request t.given low t.was refl k)
   takes_sound post w w' c low t k =
       subst S (sym t.after) (sound_staged kinds quota w c (posted t.request)
-      (λ r e. let g = sym t.was ∙ e in absurd (cc)) (λ r e. absurd (cc))
+      (λ r e. absurd cc) (λ r e. absurd (cc))
       (ap request_of (sym t.was)) (λ e. absurd (cc)) (λ y. ap (served_now y c) (sym t.was)) k)
   takes_sound (win x) w w' c low t k = subst S (sym t.after) (sound_held kinds quota w x (Some c) (λ e. absurd (cc)) k)
   takes_sound (pick r) w w' c low t k =
@@ -46,7 +46,7 @@ module _ (kinds : List Kind) (quota : ℕ) where
       (on_object w t.object t.row t.request h.1 h.2 k) h.0 h.1 k)
   takes_sound take w w' c low t k =
       subst S (sym t.after) (sound_staged kinds quota w c (taken t.request t.given)
-      (λ r e. let g = sym t.was ∙ e in absurd (cc)) (λ r e. absurd (cc))
+      (λ r e. absurd cc) (λ r e. absurd (cc))
       (ap request_of (sym t.was)) (λ e. absurd (cc)) (λ y. ap (served_now y c) (sym t.was)) k)
   takes_sound release w w' c low t k = subst S (sym t.after) (sound_held kinds quota w t.object None (λ _. t.free) k)
   takes_sound end w w' c low t k = subst S (sym t.after) (sound_ended kinds quota w c k)
