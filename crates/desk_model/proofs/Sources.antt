@@ -7,9 +7,8 @@ use Rattle.model.specs.Orders.{Return, Call, ProcessCall}
 use Rattle.model.proofs.Lists.{In, Pairs, in_append, in_map_from, pairs_append}
 use Rattle.desk_model.specs.declared.Answer.TheVariants.{Reply, Refused}
 use Rattle.desk_model.specs.declared.JournalEvent.TheVariants.{Invoked}
-use Rattle.desk_model.specs.World.{AnyEntry, AnyRequest, AnyAnswer, AnyDone, AnyEvent, Stage, absent, idle, drawn}
-use Rattle.desk_model.specs.World.{posted, picked, answered, taken, logged, logged_on, served, served_now, request_of}
-use Rattle.desk_model.specs.World.{invoked, journal_of, ticket_of}
+use Rattle.desk_model.specs.World.{AnyEntry, AnyRequest, AnyAnswer, AnyDone, AnyEvent, Stage, answered, taken, logged}
+use Rattle.desk_model.specs.World.{logged_on, served, served_now, request_of, invoked, journal_of, ticket_of}
 use Rattle.desk_model.proofs.Denoted.{ended, made}
 
 -- what the calls have put in: those that are over, and then the one that is not
