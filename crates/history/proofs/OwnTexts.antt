@@ -1,7 +1,7 @@
 -- The bytes of a form at the front of a text, which are those before the rest, spell the form alone: by induction on
 -- its tokens, of which each goes as far as it can. And one map more with its own bytes.
-use Rattle.std.proofs.Common.{◌≡◌, ℕ, ◌+◌, ◌-◌, ◌≤◌, inl, inr, List, [], ◌∷◌, ◌++◌, length, take, refl, ap, sym}
-use Rattle.std.proofs.Common.{◌∙◌, subst, append_assoc, arith}
+use Rattle.std.proofs.Common.{◌≡◌, ℕ, ◌+◌, ◌-◌, ◌≤◌, inl, inr, List, [], ◌∷◌, ◌++◌, length, take, refl, ap, sym, ◌∙◌}
+use Rattle.std.proofs.Common.{subst, append_assoc, arith}
 use Rattle.std.specs.Str.{IsUtf8}
 use Rattle.std.proofs.lemmas.List.{length-append, take_all, take-append-le}
 use Rattle.std.proofs.lemmas.Str.{IsUtf8-take, IsCharBoundary-at_seam}
@@ -69,6 +69,5 @@ form_alone d text rest before left at end whole later f =
 pub texts_push : (ms : List MapText) (ds : List Datum) (m : MapText) (d : Datum) → AreMapTexts ms ds → IsMapText m d
     → AreMapTexts (ms ++ m ∷ []) (ds ++ d ∷ [])
 texts_push [] [] m d h k = (k, tt)
-texts_push [] (e ∷ ds) m d h k = absurd h
-texts_push (n ∷ ms) [] m d h k = absurd h
 texts_push (n ∷ ms) (e ∷ ds) m d h k = (h.0, texts_push ms ds m d h.1 k)
+texts_push ms ds m d h k = absurd h

@@ -1,7 +1,6 @@
 -- One more map of a piece.
-use Rattle.std.proofs.Common.{◌≡◌, ◌≢◌, ℕ, ◌+◌, ◌≤◌, inl, inr, true, List, [], ◌∷◌, ◌++◌}
-use Rattle.std.proofs.Common.{map, length, Option, Some, None, All, refl, ap, sym, ◌∙◌, subst}
-use Rattle.std.proofs.Common.{append_assoc, zero-add, arith}
+use Rattle.std.proofs.Common.{◌≡◌, ◌≢◌, ℕ, ◌+◌, ◌≤◌, inl, inr, true, List, [], ◌∷◌, ◌++◌, map, length, Option, Some}
+use Rattle.std.proofs.Common.{None, All, refl, ap, sym, ◌∙◌, subst, append_assoc, zero-add, arith}
 use Rattle.std.specs.Prelude.{Result, Ok, Err, is_ok, Contains, if◌then◌else◌}
 use Rattle.std.specs.Option.{option_or}
 use Rattle.std.specs.Result.{result_ok}
@@ -272,7 +271,7 @@ seen_same s t k l ds h sp kx = record {
 
 no_process_kept : (o : Option Process) → IsKept o None → o ≡ None
 no_process_kept None h = refl
-no_process_kept (Some p) h = let q = h.1 in absurd (cc q)
+no_process_kept (Some p) h = absurd cc
 
 no_kind_kept : (o : Option Kind) (x : ℕ) → IsKindOf o [] x → o ≡ None
 no_kind_kept None x h = refl

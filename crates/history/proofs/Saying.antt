@@ -1,7 +1,7 @@
 -- What a form says, by its entries or by its tokens.
-use Rattle.std.proofs.Common.{◌≡◌, ℕ, ℤ, ◌==◌, true, false, Option, Some, None, IfSome, List, [], ◌∷◌, ◌++◌, length}
-use Rattle.std.proofs.Common.{codes, refl, sym, ap, subst, ◌∙◌}
-use Rattle.std.specs.Prelude.{option_map, option_and_then, is_some}
+use Rattle.std.proofs.Common.{◌≡◌, ℕ, ℤ, true, false, Option, Some, None, IfSome, List, [], ◌∷◌, ◌++◌, codes, refl, sym}
+use Rattle.std.proofs.Common.{ap, ◌∙◌}
+use Rattle.std.specs.Prelude.{option_map, option_and_then}
 use Rattle.edn_reader.specs.Truncation.{integer_in}
 use Rattle.edn_reader.specs.Datum.{nil, boolean, integer, string, keyword, Datum, atom, vector, dictionary, Items}
 use Rattle.edn_reader.specs.Datum.{no_items, item, Entries}
@@ -10,15 +10,10 @@ use Rattle.edn_reader.specs.Pieces.{token_buffer_tokens}
 use Rattle.edn_reader.specs.declared.Piece.{Piece}
 use Rattle.seq_objects.specs.declared.value.Value.{Value}
 use Rattle.edn_fields.specs.Fields.{value_at, natural_in, keyword_in, value_in}
-use Rattle.edn_fields.specs.Values.{IsValue, natural_first, keyword_first}
-use Rattle.edn_fields.specs.Operations.{HasValues, IsMapWith}
-use Rattle.edn_fields.specs.declared.operation.OperationValues.{OperationValues}
-use Rattle.edn_fields.proofs.Shapes.{natural_is, keyword_is}
-use Rattle.history.specs.Maps as spec
-use Rattle.history.specs.Maps.{type_named, short_in, object_at, tuple_in, plain_value, client_with, client_in}
-use Rattle.history.specs.Views.{client_map, IsClient, Says, tuple_first, plain_first}
+use Rattle.edn_fields.specs.Values.{IsValue}
+use Rattle.history.specs.Maps.{type_named, object_at, tuple_in, plain_value, client_with, client_in}
+use Rattle.history.specs.Views.{client_map, IsClient, tuple_first, plain_first}
 use Rattle.history.specs.declared.client_map.ClientMap.{ClientMap}
-use Rattle.history.specs.declared.client_map.OperationMap.TheVariants.{Neither}
 
 -- ---- the value, by its first tokens
 
@@ -92,13 +87,6 @@ pub plain_is : (ps : List Piece) (o : Option Datum) → IsValue ps o
 plain_is ps None h = ap (λ (x : List Piece). plain_first (token_buffer_tokens x)) h
 plain_is ps (Some d) h = ap plain_first h.1 ∙ plain_by d h.0
 
--- ---- the object
-
-pub object_there : (ps : List Piece) (o : Option Datum) → false ≡ (length ps == 0) → IsValue ps o
-    → short_in (natural_first (token_buffer_tokens ps)) ≡ object_at o
-object_there ps None e h = let z : (length ps == 0) ≡ true = ap (λ (x : List Piece). length x == 0) h in absurd cc
-object_there ps (Some d) e h = ap short_in (natural_is ps (Some d) h)
-
 -- ---- the map
 
 pub client_is : (r : Option ClientMap) (p : Option ℕ) (t f : Option (List ℕ)) (x : Option ℕ) (v : Option Value)
@@ -110,15 +98,7 @@ pub client_is : (r : Option ClientMap) (p : Option ℕ) (t f : Option (List ℕ)
     → v ≡ plain_value (value_in (value_at (codes "value") es)) → IsClient r (client_in es)
 client_is r p t f x v es map value ep et ef ex ev =
     let w : Datum = value_in (value_at (codes "value") es) in
-    let e : option_map (λ (c : ClientMap). client_map c w) r ≡ client_in es =
-    map w
-    ∙ ap (λ (y : Option ℕ). client_with y (option_and_then type_named t) f x w) ep
-    ∙ ap (λ (y : Option (List ℕ)). client_with (natural_in (value_at (codes "process") es))
-    (option_and_then type_named y) f x w) et
-    ∙ ap (λ (y : Option (List ℕ)). client_with (natural_in (value_at (codes "process") es))
-    (spec.type_in (value_at (codes "type") es)) y x w) ef
-    ∙ ap (λ (y : Option ℕ). client_with (natural_in (value_at (codes "process") es))
-    (spec.type_in (value_at (codes "type") es)) (keyword_in (value_at (codes "f") es)) y w) ex in
+    let e : option_map (λ (c : ClientMap). client_map c w) r ≡ client_in es = cc (map w) in
     by_result r e value
   where
     by_result : (o : Option ClientMap)
@@ -126,10 +106,3 @@ client_is r p t f x v es map value ep et ef ex ev =
         → IfSome o (λ c. c.value ≡ v) → IsClient o (client_in es)
     by_result None e h = sym e
     by_result (Some c) e h = (value_in (value_at (codes "value") es), sym e, sym (h ∙ ev))
-
-pub neither : (v : OperationValues) (d : Datum) → IsMapWith v d
-    → ((es : Entries) → HasValues v es → IsClient None (client_in es))
-    → is_some (keyword_first (token_buffer_tokens v.process.now)) ≡ false → Says Neither d
-neither v d (es, q, h) k e =
-    subst (λ (x : Datum). Says Neither x) (sym q)
-    (k es h, sym (ap is_some (keyword_is v.process.now (value_at (codes "process") es) h.process)) ∙ e)

@@ -1,13 +1,12 @@
--- What a form says is what is kept of it says.
-use Rattle.std.proofs.Common.{◌≡◌, ℕ, Option, Some, None, List, codes, refl, sym, ap, subst, ◌∙◌}
-use Rattle.std.specs.Prelude.{option_map, option_and_then, is_some}
-use Rattle.edn_reader.specs.Truncation.{most_items, truncated_item, truncated_items, truncated_value}
-use Rattle.edn_reader.specs.Truncation.{truncated_entries, truncated, integer_in}
+-- What a form says is what is kept of it says: no value that is looked at is cut, by cases of each.
+use Rattle.std.proofs.Common.{arith, ◌≡◌, ℕ, Option, Some, None, List, codes, refl, sym, ap, subst, ◌∙◌}
+use Rattle.std.specs.Prelude.{option_map, is_some}
+use Rattle.edn_reader.specs.Truncation.{most_items, truncated_item, truncated_items, truncated_value, truncated_entries}
+use Rattle.edn_reader.specs.Truncation.{truncated, integer_in}
 use Rattle.edn_reader.specs.Datum.{Datum, atom, vector, dictionary, Items, no_items, item, Entries}
 use Rattle.edn_fields.specs.Fields.{value_at, natural_in, keyword_in, value_in}
 use Rattle.edn_fields.proofs.Truncation.{value_of_truncated, natural_of_truncated, keyword_of_truncated}
-use Rattle.history.specs.Maps.{MapType, type_named, type_in, object_at, tuple_in, plain_value, ClientMap, client_with}
-use Rattle.history.specs.Maps.{client_in}
+use Rattle.history.specs.Maps.{MapType, type_in, object_at, tuple_in, plain_value, ClientMap, client_with, client_in}
 use Rattle.history.specs.Views.{client_map, IsClient, Says}
 use Rattle.history.specs.declared.client_map.ClientMap as code
 use Rattle.history.specs.Names.{function_named}
@@ -16,15 +15,10 @@ use Rattle.history.specs.declared.client_map.OperationMap.{OperationMap}
 use Rattle.history.specs.declared.client_map.OperationMap.TheVariants.{OfClient, Ignored, Neither}
 
 object_of_truncated : (o : Option Datum) → object_at (option_map truncated_value o) ≡ object_at o
-object_of_truncated None = refl
-object_of_truncated (Some (atom a)) = refl
-object_of_truncated (Some (vector ds)) = refl
-object_of_truncated (Some (dictionary es)) = refl
+object_of_truncated o = grind arith
 
 integer_of_truncated : (d : Datum) → integer_in (truncated_item d) ≡ integer_in d
-integer_of_truncated (atom a) = refl
-integer_of_truncated (vector ds) = refl
-integer_of_truncated (dictionary es) = refl
+integer_of_truncated d = grind arith
 
 tuple_of_truncated : (ds : Items) → tuple_in (truncated_items most_items ds) ≡ tuple_in ds
 tuple_of_truncated no_items = refl
@@ -47,10 +41,6 @@ plain_of_truncated (Some (dictionary es)) = refl
 another : (p : Option ℕ) (t : Option MapType) (f : Option (List ℕ)) (x : Option ℕ) (v w : Datum) (c : code.ClientMap)
     → plain_value v ≡ plain_value w
     → IsClient (Some c) (client_with p t f x v) → IsClient (Some c) (client_with p t f x w)
-another None t f x v w c e (u, q, k) = absurd cc
-another (Some p) None f x v w c e (u, q, k) = absurd cc
-another (Some p) (Some t) None x v w c e (u, q, k) = absurd cc
-another (Some p) (Some t) (Some f) None v w c e (u, q, k) = absurd cc
 another (Some p) (Some t) (Some f) (Some x) v w c e (u, q, k) =
     let m : ClientMap = record { process = p; type = t; function = function_named f; object = x; value = v } in
     let s : m ≡ client_map c u = some_is m (client_map c u) q in (
@@ -58,14 +48,11 @@ another (Some p) (Some t) (Some f) (Some x) v w c e (u, q, k) =
       ap (λ (n : ClientMap). Some (record n { value = w })) s,
       sym e ∙ ap (λ (n : ClientMap). plain_value n.value) s ∙ k,
     )
+another p t f x v w c e h = absurd cc
 
 no_other : (p : Option ℕ) (t : Option MapType) (f : Option (List ℕ)) (x : Option ℕ) (v w : Datum)
     → client_with p t f x v ≡ None → client_with p t f x w ≡ None
-no_other None t f x v w e = refl
-no_other (Some p) None f x v w e = refl
-no_other (Some p) (Some t) None x v w e = refl
-no_other (Some p) (Some t) (Some f) None v w e = refl
-no_other (Some p) (Some t) (Some f) (Some x) v w e = absurd cc
+no_other p t f x v w e = grind arith
 
 -- the values that are looked at, and the one that is cut
 client_of_truncated : (es : Entries)
@@ -74,38 +61,12 @@ client_of_truncated : (es : Entries)
     (keyword_in (value_at (codes "f") es)) (object_at (value_at (codes "object") es))
     (value_in (option_map truncated_value (value_at (codes "value") es)))
 client_of_truncated es =
-    let v = value_in (value_at (codes "value") (truncated_entries es)) in
-    let p = value_of_truncated (codes "process") es in
-    let t = value_of_truncated (codes "type") es in
-    let f = value_of_truncated (codes "f") es in
-    let x = value_of_truncated (codes "object") es in
-    ap (λ (y : Option ℕ). client_with y (type_in (value_at (codes "type") (truncated_entries es)))
-    (keyword_in (value_at (codes "f") (truncated_entries es)))
-    (object_at (value_at (codes "object") (truncated_entries es))) v)
-    (ap natural_in p ∙ natural_of_truncated (value_at (codes "process") es))
-    ∙ ap (λ (y : Option (List ℕ)). client_with (natural_in (value_at (codes "process") es))
-    (option_and_then type_named y)
-    (keyword_in (value_at (codes "f") (truncated_entries es)))
-    (object_at (value_at (codes "object") (truncated_entries es))) v)
-    (ap keyword_in t ∙ keyword_of_truncated (value_at (codes "type") es))
-    ∙ ap (λ (y : Option (List ℕ)). client_with (natural_in (value_at (codes "process") es))
-    (type_in (value_at (codes "type") es)) y
-    (object_at (value_at (codes "object") (truncated_entries es))) v)
-    (ap keyword_in f ∙ keyword_of_truncated (value_at (codes "f") es))
-    ∙ ap (λ (y : Option ℕ). client_with (natural_in (value_at (codes "process") es))
-    (type_in (value_at (codes "type") es))
-    (keyword_in (value_at (codes "f") es)) y v) (ap object_at x ∙ object_of_truncated (value_at (codes "object") es))
-    ∙ ap (λ (o : Option Datum). client_with (natural_in (value_at (codes "process") es))
-    (type_in (value_at (codes "type") es))
-    (keyword_in (value_at (codes "f") es)) (object_at (value_at (codes "object") es)) (value_in o))
-    (value_of_truncated (codes "value") es)
+    simp (value_of_truncated, natural_of_truncated, keyword_of_truncated, object_of_truncated)
 
 process_of_truncated : (es : Entries)
     → is_some (keyword_in (value_at (codes "process") (truncated_entries es)))
     ≡ is_some (keyword_in (value_at (codes "process") es))
-process_of_truncated es =
-    ap (λ (o : Option Datum). is_some (keyword_in o)) (value_of_truncated (codes "process") es)
-    ∙ ap is_some (keyword_of_truncated (value_at (codes "process") es))
+process_of_truncated es = simp (value_of_truncated, keyword_of_truncated)
 
 none_in : (es : Entries) → client_in (truncated_entries es) ≡ None → client_in es ≡ None
 none_in es e = no_other (natural_in (value_at (codes "process") es)) (type_in (value_at (codes "type") es))
@@ -114,17 +75,12 @@ none_in es e = no_other (natural_in (value_at (codes "process") es)) (type_in (v
     (value_in (value_at (codes "value") es)) (sym (client_of_truncated es) ∙ e)
 
 pub says_as_much : (o : OperationMap) (d : Datum) → Says o (truncated d) → Says o d
-says_as_much (OfClient c) (atom a) h = h
-says_as_much (OfClient c) (vector ds) h = h
 says_as_much (OfClient c) (dictionary es) h =
     another (natural_in (value_at (codes "process") es)) (type_in (value_at (codes "type") es))
     (keyword_in (value_at (codes "f") es))
     (object_at (value_at (codes "object") es)) (value_in (option_map truncated_value (value_at (codes "value") es)))
     (value_in (value_at (codes "value") es)) c
     (plain_of_truncated (value_at (codes "value") es)) (subst (IsClient (Some c)) (client_of_truncated es) h)
-says_as_much Ignored (atom a) h = h
-says_as_much Ignored (vector ds) h = h
 says_as_much Ignored (dictionary es) h = (none_in es h.0, sym (process_of_truncated es) ∙ h.1)
-says_as_much Neither (atom a) h = h
-says_as_much Neither (vector ds) h = h
 says_as_much Neither (dictionary es) h = (none_in es h.0, sym (process_of_truncated es) ∙ h.1)
+says_as_much o d h = h

@@ -1,6 +1,6 @@
 -- The parts of an operation map in the usual form, and the map that they make.
-use Rattle.std.proofs.Common.{◌≡◌, ℕ, ◌⊎◌, true, false, Bool, cond, Some, Option, List, [], ◌∷◌, ◌++◌, codes, refl}
-use Rattle.std.proofs.Common.{sym, ap, subst, ◌∙◌, append_assoc, arith}
+use Rattle.std.proofs.Common.{◌≡◌, ℕ, ◌⊎◌, true, false, Bool, cond, Some, Option, List, [], ◌∷◌, ◌++◌, codes, refl, sym}
+use Rattle.std.proofs.Common.{ap, subst, ◌∙◌, append_assoc, arith}
 use Rattle.std.specs.Prelude.{ℤ, pos}
 use Rattle.std.specs.Str.{IsUtf8, bytes_eq}
 use Rattle.std.proofs.lemmas.Slice.Eq.{bytes_eq-Decides}
@@ -15,12 +15,6 @@ use Rattle.edn_reader.proofs.Fronts.{both_begin, front_of}
 use Rattle.edn_reader.proofs.UsualFronts.{here, spaced, word_here, first_here, after_one, field, form_field}
 use Rattle.edn_reader.proofs.UsualFronts.{first_field}
 use Rattle.seq_objects.specs.declared.function.Function.{Function}
-use Rattle.seq_objects.specs.declared.function.Function.TheVariants.{Enqueue, Dequeue, Push, Pop, Insert}
-use Rattle.seq_objects.specs.declared.function.Function.TheVariants.{ExtractMin, Write, Read, Cas, Put, Get, Del}
-use Rattle.seq_objects.specs.declared.function.Function.TheVariants.{Acquire, Release}
-use Rattle.seq_objects.specs.declared.function.Function.TheVariants.{Clear, Create, PutIfAbsent, Replace, Assoc}
-use Rattle.seq_objects.specs.declared.function.Function.TheVariants.{Dissoc, Add, Remove, Has}
-use Rattle.seq_objects.specs.declared.function.Function.TheVariants.{FetchAdd, GetCount, LockBy, UnlockBy}
 use Rattle.seq_objects.specs.declared.value.Value.{Value}
 use Rattle.seq_objects.specs.declared.value.Value.TheVariants.{Nil, False, True, Int, Pair}
 use Rattle.seq_objects.specs.Functions.{name_of}
@@ -32,7 +26,6 @@ use Rattle.history.specs.Views.{map_type, client_map}
 use Rattle.history.specs.UsualForms.{ReadsUsual, type_name, ReadsValue, LackEach, operation_keys, keys_to_object}
 use Rattle.history.specs.UsualForms.{keys_to_index, IsNoneOf, ReadsLast}
 use Rattle.history.specs.declared.client_map.MapType.{MapType}
-use Rattle.history.specs.declared.client_map.MapType.TheVariants.{Invoke, Ok, Fail, Info}
 use Rattle.history.specs.declared.client_map.ClientMap.{ClientMap}
 use Rattle.history.proofs.Naming.{own_name}
 
@@ -40,10 +33,7 @@ use Rattle.history.proofs.Naming.{own_name}
 
 is_name_type : (t : MapType) → is_name (type_name t) ≡ true
 unfolding is_name
-is_name_type Invoke = refl
-is_name_type Ok = refl
-is_name_type Fail = refl
-is_name_type Info = refl
+is_name_type t = grind arith
 
 pub type_here : (t : MapType) (text rest : List ℕ) → EndsToken rest → text ≡ 58 ∷ (type_name t ++ rest)
     → BeginWith (leaf (atom (keyword (type_name t))) ∷ []) text rest
@@ -51,33 +41,7 @@ type_here t text rest e q = word_here (keyword (type_name t)) (58 ∷ type_name 
 
 is_name_function : (f : Function) → is_name (name_of f) ≡ true
 unfolding is_name
-is_name_function Enqueue = refl
-is_name_function Dequeue = refl
-is_name_function Push = refl
-is_name_function Pop = refl
-is_name_function Insert = refl
-is_name_function ExtractMin = refl
-is_name_function Write = refl
-is_name_function Read = refl
-is_name_function Cas = refl
-is_name_function Put = refl
-is_name_function Get = refl
-is_name_function Del = refl
-is_name_function Acquire = refl
-is_name_function Release = refl
-is_name_function Clear = refl
-is_name_function Create = refl
-is_name_function PutIfAbsent = refl
-is_name_function Replace = refl
-is_name_function Assoc = refl
-is_name_function Dissoc = refl
-is_name_function Add = refl
-is_name_function Remove = refl
-is_name_function Has = refl
-is_name_function FetchAdd = refl
-is_name_function GetCount = refl
-is_name_function LockBy = refl
-is_name_function UnlockBy = refl
+is_name_function f = grind arith
 
 pub function_here : (f : Function) (text rest : List ℕ) → EndsToken rest → text ≡ 58 ∷ (name_of f ++ rest)
     → BeginWith (leaf (atom (keyword (name_of f))) ∷ []) text rest
@@ -244,10 +208,7 @@ fewer_keys k ks text x rest r =
 -- ---- the whole map
 
 type_is : (t : MapType) → type_named (type_name t) ≡ Some (map_type t)
-type_is Invoke = refl
-type_is Ok = refl
-type_is Fail = refl
-type_is Info = refl
+type_is t = grind arith
 
 abbrev form_with : ℕ → MapType → Function → Datum → Entries → Datum
 form_with n t f d es =
@@ -259,21 +220,7 @@ map_with n t f x v = record { process = n; map_type = t; function = Some f; obje
 
 fits_with : (n : ℕ) (t : MapType) (f : Function) (d : Datum) (es : Entries) → Fits 15 d → LackEach operation_keys es
     → EntriesFit 15 es → Fits 16 (form_with n t f d es)
-fits_with n t f d es h l e = (
-  omega arith,
-  (
-    (
-      apart (codes "process") (codes "type") refl,
-      (apart (codes "process") (codes "f") refl, (apart (codes "process") (codes "value") refl, l.0)),
-    ),
-    tt,
-    (
-      (apart (codes "type") (codes "f") refl, (apart (codes "type") (codes "value") refl, l.1.0)),
-      tt,
-      ((apart (codes "f") (codes "value") refl, l.1.1.0), tt, (l.1.1.1.0, h, e)),
-    ),
-  ),
-)
+fits_with n t f d es h l e = grind arith
 
 client_is : (n : ℕ) (t : MapType) (f : Function) (x : ℕ) (v : Value) (d : Datum) (es : Entries)
     → object_at (value_at (codes "object") es) ≡ Some x
@@ -355,44 +302,7 @@ indexed_with i j n t f d =
 
 indexed_fits : (i j : ℤ) (n : ℕ) (t : MapType) (f : Function) (d : Datum) → Fits 15 d
     → Fits 16 (dictionary (indexed_with i j n t f d))
-indexed_fits i j n t f d h = (
-  omega arith,
-  (
-    (
-      apart (codes "index") (codes "time") refl,
-      (
-        apart (codes "index") (codes "type") refl,
-        (
-          apart (codes "index") (codes "process") refl,
-          (apart (codes "index") (codes "f") refl, (apart (codes "index") (codes "value") refl, tt)),
-        ),
-      ),
-    ),
-    tt,
-    (
-      (
-        apart (codes "time") (codes "type") refl,
-        (
-          apart (codes "time") (codes "process") refl,
-          (apart (codes "time") (codes "f") refl, (apart (codes "time") (codes "value") refl, tt)),
-        ),
-      ),
-      tt,
-      (
-        (
-          apart (codes "type") (codes "process") refl,
-          (apart (codes "type") (codes "f") refl, (apart (codes "type") (codes "value") refl, tt)),
-        ),
-        tt,
-        (
-          (apart (codes "process") (codes "f") refl, (apart (codes "process") (codes "value") refl, tt)),
-          tt,
-          ((apart (codes "f") (codes "value") refl, tt), tt, (tt, h, tt)),
-        ),
-      ),
-    ),
-  ),
-)
+indexed_fits i j n t f d h = grind arith
 
 indexed_client : (i j : ℤ) (n : ℕ) (t : MapType) (f : Function) (v : Value) (d : Datum)
     → spec.client_of (dictionary (indexed_with i j n t f d)) ≡ Some (client_map (map_with n t f 0 v) d)
