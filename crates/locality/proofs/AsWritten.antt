@@ -1,8 +1,8 @@
 -- What is linearizable is so as the text of Herlihy and Wing reads: an operation with both events in a history is one
 -- of its completion, since a completion drops no invocation that a response answers. By counting the events of a
 -- process.
-use Rattle.std.proofs.Common.{◌≡◌, ℕ, ◌<◌, ◌≤◌, ◌==◌, Bool, true, false, cond, List, [], ◌∷◌, ◌++◌, length, filter}
-use Rattle.std.proofs.Common.{refl, ap, sym, ◌∙◌, subst, arith, pos, zero, suc, ◌⊎◌, inl, inr, Some}
+use Rattle.std.proofs.Common.{◌≡◌, ℕ, ◌<◌, ◌≤◌, ◌==◌, false, List, [], ◌∷◌, ◌++◌, length, refl, ap, sym, ◌∙◌, subst}
+use Rattle.std.proofs.Common.{arith, pos, zero, suc, ◌⊎◌, inl, inr, Some}
 use Rattle.std.proofs.lemmas.Bool.{eqb-true, and_parts}
 use Rattle.std.proofs.lemmas.List.Elements.{All-from_recursion}
 use Rattle.model.specs.declared.Kind.TheVariants.{Queue}
@@ -27,13 +27,7 @@ use Rattle.locality.proofs.WrittenOut.{none_from, well_formed}
 counted : (p q x : ℕ) (op : AnyOp) (r : AnyReply) (rest kept : List Event)
     → count (responds p) rest ≤ count (invokes p) kept
     → count (responds p) (Inv q x op ∷ Res q x r ∷ rest) ≤ count (invokes p) (Inv q x op ∷ Res q x r ∷ kept)
-counted p q x op r rest kept l = here (q == p)
-  where
-    here : (b : Bool)
-        → length (cond b (Res q x r ∷ filter (responds p) rest) (filter (responds p) rest))
-        ≤ length (cond b (Inv q x op ∷ filter (invokes p) kept) (filter (invokes p) kept))
-    here true = omega (arith, l)
-    here false = l
+counted p q x op r rest kept l = grind arith
 
 responses_kept : (p : ℕ) (s : List Event) → IsSequential s → count (responds p) s ≤ count (invokes p) (complete s)
 responses_kept p [] h = omega arith
@@ -43,41 +37,15 @@ responses_kept p (Res q x r ∷ f ∷ rest) h = absurd cc
 responses_kept p (Inv q x op ∷ Inv q' y o ∷ rest) h = absurd cc
 responses_kept p (Inv q x op ∷ Res q' y r ∷ rest) h =
     let both = and_parts (q == q') (x == y) h.0 in
-    let a : q ≡ q' = eqb-true q q' both.0 in
-    let b : x ≡ y = eqb-true x y both.1 in
-    subst (λ (k : ℕ). count (responds p) (Inv q x op ∷ Res k y r ∷ rest)
-    ≤ count (invokes p) (complete (Inv q x op ∷ Res k y r ∷ rest))) a
-    (subst (λ (k : ℕ). count (responds p) (Inv q x op ∷ Res q k r ∷ rest)
-    ≤ count (invokes p) (complete (Inv q x op ∷ Res q k r ∷ rest))) b
-    (subst (λ (es : List Event). count (responds p) (Inv q x op ∷ Res q x r ∷ rest) ≤ count (invokes p) es)
-    (sym (complete-call q x op r rest))
-    (counted p q x op r rest (complete rest) (responses_kept p rest h.1))))
+    let a : q' ≡ q = sym (eqb-true q q' both.0) in
+    let b : y ≡ x = sym (eqb-true x y both.1) in
+    rw (a, b, complete-call q x op r rest) (counted p q x op r rest (complete rest) (responses_kept p rest h.1))
 
 -- a process responds in its part as often as in the whole
 responds_of_process : (p : ℕ) (h : List Event) → count (responds p) h ≤ count (responds p) (by_process p h)
 responds_of_process p [] = omega arith
-responds_of_process p (Inv q x op ∷ h) =
-    let rest = responds_of_process p h in
-    let here : (b : Bool)
-    → count (responds p) h ≤ count (responds p) (cond b (Inv q x op ∷ by_process p h) (by_process p h)) =
-    elim [ true ↦ rest | false ↦ rest ] in
-    here (q == p)
-responds_of_process p (Res q x r ∷ h) =
-    let rest = responds_of_process p h in
-    let here : (b : Bool) → (q == p) ≡ b
-    → length (cond b (Res q x r ∷ filter (responds p) h) (filter (responds p) h))
-    ≤ count (responds p) (cond b (Res q x r ∷ by_process p h) (by_process p h)) =
-    elim [
-      | true ↦ λ e.
-          let same : count (responds p) (Res q x r ∷ by_process p h)
-          ≡ length (Res q x r ∷ filter (responds p) (by_process p h)) =
-          ap (λ (b : Bool). length
-          (cond b (Res q x r ∷ filter (responds p) (by_process p h)) (filter (responds p) (by_process p h))))
-          e in
-          omega (arith, same, rest)
-      | false ↦ λ e. rest
-    ] in
-    here (q == p) refl
+responds_of_process p (Inv q x op ∷ h) = let rest = responds_of_process p h in grind arith
+responds_of_process p (Res q x r ∷ h) = let rest = responds_of_process p h in grind arith
 
 is_of_completion : (h c : List Event) → IsCompletion h c → (e : Operation) → IsCompleteIn h e → IsOperation c e
 is_of_completion h c k e l =

@@ -1,9 +1,10 @@
--- What each process completed in a linearizable history, and the one line of it all.
-use Rattle.std.proofs.Common.{◌≡◌, ℕ, ◌==◌, Bool, true, false, cond, inl, inr, List, [], ◌∷◌, ◌++◌, map, filter, Some}
+-- What each process completed in a linearizable history, by induction on its calls; and the one line of it all, which
+-- takes the calls as the sequence has them.
+use Rattle.std.proofs.Common.{arith, ◌≡◌, ℕ, ◌==◌, true, false, cond, inl, inr, List, [], ◌∷◌, ◌++◌, map, filter, Some}
 use Rattle.std.proofs.Common.{None, refl, ap, sym, ◌∙◌, subst}
 use Rattle.std.specs.List.{flat_map, AllByRecursion}
 use Rattle.std.proofs.lemmas.Option.{same_Some}
-use Rattle.std.proofs.lemmas.Bool.{eqb-true, eqb-false, ne_eqb, eq-eqb, and_parts}
+use Rattle.std.proofs.lemmas.Bool.{cases_eq, eqb-true, ne_eqb, eq-eqb, and_parts}
 use Rattle.model.specs.declared.AnyOp.{AnyOp}
 use Rattle.model.specs.declared.AnyReply.{AnyReply}
 use Rattle.model.specs.Histories.{Event, Inv, Res, process_of, is_invocation, by_process, matches, complete}
@@ -63,10 +64,7 @@ last_ended p n x op [] r s = record {
 }
   where
     pending : (o : ProcessCall) (r : Return) → In o (calls_in (at n (Inv p x op) ∷ [])) → o.call.returned ≡ Some r → ⊥
-    pending o r i q = elim i [
-      | inl e ↦ let no : None ≡ Some r = sym (ap (λ (y : ProcessCall). y.call.returned) e) ∙ q in cc no
-      | inr j ↦ j
-    ]
+    pending o r i q = elim i [ inl e ↦ cc (ap (λ (y : ProcessCall). y.call.returned) e) | inr j ↦ j ]
 last_ended p n x op (Inv q y o ∷ es) r s = absurd cc
 last_ended p n x op (Res q y v ∷ es) r s =
     let both = and_parts (p == q) (x == y) s.0 in
@@ -74,24 +72,21 @@ last_ended p n x op (Res q y v ∷ es) r s =
     let b : y ≡ x = sym (eqb-true x y both.1) in
     let none_left : es ≡ [] = no_more es r.1 s.1 in
     let o : ProcessCall = record { process = p; object = x; call = record { number = n; op = op; returned = None } } in
-    subst (λ k. Completed (at n (Inv p x op) ∷ []) (complete (Inv p x op ∷ Res k y v ∷ es))) (sym a)
-    (subst (λ k. Completed (at n (Inv p x op) ∷ []) (complete (Inv p x op ∷ Res p k v ∷ es))) (sym b)
-    (subst (λ (k : List Event). Completed (at n (Inv p x op) ∷ []) (complete (Inv p x op ∷ Res p x v ∷ k)))
-    (sym none_left)
+    rw (a, b, none_left)
     (record {
       list = record { made = o; reply = v } ∷ [];
       events_are = complete-call p x op v [];
       rest = [];
       front = refl;
       recorded = λ e r i q. elim i [
-        | inl t ↦ let no : None ≡ Some r = sym (ap (λ (y : Ended). y.made.call.returned) t) ∙ q in absurd (cc no)
+        | inl t ↦ absurd (cc (ap (λ (y : Ended). y.made.call.returned) t))
         | inr j ↦ absurd j
       ];
       whole = λ w r i q. elim i [
-        | inl t ↦ let no : None ≡ Some r = sym (ap (λ (y : ProcessCall). y.call.returned) t) ∙ q in absurd (cc no)
+        | inl t ↦ absurd (cc (ap (λ (y : ProcessCall). y.call.returned) t))
         | inr j ↦ absurd j
       ];
-    })))
+    })
 
 pub completed_any : (p : ℕ) (h : List Numbered) (es : List Event) → Turns p h → Responses es
     → IsSequential (events h ++ es) → Completed h (complete (events h ++ es))
@@ -163,39 +158,19 @@ lined_step e f s q o os head same mine pair below all owned =
     let tail : by_process p s ≡ ended_events os = cc same in
     let e_is : e ≡ Inv o.made.process o.made.object o.made.call.op = cc same in
     let f_is : f ≡ Res o.made.process o.made.object o.reply = cc same in
-    let here : (k : ℕ) (b : Bool) → (k == p) ≡ b → by_process k s ≡ ended_events (cond b os (q k)) =
-    λ k. elim [
-      | true ↦ λ t. subst (λ j. by_process j s ≡ ended_events os) (sym (eqb-true k p t)) tail
-      | false ↦ λ t.
-          let ne : (p == k) ≡ false = ne_eqb p k (λ u. eqb-false k p t (sym u)) in
-          let nf : (process_of f == k) ≡ false = ap (λ j. j == k) pair ∙ ne in
-          sym (ap (λ b. cond b (f ∷ by_process k s) (by_process k s)) nf)
-          ∙ (sym (ap (λ b. cond b (e ∷ by_process k (f ∷ s)) (by_process k (f ∷ s))) ne) ∙ all k)
+    let here : (k : ℕ) → by_process k s ≡ ended_events (q' k) = λ k. let whole = all k in grind arith in
+    let owns : (k : ℕ) (x : Ended) → In x (q' k) → x.made.process ≡ k = λ k.
+    let at_p = owned p in
+    let at_k = owned k in
+    elim (cases_eq k p) [
+      | inl t ↦ rw (eq-eqb k p t) (λ x i. owned p x (subst (In x) (sym head) (inr i)) ∙ sym t)
+      | inr ne ↦ rw (ne_eqb k p ne) (owned k)
     ] in
-    let owns : (k : ℕ) (b : Bool) → (k == p) ≡ b → (x : Ended) → In x (cond b os (q k)) → x.made.process ≡ k =
-    λ k. elim [
-      | true ↦ λ t x i. owned p x (subst (In x) (sym head) (inr i)) ∙ sym (eqb-true k p t)
-      | false ↦ λ t x i. owned k x i
-    ] in
-    let rest = below q' (λ k. here k (k == p) refl) (λ k x i. owns k (k == p) refl x i) in
-    let whole : (k : ℕ) (b : Bool) → (k == p) ≡ b → filter (λ e. e.made.process == k) rest.line ≡ cond b os (q k)
-    → cond (o.made.process == k) (o ∷ filter (λ e. e.made.process == k) rest.line)
-    (filter (λ e. e.made.process == k) rest.line) ≡ q k =
-    λ k. elim [
-      | true ↦ λ t r.
-          let at_k : (o.made.process == k) ≡ true = eq-eqb o.made.process k (mine ∙ sym (eqb-true k p t)) in
-          ap (λ b. cond b (o ∷ filter (λ e. e.made.process == k) rest.line)
-          (filter (λ e. e.made.process == k) rest.line)) at_k
-          ∙ (ap (λ ys. o ∷ ys) r ∙ (sym head ∙ ap q (sym (eqb-true k p t))))
-      | false ↦ λ t r.
-          let off_k : (o.made.process == k) ≡ false = ne_eqb o.made.process k (λ u. eqb-false k p t (sym u ∙ mine)) in
-          ap (λ b. cond b (o ∷ filter (λ e. e.made.process == k) rest.line)
-          (filter (λ e. e.made.process == k) rest.line)) off_k ∙ r
-    ] in
+    let rest = below q' here owns in
     record {
       line = o ∷ rest.line;
       events_are = cc (e_is, f_is, rest.events_are);
-      parts = λ k. whole k (k == p) refl (rest.parts k);
+      parts = λ k. let parts = rest.parts k in grind arith;
     }
 
 pub same_process : (e f : Event) → matches e f ≡ true → process_of f ≡ process_of e
@@ -204,11 +179,7 @@ same_process e f m = absurd (cc m)
 
 own_events : (e f : Event) (s : List Event) → process_of f ≡ process_of e
     → by_process (process_of e) (e ∷ f ∷ s) ≡ e ∷ f ∷ by_process (process_of e) s
-own_events e f s q =
-    let a : (process_of e == process_of e) ≡ true = eq-eqb (process_of e) (process_of e) refl in
-    let b : (process_of f == process_of e) ≡ true = eq-eqb (process_of f) (process_of e) q in
-    ap (λ t. cond t (e ∷ by_process (process_of e) (f ∷ s)) (by_process (process_of e) (f ∷ s))) a
-    ∙ ap (λ t. e ∷ cond t (f ∷ by_process (process_of e) s) (by_process (process_of e) s)) b
+own_events e f s q = grind arith
 
 pub lined : (s : List Event) → IsSequential s → (q : ℕ → List Ended) → ((p : ℕ) → by_process p s ≡ ended_events (q p))
     → ((p : ℕ) (o : Ended) → In o (q p) → o.made.process ≡ p) → Lined s q

@@ -1,7 +1,6 @@
--- Cutting histories: to a process or an object, and at a moment.
-use Rattle.std.proofs.Common.{◌≡◌, ℕ, ◌<◌, ◌≤◌, ◌==◌, ◌&&◌, nat_lt, Bool, true, false, not, cond, inl, inr}
-use Rattle.std.proofs.Common.{List, [], ◌∷◌, ◌++◌, length, filter, Option, Some, None, is_some, refl, ap, sym, ◌∙◌}
-use Rattle.std.proofs.Common.{subst, arith}
+-- Cutting histories: to a process or an object, and at a moment. By induction on the history, event by event.
+use Rattle.std.proofs.Common.{◌≡◌, ℕ, ◌<◌, ◌≤◌, ◌==◌, ◌&&◌, nat_lt, Bool, true, false, not, cond, inl, inr, List, []}
+use Rattle.std.proofs.Common.{◌∷◌, ◌++◌, length, filter, Option, Some, None, is_some, refl, ap, sym, ◌∙◌, subst, arith}
 use Rattle.std.specs.List.{flat_map, list_any}
 use Rattle.std.proofs.lemmas.List.{append-nil}
 use Rattle.std.proofs.lemmas.List.Elements.{filter-append}
@@ -10,8 +9,8 @@ use Rattle.model.specs.declared.AnyReply.{AnyReply}
 use Rattle.model.specs.Histories.{Event, Inv, Res, process_of, object_of, is_invocation, by_process, by_object, matches}
 use Rattle.model.specs.Histories.{complete, invokes, responds}
 use Rattle.model.specs.Orders.{Numbered, events, Return, ProcessCall}
-use Rattle.model.proofs.Lists.{In, Pairs, in_filter_passes, filter-filter, filter_same, filter_none}
-use Rattle.model.proofs.Lists.{filter-flat_map, flat_map_same, flat_map_filter, in_right}
+use Rattle.model.proofs.Lists.{In, Pairs, in_filter_passes, filter-filter, filter_same, filter_none, filter-flat_map}
+use Rattle.model.proofs.Lists.{flat_map_same, flat_map_filter, in_right}
 use Rattle.locality.proofs.Entries.{done}
 use Rattle.locality.proofs.ProcessHistories.{part, late, added, dones}
 

@@ -1,4 +1,5 @@
--- An operation precedes another exactly where at some moment the one has returned and the other has not begun.
+-- An operation precedes another exactly where at some moment the one has returned and the other has not begun: by the
+-- number of invocations and responses up to that moment.
 use Rattle.std.proofs.Common.{◌≡◌, ℕ, zero, suc, ◌+◌, ◌-◌, ◌<◌, ◌≤◌, Bool, true, false, cond, List, [], ◌∷◌, ◌++◌}
 use Rattle.std.proofs.Common.{length, filter, refl, ap, sym, ◌∙◌, arith}
 use Rattle.std.proofs.lemmas.List.{append_assoc, length-append}

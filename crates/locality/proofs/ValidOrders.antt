@@ -1,4 +1,5 @@
--- The order of an object in a linearization is valid.
+-- The order of an object in a linearization is valid. A call that returned before another began stands before it: else
+-- the events up to that moment would not count up.
 use Rattle.std.proofs.Common.{◌≡◌, ◌≢◌, ℕ, ℤ, pos, suc, ◌<◌, ◌≤◌, ◌==◌, ◌&&◌, nat_lt, Bool, true, false, cond, ◌⊎◌, inl}
 use Rattle.std.proofs.Common.{inr, List, [], ◌∷◌, ◌++◌, length, map, filter, Option, Some, None, IfSome, IsSome}
 use Rattle.std.proofs.Common.{Contains, refl, ap, sym, ◌∙◌, subst, arith}
@@ -11,8 +12,8 @@ use Rattle.model.specs.Specification.{Specification}
 use Rattle.model.specs.Histories.{Event, Inv, Res, process_of, object_of, is_invocation, by_process, by_object}
 use Rattle.model.specs.Histories.{complete, invokes, responds, IsSequential, Operation, IsOperation}
 use Rattle.model.specs.Linearizable.{RepliesFrom, IsLinearizableFor}
-use Rattle.model.specs.Orders.{Numbered, events, Return, Call, ProcessCall, begins, calls_in, calls_on}
-use Rattle.model.specs.Orders.{IsHistory, ReturnsBefore, RepliesBy}
+use Rattle.model.specs.Orders.{Numbered, events, Return, Call, ProcessCall, begins, calls_in, calls_on, IsHistory}
+use Rattle.model.specs.Orders.{ReturnsBefore, RepliesBy}
 use Rattle.model.proofs.Lists.{In, Pairs, in_filter, in_filter_passes, in_filter_from, pairs_filter, pairs_map}
 use Rattle.model.proofs.Lists.{filter-filter, filter_all, filter_none, in_map, in_map_from, contains_from_in}
 use Rattle.model.proofs.Lists.{all_from_in, all_from_pairs, in_left, in_middle, in_split}
