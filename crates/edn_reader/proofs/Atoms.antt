@@ -1,6 +1,6 @@
 -- A word stands for an element exactly where the element has that word.
-use Rattle.std.proofs.Common.{◌≡◌, ℕ, ◌^◌, ◌≤◌, Bool, true, false, cond, Some, List, [], ◌∷◌, ◌++◌, length, refl}
-use Rattle.std.proofs.Common.{sym, ap, subst, arith, inl, inr}
+use Rattle.std.proofs.Common.{◌≡◌, ℕ, ◌^◌, ◌≤◌, Bool, true, false, cond, Some, List, [], ◌∷◌, ◌++◌, length, refl, sym}
+use Rattle.std.proofs.Common.{ap, subst, arith, inl, inr}
 use Rattle.std.specs.Prelude.{◌==◌, ◌&&◌, ◌||◌, ◌⊎◌, not, nat_lt, nat_le, codes, ℤ, pos}
 use Rattle.std.proofs.lemmas.Bool.{or_parts, and_parts, and_from, eqb-true, ne_eqb, both_ways, not-true, leb-true}
 use Rattle.std.proofs.lemmas.Bool.{ltb-true, lt-ltb, le-leb}
@@ -109,14 +109,9 @@ word_of (b ∷ bs) rest h e =
     let q = word_of bs rest p.1 e in
     (rw y (ap (λ (t : List ℕ). b ∷ t) q.0), rw y q.1)
 
-ends_by : (b : ℕ) (bs : List ℕ) (c : Bool) → is_token_byte b ≡ c → EndsToken (after_word bs)
-    → EndsToken (cond c (after_word bs) (b ∷ bs))
-ends_by b bs true h ih = ih
-ends_by b bs false h ih = h
-
 pub after_word_ends : (t : List ℕ) → EndsToken (after_word t)
 after_word_ends [] = tt
-after_word_ends (b ∷ bs) = ends_by b bs (is_token_byte b) refl (after_word_ends bs)
+after_word_ends (b ∷ bs) = let rest = after_word_ends bs in grind arith
 
 -- ---- integers
 

@@ -1,6 +1,7 @@
--- Runs of bytes at the front of a text: names and digits.
-use Rattle.std.proofs.Common.{◌≡◌, ℕ, suc, ◌+◌, ◌-◌, ◌<◌, ◌≤◌, ◌^◌, Bool, true, false, not, cond, List, [], ◌∷◌}
-use Rattle.std.proofs.Common.{◌++◌, length, take, drop, get_or, refl, add-one, sym, ap, subst, ◌∙◌, arith, inl}
+-- Runs of bytes at the front of a text: names and digits. A run and what follows it make the text, by induction on it;
+-- so the first token is the run's.
+use Rattle.std.proofs.Common.{◌≡◌, ℕ, suc, ◌+◌, ◌-◌, ◌<◌, ◌≤◌, ◌^◌, Bool, true, false, not, cond, List, [], ◌∷◌, ◌++◌}
+use Rattle.std.proofs.Common.{length, take, drop, get_or, refl, add-one, sym, ap, subst, ◌∙◌, arith, inl}
 use Rattle.std.specs.Prelude.{◌&&◌, ◌==◌, nat_le, pos}
 use Rattle.std.specs.List.{list_all}
 use Rattle.std.proofs.lemmas.Bool.{and_from, ne_eqb, le-leb}
@@ -12,12 +13,12 @@ use Rattle.edn_reader.specs.Datum.{integer, keyword, atom}
 use Rattle.edn_reader.specs.Token.{leaf}
 use Rattle.edn_reader.specs.Spells.{value_after, is_decimal, EndsToken, IsWord}
 use Rattle.edn_reader.specs.Reading.{got, first, names, after_names, digits, after_digits}
-use Rattle.edn_reader.proofs.TakeAndDrop.{parts_by, rest_within, front_is}
+use Rattle.edn_reader.proofs.TakeAndDrop.{rest_within, front_is}
 use Rattle.edn_reader.proofs.Next.{begins_reads}
 
 pub names_parts : (t : List ℕ) → names t ++ after_names t ≡ t
 names_parts [] = refl
-names_parts (b ∷ bs) = parts_by (is_name_byte b) b bs (names bs) (after_names bs) (names_parts bs)
+names_parts (b ∷ bs) = let rest = names_parts bs in grind arith
 
 pub names_within : (t : List ℕ) → length (after_names t) ≤ length t
 names_within t = rest_within (names t) (after_names t) t (names_parts t)
@@ -25,13 +26,13 @@ names_within t = rest_within (names t) (after_names t) t (names_parts t)
 pub names_front : (t : List ℕ) → take (length t - length (after_names t)) t ≡ names t
 names_front t = front_is (names t) (after_names t) t (names_parts t)
 
+pub names_length : (t : List ℕ) → length (names t) ≡ length t - length (after_names t)
+names_length t = omega (arith, length-append (names t) (after_names t), ap length (names_parts t))
+
 all_by : (p : ℕ → Bool) (c : Bool) (b : ℕ) (bs : List ℕ) → p b ≡ c → list_all p bs ≡ true
     → list_all p (cond c (b ∷ bs) []) ≡ true
 all_by p true b bs h k = and_from (p b) (list_all p bs) h k
 all_by p false b bs h k = refl
-
-pub names_length : (t : List ℕ) → length (names t) ≡ length t - length (after_names t)
-names_length t = omega (arith, length-append (names t) (after_names t), ap length (names_parts t))
 
 pub names_all : (t : List ℕ) → list_all is_name_byte (names t) ≡ true
 names_all [] = refl
@@ -39,7 +40,7 @@ names_all (b ∷ bs) = all_by is_name_byte (is_name_byte b) b (names bs) refl (n
 
 pub digits_parts : (t : List ℕ) → digits t ++ after_digits t ≡ t
 digits_parts [] = refl
-digits_parts (b ∷ bs) = parts_by (is_digit b) b bs (digits bs) (after_digits bs) (digits_parts bs)
+digits_parts (b ∷ bs) = let rest = digits_parts bs in grind arith
 
 pub digits_all : (t : List ℕ) → list_all is_digit (digits t) ≡ true
 digits_all [] = refl

@@ -6,8 +6,8 @@ use Rattle.std.proofs.lemmas.List.{append-nil}
 use Rattle.edn_reader.specs.Datum.{Atom, nil, boolean, integer, string, keyword, Datum, atom, vector, dictionary}
 use Rattle.edn_reader.specs.Datum.{items_of, entries_of, max_open, Fits, ItemsFit, EntriesFit}
 use Rattle.edn_reader.specs.Token.{Token, open_vector, close_vector, open_map, close_map, leaf, tokens_of}
-use Rattle.edn_reader.specs.Reading.{Frame, in_text, in_vector, in_map, in_pair, State, has_key, put_key, put}
-use Rattle.edn_reader.specs.Reading.{close_as, close_vector_at, close_map_at, takes_key, open_at, step}
+use Rattle.edn_reader.specs.Reading.{Frame, in_text, in_vector, in_map, in_pair, State, has_key, put_key, put, close_as}
+use Rattle.edn_reader.specs.Reading.{close_vector_at, close_map_at, takes_key, open_at, step}
 use Rattle.edn_reader.proofs.Consumed.{kept_if, kept_if_not, unless_so, mapped, list_tokens, pairs_tokens-append}
 use Rattle.edn_reader.proofs.Consumed.{frame_tokens, stack_tokens, put_tokens}
 use Rattle.edn_reader.proofs.Kept.{FrameFits, StackFits, entries_fit-append, put_fits}
@@ -27,7 +27,6 @@ IsGrounded (in_pair es k) (f ∷ fs) = (takes_key f ≡ false) × IsGrounded f f
 
 same_place : (f g : Frame) (d : Datum) (fs : List Frame) → put f d ≡ Some g → IsGrounded f fs → IsGrounded g fs
 same_place (in_text ds) g d fs e h = subst (λ (x : Frame). IsGrounded x fs) (some_is (in_text (ds ++ d ∷ [])) g e) h
-same_place (in_vector ds) g d [] e h = absurd h
 same_place (in_vector ds) g d (x ∷ xs) e h =
     subst (λ (y : Frame). IsGrounded y (x ∷ xs)) (some_is (in_vector (ds ++ d ∷ [])) g e) h
 same_place (in_map es) g (atom a) fs e h = put_key_grounded a e
@@ -46,9 +45,9 @@ same_place (in_map es) g (atom a) fs e h = put_key_grounded a e
         in_pair_too (x ∷ xs) h = h
 same_place (in_map es) g (vector ds) fs e h = absurd cc
 same_place (in_map es) g (dictionary ds) fs e h = absurd cc
-same_place (in_pair es k) g d [] e h = absurd h
 same_place (in_pair es k) g d (x ∷ xs) e h =
     subst (λ (y : Frame). IsGrounded y (x ∷ xs)) (some_is (in_map (es ++ (k, d) ∷ [])) g e) h
+same_place f g d fs e h = absurd h
 
 opened : (f : Frame) (s z : State)
     → ((g : Frame) (gs : List Frame) → takes_key g ≡ false → IsGrounded g gs → IsGrounded f (g ∷ gs))
@@ -78,17 +77,13 @@ remains (in_pair es k) (g ∷ gs) h = h.1
 
 vector_closed : (i : Frame) (fs : List Frame) (z : State) → Behind fs → close_vector_at i fs ≡ Some z
     → IsGrounded z.inner z.outer
-vector_closed (in_text ds) fs z h e = absurd cc
 vector_closed (in_vector ds) fs z h e = closed_as (vector (items_of ds)) fs z h e
-vector_closed (in_map es) fs z h e = absurd cc
-vector_closed (in_pair es k) fs z h e = absurd cc
+vector_closed i fs z h e = absurd cc
 
 map_closed : (i : Frame) (fs : List Frame) (z : State) → Behind fs → close_map_at i fs ≡ Some z
     → IsGrounded z.inner z.outer
-map_closed (in_text ds) fs z h e = absurd cc
-map_closed (in_vector ds) fs z h e = absurd cc
 map_closed (in_map es) fs z h e = closed_as (dictionary (entries_of es)) fs z h e
-map_closed (in_pair es k) fs z h e = absurd cc
+map_closed i fs z h e = absurd cc
 
 pub step_grounded : (t : Token) (s z : State) → IsGrounded s.inner s.outer → step t s ≡ Some z
     → IsGrounded z.inner z.outer
@@ -149,19 +144,16 @@ closable (in_text ds) fs h k st room =
       more = [];
       parts = sym (append-nil (list_tokens ds));
     })
-closable (in_vector ds) [] h k st room = absurd h
 closable (in_vector ds) (f ∷ fs) h k st room =
     let fit : Fits (16 - length fs) (vector (items_of ds)) =
     (omega arith, subst (λ (n : ℕ). ItemsFit n (items_of ds)) (omega arith) k) in
     closing (in_vector ds) f fs (vector (items_of ds)) (close_vector ∷ []) refl fit h.0 h.1 st.0
     (λ g l m. closable g fs l m st.1 (omega arith))
-closable (in_map es) [] h k st room = absurd h
 closable (in_map es) (f ∷ fs) h k st room =
     let fit : Fits (16 - length fs) (dictionary (entries_of es)) =
     (omega arith, subst (λ (n : ℕ). EntriesFit n (entries_of es)) (omega arith) k) in
     closing (in_map es) f fs (dictionary (entries_of es)) (close_map ∷ []) refl fit h.0 h.1 st.0
     (λ g l m. closable g fs l m st.1 (omega arith))
-closable (in_pair es x) [] h k st room = absurd h
 closable (in_pair es x) (f ∷ fs) h k st room =
     let n = 16 - length (f ∷ fs) in
     let entries : EntriesFit n (entries_of (es ++ (x, atom nil) ∷ [])) =
@@ -171,3 +163,4 @@ closable (in_pair es x) (f ∷ fs) h k st room =
     closing (in_pair es x) f fs (dictionary (entries_of (es ++ (x, atom nil) ∷ [])))
     (leaf (atom nil) ∷ close_map ∷ []) (pair_left es x) fit h.0 h.1
     st.0 (λ g l m. closable g fs l m st.1 (omega arith))
+closable i fs h k e g = absurd h

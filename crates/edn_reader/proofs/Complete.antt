@@ -1,17 +1,17 @@
--- The tokens of forms lead to those forms.
-use Rattle.std.proofs.Common.{◌≡◌, ℕ, ◌+◌, ◌-◌, ◌<◌, true, false, Option, Some, None, List, [], ◌∷◌, ◌++◌, length}
-use Rattle.std.proofs.Common.{refl, sym, ap, ◌∙◌, append_assoc, arith}
+-- The tokens of forms lead to those forms, by induction on the form, from any state that takes one form more.
+use Rattle.std.proofs.Common.{◌≡◌, ℕ, ◌+◌, ◌-◌, ◌<◌, true, false, Option, Some, None, List, [], ◌∷◌, ◌++◌, length, refl}
+use Rattle.std.proofs.Common.{sym, ap, ◌∙◌, append_assoc, arith}
 use Rattle.std.specs.Prelude.{option_and_then, nat_lt}
 use Rattle.std.proofs.lemmas.List.{append-nil}
 use Rattle.std.proofs.lemmas.Bool.{lt-ltb, or_from}
 use Rattle.std.specs.Str.{bytes_eq}
 use Rattle.edn_reader.proofs.Strings.{some_is}
 use Rattle.edn_reader.proofs.Keys.{same_not}
-use Rattle.edn_reader.specs.Datum.{keyword, Datum, atom, vector, dictionary, Items, no_items, item, Entries}
-use Rattle.edn_reader.specs.Datum.{no_entries, entry, items_of, entries_of, Lacks, Fits, ItemsFit, EntriesFit}
+use Rattle.edn_reader.specs.Datum.{keyword, Datum, atom, vector, dictionary, Items, no_items, item, Entries, no_entries}
+use Rattle.edn_reader.specs.Datum.{entry, items_of, entries_of, Lacks, Fits, ItemsFit, EntriesFit}
 use Rattle.edn_reader.specs.Token.{Token, close_vector, close_map, leaf, tokens_of, items_tokens, entries_tokens}
-use Rattle.edn_reader.specs.Reading.{Frame, in_text, in_vector, in_map, in_pair, State, has_key, put, close_as}
-use Rattle.edn_reader.specs.Reading.{takes_key, open_at, step, steps}
+use Rattle.edn_reader.specs.Reading.{Frame, in_vector, in_map, in_pair, State, has_key, put, close_as, takes_key}
+use Rattle.edn_reader.specs.Reading.{open_at, step, steps}
 
 -- a state, written out
 abbrev pub at : Frame → List Frame → State
@@ -61,16 +61,10 @@ Apart-next (e ∷ pre) k d es l h = (h.0.1, Apart-next pre k d es l h.1)
 
 -- what holds a vector or a map waits for no key
 holds_vector : (f : Frame) (ds : Items) (g : Frame) → put f (vector ds) ≡ Some g → takes_key f ≡ false
-holds_vector (in_text xs) ds g e = refl
-holds_vector (in_vector xs) ds g e = refl
-holds_vector (in_map es) ds g e = absurd cc
-holds_vector (in_pair es k) ds g e = refl
+holds_vector f ds g e = grind arith
 
 holds_map : (f : Frame) (ds : Entries) (g : Frame) → put f (dictionary ds) ≡ Some g → takes_key f ≡ false
-holds_map (in_text xs) ds g e = refl
-holds_map (in_vector xs) ds g e = refl
-holds_map (in_map es) ds g e = absurd cc
-holds_map (in_pair es k) ds g e = refl
+holds_map f ds g e = grind arith
 
 opens : (f i : Frame) (fs : List Frame) → takes_key i ≡ false → length fs < 16
     → open_at f (at i fs) ≡ Some (at f (i ∷ fs))

@@ -1,15 +1,14 @@
 -- The tokens that lead to a state: what is read is spelled so.
-use Rattle.std.proofs.Common.{◌≡◌, ℕ, Bool, true, false, cond, Option, Some, None, List, [], ◌∷◌, ◌++◌, length}
-use Rattle.std.proofs.Common.{refl, sym, ap, ◌∙◌, append_assoc}
+use Rattle.std.proofs.Common.{◌≡◌, ℕ, Bool, true, false, cond, Option, Some, None, List, [], ◌∷◌, ◌++◌, length, refl}
+use Rattle.std.proofs.Common.{sym, ap, ◌∙◌, append_assoc}
 use Rattle.std.specs.Prelude.{option_map, nat_lt}
 use Rattle.std.proofs.lemmas.List.{append-nil}
 use Rattle.edn_reader.proofs.Strings.{some_is}
-use Rattle.edn_reader.specs.Datum.{Atom, nil, boolean, integer, string, keyword, Datum, atom, vector, dictionary}
-use Rattle.edn_reader.specs.Datum.{items_of, entries_of, max_open}
-use Rattle.edn_reader.specs.Token.{Token, open_vector, close_vector, open_map, close_map, leaf, tokens_of}
-use Rattle.edn_reader.specs.Token.{items_tokens, entries_tokens}
-use Rattle.edn_reader.specs.Reading.{Frame, in_text, in_vector, in_map, in_pair, State, has_key, put_key, put}
-use Rattle.edn_reader.specs.Reading.{close_as, close_vector_at, close_map_at, takes_key, open_at, step}
+use Rattle.edn_reader.specs.Datum.{Atom, keyword, Datum, atom, vector, dictionary, items_of, entries_of, max_open}
+use Rattle.edn_reader.specs.Token.{Token, open_vector, close_vector, open_map, close_map, leaf, tokens_of, items_tokens}
+use Rattle.edn_reader.specs.Token.{entries_tokens}
+use Rattle.edn_reader.specs.Reading.{Frame, in_text, in_vector, in_map, in_pair, State, has_key, put_key, put, close_as}
+use Rattle.edn_reader.specs.Reading.{close_vector_at, close_map_at, takes_key, open_at, step}
 
 -- a test that led to a value
 pub kept_if_not : {A : Type 0} (b : Bool) (x y : A) → cond b None (Some x) ≡ Some y → (b ≡ false) × (x ≡ y)
@@ -64,23 +63,19 @@ consumed s = stack_tokens s.outer ++ frame_tokens s.inner
 
 put_key_tokens : (es : List (List ℕ × Datum)) (a : Atom) (g : Frame) → put_key es a ≡ Some g
     → frame_tokens g ≡ frame_tokens (in_map es) ++ leaf (atom a) ∷ []
-put_key_tokens es nil g e = absurd cc
-put_key_tokens es (boolean b) g e = absurd cc
-put_key_tokens es (integer z) g e = absurd cc
-put_key_tokens es (string s) g e = absurd cc
 put_key_tokens es (keyword k) g e = let h = kept_if_not (has_key k es) (in_pair es k) g e in rw (← h.1) refl
+put_key_tokens es a g e = absurd cc
 
 pub put_tokens : (f : Frame) (d : Datum) (g : Frame) → put f d ≡ Some g → frame_tokens g ≡ frame_tokens f ++ tokens_of d
 put_tokens (in_text ds) d g e = rw (← some_is (in_text (ds ++ d ∷ [])) g e) (list_tokens-append ds d)
 put_tokens (in_vector ds) d g e =
     rw (← some_is (in_vector (ds ++ d ∷ [])) g e) (ap (λ (t : List Token). open_vector ∷ t) (list_tokens-append ds d))
 put_tokens (in_map es) (atom a) g e = put_key_tokens es a g e
-put_tokens (in_map es) (vector ds) g e = absurd cc
-put_tokens (in_map es) (dictionary ds) g e = absurd cc
 put_tokens (in_pair es k) d g e =
     rw (← some_is (in_map (es ++ (k, d) ∷ [])) g e)
     (ap (λ (t : List Token). open_map ∷ t)
     (pairs_tokens-append es k d ∙ sym (append_assoc (pairs_tokens es) (leaf (atom (keyword k)) ∷ []) (tokens_of d))))
+put_tokens f d g e = absurd cc
 
 -- a leaf holds a single element
 abbrev pub IsPlain : Token → Type 0

@@ -1,15 +1,15 @@
 -- How a string is cut for writing.
-use Rattle.std.proofs.Common.{◌≡◌, ℕ, ◌-◌, ◌<◌, ◌≤◌, Bool, true, false, cond, List, [], ◌∷◌, ◌++◌, length, take}
-use Rattle.std.proofs.Common.{get_or, refl, ap, arith}
+use Rattle.std.proofs.Common.{◌≡◌, ℕ, ◌-◌, ◌<◌, ◌≤◌, Bool, true, false, cond, List, [], ◌∷◌, ◌++◌, length, take, get_or}
+use Rattle.std.proofs.Common.{refl, ap, arith}
 use Rattle.std.specs.Prelude.{◌==◌}
 use Rattle.std.proofs.lemmas.Bool.{not-true, or_parts}
 use Rattle.edn_reader.specs.Text.{escape_text, escaped}
-use Rattle.edn_reader.proofs.TakeAndDrop.{parts_by, rest_within, front_is}
+use Rattle.edn_reader.proofs.TakeAndDrop.{rest_within, front_is}
 use Rattle.edn_reader.specs.Writing.{is_plain, plain, after_plain}
 
 pub plain_parts : (t : List ℕ) → plain t ++ after_plain t ≡ t
 plain_parts [] = refl
-plain_parts (b ∷ bs) = parts_by (is_plain b) b bs (plain bs) (after_plain bs) (plain_parts bs)
+plain_parts (b ∷ bs) = let rest = plain_parts bs in grind arith
 
 pub after_plain_within : (t : List ℕ) → length (after_plain t) ≤ length t
 after_plain_within t = rest_within (plain t) (after_plain t) t (plain_parts t)

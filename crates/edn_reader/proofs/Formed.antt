@@ -1,11 +1,12 @@
--- Forms at the front of tokens.
+-- Forms at the front of tokens. The first token tells which form begins, since each kind of form begins with a token of
+-- its own.
 use Rattle.std.proofs.Common.{◌≡◌, ℕ, ◌<◌, true, false, List, [], ◌∷◌, ◌++◌, length, refl, sym, ap, ◌∙◌, subst}
 use Rattle.std.proofs.Common.{append_assoc, arith}
 use Rattle.edn_reader.specs.Bytes.{is_name}
-use Rattle.edn_reader.specs.Datum.{Atom, nil, boolean, integer, string, keyword, Datum, atom, vector, dictionary}
-use Rattle.edn_reader.specs.Datum.{Items, no_items, item, Entries, no_entries, entry, items_of, entries_of}
-use Rattle.edn_reader.specs.Token.{Token, open_vector, close_vector, open_map, close_map, leaf, tokens_of}
-use Rattle.edn_reader.specs.Token.{items_tokens, entries_tokens}
+use Rattle.edn_reader.specs.Datum.{Atom, nil, boolean, integer, string, keyword, Datum, atom, vector, dictionary, Items}
+use Rattle.edn_reader.specs.Datum.{no_items, item, Entries, no_entries, entry, items_of, entries_of}
+use Rattle.edn_reader.specs.Token.{Token, open_vector, close_vector, open_map, close_map, leaf, tokens_of, items_tokens}
+use Rattle.edn_reader.specs.Token.{entries_tokens}
 use Rattle.edn_reader.specs.Text.{InProfile, ItemsInProfile, EntriesInProfile, AtomInProfile}
 use Rattle.edn_reader.specs.Forming.{BeginsForm, BeginsItems, BeginsPairs}
 use Rattle.std.specs.Borrow.{Bor}
@@ -19,7 +20,7 @@ use Rattle.edn_reader.specs.declared.piece.Piece.TheVariants.{OpenVector, CloseV
 use Rattle.edn_reader.specs.declared.piece.Piece.TheVariants.{False, Int, Str, Keyword}
 use Rattle.edn_reader.proofs.Keys.{pair_views-append}
 use Rattle.edn_reader.proofs.Consumed.{list_tokens, pairs_tokens, list_tokens-append, pairs_tokens-append}
-use Rattle.edn_reader.proofs.Prefixes.{tails, same_datum}
+use Rattle.edn_reader.proofs.Prefixes.{tails, same_datum, not_nothing, not_close_vector}
 
 same_leaf : (a b : Atom) (ts us : List Token) → leaf (atom a) ∷ ts ≡ leaf (atom b) ∷ us → (a ≡ b) × (ts ≡ us)
 same_leaf a b ts us e = (cc, cc)
@@ -36,20 +37,10 @@ leaf_own a ts b = by_form b.form b.own b.are
     by_form (dictionary es) p e = absurd cc
 
 pub nothing_begins : BeginsForm [] → ⊥
-nothing_begins b = by_form b.form b.are
-  where
-    by_form : (d : Datum) → [] ≡ tokens_of d ++ b.remains → ⊥
-    by_form (atom x) e = cc
-    by_form (vector ds) e = cc
-    by_form (dictionary es) e = cc
+nothing_begins b = not_nothing b.form b.remains b.are
 
 pub close_vector_begins : (ts : List Token) → BeginsForm (close_vector ∷ ts) → ⊥
-close_vector_begins ts b = by_form b.form b.are
-  where
-    by_form : (d : Datum) → close_vector ∷ ts ≡ tokens_of d ++ b.remains → ⊥
-    by_form (atom x) e = cc
-    by_form (vector ds) e = cc
-    by_form (dictionary es) e = cc
+close_vector_begins ts b = not_close_vector b.form ts b.remains b.are
 
 pub close_map_begins : (ts : List Token) → BeginsForm (close_map ∷ ts) → ⊥
 close_map_begins ts b = by_form b.form b.are
@@ -250,16 +241,8 @@ some_pairs (p ∷ ps) b = omega arith
 -- ---- by the token at the front
 
 no_key : (p : Piece) → ((name : Bor (List ℕ)) → p ≡ Keyword name → ⊥) → NoKey (piece_token p)
-no_key OpenVector h k e = cc
-no_key CloseVector h k e = cc
-no_key OpenMap h k e = cc
-no_key CloseMap h k e = cc
-no_key Nil h k e = cc
-no_key True h k e = cc
-no_key False h k e = cc
-no_key (Int z) h k e = cc
-no_key (Str raw) h k e = cc
 no_key (Keyword name) h k e = h name refl
+no_key p h k e = cc
 
 pub map_end : (p : Piece) (ts us : List Token) → ((name : Bor (List ℕ)) → p ≡ Keyword name → ⊥)
     → ts ≡ piece_token p ∷ us → BeginsPairs ts → ts ≡ close_map ∷ us

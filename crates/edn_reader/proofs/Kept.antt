@@ -1,13 +1,13 @@
 -- What is read so far has distinct keys, and is not too deep.
-use Rattle.std.proofs.Common.{◌≡◌, ℕ, suc, ◌-◌, ◌<◌, ◌≤◌, true, false, Some, List, [], ◌∷◌, ◌++◌, length, sym}
-use Rattle.std.proofs.Common.{subst, arith}
+use Rattle.std.proofs.Common.{◌≡◌, ℕ, suc, ◌-◌, ◌<◌, ◌≤◌, true, false, Some, List, [], ◌∷◌, ◌++◌, length, sym, subst}
+use Rattle.std.proofs.Common.{arith}
 use Rattle.std.specs.Prelude.{nat_lt}
 use Rattle.std.proofs.lemmas.Bool.{ltb-true, both_ways, or_parts}
-use Rattle.edn_reader.specs.Datum.{Atom, nil, boolean, integer, string, keyword, Datum, atom, vector, dictionary}
-use Rattle.edn_reader.specs.Datum.{items_of, entries_of, max_open, Lacks, Fits, ItemsFit, EntriesFit}
+use Rattle.edn_reader.specs.Datum.{Atom, keyword, Datum, atom, vector, dictionary, items_of, entries_of, max_open}
+use Rattle.edn_reader.specs.Datum.{Lacks, Fits, ItemsFit, EntriesFit}
 use Rattle.edn_reader.specs.Token.{Token, open_vector, close_vector, open_map, close_map, leaf}
-use Rattle.edn_reader.specs.Reading.{Frame, in_text, in_vector, in_map, in_pair, State, has_key, put_key, put}
-use Rattle.edn_reader.specs.Reading.{close_as, close_vector_at, close_map_at, takes_key, open_at, step}
+use Rattle.edn_reader.specs.Reading.{Frame, in_text, in_vector, in_map, in_pair, State, has_key, put_key, put, close_as}
+use Rattle.edn_reader.specs.Reading.{close_vector_at, close_map_at, takes_key, open_at, step}
 use Rattle.std.specs.Str.{bytes_eq}
 use Rattle.edn_reader.proofs.Keys.{same_self}
 use Rattle.edn_reader.proofs.Consumed.{kept_if, kept_if_not, unless_so, mapped, IsPlain}
@@ -49,12 +49,9 @@ pub record StateFits (s : State) : Type 0 where
 
 put_key_fits : (n : ℕ) (es : List (List ℕ × Datum)) (a : Atom) (g : Frame) → EntriesFit n (entries_of es)
     → put_key es a ≡ Some g → FrameFits n g
-put_key_fits n es nil g h e = absurd cc
-put_key_fits n es (boolean b) g h e = absurd cc
-put_key_fits n es (integer z) g h e = absurd cc
-put_key_fits n es (string s) g h e = absurd cc
 put_key_fits n es (keyword k) g h e =
     let p = kept_if_not (has_key k es) (in_pair es k) g e in subst (FrameFits n) p.1 (h, p.0)
+put_key_fits n es a g h e = absurd cc
 
 pub put_fits : (n : ℕ) (f : Frame) (d : Datum) (g : Frame) → FrameFits n f → Fits n d → put f d ≡ Some g → FrameFits n g
 put_fits n (in_text ds) d g h k e =
@@ -62,10 +59,9 @@ put_fits n (in_text ds) d g h k e =
 put_fits n (in_vector ds) d g h k e =
     subst (FrameFits n) (some_is (in_vector (ds ++ d ∷ [])) g e) (items_fit-append n ds d h k)
 put_fits n (in_map es) (atom a) g h k e = put_key_fits n es a g h e
-put_fits n (in_map es) (vector ds) g h k e = absurd cc
-put_fits n (in_map es) (dictionary ds) g h k e = absurd cc
 put_fits n (in_pair es x) d g h k e =
     subst (FrameFits n) (some_is (in_map (es ++ (x, d) ∷ [])) g e) (entries_fit-append n es x d h.0 h.1 k)
+put_fits n f d g h k e = absurd cc
 
 open_fits : (f : Frame) (s z : State) → ((n : ℕ) → FrameFits n f) → StateFits s → open_at f s ≡ Some z → StateFits z
 open_fits f s z any h e =
@@ -92,21 +88,17 @@ close_fits d (f ∷ fs) z fit room h e =
 
 close_vector_fits : (i : Frame) (fs : List Frame) (z : State) → FrameFits (16 - length fs) i → length fs ≤ 16
     → StackFits fs → close_vector_at i fs ≡ Some z → StateFits z
-close_vector_fits (in_text ds) fs z fit room h e = absurd cc
 close_vector_fits (in_vector ds) fs z fit room h e =
     close_fits (vector (items_of ds)) fs z
     (λ n p q. (p, subst (λ (m : ℕ). ItemsFit m (items_of ds)) (sym q) fit)) room h e
-close_vector_fits (in_map es) fs z fit room h e = absurd cc
-close_vector_fits (in_pair es k) fs z fit room h e = absurd cc
+close_vector_fits i fs z h k e g = absurd cc
 
 close_map_fits : (i : Frame) (fs : List Frame) (z : State) → FrameFits (16 - length fs) i → length fs ≤ 16
     → StackFits fs → close_map_at i fs ≡ Some z → StateFits z
-close_map_fits (in_text ds) fs z fit room h e = absurd cc
-close_map_fits (in_vector ds) fs z fit room h e = absurd cc
 close_map_fits (in_map es) fs z fit room h e =
     close_fits (dictionary (entries_of es)) fs z
     (λ n p q. (p, subst (λ (m : ℕ). EntriesFit m (entries_of es)) (sym q) fit)) room h e
-close_map_fits (in_pair es k) fs z fit room h e = absurd cc
+close_map_fits i fs z h k e g = absurd cc
 
 pub step_fits : (t : Token) (s z : State) → IsPlain t → StateFits s → step t s ≡ Some z → StateFits z
 unfolding step

@@ -1,5 +1,5 @@
 -- When keys are the same, and which keys some pairs have.
-use Rattle.std.proofs.Common.{◌≡◌, ℕ, Bool, true, false, cond, List, [], ◌∷◌, ◌++◌, refl, sym, ap, ◌∙◌, inl, inr}
+use Rattle.std.proofs.Common.{arith, ◌≡◌, ℕ, Bool, true, false, cond, List, [], ◌∷◌, ◌++◌, refl, sym, ap, ◌∙◌, inl, inr}
 use Rattle.std.specs.Prelude.{◌||◌}
 use Rattle.std.specs.Str.{bytes_eq}
 use Rattle.std.proofs.lemmas.Bool.{cases_Bool}
@@ -20,9 +20,7 @@ pub same_not : (a b : List ℕ) → (a ≡ b → ⊥) → bytes_eq a b ≡ false
 same_not a b h = elim (cases_Bool (bytes_eq a b)) [ inl e ↦ absurd (h (same_is a b e)) | inr e ↦ e ]
 
 pub or_last : (x y : Bool) → (x || (y || false)) ≡ (x || y)
-or_last true y = refl
-or_last false true = refl
-or_last false false = refl
+or_last x y = grind arith
 
 pub same_comm : (a b : List ℕ) → bytes_eq a b ≡ bytes_eq b a
 same_comm a b = elim (cases_Bool (bytes_eq a b)) [
@@ -37,10 +35,7 @@ same_comm a b = elim (cases_Bool (bytes_eq a b)) [
     true_not_false e = cc
 
 pub if_or : (x y : Bool) → cond x true y ≡ (y || x)
-if_or true true = refl
-if_or true false = refl
-if_or false true = refl
-if_or false false = refl
+if_or x y = grind arith
 
 pub pair_views-append : (xs : List (Name × Form)) (x : Name × Form)
     → pair_views (xs ++ x ∷ []) ≡ pair_views xs ++ (name_bytes x.0, view x.1) ∷ []

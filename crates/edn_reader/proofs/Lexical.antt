@@ -1,9 +1,9 @@
--- What stands before a token, and how much is left remains it.
-use Rattle.std.proofs.Common.{◌≡◌, ℕ, suc, ◌<◌, ◌≤◌, Bool, true, false, cond, Option, Some, None, List, [], ◌∷◌}
-use Rattle.std.proofs.Common.{◌++◌, length, refl, ap, subst, arith}
+-- A token leaves less of a text than there was, and what is skipped before it leaves no more: by induction on the text,
+-- and by the first byte of the token.
+use Rattle.std.proofs.Common.{◌≡◌, ℕ, ◌<◌, ◌≤◌, Bool, true, false, cond, Option, Some, None, List, [], ◌∷◌, ◌++◌}
+use Rattle.std.proofs.Common.{length, refl, ap, subst, arith}
 use Rattle.std.specs.Prelude.{◌==◌}
 use Rattle.std.proofs.lemmas.List.{length-append}
-use Rattle.edn_reader.specs.Bytes.{is_separator}
 use Rattle.edn_reader.specs.Reading.{skip, skip_comment, word, after_word, Next, end, bad, got, got_word, first}
 use Rattle.edn_reader.specs.Reading.{atom_of, got_string, string_at, State}
 use Rattle.edn_reader.specs.Datum.{Atom}
@@ -11,28 +11,14 @@ use Rattle.edn_reader.specs.Token.{Token}
 use Rattle.edn_reader.proofs.Strings.{string_less}
 use Rattle.edn_reader.proofs.Words.{word_parts}
 
-if_within : (c : Bool) (x y : List ℕ) (n : ℕ) → length x ≤ n → length y ≤ n → length (cond c x y) ≤ n
-if_within true x y n h k = h
-if_within false x y n h k = k
-
 mutual
   pub skip_within : (t : List ℕ) → length (skip t) ≤ length t
   skip_within [] = omega arith
-  skip_within (b ∷ bs) =
-      let n : ℕ = suc (length bs) in
-      let s : length (skip bs) ≤ n = omega (arith, skip_within bs) in
-      let c : length (skip_comment bs) ≤ n = omega (arith, skip_comment_within bs) in
-      let h : n ≤ n = omega arith in
-      if_within (is_separator b) (skip bs) (cond (b == 59) (skip_comment bs) (b ∷ bs)) n s
-      (if_within (b == 59) (skip_comment bs) (b ∷ bs) n c h)
+  skip_within (b ∷ bs) = grind (arith, skip_within bs, skip_comment_within bs)
 
   pub skip_comment_within : (t : List ℕ) → length (skip_comment t) ≤ length t
   skip_comment_within [] = omega arith
-  skip_comment_within (b ∷ bs) =
-      let n : ℕ = suc (length bs) in
-      let s : length (skip bs) ≤ n = omega (arith, skip_within bs) in
-      let c : length (skip_comment bs) ≤ n = omega (arith, skip_comment_within bs) in
-      if_within (b == 10) (skip bs) (skip_comment bs) n s c
+  skip_comment_within (b ∷ bs) = grind (arith, skip_within bs, skip_comment_within bs)
 
 -- a state, and the rest
 abbrev pub with_rest : List ℕ → State → State × List ℕ

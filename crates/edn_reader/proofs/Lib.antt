@@ -17,7 +17,6 @@ pub mod Decimals
 pub mod Written
 pub mod Utf8
 pub mod Joined
-pub mod Lines
 pub mod Fitting
 pub mod Splits
 pub mod Shaped

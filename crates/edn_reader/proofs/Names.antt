@@ -1,4 +1,4 @@
--- Names are text.
+-- A name is ASCII, and so it is UTF-8: a letter and each other byte of a name are below 128, byte by byte.
 use Rattle.std.proofs.Common.{◌≡◌, ℕ, ◌<◌, true, List, [], ◌∷◌, arith}
 use Rattle.std.specs.Prelude.{◌&&◌, nat_le, length}
 use Rattle.std.specs.List.{list_all}

@@ -1,11 +1,12 @@
--- The next token is the one that the text begins with.
-use Rattle.std.proofs.Common.{◌≡◌, ℕ, Bool, true, false, cond, Option, Some, None, List, [], ◌∷◌, ◌++◌, refl, sym}
-use Rattle.std.proofs.Common.{ap, subst, ◌∙◌, inl, inr}
+-- The next token is the one that the text begins with, and back: of gaps by induction on the text, of tokens by their
+-- first byte.
+use Rattle.std.proofs.lemmas.Bool.Decides.{nat_tests}
+use Rattle.std.proofs.Common.{arith, ◌≡◌, ℕ, Bool, true, false, cond, Option, Some, None, List, [], ◌∷◌, ◌++◌, refl}
+use Rattle.std.proofs.Common.{sym, ap, subst, ◌∙◌, inl, inr}
 use Rattle.std.specs.Prelude.{◌==◌}
 use Rattle.std.proofs.lemmas.Bool.{eqb-true, eqb-false, ne_eqb, and_parts}
 use Rattle.std.specs.List.{list_all}
-use Rattle.edn_reader.specs.Bytes.{is_separator}
-use Rattle.edn_reader.specs.Bytes.{is_token_byte}
+use Rattle.edn_reader.specs.Bytes.{is_separator, is_token_byte}
 use Rattle.edn_reader.specs.Datum.{Atom, atom}
 use Rattle.edn_reader.proofs.Strings.{string_from, string_is}
 use Rattle.edn_reader.specs.Token.{Token, open_vector, close_vector, open_map, close_map, leaf}
@@ -50,27 +51,14 @@ mutual
   comment_of [] b bs e = absurd cc
   comment_of (c ∷ cs) b bs e = comment_by c cs (b ∷ bs) (c == 10) refl (gap_of cs b bs) (comment_of cs b bs) e
 
-ending_by : (c : ℕ) (cs : List ℕ) (s m : Bool) → is_separator c ≡ s → (c == 59) ≡ m → (skip cs ≡ [] → IsEnding cs)
-    → (skip_comment cs ≡ [] → EndsText cs)
-    → cond s (skip cs) (cond m (skip_comment cs) (c ∷ cs)) ≡ [] → IsEnding (c ∷ cs)
-ending_by c cs true m hs hm ih jh e = inl (hs, ih e)
-ending_by c cs false true hs hm ih jh e = inr (eqb-true c 59 hm, jh e)
-ending_by c cs false false hs hm ih jh e = absurd cc
-
-text_by : (c : ℕ) (cs : List ℕ) (m : Bool) → (c == 10) ≡ m → (skip cs ≡ [] → IsEnding cs)
-    → (skip_comment cs ≡ [] → EndsText cs)
-    → cond m (skip cs) (skip_comment cs) ≡ [] → EndsText (c ∷ cs)
-text_by c cs true hm ih jh e = inl (eqb-true c 10 hm, ih e)
-text_by c cs false hm ih jh e = inr (eqb-false c 10 hm, jh e)
-
 mutual
   pub ending_of : (t : List ℕ) → skip t ≡ [] → IsEnding t
   ending_of [] e = tt
-  ending_of (c ∷ cs) e = ending_by c cs (is_separator c) (c == 59) refl refl (ending_of cs) (text_of cs) e
+  ending_of (c ∷ cs) e = let ih = ending_of cs in let jh = text_of cs in grind (arith, nat_tests)
 
   pub text_of : (t : List ℕ) → skip_comment t ≡ [] → EndsText t
   text_of [] e = tt
-  text_of (c ∷ cs) e = text_by c cs (c == 10) refl (ending_of cs) (text_of cs) e
+  text_of (c ∷ cs) e = let ih = ending_of cs in let jh = text_of cs in grind (arith, nat_tests)
 
 mutual
   pub skip_gap : (gap after : List ℕ) → IsGap gap → skip after ≡ after → skip (gap ++ after) ≡ after

@@ -1,12 +1,12 @@
--- No form's tokens are a beginning of another's.
+-- No form's tokens are a beginning of another's: by induction on both forms, token by token.
 use Rattle.std.proofs.Common.{◌≡◌, List, [], ◌∷◌, ◌++◌, refl, sym, ap, ◌∙◌, append_assoc}
-use Rattle.edn_reader.specs.Datum.{keyword, Datum, atom, vector, dictionary, Items, no_items, item, Entries}
-use Rattle.edn_reader.specs.Datum.{no_entries, entry}
-use Rattle.edn_reader.specs.Token.{Token, open_vector, close_vector, open_map, close_map, leaf, tokens_of}
-use Rattle.edn_reader.specs.Token.{items_tokens, entries_tokens}
+use Rattle.edn_reader.specs.Datum.{keyword, Datum, atom, vector, dictionary, Items, no_items, item, Entries, no_entries}
+use Rattle.edn_reader.specs.Datum.{entry}
+use Rattle.edn_reader.specs.Token.{Token, open_vector, close_vector, open_map, close_map, leaf, tokens_of, items_tokens}
+use Rattle.edn_reader.specs.Token.{entries_tokens}
 use Rattle.edn_reader.proofs.Consumed.{list_tokens}
 
-not_close_vector : (d : Datum) (us ts : List Token) → close_vector ∷ us ≡ tokens_of d ++ ts → ⊥
+pub not_close_vector : (d : Datum) (us ts : List Token) → close_vector ∷ us ≡ tokens_of d ++ ts → ⊥
 not_close_vector (atom a) us ts h = cc
 not_close_vector (vector ds) us ts h = cc
 not_close_vector (dictionary es) us ts h = cc
@@ -32,12 +32,6 @@ same_key j k ts us h = (cc, cc)
 mutual
   pub same_datum : (d e : Datum) (us vs : List Token) → tokens_of d ++ us ≡ tokens_of e ++ vs → (d ≡ e) × (us ≡ vs)
   same_datum (atom a) (atom b) us vs h = same_leaf (atom a) (atom b) us vs h
-  same_datum (atom a) (vector es) us vs h = absurd cc
-  same_datum (atom a) (dictionary es) us vs h = absurd cc
-  same_datum (vector ds) (atom b) us vs h = absurd cc
-  same_datum (vector ds) (dictionary es) us vs h = absurd cc
-  same_datum (dictionary ds) (atom b) us vs h = absurd cc
-  same_datum (dictionary ds) (vector es) us vs h = absurd cc
   same_datum (vector ds) (vector es) us vs h =
       let t = tails open_vector open_vector _ _ h in
       let k : items_tokens ds ++ close_vector ∷ us ≡ items_tokens es ++ close_vector ∷ vs =
@@ -52,6 +46,7 @@ mutual
       ∙ t ∙ append_assoc (entries_tokens es) (close_map ∷ []) vs in
       let p = same_entries ds es us vs k in
       (ap dictionary p.0, p.1)
+  same_datum d e us vs h = absurd cc
 
   pub same_items : (ds es : Items) (us vs : List Token)
       → items_tokens ds ++ close_vector ∷ us ≡ items_tokens es ++ close_vector ∷ vs → (ds ≡ es) × (us ≡ vs)

@@ -1,15 +1,15 @@
 -- How far a text is read: what was read is spelled so, and whatever the text spells goes on from here.
-use Rattle.std.proofs.Common.{◌≡◌, ℕ, ◌-◌, ◌≤◌, true, ◌<◌, Option, Some, None, List, [], ◌∷◌, ◌++◌, length, refl}
-use Rattle.std.proofs.Common.{sym, ap, subst, ◌∙◌, append_assoc, arith, inl, inr}
+use Rattle.std.proofs.Common.{◌≡◌, ℕ, ◌-◌, ◌≤◌, true, ◌<◌, Option, Some, None, List, [], ◌∷◌, ◌++◌, length, refl, sym}
+use Rattle.std.proofs.Common.{ap, subst, ◌∙◌, append_assoc, arith}
 use Rattle.std.specs.Prelude.{option_map, IsSome, ◌==◌}
 use Rattle.std.proofs.lemmas.Bool.{eqb-true}
 use Rattle.std.proofs.lemmas.List.{append-nil}
 use Rattle.std.specs.Str.{IsUtf8}
-use Rattle.edn_reader.specs.Datum.{string, Datum, items_of}
-use Rattle.edn_reader.specs.Token.{Token, open_vector, close_vector, open_map, close_map, leaf}
+use Rattle.edn_reader.specs.Datum.{Datum, items_of}
+use Rattle.edn_reader.specs.Token.{Token}
 use Rattle.edn_reader.specs.Spells.{Begins, IsNext, IsEnding, Lexes, Spells}
-use Rattle.edn_reader.specs.Reading.{Next, after_token, end, bad, got, skip, first, next, in_text, State, step}
-use Rattle.edn_reader.specs.Reading.{steps, opening, closed}
+use Rattle.edn_reader.specs.Reading.{Next, after_token, end, bad, got, skip, first, next, in_text, State, step, steps}
+use Rattle.edn_reader.specs.Reading.{opening, closed}
 use Rattle.edn_reader.proofs.Consumed.{IsPlain, consumed, step_tokens, list_tokens}
 use Rattle.edn_reader.proofs.Strings.{some_is}
 use Rattle.edn_reader.proofs.Complete.{items_list, steps_items}
@@ -35,12 +35,7 @@ begin_more [] text rest t r b n = (r, subst (λ (x : List ℕ). IsNext x t r) (s
 begin_more (u ∷ us) text rest t r (q, m, b) n = (q, m, begin_more us q rest t r b n)
 
 pub plain : (bytes : List ℕ) (t : Token) (rest : List ℕ) → Begins bytes t rest → IsPlain t
-plain bytes open_vector rest h = tt
-plain bytes close_vector rest h = tt
-plain bytes open_map rest h = tt
-plain bytes close_map rest h = tt
-plain bytes (leaf d) rest (inl (a, own, q, w, e, p)) = (a, q)
-plain bytes (leaf d) rest (inr (s, own, q, k, p)) = (string s, q)
+plain bytes t rest h = grind arith
 
 pub is_next : (rest : List ℕ) (t : Token) (r : List ℕ) → next rest ≡ got t r → IsNext rest t r
 is_next rest t r e = subst (IsNextOf rest) e (next_is rest)

@@ -1,16 +1,14 @@
 -- A step of the reader, and the same without the forms.
-use Rattle.std.proofs.Common.{◌≡◌, ℕ, suc, Bool, true, false, cond, Option, Some, None, List, [], ◌∷◌, ◌++◌, length}
-use Rattle.std.proofs.Common.{refl, sym, ap, ◌∙◌}
+use Rattle.std.proofs.Common.{arith, ◌≡◌, ℕ, suc, Bool, true, false, cond, Option, Some, None, List, [], ◌∷◌, ◌++◌}
+use Rattle.std.proofs.Common.{length, refl, sym, ap, ◌∙◌}
 use Rattle.std.specs.Prelude.{option_map, nat_lt, ◌||◌}
 use Rattle.std.specs.Str.{bytes_eq}
-use Rattle.edn_reader.specs.Datum.{nil, boolean, integer, string, keyword, Datum, atom, vector, dictionary}
-use Rattle.edn_reader.specs.Datum.{max_open, items_of, entries_of}
+use Rattle.edn_reader.specs.Datum.{keyword, Datum, atom, vector, dictionary, max_open, items_of, entries_of}
 use Rattle.edn_reader.specs.Token.{Token, open_vector, close_vector, open_map, close_map, leaf}
 use Rattle.edn_reader.specs.Reading.{Frame, in_text, in_vector, in_map, in_pair, State, has_key, put, close_as}
 use Rattle.edn_reader.specs.Reading.{close_vector_at, close_map_at, takes_key, open_at, step}
-use Rattle.edn_reader.specs.Shapes.{Shape, a_map, Shapes, has_name, keys_of, shape_of, shape_list, shapes_of}
-use Rattle.edn_reader.specs.Shapes.{key_in, put_in, closed_in, vector_closed, map_closed, waits_for_key, opened}
-use Rattle.edn_reader.specs.Shapes.{shape_step}
+use Rattle.edn_reader.specs.Shapes.{Shape, a_map, Shapes, has_name, keys_of, shape_of, shape_list, shapes_of, key_in}
+use Rattle.edn_reader.specs.Shapes.{put_in, closed_in, vector_closed, map_closed, waits_for_key, opened, shape_step}
 
 -- the same test, of the pairs and of their keys
 pub has_key_keys : (k : List ℕ) (es : List (List ℕ × Datum)) → has_key k es ≡ has_name k (keys_of es)
@@ -28,24 +26,14 @@ put_key_shape true es k = refl
 put_key_shape false es k = refl
 
 pub put_shape : (f : Frame) (d : Datum) → option_map shape_of (put f d) ≡ put_in (shape_of f) (key_in d)
-put_shape (in_text ds) d = refl
-put_shape (in_vector ds) d = refl
 put_shape (in_pair es k) d = ap (λ (ks : List (List ℕ)). Some (a_map false ks)) (keys_of-append es k d)
-put_shape (in_map es) (atom nil) = refl
-put_shape (in_map es) (atom (boolean b)) = refl
-put_shape (in_map es) (atom (integer z)) = refl
-put_shape (in_map es) (atom (string s)) = refl
 put_shape (in_map es) (atom (keyword k)) =
     ap (λ (b : Bool). option_map shape_of (cond b None (Some (in_pair es k)))) (has_key_keys k es)
     ∙ put_key_shape (has_name k (keys_of es)) es k
-put_shape (in_map es) (vector ds) = refl
-put_shape (in_map es) (dictionary ds) = refl
+put_shape f d = refl
 
 pub takes_key_shape : (f : Frame) → takes_key f ≡ waits_for_key (shape_of f)
-takes_key_shape (in_text ds) = refl
-takes_key_shape (in_vector ds) = refl
-takes_key_shape (in_map es) = refl
-takes_key_shape (in_pair es k) = refl
+takes_key_shape f = grind arith
 
 pub length_shapes : (fs : List Frame) → length (shape_list fs) ≡ length fs
 length_shapes [] = refl
@@ -84,9 +72,7 @@ map_closed_shape (in_pair es k) fs = refl
 
 open_cases : (a b : Bool) (x : State)
     → option_map shapes_of (cond a None (cond b (Some x) None)) ≡ cond a None (cond b (Some (shapes_of x)) None)
-open_cases true b x = refl
-open_cases false true x = refl
-open_cases false false x = refl
+open_cases a b x = grind arith
 
 open_shape : (f : Frame) (s : State) → option_map shapes_of (open_at f s) ≡ opened (shape_of f) (shapes_of s)
 open_shape f s =

@@ -1,18 +1,18 @@
 -- The tokens that are in a text: their strings are text and their keywords names, and the first stands after
 -- separators and comments.
-use Rattle.std.proofs.Common.{◌≡◌, ℕ, suc, zero, ◌+◌, ◌-◌, ◌≤◌, List, [], ◌∷◌, ◌++◌, length, refl, sym, ap, ◌∙◌}
-use Rattle.std.proofs.Common.{subst, append_assoc, arith, lit<, inl, inr}
+use Rattle.std.proofs.Common.{◌≡◌, ℕ, suc, zero, ◌+◌, ◌-◌, ◌≤◌, List, [], ◌∷◌, ◌++◌, length, refl, sym, ap, ◌∙◌, subst}
+use Rattle.std.proofs.Common.{append_assoc, arith, lit<, inl, inr}
 use Rattle.std.specs.Prelude.{ℤ, ◌^◌}
 use Rattle.std.specs.Str.{IsUtf8}
-use Rattle.edn_reader.specs.Datum.{Atom, nil, boolean, integer, string, keyword, Datum, atom, vector, dictionary}
-use Rattle.edn_reader.specs.Datum.{Items, no_items, item, Entries, no_entries, entry}
+use Rattle.edn_reader.specs.Datum.{Atom, nil, boolean, integer, string, keyword, Datum, atom, vector, dictionary, Items}
+use Rattle.edn_reader.specs.Datum.{no_items, item, Entries, no_entries, entry}
 use Rattle.edn_reader.specs.Elements.{SpellsFront}
 use Rattle.edn_reader.specs.Reading.{skip}
 use Rattle.edn_reader.specs.Sound.{BeginWith, IsSoundFrom}
 use Rattle.edn_reader.specs.Spells.{IsWord, IsInteger, IsPositive, IsNegative, minus, Begins}
 use Rattle.edn_reader.specs.Text.{IsInt64, AtomInProfile, InProfile, ItemsInProfile, EntriesInProfile}
-use Rattle.edn_reader.specs.Token.{Token, open_vector, close_vector, open_map, close_map, leaf, tokens_of}
-use Rattle.edn_reader.specs.Token.{items_tokens, entries_tokens}
+use Rattle.edn_reader.specs.Token.{Token, open_vector, close_vector, open_map, close_map, leaf, tokens_of, items_tokens}
+use Rattle.edn_reader.specs.Token.{entries_tokens}
 use Rattle.edn_reader.proofs.Lexical.{skip_within}
 use Rattle.edn_reader.proofs.Next.{skip_gap, begins_reads}
 use Rattle.edn_reader.proofs.Splits.{after_gap, after_begins, remains, string_at_utf8}
@@ -50,15 +50,12 @@ TokenIn close_map = Unit {0}
 TokenIn (leaf d) = InProfile d
 
 token_in : (t : Token) (bytes rest : List ℕ) → IsUtf8 bytes → Begins bytes t rest → TokenIn t
-token_in open_vector bytes rest u b = tt
-token_in close_vector bytes rest u b = tt
-token_in open_map bytes rest u b = tt
-token_in close_map bytes rest u b = tt
 token_in (leaf d) bytes rest u (inl (a, own, e, w, k, p)) = subst InProfile (sym e) (word_in a own w)
 token_in (leaf d) bytes rest u (inr (s, own, e, q, p)) =
     subst InProfile (sym e)
     (string_at_utf8 (own ++ 34 ∷ rest) s rest (string_from own s rest q)
     (remains 34 (own ++ 34 ∷ rest) (lit< tt) (subst IsUtf8 p u)))
+token_in t bytes rest u b = tt
 
 -- ---- all tokens of a form
 

@@ -1,6 +1,7 @@
--- One turn of `TokenBuffer`: what holds of it after each token.
-use Rattle.std.proofs.Common.{◌≡◌, ◌⊎◌, ℕ, true, false, Option, Some, None, ◌<◌, List, [], ◌∷◌, ◌++◌, length}
-use Rattle.std.proofs.Common.{get_or, refl, sym, ap, subst, ◌∙◌, append_assoc, arith, inl, inr}
+-- One turn of `TokenBuffer`: what holds of it after each token. A token is one step of the reader, and where no frame
+-- is open the element is whole.
+use Rattle.std.proofs.Common.{◌≡◌, ◌⊎◌, ℕ, true, false, Option, Some, None, ◌<◌, List, [], ◌∷◌, ◌++◌, length, get_or}
+use Rattle.std.proofs.Common.{refl, sym, ap, subst, ◌∙◌, append_assoc, arith, inl, inr}
 use Rattle.std.specs.Prelude.{◌≤◌, option_map, option_and_then, IsSome, ◌==◌, nat_lt}
 use Rattle.std.proofs.lemmas.Bool.{eqb-true}
 use Rattle.std.proofs.lemmas.List.{append-nil}
@@ -8,12 +9,11 @@ use Rattle.std.specs.Str.{IsUtf8}
 use Rattle.edn_reader.specs.Datum.{Datum, ItemsFit, vector, dictionary, items_of, entries_of, max_open}
 use Rattle.edn_reader.specs.Token.{Token, open_vector, close_vector, open_map, close_map, leaf, tokens_of}
 use Rattle.edn_reader.specs.Spells.{Lexes, Spells}
-use Rattle.edn_reader.specs.Reading.{Next, after_token, end, bad, got, got_string, string_at, skip, first, next}
-use Rattle.edn_reader.specs.Reading.{Frame, in_text, in_vector, in_map}
-use Rattle.edn_reader.specs.Reading.{in_pair, put, takes_key, close_as, close_vector_at, close_map_at, open_at}
-use Rattle.edn_reader.specs.Reading.{State, step, steps, opening, closed}
-use Rattle.edn_reader.specs.Shapes.{Shape, whole_text, a_vector, a_map, Shapes, shape_list, shapes_of, shape_step}
-use Rattle.edn_reader.specs.Shapes.{after_piece, nothing_open, waits_for_key, put_in}
+use Rattle.edn_reader.specs.Reading.{Next, after_token, end, bad, got, got_string, string_at, skip, first, next, Frame}
+use Rattle.edn_reader.specs.Reading.{in_text, in_vector, in_map, put, takes_key, close_as, close_vector_at}
+use Rattle.edn_reader.specs.Reading.{close_map_at, open_at, State, step, steps, opening, closed}
+use Rattle.edn_reader.specs.Shapes.{Shape, Shapes, shape_list, shapes_of, shape_step, after_piece, nothing_open}
+use Rattle.edn_reader.specs.Shapes.{waits_for_key, put_in}
 use Rattle.edn_reader.specs.Elements.{SpellsFront, SpellsNothing, ReadsElement, HoldsToken}
 use Rattle.edn_reader.specs.Truncation.{Keeping, Keep}
 use Rattle.edn_reader.specs.IntegerVectors.{Held, nothing_held, hold, hold_all, noted}
@@ -107,16 +107,12 @@ close_going d (f ∷ g ∷ fs) z e h =
     inl (subst (λ (x : State). IsInside x.outer) m.2 h)
 
 vector_going : (i : Frame) (fs : List Frame) (z : State) → close_vector_at i fs ≡ Some z → IsInside fs → IsGoing z
-vector_going (in_text ds) fs z e h = absurd cc
 vector_going (in_vector ds) fs z e h = close_going (vector (items_of ds)) fs z e h
-vector_going (in_map es) fs z e h = absurd cc
-vector_going (in_pair es k) fs z e h = absurd cc
+vector_going i fs z e h = absurd cc
 
 map_going : (i : Frame) (fs : List Frame) (z : State) → close_map_at i fs ≡ Some z → IsInside fs → IsGoing z
-map_going (in_text ds) fs z e h = absurd cc
-map_going (in_vector ds) fs z e h = absurd cc
 map_going (in_map es) fs z e h = close_going (dictionary (entries_of es)) fs z e h
-map_going (in_pair es k) fs z e h = absurd cc
+map_going i fs z e h = absurd cc
 
 pub step_going : (t : Token) (s z : State) → step t s ≡ Some z → IsInside s.outer → IsGoing z
 unfolding step
@@ -131,10 +127,9 @@ step_going (leaf d) s z e h =
 pub step_first : (t : Token) (z : State) → step t opening ≡ Some z → IsGoing z
 unfolding step
 step_first open_vector z e = open_going (in_vector []) opening z e refl
-step_first close_vector z e = absurd cc
 step_first open_map z e = open_going (in_map []) opening z e refl
-step_first close_map z e = absurd cc
 step_first (leaf d) z e = inr (d, sym (some_is (closed (d ∷ [])) z e))
+step_first t z e = absurd cc
 
 -- ---- one turn of the loop over an element's tokens
 
@@ -156,8 +151,6 @@ pub record Taken (s : State) (n : Next) (now_open : Shapes) (r : List ℕ) : Typ
 
 pub taken : (s : State) (n : Next) (now_open : Shapes) (r : List ℕ) → after_piece (shapes_of s) n ≡ Some (now_open, r)
     → Taken s n now_open r
-taken s end now_open r e = absurd cc
-taken s bad now_open r e = absurd cc
 taken s (got t q) now_open r e = by_shape (shape_step t (shapes_of s)) (step_shape t s) e
   where
     by_shape : (o : Option Shapes) → option_map shapes_of (step t s) ≡ o
@@ -170,6 +163,7 @@ taken s (got t q) now_open r e = by_shape (shape_step t (shapes_of s)) (step_sha
         let zo : z ≡ now_open = ap (λ (x : Shapes × List ℕ). x.0) p in
         let qr : q ≡ r = ap (λ (x : Shapes × List ℕ). x.1) p in
         record { token = t; after = m.0; is = ap (got t) qr; steps_to = m.1; shaped = m.2 ∙ zo }
+taken s n now_open r e = absurd cc
 
 pub not_taken : (s : State) (n : Next) → after_piece (shapes_of s) n ≡ None → after_token s n ≡ None
 not_taken s end e = refl
@@ -185,8 +179,6 @@ not_taken s (got t q) e = by_step (step t s) (step_shape t s)
 
 -- a token that the shapes take, the reader takes
 taken_too : (s : State) (n : Next) → IsSome (after_piece (shapes_of s) n) → IsSome (after_token s n)
-taken_too s end e = absurd cc
-taken_too s bad e = absurd cc
 taken_too s (got t q) e = by_step (step t s) (step_shape t s)
   where
     by_step : (o : Option State) → option_map shapes_of o ≡ shape_step t (shapes_of s)
@@ -195,6 +187,7 @@ taken_too s (got t q) e = by_step (step t s) (step_shape t s)
         subst (λ (o : Option Shapes). IsSome (option_map (λ (y : Shapes). let x : Shapes × List ℕ = (y, q) in x) o))
         (sym h) e in absurd cc
     by_step (Some z) h = refl
+taken_too s n e = absurd cc
 
 step_consumed : (rest : List ℕ) (t : Token) (r : List ℕ) (s z : State) → next rest ≡ got t r → step t s ≡ Some z
     → consumed z ≡ consumed s ++ t ∷ []
@@ -421,10 +414,7 @@ after_piece_shorter t s z r e = by_next (first t) refl e
 -- ---- a string is no key
 
 not_put_in : (f : Shape) → waits_for_key f ≡ true → put_in f None ≡ None
-not_put_in whole_text e = absurd cc
-not_put_in a_vector e = absurd cc
-not_put_in (a_map true ks) e = absurd cc
-not_put_in (a_map false ks) e = refl
+not_put_in f e = grind arith
 
 quote_not_taken : (s : Shapes) (o : Option (List ℕ × List ℕ)) → waits_for_key s.inner ≡ true
     → after_piece s (got_string o) ≡ None

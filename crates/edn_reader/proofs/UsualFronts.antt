@@ -5,8 +5,8 @@ use Rattle.std.specs.Prelude.{pos}
 use Rattle.std.proofs.lemmas.List.{take_all}
 use Rattle.edn_reader.specs.Bytes.{is_separator, is_token_byte, is_name}
 use Rattle.edn_reader.specs.Datum.{Atom, integer, keyword, Datum, atom, vector, dictionary}
-use Rattle.edn_reader.specs.Token.{Token, open_vector, close_vector, open_map, close_map, leaf, tokens_of}
-use Rattle.edn_reader.specs.Token.{items_tokens, entries_tokens}
+use Rattle.edn_reader.specs.Token.{Token, open_vector, close_vector, open_map, close_map, leaf, tokens_of, items_tokens}
+use Rattle.edn_reader.specs.Token.{entries_tokens}
 use Rattle.edn_reader.specs.Spells.{IsWord, EndsToken, Begins}
 use Rattle.edn_reader.specs.Reading.{first, got}
 use Rattle.edn_reader.specs.Sound.{BeginWith}
@@ -14,24 +14,20 @@ use Rattle.edn_reader.proofs.Next.{FirstIs, first_is}
 
 -- ---- the first bytes
 
-all_of : (n : ℕ) (xs : List ℕ) → length xs ≤ n → take n xs ≡ xs
-all_of n xs l = take_all n xs l
-
 pub head_is : (t : List ℕ) (a : ℕ) → 0 < length t → get_or t 0 0 ≡ a → t ≡ a ∷ take (length t - 1) (drop 1 t)
 head_is [] a l h = absurd (omega arith)
 head_is (b ∷ bs) a l h =
     let q : b ≡ a = h in
-    ap (λ (x : ℕ). x ∷ bs) q ∙ ap (λ (x : List ℕ). a ∷ x) (sym (all_of (length (b ∷ bs) - 1) bs (omega arith)))
+    ap (λ (x : ℕ). x ∷ bs) q ∙ ap (λ (x : List ℕ). a ∷ x) (sym (take_all (length (b ∷ bs) - 1) bs (omega arith)))
 
 pub heads_are : (t : List ℕ) (a b : ℕ) → 2 ≤ length t → get_or t 0 0 ≡ a → get_or t 1 0 ≡ b
     → t ≡ a ∷ b ∷ take (length t - 2) (drop 2 t)
-heads_are [] a b l h k = absurd (omega arith)
-heads_are (x ∷ []) a b l h k = absurd (omega arith)
 heads_are (x ∷ y ∷ xs) a b l h k =
     let q : x ≡ a = h in
     let r : y ≡ b = k in
     ap (λ (z : ℕ). z ∷ y ∷ xs) q ∙ ap (λ (z : ℕ). a ∷ z ∷ xs) r
-    ∙ ap (λ (z : List ℕ). a ∷ b ∷ z) (sym (all_of (length (x ∷ y ∷ xs) - 2) xs (omega arith)))
+    ∙ ap (λ (z : List ℕ). a ∷ b ∷ z) (sym (take_all (length (x ∷ y ∷ xs) - 2) xs (omega arith)))
+heads_are t a b l h k = absurd (omega arith)
 
 -- ---- a token at the front
 

@@ -1,6 +1,7 @@
--- The text that is written for a form is UTF-8.
-use Rattle.std.proofs.Common.{◌≡◌, ℕ, suc, ◌<◌, ◌≤◌, Bool, true, false, cond, List, [], ◌∷◌, ◌++◌, length, get_or}
-use Rattle.std.proofs.Common.{refl, sym, ap, ◌∙◌, subst, append_assoc, arith, inl, inr}
+-- The text that is written for a form is UTF-8: by induction on the form. An escape is ASCII, and the bytes of any
+-- other character stay as they are.
+use Rattle.std.proofs.Common.{◌≡◌, ℕ, suc, ◌<◌, ◌≤◌, Bool, true, false, cond, List, [], ◌∷◌, ◌++◌, length, get_or, refl}
+use Rattle.std.proofs.Common.{sym, ap, ◌∙◌, subst, append_assoc, arith, inl, inr}
 use Rattle.std.specs.Prelude.{◌==◌, nat_lt, codes, ℤ, pos, negsuc}
 use Rattle.std.specs.Fmt.{decimal, signed_decimal}
 use Rattle.std.specs.List.{list_all}
@@ -12,10 +13,10 @@ use Rattle.std.proofs.lemmas.Bool.Decides.{nat_tests}
 use Rattle.std.proofs.lemmas.Str.{IsUtf8-append, IsUtf8-from_ascii, IsUtf8-encode, IsUtf8-nil, encode_ascii, inside_one}
 use Rattle.std.proofs.lemmas.Str.Ascii.{IsAscii-nil, IsAscii-cons}
 use Rattle.edn_reader.specs.Bytes.{is_digit}
-use Rattle.edn_reader.specs.Datum.{Atom, nil, boolean, integer, string, keyword, Datum, atom, vector, dictionary}
-use Rattle.edn_reader.specs.Datum.{Items, no_items, item, Entries, no_entries, entry}
-use Rattle.edn_reader.specs.Text.{escape_text, escaped, atom_text, between, text_of, items_text, entries_text}
-use Rattle.edn_reader.specs.Text.{IsInt64, AtomInProfile, InProfile, ItemsInProfile, EntriesInProfile}
+use Rattle.edn_reader.specs.Datum.{Atom, nil, boolean, integer, string, keyword, Datum, atom, vector, dictionary, Items}
+use Rattle.edn_reader.specs.Datum.{no_items, item, Entries, no_entries, entry}
+use Rattle.edn_reader.specs.Text.{escape_text, escaped, atom_text, between, text_of, items_text, entries_text, IsInt64}
+use Rattle.edn_reader.specs.Text.{AtomInProfile, InProfile, ItemsInProfile, EntriesInProfile}
 use Rattle.edn_reader.specs.Writing.{is_plain}
 use Rattle.edn_reader.proofs.Decimals.{decimal_is}
 use Rattle.edn_reader.proofs.Escapes.{plain_text}
@@ -53,12 +54,7 @@ integer_utf8 (negsuc n) h =
 escape_by : (b : ℕ) (t r n k q : Bool) → list_all below (b ∷ []) ≡ true
     → list_all below (cond t (codes "\\t")
     (cond r (codes "\\r") (cond n (codes "\\n") (cond k (codes "\\\\") (cond q (codes "\\\"") (b ∷ [])))))) ≡ true
-escape_by b true r n k q h = refl
-escape_by b false true n k q h = refl
-escape_by b false false true k q h = refl
-escape_by b false false false true q h = refl
-escape_by b false false false false true h = refl
-escape_by b false false false false false h = h
+escape_by b t r n k q h = grind arith
 
 escape_utf8 : (b : ℕ) → b < 128 → IsUtf8 (escape_text b)
 escape_utf8 b h = ascii_utf8 (escape_text b)

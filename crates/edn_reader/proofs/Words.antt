@@ -1,13 +1,12 @@
 -- Words and the values of digits.
 use Rattle.std.proofs.Common.{◌≡◌, ℕ, ◌+◌, ◌-◌, ◌*◌, ◌≤◌, List, [], ◌∷◌, ◌++◌, length, take, refl, arith}
-use Rattle.edn_reader.specs.Bytes.{is_token_byte}
 use Rattle.edn_reader.specs.Reading.{word, after_word}
 use Rattle.edn_reader.specs.Spells.{value_after}
-use Rattle.edn_reader.proofs.TakeAndDrop.{parts_by, rest_within, front_is}
+use Rattle.edn_reader.proofs.TakeAndDrop.{rest_within, front_is}
 
 pub word_parts : (t : List ℕ) → word t ++ after_word t ≡ t
 word_parts [] = refl
-word_parts (b ∷ bs) = parts_by (is_token_byte b) b bs (word bs) (after_word bs) (word_parts bs)
+word_parts (b ∷ bs) = let rest = word_parts bs in grind arith
 
 pub after_word_within : (t : List ℕ) → length (after_word t) ≤ length t
 after_word_within t = rest_within (word t) (after_word t) t (word_parts t)

@@ -1,14 +1,15 @@
--- The text that is written for a form spells it.
+-- The text that is written for a form spells it: by induction on the form, with each token in front of what is spelled
+-- after it.
 use Rattle.std.proofs.Common.{◌≡◌, ℕ, Bool, true, false, cond, List, [], ◌∷◌, ◌++◌, refl, sym, ap, ◌∙◌, subst}
 use Rattle.std.proofs.Common.{append_assoc, inl, inr}
 use Rattle.std.specs.Prelude.{◌==◌, codes}
 use Rattle.std.specs.Fmt.{signed_decimal}
 use Rattle.std.proofs.lemmas.Bool.{eqb-true, eqb-false}
 use Rattle.edn_reader.specs.Bytes.{is_separator, is_token_byte}
-use Rattle.edn_reader.specs.Datum.{Atom, nil, boolean, integer, string, keyword, Datum, atom, vector, dictionary}
-use Rattle.edn_reader.specs.Datum.{Items, no_items, item, Entries, no_entries, entry}
-use Rattle.edn_reader.specs.Token.{Token, open_vector, close_vector, open_map, close_map, leaf, tokens_of}
-use Rattle.edn_reader.specs.Token.{items_tokens, entries_tokens}
+use Rattle.edn_reader.specs.Datum.{Atom, nil, boolean, integer, string, keyword, Datum, atom, vector, dictionary, Items}
+use Rattle.edn_reader.specs.Datum.{no_items, item, Entries, no_entries, entry}
+use Rattle.edn_reader.specs.Token.{Token, open_vector, close_vector, open_map, close_map, leaf, tokens_of, items_tokens}
+use Rattle.edn_reader.specs.Token.{entries_tokens}
 use Rattle.edn_reader.specs.Spells.{IsWord, IsQuoted, EndsToken, Begins, Lexes}
 use Rattle.edn_reader.specs.Text.{escaped, atom_text, between, text_of, items_text, entries_text, AtomInProfile}
 use Rattle.edn_reader.specs.Text.{InProfile, ItemsInProfile, EntriesInProfile}
