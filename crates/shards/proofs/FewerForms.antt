@@ -1,7 +1,7 @@
 -- The forms that are maps on some objects: they have no fault where all forms have none, and their events
 -- are those on these objects, renumbered. Their maps of clients are a part of all (`Fewer`).
-use Rattle.std.proofs.Common.{◌≡◌, ℕ, Bool, true, false, cond, List, [], ◌∷◌, ◌++◌}
-use Rattle.std.proofs.Common.{Option, Some, None, refl, ap, sym, ◌∙◌, subst, append_assoc}
+use Rattle.std.proofs.Common.{arith, ◌≡◌, ℕ, Bool, true, false, cond, List, [], ◌∷◌, ◌++◌, Option, Some, None, refl, ap}
+use Rattle.std.proofs.Common.{sym, ◌∙◌, subst, append_assoc}
 use Rattle.std.specs.Option.{option_map_or}
 use Rattle.std.specs.List.{cons_option}
 use Rattle.std.proofs.lemmas.List.{append-nil}
@@ -10,13 +10,12 @@ use Rattle.std.proofs.lemmas.Option.{same_Some}
 use Rattle.model.proofs.Lists.{In, in_filter_passes, in_middle}
 use Rattle.edn_reader.specs.Datum.{Datum}
 use Rattle.history.specs.Maps.{ClientMap, client_of, clients}
-use Rattle.history.specs.Faults.{ClientFault}
+use Rattle.history.specs.Faults.{ClientFault, IsMapFault, IsFaultlessAtAnyLength}
 use Rattle.history.specs.declared.fault.HistoryFaultKind.{HistoryFaultKind}
 use Rattle.history.specs.declared.fault.HistoryFaultKind.TheVariants.{NotAnOperation, UnknownF, BadValue, MixedKinds}
-use Rattle.history.specs.declared.fault.HistoryFaultKind.TheVariants.{Busy, Stray, Mismatch, AfterInfo}
-use Rattle.history.specs.declared.fault.HistoryFaultKind.TheVariants.{TooMany, NoMemory}
+use Rattle.history.specs.declared.fault.HistoryFaultKind.TheVariants.{Busy, Stray, Mismatch, AfterInfo, TooMany}
+use Rattle.history.specs.declared.fault.HistoryFaultKind.TheVariants.{NoMemory}
 use Rattle.history.proofs.Noting.{clients_push, clients_skip}
-use Rattle.history.specs.Faults.{IsMapFault, IsFaultlessAtAnyLength}
 use Rattle.shards.specs.Forms.{is_on, forms_on}
 use Rattle.shards.proofs.FewerMaps.{on, IsFine, AreFine, are_fine_on, nothing_outstanding}
 
@@ -50,16 +49,7 @@ clients_on has (d ∷ ds) = go (client_of d) refl (clients_on has ds)
 
 map_fault : (earlier : List Datum) (d : Datum) (m : ClientMap) (kind : HistoryFaultKind) → client_of d ≡ Some m
     → ClientFault (clients earlier) m kind → IsMapFault earlier d kind
-map_fault earlier d m NotAnOperation q f = absurd f
-map_fault earlier d m UnknownF q f = (m, q, f)
-map_fault earlier d m BadValue q f = (m, q, f)
-map_fault earlier d m MixedKinds q f = (m, q, f)
-map_fault earlier d m Busy q f = (m, q, f)
-map_fault earlier d m Stray q f = (m, q, f)
-map_fault earlier d m Mismatch q f = (m, q, f)
-map_fault earlier d m AfterInfo q f = (m, q, f)
-map_fault earlier d m TooMany q f = absurd f
-map_fault earlier d m NoMemory q f = absurd f
+map_fault earlier d m kind q f = grind arith
 
 same_fault : (earlier : List Datum) (d : Datum) (m : ClientMap) (kind : HistoryFaultKind) → client_of d ≡ Some m
     → (n : ClientMap) × (client_of d ≡ Some n) × ClientFault (clients earlier) n kind

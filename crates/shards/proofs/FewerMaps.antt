@@ -1,18 +1,17 @@
 -- The maps on some objects have no fault where all maps have none. A process completes an operation on
 -- the object of its invocation, so the maps that are left out of a process are left out in pairs.
-use Rattle.std.proofs.Common.{◌≡◌, ◌≢◌, ℕ, ◌==◌, inl, inr, Bool, true, false, cond, List, [], ◌∷◌, ◌++◌}
-use Rattle.std.proofs.Common.{find, filter, reverse, Some, Contains, refl, ap, sym, ◌∙◌, subst}
+use Rattle.std.proofs.Common.{arith, ◌≡◌, ◌≢◌, ℕ, ◌==◌, inl, inr, Bool, true, false, cond, List, [], ◌∷◌, ◌++◌, find}
+use Rattle.std.proofs.Common.{filter, reverse, Some, Contains, refl, ap, sym, ◌∙◌, subst}
 use Rattle.std.proofs.lemmas.Bool.{eqb-true, cases_eq}
 use Rattle.std.proofs.lemmas.List.{append-nil, reverse-append}
 use Rattle.std.proofs.lemmas.List.Elements.{filter-append}
-use Rattle.std.proofs.lemmas.Option.{same_Some}
 use Rattle.model.proofs.Lists.{in_filter, in_filter_passes, in_from_contains, contains_from_in}
-use Rattle.history.specs.Maps.{ClientMap, MapType, invoke, ok, fail, info}
+use Rattle.history.specs.Maps.{ClientMap, MapType, invoke}
 use Rattle.history.specs.Faults.{last_map, IsOutstanding, IsClosed, Differs, ClientFault}
 use Rattle.history.specs.declared.fault.HistoryFaultKind.{HistoryFaultKind}
 use Rattle.history.specs.declared.fault.HistoryFaultKind.TheVariants.{NotAnOperation, UnknownF, BadValue, MixedKinds}
-use Rattle.history.specs.declared.fault.HistoryFaultKind.TheVariants.{Busy, Stray, Mismatch, AfterInfo}
-use Rattle.history.specs.declared.fault.HistoryFaultKind.TheVariants.{TooMany, NoMemory}
+use Rattle.history.specs.declared.fault.HistoryFaultKind.TheVariants.{Busy, Stray, Mismatch, AfterInfo, TooMany}
+use Rattle.history.specs.declared.fault.HistoryFaultKind.TheVariants.{NoMemory}
 use Rattle.history.proofs.FirstFaults.{last_stands}
 use Rattle.history.proofs.Noting.{last_push}
 
@@ -60,9 +59,7 @@ next_object earlier m o fine out = go m.type refl
 
     go : (t : MapType) → m.type ≡ t → o.object ≡ m.object
     go invoke q = absurd (fine Busy (q, o, out))
-    go ok q = completes (λ e. let x : ok ≡ invoke = sym q ∙ e in cc x)
-    go fail q = completes (λ e. let x : fail ≡ invoke = sym q ∙ e in cc x)
-    go info q = completes (λ e. let x : info ≡ invoke = sym q ∙ e in cc x)
+    go t q = completes (λ e. cc)
 
 outstanding_push : (has : ℕ → Bool) (earlier : List ClientMap) (m : ClientMap) → IsFine earlier m
     → IsOutstandingAmongAll has earlier → IsOutstandingAmongAll has (earlier ++ m ∷ [])
@@ -109,40 +106,17 @@ outstanding_push has earlier m fine h p o out = go (has m.object) refl (m.proces
 last_kept : (has : ℕ → Bool) (p : ℕ) (ms : List ClientMap) (o : ClientMap)
     → find (λ m. m.process == p) ms ≡ Some o → has o.object ≡ true → find (λ m. m.process == p) (on has ms) ≡ Some o
 last_kept has p [] o q k = q
-last_kept has p (m ∷ ms) o q k = go (m.process == p) refl q (λ s. last_kept has p ms o s k)
-  where
-    go : (b : Bool) → (m.process == p) ≡ b → cond b (Some m) (find (λ m. m.process == p) ms) ≡ Some o
-        → (find (λ m. m.process == p) ms ≡ Some o → find (λ m. m.process == p) (on has ms) ≡ Some o)
-        → find (λ m. m.process == p) (cond (has m.object) (m ∷ on has ms) (on has ms)) ≡ Some o
-    go true r s rest =
-        let same : m ≡ o = same_Some m o s in
-        let kept : has m.object ≡ true = ap (λ (x : ClientMap). has x.object) same ∙ k in
-        ap (λ b. find (λ m. m.process == p) (cond b (m ∷ on has ms) (on has ms))) kept
-        ∙ (ap (λ b. cond b (Some m) (find (λ m. m.process == p) (on has ms))) r ∙ s)
-    go false r s rest = elim (has m.object) as
-        (λ b. find (λ m. m.process == p) (cond b (m ∷ on has ms) (on has ms)) ≡ Some o) [
-          | true ↦ ap (λ b. cond b (Some m) (find (λ m. m.process == p) (on has ms))) r ∙ rest s
-          | false ↦ rest s
-        ]
+last_kept has p (m ∷ ms) o q k = let rest = last_kept has p ms o in grind arith
 
 reverse_on : (has : ℕ → Bool) (ms : List ClientMap) → reverse (on has ms) ≡ on has (reverse ms)
 reverse_on has [] = refl
-reverse_on has (m ∷ ms) = go (has m.object) refl (reverse_on has ms)
-  where
-    right : on has (reverse (m ∷ ms)) ≡ on has (reverse ms) ++ cond (has m.object) (m ∷ []) []
-    right = ap (on has) (reverse-append (m ∷ []) ms) ∙ filter-append (λ x. has x.object) (reverse ms) (m ∷ [])
-
-    go : (b : Bool) → has m.object ≡ b → reverse (on has ms) ≡ on has (reverse ms)
-        → reverse (on has (m ∷ ms)) ≡ on has (reverse (m ∷ ms))
-    go true q rest =
-        ap (λ b. reverse (cond b (m ∷ on has ms) (on has ms))) q
-        ∙ (reverse-append (m ∷ []) (on has ms)
-        ∙ (ap (λ xs. xs ++ m ∷ []) rest
-        ∙ sym (right ∙ ap (λ b. on has (reverse ms) ++ cond b (m ∷ []) []) q)))
-    go false q rest =
-        ap (λ b. reverse (cond b (m ∷ on has ms) (on has ms))) q
-        ∙ (rest
-        ∙ sym (right ∙ (ap (λ b. on has (reverse ms) ++ cond b (m ∷ []) []) q ∙ append-nil (on has (reverse ms)))))
+reverse_on has (m ∷ ms) =
+    let rest = reverse_on has ms in
+    let right = on_push has (reverse ms) m in
+    let none = append-nil (on has (reverse ms)) in
+    let whole = reverse-append (m ∷ []) ms in
+    let own = reverse-append (m ∷ []) (on has ms) in
+    grind arith
 
 outstanding_on : (has : ℕ → Bool) (earlier : List ClientMap) (p : ℕ) (o : ClientMap) → IsOutstanding earlier p o
     → has o.object ≡ true → IsOutstanding (on has earlier) p o
@@ -217,4 +191,4 @@ are_fine_on has earlier (m ∷ ms) among fine =
         (on_push has earlier m ∙ (ap (λ b. on has earlier ++ cond b (m ∷ []) []) q ∙ append-nil (on has earlier))) rest
 
 pub nothing_outstanding : (has : ℕ → Bool) → IsOutstandingAmongAll has []
-nothing_outstanding has p o out = let q = out.last in absurd (cc q)
+nothing_outstanding has p o out = absurd cc

@@ -1,7 +1,7 @@
 -- What waits is written: of each shard the lines that were written and those that wait are the same together. And what
 -- is added to files one after another.
-use Rattle.std.proofs.Common.{◌≡◌, ℕ, ◌<◌, ◌==◌, inl, inr, Bool, true, false, cond, List, [], ◌++◌}
-use Rattle.std.proofs.Common.{length, get_or, set, Option, Some, None, refl, ap, sym, ◌∙◌, subst, append_assoc}
+use Rattle.std.proofs.Common.{◌≡◌, ℕ, ◌<◌, ◌==◌, inl, inr, Bool, true, false, cond, List, [], ◌++◌, length, get_or, set}
+use Rattle.std.proofs.Common.{Option, Some, None, ap, sym, ◌∙◌, subst, append_assoc}
 use Rattle.std.proofs.lemmas.Bool.{cases_eq, eq-eqb, ne_eqb}
 use Rattle.std.proofs.lemmas.List.{append-nil}
 use Rattle.history.specs.LongReading.{AreReadAtAnyLength}
@@ -21,17 +21,6 @@ use Rattle.shards.proofs.WaitingLines.{at_written, at_others, at_read}
 pub adds_nothing : (files : Option Files) → AddsFiles files files no_lines
 adds_nothing None = tt
 adds_nothing (Some f) = λ s. (sym (append-nil (f.texts s)), sym (append-nil (f.tables s)))
-
-same_both : (b : Bool) (xs : List ℕ) → xs ≡ cond b xs xs
-same_both true xs = refl
-same_both false xs = refl
-
-pub adds_no_lines : (shard : ℕ) (files : Option Files) → AddsFiles files files (lines_for shard [] [])
-adds_no_lines shard None = tt
-adds_no_lines shard (Some f) = λ s. (
-  sym (append-nil (f.texts s)) ∙ ap (λ t. f.texts s ++ t) (same_both (s == shard) []),
-  sym (append-nil (f.tables s)) ∙ ap (λ t. f.tables s ++ t) (same_both (s == shard) []),
-)
 
 pub adds_both : (a b c : Option Files) (m n : Files) → AddsFiles a b m → AddsFiles b c n
     → AddsFiles a c (with_more m n)

@@ -1,7 +1,7 @@
 -- A text that is divided piece by piece: whole lines at its front are divided, since texts with a line feed between
 -- them spell what both spell. A fault of a piece is one of the text, and at the end the text is divided.
-use Rattle.std.proofs.Common.{◌≡◌, ◌≢◌, ℕ, ◌+◌, ◌<◌, List, [], ◌∷◌, ◌++◌, drop, length, map, get_or, Option}
-use Rattle.std.proofs.Common.{refl, ap, sym, ◌∙◌, subst, append_assoc, arith}
+use Rattle.std.proofs.Common.{◌≡◌, ◌≢◌, ℕ, ◌+◌, ◌<◌, List, [], ◌∷◌, ◌++◌, drop, length, map, get_or, Option, refl, ap}
+use Rattle.std.proofs.Common.{sym, ◌∙◌, subst, append_assoc, arith}
 use Rattle.std.proofs.lemmas.List.{append-nil, drop_more, length-append, length-map, map-append}
 use Rattle.std.specs.Io.KnownBytes.{Consumes}
 use Rattle.edn_reader.specs.Datum.{Datum, max_length}
@@ -23,10 +23,8 @@ use Rattle.shards.specs.Dividing.{Files}
 use Rattle.shards.specs.Folders.{AddsFiles, AddsShards}
 use Rattle.shards.specs.LargeObjects.{AreLarge, maps_on}
 use Rattle.shards.specs.ShardTexts.{SpelledMap}
-use Rattle.shards.specs.SplitFaults.{BeginsWith, EndsPiece, HasTextFault, IsFoundAmong, IsSplitFault}
-use Rattle.shards.specs.SplitFaults.{NeedsMoreShards}
-use Rattle.shards.specs.Taking.{AreTaken, AreTakenOf, AreTakenAfter, IsPieceFault, NoneWait, forms_of}
-use Rattle.shards.specs.Taking.{with_more}
+use Rattle.shards.specs.SplitFaults.{BeginsWith, EndsPiece, HasTextFault, IsFoundAmong, IsSplitFault, NeedsMoreShards}
+use Rattle.shards.specs.Taking.{AreTaken, AreTakenOf, AreTakenAfter, IsPieceFault, NoneWait, forms_of, with_more}
 use Rattle.shards.specs.Tallies.{IsTally}
 use Rattle.shards.specs.UnderWay.{AreUnderWay, EndsInsideForm, IsFaultFrom, IsFaultIn, PassesPiece, ReadsOn, StaysAs}
 use Rattle.shards.specs.UnderWay.{too_long_at}
@@ -49,9 +47,6 @@ lines_more front piece ds es before spells fs after h =
     ∙ sym (append_assoc front (piece ++ 10 ∷ []) after) in
     subst (λ xs. Spells xs ((front ++ (piece ++ 10 ∷ [])) ++ after)) (sym (append_assoc ds es fs))
     (subst (Spells (ds ++ (es ++ fs))) text (before (es ++ fs) (piece ++ 10 ∷ after) later))
-
-pub nothing_before : SpellsBefore [] []
-nothing_before es after h = h
 
 pub passes_piece : (count : ℕ) (d e : Divider) (p q : Pieces) (text piece : List ℕ) (written : Files)
     (h : AreUnderWay count d p text written) → AreTakenOf piece count e h.maps written → PassesPiece p q piece
@@ -216,11 +211,7 @@ too_long_in count d p text written left h long =
 -- a fault of the text that was read
 pub split_fault_of : (count : ℕ) (f : SplitFault) (left left_after : Option (List ℕ)) (text : List ℕ)
     → Consumes left left_after text → IsFaultIn count text left_after f → IsSplitFault count f left left_after
-split_fault_of count (split_fault.Malformed fault) left left_after text consumed h = (text, consumed, h)
-split_fault_of count (split_fault.FewShards x) left left_after text consumed h = (text, consumed, h)
-split_fault_of count split_fault.Read left left_after text consumed h = tt
-split_fault_of count split_fault.Write left left_after text consumed h = tt
-split_fault_of count split_fault.NoMemory left left_after text consumed h = tt
+split_fault_of count f left left_after text h k = grind arith
 
 -- ---- the end
 

@@ -1,9 +1,10 @@
 -- The events of a proper list that are on some objects alone are proper. Numbers rise, invocations are of the kind of
 -- their object, and each process runs as before, but is idle while its operation is on another object.
-use Rattle.std.proofs.Common.{◌≡◌, ℕ, ◌==◌, ◌<◌, Bool, true, false, cond, inl, inr, List, [], ◌∷◌, ◌++◌}
-use Rattle.std.proofs.Common.{Option, Some, None, AllPairs, refl, ap, sym, ◌∙◌, subst, append_assoc}
+use Rattle.std.proofs.lemmas.Bool.Decides.{nat_tests}
+use Rattle.std.proofs.Common.{arith, ◌≡◌, ℕ, ◌==◌, ◌<◌, Bool, true, false, cond, inl, inr, List, [], ◌∷◌, ◌++◌, Option}
+use Rattle.std.proofs.Common.{Some, None, AllPairs, refl, ap, sym, ◌∙◌, subst, append_assoc}
 use Rattle.std.proofs.lemmas.List.{append-nil}
-use Rattle.std.proofs.lemmas.Bool.{eqb-true, eq-eqb}
+use Rattle.std.proofs.lemmas.Bool.{eq-eqb}
 use Rattle.model.specs.declared.Kind.{Kind}
 use Rattle.model.specs.declared.AnyOp.{AnyOp}
 use Rattle.model.specs.Objects.{kind_of}
@@ -12,8 +13,7 @@ use Rattle.model.proofs.Lists.{pairs_filter, all_from_pairs, pairs_from_all}
 use Rattle.events.specs.declared.event.Action.{Action}
 use Rattle.events.specs.declared.event.Action.TheVariants.{Invoke, Ok, Fail, Info}
 use Rattle.events.specs.declared.event.Event.{Event}
-use Rattle.events.specs.Events.{last_event, kind_in, kind_at, IsIdleAfter, IsIdle, IsOfKindAt, IsOutstanding, Follows}
-use Rattle.events.specs.Events.{IsProper}
+use Rattle.events.specs.Events.{last_event, kind_at, IsIdle, IsOfKindAt, IsOutstanding, Follows, IsProper}
 use Rattle.events.proofs.ProcessRuns.{State, idle, busy, closed, state_by, state_after, MayDo, Runs, last_push}
 use Rattle.events.proofs.ProcessRuns.{runs_from_start}
 use Rattle.shards.specs.Shards.{events_on}
@@ -28,24 +28,11 @@ AreOfKinds kinds es = (e : Event) (op : AnyOp) → In e es → e.action ≡ Invo
 kind_there : (earlier later : List Event) (e : Event) (op : AnyOp) → e.action ≡ Invoke op
     → ((d : Event) (o : AnyOp) → In d earlier → d.object ≡ e.object → d.action ≡ Invoke o → kind_of o ≡ kind_of op)
     → kind_at (earlier ++ e ∷ later) e.object ≡ kind_of op
-kind_there [] later e op q same =
-    let others : Kind = kind_at later e.object in
-    ap (λ b. cond b (kind_in e.action others) others) (eq-eqb e.object e.object refl) ∙ ap (λ a. kind_in a others) q
+kind_there [] later e op q same = grind arith
 kind_there (d ∷ earlier) later e op q same =
-    go (d.object == e.object) refl (kind_there earlier later e op q (λ c o i. same c o (inr i)))
-  where
-    own : (a : Action) → d.action ≡ a → d.object ≡ e.object → kind_at (earlier ++ e ∷ later) e.object ≡ kind_of op
-        → kind_in a (kind_at (earlier ++ e ∷ later) e.object) ≡ kind_of op
-    own (Invoke o) r s f = same d o (inl refl) s r
-    own (Ok v) r s f = f
-    own Fail r s f = f
-    own Info r s f = f
-
-    go : (b : Bool) → (d.object == e.object) ≡ b → kind_at (earlier ++ e ∷ later) e.object ≡ kind_of op
-        → cond b (kind_in d.action (kind_at (earlier ++ e ∷ later) e.object)) (kind_at (earlier ++ e ∷ later) e.object)
-        ≡ kind_of op
-    go true s f = own d.action refl (eqb-true d.object e.object s) f
-    go false s f = f
+    let rest = kind_there earlier later e op q (λ c o i. same c o (inr i)) in
+    let own = λ (o : AnyOp). same d o (inl refl) in
+    grind (arith, nat_tests)
 
 pub proper_of_kinds : (es : List Event) → IsProper es → AreOfKinds (kind_at es) es
 proper_of_kinds es proper e op i q =
@@ -59,14 +46,7 @@ proper_of_kinds es proper e op i q =
 -- ---- from runs to a proper list
 
 idle_after : (last : Option Event) → state_after last ≡ idle → IsIdle last
-idle_after None q = tt
-idle_after (Some e) q = go e.action q
-  where
-    go : (a : Action) → state_by e.object a ≡ idle → IsIdleAfter a
-    go (Invoke op) s = absurd (cc s)
-    go (Ok r) s = tt
-    go Fail s = tt
-    go Info s = absurd (cc s)
+idle_after last q = grind arith
 
 outstanding : (last : Option Event) (x : ℕ) (op : AnyOp) → state_after last ≡ busy x op → IsOutstanding last x op
 outstanding None x op q = absurd (cc q)
@@ -82,17 +62,13 @@ outstanding (Some e) x op q = go e.action refl q
 follows : (earlier : List Event) (p : ℕ) (s : State) (x : ℕ) (a : Action) → state_after (last_event p earlier) ≡ s
     → MayDo s x a → ((op : AnyOp) → a ≡ Invoke op → IsOfKindAt earlier x op) → Follows earlier p x a
 follows earlier p idle x (Invoke op) q may kinds = (idle_after (last_event p earlier) q, kinds op refl)
-follows earlier p idle x (Ok r) q may kinds = absurd may
-follows earlier p idle x Fail q may kinds = absurd may
-follows earlier p idle x Info q may kinds = absurd may
-follows earlier p (busy y op) x (Invoke o) q may kinds = absurd may
 follows earlier p (busy y op) x (Ok r) q may kinds =
     (op, outstanding (last_event p earlier) x op (q ∙ ap (λ z. busy z op) (sym may.0)), may.1)
 follows earlier p (busy y op) x Fail q may kinds =
     (op, outstanding (last_event p earlier) x op (q ∙ ap (λ z. busy z op) (sym may)))
 follows earlier p (busy y op) x Info q may kinds =
     (op, outstanding (last_event p earlier) x op (q ∙ ap (λ z. busy z op) (sym may)))
-follows earlier p closed x a q may kinds = absurd may
+follows earlier p s x a q may h = absurd may
 
 -- what a process that runs may do when it comes to an event of its own
 reaches : (p : ℕ) (done earlier later : List Event) (e : Event)
@@ -135,10 +111,7 @@ proper_from kinds es rising runs of_kinds = record { rising = rising; each = eac
 
 -- a busy process does nothing on another object
 same_object : (y : ℕ) (op : AnyOp) (x : ℕ) (a : Action) → MayDo (busy y op) x a → x ≡ y
-same_object y op x (Invoke o) may = absurd may
-same_object y op x (Ok r) may = may.0
-same_object y op x Fail may = may
-same_object y op x Info may = may
+same_object y op x a may = grind arith
 
 -- what a process is doing, as far as the events on these objects show
 abbrev seen : (ℕ → Bool) → State → State
@@ -147,10 +120,7 @@ seen has (busy x op) = cond (has x) (busy x op) idle
 seen has closed = closed
 
 seen_by : (has : ℕ → Bool) (x : ℕ) (a : Action) → has x ≡ true → seen has (state_by x a) ≡ state_by x a
-seen_by has x (Invoke op) q = ap (λ b. cond b (busy x op) idle) q
-seen_by has x (Ok r) q = refl
-seen_by has x Fail q = refl
-seen_by has x Info q = refl
+seen_by has x a q = grind arith
 
 may_seen : (has : ℕ → Bool) (s : State) (x : ℕ) (a : Action) → has x ≡ true → MayDo s x a → MayDo (seen has s) x a
 may_seen has idle x a q may = may
@@ -167,9 +137,6 @@ closed_does_nothing p s (e ∷ es) runs = (λ q. absurd (runs.0 q).0, λ q. clos
 unseen : (has : ℕ → Bool) (p : ℕ) (s : State) (x : ℕ) (a : Action) (es : List Event) → has x ≡ false → MayDo s x a
     → Runs p (seen has (state_by x a)) es → Runs p (seen has s) es
 unseen has p idle x (Invoke op) es q may runs = subst (λ b. Runs p (cond b (busy x op) idle) es) q runs
-unseen has p idle x (Ok r) es q may runs = absurd may
-unseen has p idle x Fail es q may runs = absurd may
-unseen has p idle x Info es q may runs = absurd may
 unseen has p (busy y op) x a es q may runs =
     let here : has y ≡ false = ap has (sym (same_object y op x a may)) ∙ q in
     subst (λ b. Runs p (cond b (busy y op) idle) es) (sym here) (ended a may runs)
@@ -179,7 +146,7 @@ unseen has p (busy y op) x a es q may runs =
     ended (Ok v) m r = r
     ended Fail m r = r
     ended Info m r = closed_does_nothing p idle es r
-unseen has p closed x a es q may runs = absurd may
+unseen has p s x a es q may h = absurd may
 
 runs_on : (has : ℕ → Bool) (p : ℕ) (s : State) (es : List Event) → Runs p s es → Runs p (seen has s) (events_on has es)
 runs_on has p s [] runs = tt

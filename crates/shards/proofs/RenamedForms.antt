@@ -1,7 +1,7 @@
 -- The forms of a shard say what those of the whole on its objects say, of these objects by their names there: they have
 -- no fault where the whole has none, and denote the same events, renamed.
-use Rattle.std.proofs.Common.{◌≡◌, ℕ, ◌+◌, ◌==◌, Bool, true, false, cond, inl, inr, List, [], ◌∷◌, ◌++◌, All, filter}
-use Rattle.std.proofs.Common.{map, Option, Some, None, refl, ap, sym, ◌∙◌, subst}
+use Rattle.std.proofs.Common.{arith, ◌≡◌, ℕ, ◌+◌, ◌==◌, Bool, inl, inr, List, [], ◌∷◌, ◌++◌, All, filter, map, Option}
+use Rattle.std.proofs.Common.{Some, None, refl, ap, sym, ◌∙◌, subst}
 use Rattle.std.specs.List.{cons_option}
 use Rattle.std.proofs.lemmas.Bool.{eqb-true}
 use Rattle.std.proofs.lemmas.List.{map-append}
@@ -41,43 +41,31 @@ own_renamed : (name : ℕ → ℕ) (has : ℕ → Bool) (ms : List SpelledMap) �
     → AreRenamedForms name (forms_on has (map (λ m. m.form) ms)) (own_forms_on has ms)
 own_renamed name has [] each = tt
 own_renamed name has (m ∷ ms) each =
-    go (is_on has m.form) refl (own_renamed name has ms (All-tail (IsSpelled name) m ms each))
-  where
-    forms : List Datum
-    forms = forms_on has (map (λ x. x.form) ms)
-
-    kept : List SpelledMap
-    kept = filter (λ x. is_on has x.form) ms
-
-    go : (b : Bool) → is_on has m.form ≡ b → AreRenamedForms name forms (map (λ x. x.own) kept)
-        → AreRenamedForms name (cond b (m.form ∷ forms) forms) (map (λ x. x.own) (cond b (m ∷ kept) kept))
-    go true q rest =
-        let client = client_on has m.form q in
-        ((All-head (IsSpelled name) m ms each client.0 client.1).0, rest)
-    go false q rest = rest
+    let rest = own_renamed name has ms (All-tail (IsSpelled name) m ms each) in
+    let client = client_on has m.form in
+    let first = All-head (IsSpelled name) m ms each in
+    grind arith
 
 -- ---- no fault
 
 clients_renamed : (name : ℕ → ℕ) (ds es : List Datum) → AreRenamedForms name ds es
     → AreRenamedMaps name (clients ds) (clients es)
 clients_renamed name [] [] h = tt
-clients_renamed name [] (e ∷ es) h = absurd h
-clients_renamed name (d ∷ ds) [] h = absurd h
 clients_renamed name (d ∷ ds) (e ∷ es) h =
     let says = h.0 in
     subst (λ o. AreRenamedMaps name (cons_option o (clients ds)) (clients (e ∷ es))) (sym says.2)
     (subst (λ o. AreRenamedMaps name (says.0 ∷ clients ds) (cons_option o (clients es))) (sym says.3)
     (says.4, clients_renamed name ds es h.1))
+clients_renamed name ds es h = absurd h
 
 renamed_client : (name : ℕ → ℕ) (ds es : List Datum) → AreRenamedForms name ds es → (e : Datum) → In e es
     → (n : ClientMap) × (client_of e ≡ Some n)
 renamed_client name [] [] h e i = absurd i
-renamed_client name [] (x ∷ es) h e i = absurd h
-renamed_client name (d ∷ ds) [] h e i = absurd h
 renamed_client name (d ∷ ds) (x ∷ es) h e i = elim i [
   | inl q ↦ let says = h.0 in (says.1, ap client_of q ∙ says.3)
   | inr j ↦ renamed_client name ds es h.1 e j
 ]
+renamed_client name ds es h e i = absurd h
 
 -- each map of a client says something
 abbrev HaveActions : List Datum → Type 0
@@ -160,18 +148,19 @@ event_renamed name k m n (Some a) r =
 events_renamed : (name : ℕ → ℕ) (ds es : List Datum) → AreRenamedForms name ds es → (k : ℕ)
     → events_from k es ≡ renamed name (events_from k ds)
 events_renamed name [] [] h k = refl
-events_renamed name [] (e ∷ es) h k = absurd h
-events_renamed name (d ∷ ds) [] h k = absurd h
 events_renamed name (d ∷ ds) (e ∷ es) h k =
     let m = h.0.0 in
     let n = h.0.1 in
     let r = h.0.4 in
-    ap (λ o. event_of k o ++ events_from (k + 1) es) h.0.3
-    ∙ (ap (λ xs. event_with k n (action_of n.type n) ++ xs) (events_renamed name ds es h.1 (k + 1))
-    ∙ (ap (λ a. event_with k n a ++ renamed name (events_from (k + 1) ds)) (same_action name m n r)
-    ∙ (ap (λ xs. xs ++ renamed name (events_from (k + 1) ds)) (event_renamed name k m n (action_of m.type m) r)
-    ∙ (sym (map-append (renamed_event name) (event_with k m (action_of m.type m)) (events_from (k + 1) ds))
-    ∙ ap (λ o. renamed name (event_of k o ++ events_from (k + 1) ds)) (sym h.0.2)))))
+    cc (
+      h.0.2,
+      h.0.3,
+      events_renamed name ds es h.1 (k + 1),
+      same_action name m n r,
+      event_renamed name k m n (action_of m.type m) r,
+      map-append (renamed_event name) (event_with k m (action_of m.type m)) (events_from (k + 1) ds),
+    )
+events_renamed name ds es h k = absurd h
 
 pub own_events_are : (name : ℕ → ℕ) (has : ℕ → Bool) (ms : List SpelledMap) → All (IsSpelled name) ms
     → events_from 0 (own_forms_on has ms) ≡ renamed name (events_from 0 (forms_on has (map (λ m. m.form) ms)))

@@ -1,9 +1,8 @@
 -- Maps that say the same as others, of objects by other names: they have no fault where the others have none, if no two
 -- objects get the same name. A fault speaks of processes, types, functions and values, which stay, and of whether two
 -- maps are on one object.
-use Rattle.std.proofs.Common.{◌≡◌, ℕ, ◌==◌, Bool, true, false, cond, inl, inr, List, [], ◌∷◌, ◌++◌}
-use Rattle.std.proofs.Common.{find, reverse, Option, Some, None, option_map, option_and_then}
-use Rattle.std.proofs.Common.{refl, ap, sym, ◌∙◌, subst, append_assoc}
+use Rattle.std.proofs.Common.{arith, ◌≡◌, ℕ, ◌==◌, inl, inr, List, [], ◌∷◌, ◌++◌, find, reverse, Option, Some, None}
+use Rattle.std.proofs.Common.{option_map, option_and_then, refl, ap, sym, ◌∙◌, subst, append_assoc}
 use Rattle.std.proofs.lemmas.List.{reverse-append}
 use Rattle.model.proofs.Lists.{In, in_middle, in_left, contains_from_in, in_from_contains}
 use Rattle.seq_objects.specs.Values.{op_with, reply_with}
@@ -13,8 +12,8 @@ use Rattle.history.specs.Denotes.{action_of}
 use Rattle.history.specs.Faults.{last_map, Differs, IsClosed, IsOutstanding, ClientFault, HasBadValue}
 use Rattle.history.specs.declared.fault.HistoryFaultKind.{HistoryFaultKind}
 use Rattle.history.specs.declared.fault.HistoryFaultKind.TheVariants.{NotAnOperation, UnknownF, BadValue, MixedKinds}
-use Rattle.history.specs.declared.fault.HistoryFaultKind.TheVariants.{Busy, Stray, Mismatch, AfterInfo}
-use Rattle.history.specs.declared.fault.HistoryFaultKind.TheVariants.{TooMany, NoMemory}
+use Rattle.history.specs.declared.fault.HistoryFaultKind.TheVariants.{Busy, Stray, Mismatch, AfterInfo, TooMany}
+use Rattle.history.specs.declared.fault.HistoryFaultKind.TheVariants.{NoMemory}
 use Rattle.shards.specs.ShardTexts.{IsRenamed}
 use Rattle.shards.proofs.FewerMaps.{IsFine, AreFine}
 
@@ -36,56 +35,46 @@ module _ (name : ℕ → ℕ) where
   in_before : (ms ns : List ClientMap) → AreRenamedMaps name ms ns → (n : ClientMap) → In n ns
       → (m : ClientMap) × In m ms × IsRenamed name m n
   in_before [] [] h n i = absurd i
-  in_before [] (y ∷ ns) h n i = absurd h
-  in_before (x ∷ ms) [] h n i = absurd h
   in_before (x ∷ ms) (y ∷ ns) h n i = elim i [
     | inl q ↦ (x, inl refl, subst (IsRenamed name x) (sym q) h.0)
     | inr j ↦ let r = in_before ms ns h.1 n j in (r.0, inr r.1, r.2)
   ]
+  in_before ms ns h n i = absurd h
 
   in_after : (ms ns : List ClientMap) → AreRenamedMaps name ms ns → (m : ClientMap) → In m ms
       → (n : ClientMap) × In n ns × IsRenamed name m n
   in_after [] [] h m i = absurd i
-  in_after [] (y ∷ ns) h m i = absurd h
-  in_after (x ∷ ms) [] h m i = absurd h
   in_after (x ∷ ms) (y ∷ ns) h m i = elim i [
     | inl q ↦ (y, inl refl, subst (λ z. IsRenamed name z y) (sym q) h.0)
     | inr j ↦ let r = in_after ms ns h.1 m j in (r.0, inr r.1, r.2)
   ]
+  in_after ms ns h m i = absurd h
 
   -- ---- the last map of a process
 
   both_lists : (ms ns xs ys : List ClientMap) → AreRenamedMaps name ms ns → AreRenamedMaps name xs ys
       → AreRenamedMaps name (ms ++ xs) (ns ++ ys)
   both_lists [] [] xs ys h k = k
-  both_lists [] (n ∷ ns) xs ys h k = absurd h
-  both_lists (m ∷ ms) [] xs ys h k = absurd h
   both_lists (m ∷ ms) (n ∷ ns) xs ys h k = (h.0, both_lists ms ns xs ys h.1 k)
+  both_lists ms ns xs ys h k = absurd h
 
   in_reverse : (ms ns : List ClientMap) → AreRenamedMaps name ms ns → AreRenamedMaps name (reverse ms) (reverse ns)
   in_reverse [] [] h = tt
-  in_reverse [] (n ∷ ns) h = absurd h
-  in_reverse (m ∷ ms) [] h = absurd h
   in_reverse (m ∷ ms) (n ∷ ns) h =
       subst (λ xs. AreRenamedMaps name xs (reverse (n ∷ ns))) (sym (reverse-append (m ∷ []) ms))
       (subst (AreRenamedMaps name (reverse ms ++ m ∷ [])) (sym (reverse-append (n ∷ []) ns))
       (both_lists (reverse ms) (reverse ns) (m ∷ []) (n ∷ []) (in_reverse ms ns h.1) (h.0, tt)))
+  in_reverse ms ns h = absurd h
 
   both_found : (p : ℕ) (ms ns : List ClientMap) → AreRenamedMaps name ms ns
       → AreBoth name (find (λ m. m.process == p) ms) (find (λ m. m.process == p) ns)
   both_found p [] [] h = tt
-  both_found p [] (n ∷ ns) h = absurd h
-  both_found p (m ∷ ms) [] h = absurd h
   both_found p (m ∷ ms) (n ∷ ns) h =
-      subst
-      (λ q. AreBoth name (find (λ x. x.process == p) (m ∷ ms)) (cond (q == p) (Some n) (find (λ x. x.process == p) ns)))
-      (sym h.0.process) (go (m.process == p) (both_found p ms ns h.1))
-    where
-      go : (b : Bool) → AreBoth name (find (λ x. x.process == p) ms) (find (λ x. x.process == p) ns)
-          → AreBoth name (cond b (Some m) (find (λ x. x.process == p) ms))
-          (cond b (Some n) (find (λ x. x.process == p) ns))
-      go true later = h.0
-      go false later = later
+      let rest = both_found p ms ns h.1 in
+      let first = h.0 in
+      let same = h.0.process in
+      grind arith
+  both_found p ms ns h = absurd h
 
   both_last : (p : ℕ) (ms ns : List ClientMap) → AreRenamedMaps name ms ns
       → AreBoth name (last_map p ms) (last_map p ns)
@@ -223,8 +212,6 @@ AreMapsApart name ms =
 pub are_fine_renamed : (name : ℕ → ℕ) (done others ms ns : List ClientMap) → AreRenamedMaps name done others
     → AreRenamedMaps name ms ns → AreMapsApart name (done ++ ms) → AreFine done ms → AreFine others ns
 are_fine_renamed name done others [] [] d h apart fine = tt
-are_fine_renamed name done others [] (n ∷ ns) d h apart fine = absurd h
-are_fine_renamed name done others (m ∷ ms) [] d h apart fine = absurd h
 are_fine_renamed name done others (m ∷ ms) (n ∷ ns) d h apart fine = (
   fine_renamed name done others m n d h.0
       (λ x i. apart x m (in_left x done (m ∷ ms) i) (in_middle m done ms)) fine.0,
@@ -232,3 +219,4 @@ are_fine_renamed name done others (m ∷ ms) (n ∷ ns) d h apart fine = (
       (both_lists name done others (m ∷ []) (n ∷ []) d (h.0, tt)) h.1
       (subst (AreMapsApart name) (sym (append_assoc done (m ∷ []) ms)) apart) fine.1,
 )
+are_fine_renamed name done others ms ns d h k e = absurd h

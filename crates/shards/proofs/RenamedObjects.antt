@@ -1,8 +1,8 @@
 -- Objects may have other names: where no two objects that events name get the same one, they denote a linearizable
 -- history exactly where the renamed events do. An object has the same calls and the same kind under its new name, and
 -- so the same valid orders; the rest is locality and its converse.
-use Rattle.std.proofs.Common.{◌≡◌, ◌↔◌, ℕ, ℤ, ◌==◌, ◌<◌, ◌⊎◌, Bool, true, false, cond, inl, inr, List, [], ◌∷◌, ◌++◌}
-use Rattle.std.proofs.Common.{filter, Some, refl, ap, sym, ◌∙◌, subst}
+use Rattle.std.proofs.Common.{arith, ◌≡◌, ◌↔◌, ℕ, ℤ, ◌==◌, ◌<◌, ◌⊎◌, Bool, true, false, cond, inl, inr, List, [], ◌∷◌}
+use Rattle.std.proofs.Common.{◌++◌, filter, Some, refl, ap, sym, ◌∙◌, subst}
 use Rattle.std.proofs.lemmas.Bool.{cases_eq, eq-eqb, ne_eqb}
 use Rattle.model.specs.declared.Kind.{Kind}
 use Rattle.model.specs.declared.AnyOp.{AnyOp}
@@ -40,14 +40,10 @@ busy_after P x Info invoked = tt
 done_on : (P : ℕ → Type 0) (s : State) (x : ℕ) (a : Action) → MayDo s x a → IsBusyOn P s
     → ((op : AnyOp) → a ≡ Invoke op → P x) → P x
 done_on P idle x (Invoke op) may on invoked = invoked op refl
-done_on P idle x (Ok r) may on invoked = absurd may
-done_on P idle x Fail may on invoked = absurd may
-done_on P idle x Info may on invoked = absurd may
-done_on P (busy y op) x (Invoke o) may on invoked = absurd may
 done_on P (busy y op) x (Ok r) may on invoked = subst P (sym may.0) on
 done_on P (busy y op) x Fail may on invoked = subst P (sym may) on
 done_on P (busy y op) x Info may on invoked = subst P (sym may) on
-done_on P closed x a may on invoked = absurd may
+done_on P s x a may h k = absurd may
 
 -- what a process does is on objects that invocations are on
 run_on : (P : ℕ → Type 0) (p : ℕ) (s : State) (es : List Event) → Runs p s es → IsBusyOn P s
@@ -125,21 +121,10 @@ state_named name (busy x op) = busy (name x) op
 state_named name closed = closed
 
 state_by_name : (name : ℕ → ℕ) (x : ℕ) (a : Action) → state_named name (state_by x a) ≡ state_by (name x) a
-state_by_name name x (Invoke op) = refl
-state_by_name name x (Ok r) = refl
-state_by_name name x Fail = refl
-state_by_name name x Info = refl
+state_by_name name x a = grind arith
 
 may_by_name : (name : ℕ → ℕ) (s : State) (x : ℕ) (a : Action) → MayDo s x a → MayDo (state_named name s) (name x) a
-may_by_name name idle x (Invoke op) may = may
-may_by_name name idle x (Ok r) may = absurd may
-may_by_name name idle x Fail may = absurd may
-may_by_name name idle x Info may = absurd may
-may_by_name name (busy y op) x (Invoke o) may = absurd may
-may_by_name name (busy y op) x (Ok r) may = (ap name may.0, may.1)
-may_by_name name (busy y op) x Fail may = ap name may
-may_by_name name (busy y op) x Info may = ap name may
-may_by_name name closed x a may = absurd may
+may_by_name name s x a h = grind arith
 
 runs_renamed : (name : ℕ → ℕ) (p : ℕ) (s : State) (es : List Event) → Runs p s es
     → Runs p (state_named name s) (renamed name es)

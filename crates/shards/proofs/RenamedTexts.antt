@@ -1,20 +1,19 @@
 -- A text that was written anew and read again: it spells one map of a client, which says what the map says that was
 -- given, of an object by another number.
-use Rattle.std.proofs.Common.{◌≡◌, ℕ, true, List, [], ◌∷◌, length, get_or, Option, Some, None, refl, ap, sym, ◌∙◌}
-use Rattle.std.proofs.Common.{subst, arith}
+use Rattle.std.proofs.Common.{◌≡◌, ℕ, true, List, [], ◌∷◌, length, get_or, Option, Some, None, refl, ap, ◌∙◌, subst}
+use Rattle.std.proofs.Common.{arith}
 use Rattle.std.specs.Option.{option_eq}
 use Rattle.edn_reader.specs.Datum.{Datum}
 use Rattle.edn_reader.specs.Spells.{Spells}
 use Rattle.history.specs.Maps.{client_of}
 use Rattle.history.specs.MapTexts.{AreMapsOf, AreMapTexts}
-use Rattle.history.specs.Views.{IsClient, Says, client_map}
+use Rattle.history.specs.Views.{IsClient, Says}
 use Rattle.history.specs.declared.client_map.ClientMap.{ClientMap}
 use Rattle.history.specs.declared.client_map.OperationMap.TheVariants.{OfClient}
 use Rattle.history.specs.declared.map_texts.MapText.{MapText}
 use Rattle.seq_objects.specs.contracts.value.ValuePartialEq.TheImpl.{eq-value}
 use Rattle.seq_objects.specs.declared.value.Value.{Value}
 use Rattle.seq_objects.specs.declared.value.Value.TheVariants.{Nil, False, True, Int, Pair, Triple}
-use Rattle.shards.specs.ShardTexts.{SaysRenamed}
 
 -- values that are found equal are the same
 values_same : (a b : Value) → eq-value.it a b ≡ true → a ≡ b
@@ -28,9 +27,8 @@ values_same a b q = absurd (cc q)
 
 pub values_in_same : (a b : Option Value) → option_eq eq-value.it a b ≡ true → a ≡ b
 values_in_same None None q = refl
-values_in_same None (Some w) q = absurd (cc q)
-values_in_same (Some v) None q = absurd (cc q)
 values_in_same (Some v) (Some w) q = ap Some (values_same v w q)
+values_in_same a b q = absurd (cc q)
 
 pub same_map : (a b : ClientMap) → a.process ≡ b.process → a.object ≡ b.object → a.map_type ≡ b.map_type
     → a.function ≡ b.function → a.value ≡ b.value → a ≡ b
@@ -55,14 +53,3 @@ pub spells_one : (ms : List MapText) (z : MapText) (text : List ℕ) (said c : C
 spells_one [] z text said c h one is same = absurd (omega (arith, one))
 spells_one (m ∷ []) z text said c h one is same = one_form m h.0 text c h.2 h.1 (is ∙ ap OfClient same)
 spells_one (m ∷ n ∷ ms) z text said c h one is same = absurd (omega (arith, one))
-
--- the form that is spelled anew
-pub says_renamed : (map : ClientMap) (name : ℕ) (d e : Datum) → IsClient (Some map) (client_of d)
-    → IsClient (Some (record map { object = name })) (client_of e) → SaysRenamed (λ x. name) d e
-says_renamed map name d e before after = (
-  client_map map before.0,
-  client_map (record map { object = name }) after.0,
-  before.1,
-  after.1,
-  record { process = refl; type = refl; function = refl; object = refl; value = after.2 ∙ sym before.2 },
-)

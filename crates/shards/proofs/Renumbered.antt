@@ -1,6 +1,6 @@
 -- Numbers do not matter to what events denote: the same events with other numbers are proper where their numbers rise,
 -- and denote the same history without its numbers. Each lemma goes along both lists, an event at a time.
-use Rattle.std.proofs.Common.{◌≡◌, ℕ, ◌==◌, Bool, true, false, cond, inl, inr, List, [], ◌∷◌, ◌++◌, map, Some}
+use Rattle.std.proofs.Common.{arith, ◌≡◌, ℕ, ◌==◌, Bool, true, false, cond, inl, inr, List, [], ◌∷◌, ◌++◌, map, Some}
 use Rattle.std.proofs.Common.{refl, ap, sym, ◌∙◌, subst}
 use Rattle.std.proofs.lemmas.List.{map-append}
 use Rattle.model.specs.declared.Kind.{Kind}
@@ -11,7 +11,6 @@ use Rattle.model.specs.Linearizable.{InSpecification, IsLinearizable}
 use Rattle.model.specs.Orders.{Numbered, events}
 use Rattle.model.proofs.Lists.{In}
 use Rattle.events.specs.declared.event.Action.{Action}
-use Rattle.events.specs.declared.event.Action.TheVariants.{Invoke, Ok, Fail, Info}
 use Rattle.events.specs.declared.event.Event.{Event}
 use Rattle.events.specs.Events.{next_event, is_fail, fails, denoted_by, denoted, kind_in, kind_at, IsProper}
 use Rattle.events.proofs.ProcessRuns.{State, idle, state_by, MayDo, Runs, runs_from_start}
@@ -27,31 +26,28 @@ AreSame (e ∷ es) (f ∷ fs) = (said e ≡ said f) × AreSame es fs
 
 pub same_from : (es fs : List Event) → map said es ≡ map said fs → AreSame es fs
 same_from [] [] q = tt
-same_from [] (f ∷ fs) q = absurd (cc q)
-same_from (e ∷ es) [] q = absurd (cc q)
 same_from (e ∷ es) (f ∷ fs) q =
     let first : said e ≡ said f = cc in let others : map said es ≡ map said fs = cc in (first, same_from es fs others)
+same_from es fs q = absurd (cc q)
 
 pub in_same : (es fs : List Event) → AreSame es fs → (f : Event) → In f fs → (e : Event) × In e es × (said e ≡ said f)
 in_same [] [] same f i = absurd i
-in_same [] (g ∷ fs) same f i = absurd same
-in_same (d ∷ es) [] same f i = absurd same
 in_same (d ∷ es) (g ∷ fs) same f i = elim i [
   | inl q ↦ (d, inl refl, same.0 ∙ ap said (sym q))
   | inr j ↦ let e = in_same es fs same.1 f j in (e.0, inr e.1, e.2)
 ]
+in_same es fs same f i = absurd same
 
 -- ---- a proper list
 
 runs_same : (p : ℕ) (es fs : List Event) → AreSame es fs → (s : State) → Runs p s es → Runs p s fs
 runs_same p [] [] same s runs = tt
-runs_same p [] (f ∷ fs) same s runs = absurd same
-runs_same p (e ∷ es) [] same s runs = absurd same
 runs_same p (e ∷ es) (f ∷ fs) same s runs =
     let later : (t : State) → Runs p t es → Runs p t fs = runs_same p es fs same.1 in
     subst
     (λ t. ((t.0 == p) ≡ true → MayDo s t.1 t.2 × Runs p (state_by t.1 t.2) fs) × ((t.0 == p) ≡ false → Runs p s fs))
     same.0 (λ q. ((runs.0 q).0, later (state_by e.object e.action) (runs.0 q).1), λ q. later s (runs.1 q))
+runs_same p es fs same s h = absurd same
 
 pub proper_renumbered : (es others : List Event) → IsProper es → AreRenumbered es others → IsProper others
 proper_renumbered es others proper renumbered =
@@ -67,17 +63,14 @@ proper_renumbered es others proper renumbered =
 -- each object has the same kind
 pub kinds_same : (x : ℕ) (es fs : List Event) → AreSame es fs → kind_at es x ≡ kind_at fs x
 kinds_same x [] [] same = refl
-kinds_same x [] (f ∷ fs) same = absurd same
-kinds_same x (e ∷ es) [] same = absurd same
 kinds_same x (e ∷ es) (f ∷ fs) same =
     ap (λ k. cond (e.object == x) (kind_in e.action k) k) (kinds_same x es fs same.1)
     ∙ ap (λ t. cond (t.1 == x) (kind_in t.2 (kind_at fs x)) (kind_at fs x)) same.0
+kinds_same x es fs same = absurd same
 
 -- each operation that is outstanding fails in both or in neither
 fails_same : (p : ℕ) (es fs : List Event) → AreSame es fs → fails (next_event p es) ≡ fails (next_event p fs)
 fails_same p [] [] same = refl
-fails_same p [] (f ∷ fs) same = absurd same
-fails_same p (e ∷ es) [] same = absurd same
 fails_same p (e ∷ es) (f ∷ fs) same =
     go (e.process == p) (fails_same p es fs same.1)
     ∙ ap (λ t. fails (cond (t.0 == p) (Some f) (next_event p fs))) same.0
@@ -86,14 +79,11 @@ fails_same p (e ∷ es) (f ∷ fs) same =
         → fails (cond b (Some e) (next_event p es)) ≡ fails (cond b (Some f) (next_event p fs))
     go true later = ap (λ t. is_fail t.2) same.0
     go false later = later
+fails_same p es fs same = absurd same
 
 unnumbered : (n m p x : ℕ) (a : Action) (failed : Bool)
     → events (denoted_by n p x a failed) ≡ events (denoted_by m p x a failed)
-unnumbered n m p x (Invoke op) true = refl
-unnumbered n m p x (Invoke op) false = refl
-unnumbered n m p x (Ok r) failed = refl
-unnumbered n m p x Fail failed = refl
-unnumbered n m p x Info failed = refl
+unnumbered n m p x a failed = grind arith
 
 -- what one event denotes, before what those after it denote
 first_of_history : (e : Event) (es : List Event) → events (denoted (e ∷ es))

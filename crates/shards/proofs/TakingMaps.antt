@@ -1,8 +1,8 @@
 -- One map more is taken: the lines of its shard grow by it, and the others stay. And what is found at a map is found
 -- among all maps of its piece, of which it is one.
 use Rattle.std.proofs.Common.{◌≡◌, ◌≢◌, ℕ, zero, suc, ◌+◌, ◌/◌, ◌<◌, ◌≤◌, ◌==◌, decimal, inl, inr, Bool, true, false}
-use Rattle.std.proofs.Common.{List, [], ◌∷◌, ◌++◌, All, filter, length}
-use Rattle.std.proofs.Common.{get_or, take, drop, Some, None, refl, ap, sym, ◌∙◌, subst, append_assoc, arith}
+use Rattle.std.proofs.Common.{List, [], ◌∷◌, ◌++◌, All, filter, length, get_or, take, drop, Some, None, refl, ap, sym}
+use Rattle.std.proofs.Common.{◌∙◌, subst, append_assoc, arith}
 use Rattle.std.proofs.lemmas.Bool.{cases_eq, eq-eqb, ne_eqb}
 use Rattle.std.proofs.lemmas.List.{append-nil, map-append, length-append, take_more, take_all, take-append-drop}
 use Rattle.std.proofs.lemmas.List.{take-append-le}
@@ -30,9 +30,8 @@ use Rattle.shards.specs.Dividing.{Files, Fits, FitsAmong, most_names, name_in_sh
 use Rattle.shards.specs.Dividing.{table_text}
 use Rattle.history.specs.Faults.{IsFaultlessAtAnyLength}
 use Rattle.shards.specs.SplitFaults.{IsFoundAmong, NeedsMoreShards, most_maps}
-use Rattle.shards.specs.Taking.{AddsLine, AddsMap, AreTaken, AreTakenOf, AreTakenWith, IsMapFoundAmong}
-use Rattle.shards.specs.Taking.{IsPieceFault, count_in, forms_of}
-use Rattle.shards.specs.Taking.{waiting_maps, waiting_places}
+use Rattle.shards.specs.Taking.{AddsLine, AddsMap, AreTaken, AreTakenOf, AreTakenWith, IsMapFoundAmong, IsPieceFault}
+use Rattle.shards.specs.Taking.{count_in, forms_of, waiting_maps, waiting_places}
 use Rattle.shards.specs.Tallies.{CountsOne, IsTally}
 use Rattle.shards.proofs.BareMaps.{bare_spells}
 use Rattle.shards.proofs.LinesMore.{lines_push, table_push, filter_kept, filter_left, places_kept, places_left}
@@ -108,19 +107,9 @@ read_more maps m new read = subst (AreReadAtAnyLength new.reader) (sym (forms_pu
 pub says_by : (k x : ℕ) (d e : Datum) (c : ClientMap) → client_of d ≡ Some c → c.object ≡ x → k ≡ name_in_shard x
     → SaysRenamed (λ y. k) d e → SaysRenamed name_in_shard d e
 says_by k x d e c client on_object name h =
-    let same = ap (λ (m : ClientMap). m.object) (same_Some h.0 c (sym h.2 ∙ client)) in (
-      h.0,
-      h.1,
-      h.2,
-      h.3,
-      record {
-        process = h.4.process;
-        type = h.4.type;
-        function = h.4.function;
-        object = h.4.object ∙ (name ∙ ap name_in_shard (sym (same ∙ on_object)));
-        value = h.4.value;
-      },
-    )
+    let same = ap (λ (m : ClientMap). m.object) (same_Some h.0 c (sym h.2 ∙ client)) in
+    let object = h.4.object ∙ (name ∙ ap name_in_shard (sym (same ∙ on_object))) in
+    (h.0, h.1, h.2, h.3, assumption)
 
 -- the map of no client
 pub taken_unseen : (count : ℕ) (old new : Divider) (maps : List SpelledMap) (written : Files) (d : Datum)
@@ -140,11 +129,9 @@ taken_unseen count old new maps written d h read none shards tally same =
         tally = subst (λ t. IsTally t (maps_on (maps ++ m ∷ []))) (sym tally)
             (tally_same old.tally (maps_on maps) (maps_on (maps ++ m ∷ [])) h.tally
             (λ y. ap length (filter_left (λ k. is_on (λ z. z == y) k.form) maps m (on_none (λ z. z == y) d none))));
-        texts = λ s. ap (λ ws. written.texts s ++ waiting_maps ws s) same
-            ∙ (h.texts s ∙ sym (text_left count s maps m (off s)));
-        tables = λ s. ap (λ ws. written.tables s ++ waiting_places ws s) same
-            ∙ (h.tables s ∙ sym (table_left count s maps m (off s)));
-        counts = λ s l. ap (λ ws. count_in ws s) same ∙ (h.counts s l ∙ sym (count_left count s maps m (off s)));
+        texts = λ s. cc (h.texts s, text_left count s maps m (off s));
+        tables = λ s. cc (h.tables s, table_left count s maps m (off s));
+        counts = λ s l. cc (h.counts s l, count_left count s maps m (off s));
       },
     )
   where
@@ -185,37 +172,33 @@ module _ (count : ℕ) (old new : Divider) (maps : List SpelledMap) (written : F
     text_more : OnObject → AreTaken count old maps written → AddsLine i m.text place before after → (s : ℕ)
         → written.texts s ++ waiting_maps after s ≡ lines_of (maps_of_shard (shard_among count) s (maps ++ m ∷ []))
     text_more own h a s = elim (cases_eq s i) [
-      | inl q ↦
-          ap (λ t. written.texts s ++ t)
-          (subst (λ k. waiting_maps after k ≡ waiting_maps before k ++ line) (sym q) a.maps)
-          ∙ (sym (append_assoc (written.texts s) (waiting_maps before s) line)
-          ∙ (ap (λ t. t ++ line) (h.texts s) ∙ sym (text_kept count s maps m (on_own own s q))))
-      | inr ne ↦
-          ap (λ t. written.texts s ++ t) (a.other_maps s ne)
-          ∙ (h.texts s ∙ sym (text_left count s maps m (on_other own s ne)))
+      | inl q ↦ cc (
+        a.maps,
+        append_assoc (written.texts s) (waiting_maps before s) line,
+        h.texts s,
+        text_kept count s maps m (on_own own s q),
+      )
+      | inr ne ↦ cc (a.other_maps s ne, h.texts s, text_left count s maps m (on_other own s ne))
     ]
 
     table_more : OnObject → AreTaken count old maps written → AddsLine i m.text place before after
         → place ≡ length (forms_of maps) → (s : ℕ) → written.tables s ++ waiting_places after s
         ≡ table_text (places_from 0 (λ y. shard_among count y == s) (forms_of (maps ++ m ∷ [])))
     table_more own h a is s = elim (cases_eq s i) [
-      | inl q ↦
-          ap (λ t. written.tables s ++ t)
-          (subst (λ k. waiting_places after k ≡ waiting_places before k ++ row) (sym q) a.places)
-          ∙ (sym (append_assoc (written.tables s) (waiting_places before s) row)
-          ∙ (ap (λ t. t ++ row) (h.tables s) ∙ sym (table_kept count s maps m place is (on_own own s q))))
-      | inr ne ↦
-          ap (λ t. written.tables s ++ t) (a.other_places s ne)
-          ∙ (h.tables s ∙ sym (table_left count s maps m (on_other own s ne)))
+      | inl q ↦ cc (
+        a.places,
+        append_assoc (written.tables s) (waiting_places before s) row,
+        h.tables s,
+        table_kept count s maps m place is (on_own own s q),
+      )
+      | inr ne ↦ cc (a.other_places s ne, h.tables s, table_left count s maps m (on_other own s ne))
     ]
 
     count_more : OnObject → AreTaken count old maps written → AddsLine i m.text place before after → (s : ℕ)
         → s < count → count_in after s ≡ length (maps_of_shard (shard_among count) s (maps ++ m ∷ []))
     count_more own h a s l = elim (cases_eq s i) [
-      | inl q ↦
-          subst (λ k. count_in after k ≡ count_in before k + 1) (sym q) a.count
-          ∙ (ap (λ n. n + 1) (h.counts s l) ∙ sym (count_kept count s maps m (on_own own s q)))
-      | inr ne ↦ a.other_counts s ne ∙ (h.counts s l ∙ sym (count_left count s maps m (on_other own s ne)))
+      | inl q ↦ cc (a.count, h.counts s l, count_kept count s maps m (on_own own s q))
+      | inr ne ↦ cc (a.other_counts s ne, h.counts s l, count_left count s maps m (on_other own s ne))
     ]
 
     taken_line : AreTaken count old maps written → AreReadAtAnyLength new.reader (forms_of maps ++ m.form ∷ [])
@@ -257,9 +240,8 @@ taken_map count old new maps written d c place h read client fits is shards coun
 
 length_all : (ms : List MapText) (ds : List Datum) → AreMapTexts ms ds → length ds ≡ length ms
 length_all [] [] h = refl
-length_all [] (d ∷ ds) h = absurd h
-length_all (m ∷ ms) [] h = absurd h
 length_all (m ∷ ms) (d ∷ ds) h = ap suc (length_all ms ds h.1)
+length_all ms ds h = absurd h
 
 at_all : (ms : List MapText) (ds : List Datum) (i : ℕ) (z : MapText) (x : Datum) → AreMapTexts ms ds
     → i < length ms → IsMapText (get_or ms i z) (get_or ds i x)

@@ -1,7 +1,7 @@
 -- One more map is counted on an object, which is put on the list of the large ones when its number passes the limit; so
 -- no object is on it twice. In the end the list is sorted.
-use Rattle.std.proofs.Common.{◌≡◌, ◌≢◌, ℕ, ◌+◌, ◌<◌, inl, inr, false, List, [], ◌∷◌, ◌++◌}
-use Rattle.std.proofs.Common.{Contains, Some, None, map, nat_eq, unwrap_or, ap, sym, ◌∙◌, subst, arith}
+use Rattle.std.proofs.Common.{◌≡◌, ◌≢◌, ℕ, ◌+◌, ◌<◌, inl, inr, false, List, [], ◌∷◌, ◌++◌, Contains, Some, None, map}
+use Rattle.std.proofs.Common.{nat_eq, unwrap_or, ap, sym, ◌∙◌, subst, arith}
 use Rattle.std.proofs.lemmas.Cmp.{nat_eq_equiv}
 use Rattle.std.specs.List.{IsDistinct}
 use Rattle.std.specs.List.Sorted.{IsNonDecreasing, IsPermutation}
@@ -52,37 +52,6 @@ counted_more old new x counts more one h own others y = elim (cases_eq y x) [
       ∙ (ap (λ n. n + 1) (h x) ∙ (sym own ∙ ap more (sym q))))
   | inr ne ↦ ap (λ o. unwrap_or o 0) (one.others y ne) ∙ (h y ∙ sym (others y ne))
 ]
-
-pub counts_kept : (old new : Tally) (x : ℕ) → IsOneMore old.counts new.counts x
-    → new.large.items ≡ old.large.items → count_of old.counts x ≢ max_maps → CountsOne x old new
-counts_kept old new x one same not_at counts more h own others = record {
-  counted = counted_more old.counts new.counts x counts more one h.counted own others;
-  once = subst (IsDistinct nat_eq) (sym same) h.once;
-  large = λ y. (
-    λ c. above y ((h.large y).0 (subst (λ xs. Contains xs y) same c)),
-    λ l. subst (λ xs. Contains xs y) (sym same) ((h.large y).1 (below y l)),
-  );
-}
-  where
-    not_there : counts x ≢ max_maps
-    not_there q = not_at (h.counted x ∙ q)
-
-    above : (y : ℕ) → max_maps < counts y → max_maps < more y
-    above y l = elim (cases_eq y x) [
-      | inl q ↦
-          let here : more y ≡ counts y + 1 = ap more q ∙ (own ∙ ap (λ k. counts k + 1) (sym q)) in
-          omega (arith, l, here)
-      | inr ne ↦ let same_count = others y ne in omega (arith, l, same_count)
-    ]
-
-    below : (y : ℕ) → max_maps < more y → max_maps < counts y
-    below y l = elim (cases_eq y x) [
-      | inl q ↦
-          let here : more y ≡ counts y + 1 = ap more q ∙ (own ∙ ap (λ k. counts k + 1) (sym q)) in
-          let at : counts y ≢ max_maps = subst (λ k. counts k ≢ max_maps) (sym q) not_there in
-          omega (arith, l, here, at)
-      | inr ne ↦ let same_count = others y ne in omega (arith, l, same_count)
-    ]
 
 pub counts_pushed : (old new : Tally) (x : ℕ) → IsOneMore old.counts new.counts x
     → new.large.items ≡ old.large.items ++ x ∷ [] → count_of old.counts x ≡ max_maps → CountsOne x old new
