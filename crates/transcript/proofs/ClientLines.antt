@@ -1,7 +1,7 @@
 -- The lines of a client: a call, what came of it, the next call, and so on.
-use Rattle.std.proofs.Common.{◌≡◌, ℕ, ◌==◌, Bool, true, false, cond, List, [], ◌∷◌, ◌++◌, filter, find, reverse}
-use Rattle.std.proofs.Common.{Option, Some, None, refl, ap, sym, ◌∙◌, subst, append_assoc}
-use Rattle.std.proofs.lemmas.List.{reverse-append}
+use Rattle.std.proofs.lemmas.List.{append-nil, reverse-append}
+use Rattle.std.proofs.Common.{◌≡◌, ℕ, ◌==◌, Bool, true, false, cond, List, [], ◌∷◌, ◌++◌, filter, find, reverse, Option}
+use Rattle.std.proofs.Common.{Some, None, refl, ap, sym, ◌∙◌, subst, append_assoc}
 use Rattle.std.proofs.lemmas.Bool.{eq-eqb}
 use Rattle.model.specs.declared.AnyOp.{AnyOp}
 use Rattle.desk_model.specs.declared.Answer.TheVariants.{Reply, Refused}
@@ -48,35 +48,22 @@ last_push p earlier l = ap (find (λ (x : Line). x.event.process == p)) (reverse
 goes_part : (p : ℕ) (prior : Option Line) (ls : List Line) → Goes p prior (filter (λ l. l.event.process == p) ls)
     → Goes p prior ls
 goes_part p prior [] h = tt
-goes_part p prior (l ∷ ls) h =
-    (λ q. let k = own q in ((k.0 q).0, goes_part p (Some l) ls (k.0 q).1), λ q. goes_part p prior ls (other q))
-  where
-    own : (l.event.process == p) ≡ true → Goes p prior (l ∷ filter (λ (x : Line). x.event.process == p) ls)
-    own q = subst (Goes p prior)
-        (ap (λ b. cond b (l ∷ filter (λ (x : Line). x.event.process == p) ls)
-        (filter (λ (x : Line). x.event.process == p) ls)) q) h
+goes_part p prior (l ∷ ls) h = (
+  λ q. let k : Goes p prior (l ∷ filter (λ (x : Line). x.event.process == p) ls) = rw q at h in
+      ((k.0 q).0, goes_part p (Some l) ls (k.0 q).1),
+  λ q. goes_part p prior ls (rw q at h),
+)
 
-    other : (l.event.process == p) ≡ false → Goes p prior (filter (λ (x : Line). x.event.process == p) ls)
-    other q = subst (Goes p prior)
-        (ap (λ b. cond b (l ∷ filter (λ (x : Line). x.event.process == p) ls)
-        (filter (λ (x : Line). x.event.process == p) ls)) q) h
-
-behind : (p : ℕ) (front earlier ls : List Line) → Goes p (last_line p front) (earlier ++ ls)
+goes_after : (p : ℕ) (front earlier ls : List Line) → Goes p (last_line p front) (earlier ++ ls)
     → Goes p (last_line p (front ++ earlier)) ls
-behind p front [] ls h = subst (λ (xs : List Line). Goes p (last_line p xs) ls) (sym (append-nil front)) h
-  where
-    append-nil : (xs : List Line) → xs ++ [] ≡ xs
-    append-nil [] = refl
-    append-nil (x ∷ xs) = ap (λ ys. x ∷ ys) (append-nil xs)
-behind p front (l ∷ earlier) ls h =
+goes_after p front [] ls h = subst (λ (xs : List Line). Goes p (last_line p xs) ls) (sym (append-nil front)) h
+goes_after p front (l ∷ earlier) ls h =
     subst (λ (xs : List Line). Goes p (last_line p xs) ls) (append_assoc front (l ∷ []) earlier)
-    (behind p (front ++ l ∷ []) earlier ls (next (l.event.process == p) refl))
+    (goes_after p (front ++ l ∷ []) earlier ls (next (l.event.process == p) refl))
   where
     next : (b : Bool) → (l.event.process == p) ≡ b → Goes p (last_line p (front ++ l ∷ [])) (earlier ++ ls)
-    next true q = subst (λ o. Goes p o (earlier ++ ls))
-        (sym (last_push p front l ∙ ap (λ b. cond b (Some l) (last_line p front)) q)) (h.0 q).1
-    next false q = subst (λ o. Goes p o (earlier ++ ls))
-        (sym (last_push p front l ∙ ap (λ b. cond b (Some l) (last_line p front)) q)) (h.1 q)
+    next true q = rw (last_push p front l, q) (h.0 q).1
+    next false q = rw (last_push p front l, q) (h.1 q)
 
 -- the lines of a journal go on like that
 
@@ -125,4 +112,4 @@ line_follows ls journals turn parts earlier later l is =
     let all : Goes c None ls =
     goes_part c None ls (subst (Goes c None) (sym (parts c))
     (journal_goes c None None (journals c) (turn c) (λ k p s i. absurd (cc (s))))) in
-    ((behind c [] earlier (l ∷ later) (subst (Goes c None) is all)).0 (eq-eqb c c refl)).0
+    ((goes_after c [] earlier (l ∷ later) (subst (Goes c None) is all)).0 (eq-eqb c c refl)).0

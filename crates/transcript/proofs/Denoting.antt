@@ -1,6 +1,6 @@
 -- What the events of journals denote is the history of the journals.
-use Rattle.std.proofs.Common.{◌≡◌, ℕ, ◌==◌, Bool, true, false, cond, inl, inr, List, [], ◌∷◌, ◌++◌, filter, find}
-use Rattle.std.proofs.Common.{Some, refl, ap, sym, ◌∙◌, subst}
+use Rattle.std.proofs.Common.{◌≡◌, ℕ, ◌==◌, Bool, true, false, cond, inl, inr, List, [], ◌∷◌, ◌++◌, filter, find, Some}
+use Rattle.std.proofs.Common.{refl, ap, sym, ◌∙◌, subst}
 use Rattle.std.proofs.lemmas.List.Elements.{filter-append}
 use Rattle.std.proofs.lemmas.Bool.{eqb-true, eq-eqb}
 use Rattle.model.specs.Histories.{Inv, Res, process_of}
@@ -12,7 +12,7 @@ use Rattle.desk_model.specs.declared.JournalEvent.TheVariants.{Invoked, Returned
 use Rattle.desk_model.specs.World.{AnyAnswer, AnyEvent}
 use Rattle.desk_model.specs.Records.{Denotes}
 use Rattle.events.specs.declared.event.Action.{Action}
-use Rattle.events.specs.declared.event.Action.TheVariants.{Invoke, Ok, Fail, Info}
+use Rattle.events.specs.declared.event.Action.TheVariants.{Invoke, Ok, Fail}
 use Rattle.events.specs.declared.event.Event.{Event}
 use Rattle.events.specs.Events.{next_event, is_fail, fails, denoted_by, denoted}
 use Rattle.recorder.specs.Histories.{events_from}
@@ -32,14 +32,12 @@ next_part p (e ∷ es) = go (e.process == p) refl (next_part p es)
     go false q later = later
 
 of_process : (n p x : ℕ) (a : Action) (b : Bool) (m : Numbered) → In m (denoted_by n p x a b) → process_of m.event ≡ p
-of_process n p x (Invoke op) true m i = absurd i
 of_process n p x (Invoke op) false m i = elim i [
   | inl e ↦ ap (λ (k : Numbered). process_of k.event) e
   | inr j ↦ absurd j
 ]
 of_process n p x (Ok r) b m i = elim i [ inl e ↦ ap (λ (k : Numbered). process_of k.event) e | inr j ↦ absurd j ]
-of_process n p x Fail b m i = absurd i
-of_process n p x Info b m i = absurd i
+of_process n p x a b m i = absurd i
 
 -- the part of a process is what its own events denote
 part_denoted : (c : ℕ) (es : List Event) → part c (denoted es) ≡ denoted (filter (λ e. e.process == c) es)
@@ -112,8 +110,7 @@ denotes_once c (Invoked t x op ∷ Returned u (Reply r) ∷ js) h k d e =
     d.1 ∙ (ap (λ ms. record { number = t; event = Inv c x op } ∷ record { number = u; event = Res c x r } ∷ ms)
     (denotes_once c js d.0 e.0 d.2 e.2) ∙ sym e.1)
 denotes_once c (Invoked t x op ∷ Returned u Refused ∷ js) h k d e = denotes_once c js h k d e
-denotes_once c (Invoked t x op ∷ Invoked u y o ∷ js) h k d e = absurd d
-denotes_once c (Returned u a ∷ js) h k d e = absurd d
+denotes_once c js h k d e = absurd d
 
 -- the part of a client in what the events denote
 pub part_denotes : (c : ℕ) (js : List AnyEvent) (es : List Event)

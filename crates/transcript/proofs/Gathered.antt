@@ -1,18 +1,18 @@
 -- The lines of all journals, sorted by ticket.
-use Rattle.std.proofs.Common.{◌≡◌, ◌≢◌, ℕ, zero, suc, ◌+◌, ◌<◌, ◌≤◌, ◌==◌, eqb, Bool, true, false, cond, inl, inr}
-use Rattle.std.proofs.Common.{List, [], ◌∷◌, ◌++◌, length, map}
-use Rattle.std.proofs.Common.{filter, get_or, Option, Some, None, AllPairs, refl, ap, sym, ◌∙◌, subst, arith}
+use Rattle.std.proofs.lemmas.Bool.Decides.{nat_tests}
+use Rattle.std.proofs.lemmas.List.{append-nil, get_or-map, length-map}
+use Rattle.std.proofs.Common.{◌≡◌, ◌≢◌, ℕ, zero, suc, ◌+◌, ◌<◌, ◌≤◌, ◌==◌, eqb, Bool, true, false, cond, inl, inr, List}
+use Rattle.std.proofs.Common.{[], ◌∷◌, ◌++◌, length, map, filter, get_or, Option, Some, None, AllPairs, refl, ap, sym}
+use Rattle.std.proofs.Common.{◌∙◌, subst, arith}
 use Rattle.std.specs.List.Sorted.{IsPermutation, IsNonDecreasingBy}
 use Rattle.std.specs.List.{IsDistinct}
-use Rattle.std.proofs.lemmas.List.{get_or-map, length-map}
 use Rattle.std.proofs.lemmas.List.Elements.{filter-append}
 use Rattle.std.proofs.lemmas.List.Sorted.{IsPermutation-map, IsPermutation-sym, Contains-permutation}
 use Rattle.std.proofs.lemmas.Map.Keys.{IsDistinct-from_apart, IsDistinct-IsPermutation, apart_from_distinct}
-use Rattle.std.proofs.lemmas.Bool.{eqb-true, eqb-false, eq-eqb, ne_eqb}
-use Rattle.model.proofs.Lists.{In, Pairs, in_append, in_filter, in_filter_passes, in_filter_from, in_map_from}
-use Rattle.model.proofs.Lists.{in_from_contains, contains_from_in}
-use Rattle.model.proofs.Lists.{pairs_append, pairs_filter, pairs_weaker, pairs_from_all, pairs_from_map, pairs_map}
-use Rattle.model.proofs.Lists.{all_from_pairs, filter_all}
+use Rattle.std.proofs.lemmas.Bool.{eqb-true, eq-eqb, ne_eqb}
+use Rattle.model.proofs.Lists.{in_left, in_right, In, Pairs, in_append, in_filter, in_filter_passes, in_filter_from}
+use Rattle.model.proofs.Lists.{in_map_from, in_from_contains, contains_from_in, pairs_append, pairs_filter}
+use Rattle.model.proofs.Lists.{pairs_weaker, pairs_from_all, pairs_from_map, pairs_map, all_from_pairs, filter_all}
 use Rattle.model.proofs.Lists.{filter_none}
 use Rattle.desk_model.specs.declared.Answer.TheVariants.{Reply, Refused}
 use Rattle.desk_model.specs.declared.JournalEvent.TheVariants.{Invoked, Returned}
@@ -110,11 +110,7 @@ lines_at n (j ∷ js) zero =
     (λ l i. ne_eqb l.event.process (n + 0) (λ e. let h = not_below (n + 1) js l i in absurd (omega arith))) in
     filter-append (λ (l : Line). l.event.process == n + 0) (lines_of n j) (lines_in (n + 1) js)
     ∙ (ap (λ xs. xs ++ filter (λ (l : Line). l.event.process == n + 0) (lines_in (n + 1) js)) own
-    ∙ (ap (λ xs. lines_of n j ++ xs) others ∙ (append_nil (lines_of n j) ∙ ap (λ m. lines_of m j) (sym here))))
-  where
-    append_nil : (xs : List Line) → xs ++ [] ≡ xs
-    append_nil [] = refl
-    append_nil (x ∷ xs) = ap (λ ys. x ∷ ys) (append_nil xs)
+    ∙ (ap (λ xs. lines_of n j ++ xs) others ∙ (append-nil (lines_of n j) ∙ ap (λ m. lines_of m j) (sym here))))
 lines_at n (j ∷ js) (suc k) =
     let there : n + suc k ≡ (n + 1) + k = omega arith in
     let own : filter (λ (l : Line). l.event.process == n + suc k) (lines_of n j) ≡ [] =
@@ -148,18 +144,10 @@ apart n (j ∷ js) up same =
     let s = same a b (before a i) (behind b k) e in omega arith)
   where
     before : (a : Line) → In a (lines_of n j) → In a (lines_in n (j ∷ js))
-    before a i = go (lines_of n j) i
-      where
-        go : (xs : List Line) → In a xs → In a (xs ++ lines_in (n + 1) js)
-        go [] k = absurd k
-        go (x ∷ xs) k = elim k [ inl e ↦ inl e | inr m ↦ inr (go xs m) ]
+    before a i = in_left a (lines_of n j) (lines_in (n + 1) js) i
 
     behind : (a : Line) → In a (lines_in (n + 1) js) → In a (lines_in n (j ∷ js))
-    behind a i = go (lines_of n j)
-      where
-        go : (xs : List Line) → In a (xs ++ lines_in (n + 1) js)
-        go [] = i
-        go (x ∷ xs) = inr (go xs)
+    behind a i = in_right a (lines_of n j) (lines_in (n + 1) js) i
 
 -- sorted, they rise
 sorted_rises : {X : Type 0} (n : X → ℕ) (xs ys : List X) → AllPairs (λ a b. n a ≢ n b) xs → IsPermutation xs ys
@@ -183,11 +171,7 @@ sorted_rises {X = X} n xs ys distinct p up i j d low high =
     omega arith
   where
     flips : (a b : ℕ) → eqb a b ≡ eqb b a
-    flips a b = go (eqb a b) refl
-      where
-        go : (v : Bool) → eqb a b ≡ v → v ≡ eqb b a
-        go true e = sym (eq-eqb b a (sym (eqb-true a b e)))
-        go false e = sym (ne_eqb b a (λ s. eqb-false a b e (sym s)))
+    flips a b = grind (arith, nat_tests)
 
     number_apart : (a b k : ℕ) → a < b → b < length xs → eqb (get_or (map n xs) a k) (get_or (map n xs) b k) ≡ false
     number_apart a b k l within = first xs distinct within
@@ -203,14 +187,7 @@ sorted_rises {X = X} n xs ys distinct p up i j d low high =
 filter_events : (c : ℕ) (ls : List Line)
     → filter (λ e. e.process == c) (events_in ls) ≡ events_in (filter (λ l. l.event.process == c) ls)
 filter_events c [] = refl
-filter_events c (l ∷ ls) =
-    elim (l.event.process == c) as (λ b. cond b (l.event ∷ filter (λ (e : Event). e.process == c) (events_in ls))
-    (filter (λ (e : Event). e.process == c) (events_in ls))
-    ≡ events_in (cond b (l ∷ filter (λ (k : Line). k.event.process == c) ls)
-    (filter (λ (k : Line). k.event.process == c) ls))) [
-      | true ↦ ap (λ es. l.event ∷ es) (filter_events c ls)
-      | false ↦ filter_events c ls
-    ]
+filter_events c (l ∷ ls) = let rest = filter_events c ls in grind arith
 
 -- the events of a proper history's journals
 module _ (journals : ℕ → List AnyEvent) (es : List Event) (are : AreEventsOf journals es) (proper : IsProper es) where

@@ -1,11 +1,10 @@
 -- Lines have integers and names that a text can have.
-use Rattle.std.proofs.Common.{◌≡◌, ℕ, ◌+◌, ◌<◌, ◌≤◌, ◌^◌, ◌==◌, true, List, [], length, map, get_or, take, All}
-use Rattle.std.proofs.Common.{refl, ap, sym, subst, inl, inr, arith, eq-eqb}
+use Rattle.std.proofs.Common.{◌≡◌, ℕ, ◌+◌, ◌<◌, ◌≤◌, ◌^◌, ◌==◌, true, List, [], length, map, get_or, take, All, refl}
+use Rattle.std.proofs.Common.{ap, subst, inl, inr, arith, eq-eqb}
 use Rattle.std.proofs.lemmas.Bool.{cases_lt}
-use Rattle.std.proofs.lemmas.List.{get_or_past, take_all, take_more}
-use Rattle.std.proofs.lemmas.List.Elements.{All-push}
+use Rattle.std.proofs.lemmas.List.{get_or_past, take_all}
+use Rattle.std.proofs.lemmas.List.Elements.{All-more}
 use Rattle.model.specs.declared.AnyOp.{AnyOp}
-use Rattle.model.specs.declared.AnyOp.TheVariants as op
 use Rattle.model.specs.declared.AnyReply.{AnyReply}
 use Rattle.model.proofs.Lists.{In, in_filter_from, all_from_in}
 use Rattle.edn_reader.specs.Bytes.{is_name}
@@ -13,7 +12,6 @@ use Rattle.edn_reader.specs.Text.{InProfile}
 use Rattle.seq_objects.specs.Functions.{name_of}
 use Rattle.seq_objects.specs.Values.{function_in}
 use Rattle.events.specs.declared.event.Action.{Action}
-use Rattle.events.specs.declared.event.Action.TheVariants.{Invoke, Ok, Fail, Info}
 use Rattle.desk_model.specs.World.{AnyEvent}
 use Rattle.desk_model.specs.Images.{event_in}
 use Rattle.recorder.specs.Records.{Recorded}
@@ -23,40 +21,11 @@ use Rattle.transcript.specs.Lines.{AreLinesOf, form_of, lines_of, type_of, value
 
 function_named : (o : AnyOp) → is_name (name_of (function_in o)) ≡ true
 unfolding is_name
-function_named (op.Enqueue v) = refl
-function_named op.Dequeue = refl
-function_named (op.Push v) = refl
-function_named op.Pop = refl
-function_named (op.Insert v) = refl
-function_named op.ExtractMin = refl
-function_named (op.Write v) = refl
-function_named op.Read = refl
-function_named (op.Cas a b) = refl
-function_named (op.Put a b) = refl
-function_named (op.Get k) = refl
-function_named (op.Del k) = refl
-function_named op.Acquire = refl
-function_named op.Release = refl
-function_named op.Clear = refl
-function_named (op.Create v) = refl
-function_named (op.PutIfAbsent k v) = refl
-function_named (op.Replace k a b) = refl
-function_named (op.Assoc k v) = refl
-function_named (op.Dissoc k) = refl
-function_named (op.Add v) = refl
-function_named (op.Remove v) = refl
-function_named (op.Has v) = refl
-function_named (op.FetchAdd n) = refl
-function_named op.GetCount = refl
-function_named (op.LockBy o) = refl
-function_named (op.UnlockBy o) = refl
+function_named o = grind arith
 
 type_named : (a : Action) → is_name (type_of a) ≡ true
 unfolding is_name
-type_named (Invoke o) = refl
-type_named (Ok r) = refl
-type_named Fail = refl
-type_named Info = refl
+type_named a = grind arith
 
 pub form_in_profile : (l : Line) → l.event.process < 2 ^ 63 → l.event.object < 2 ^ 63
     → InProfile (value_form (value_of l.op l.event.action)) → InProfile (form_of l)
@@ -67,9 +36,7 @@ form_in_profile l process object value =
 -- one line more
 pub profiles_more : (ls : List Line) (i : ℕ) (d : Line) → i < length ls → All (λ l. InProfile (form_of l)) (take i ls)
     → InProfile (form_of (get_or ls i d)) → All (λ l. InProfile (form_of l)) (take (i + 1) ls)
-profiles_more ls i d low so_far here =
-    subst (All (λ (l : Line). InProfile (form_of l))) (sym (take_more ls i d low))
-    (All-push (λ (l : Line). InProfile (form_of l)) (take i ls) (get_or ls i d) so_far here)
+profiles_more = All-more (λ l. InProfile (form_of l))
 
 pub all_profiles : (ls : List Line) (i : ℕ) → length ls ≤ i → All (λ l. InProfile (form_of l)) (take i ls)
     → All (λ l. InProfile (form_of l)) ls

@@ -1,20 +1,20 @@
 -- The lines of a record are read back as its events.
-use Rattle.std.proofs.Common.{◌≡◌, ◌≢◌, ℕ, ◌+◌, ◌<◌, ◌≤◌, ◌==◌, Bool, true, false, cond, inl, inr, List, [], ◌∷◌}
-use Rattle.std.proofs.Common.{◌++◌, map, length, find, reverse}
-use Rattle.std.proofs.Common.{Option, Some, None, option_map, All, lit<, refl, ap, sym, ◌∙◌, subst, eq-eqb, arith}
+use Rattle.std.proofs.Common.{◌≡◌, ◌≢◌, ℕ, ◌+◌, ◌<◌, ◌≤◌, ◌==◌, inl, inr, List, [], ◌∷◌, ◌++◌, map, length, find}
+use Rattle.std.proofs.Common.{reverse, Option, Some, None, option_map, All, lit<, refl, ap, sym, ◌∙◌, subst, eq-eqb}
+use Rattle.std.proofs.Common.{arith}
 use Rattle.std.specs.List.{cons_option}
 use Rattle.std.proofs.lemmas.Option.{same_Some}
 use Rattle.std.proofs.lemmas.List.{reverse-append, map-append, length-map}
 use Rattle.model.specs.declared.AnyOp.{AnyOp}
 use Rattle.model.specs.Objects.{kind_of}
-use Rattle.model.proofs.Lists.{In, Pairs, in_map, in_map_from, in_filter, in_filter_from, in_from_contains}
-use Rattle.model.proofs.Lists.{in_split, in_left, in_middle, all_at, all_from_in, pairs_from_all}
+use Rattle.model.proofs.Lists.{In, Pairs, in_map, in_map_from, in_filter, in_filter_from, in_from_contains, in_split}
+use Rattle.model.proofs.Lists.{in_left, in_middle, all_at, all_from_in, pairs_from_all}
 use Rattle.edn_reader.specs.Datum.{Datum, Fits, max_open}
 use Rattle.edn_reader.specs.Text.{InProfile}
 use Rattle.edn_reader.specs.Laws.{EachSpelled}
 use Rattle.edn_reader.proofs.Joined.{text_spells_it, lines_spell_them}
 use Rattle.seq_objects.specs.declared.value.Value.{Value}
-use Rattle.seq_objects.specs.declared.value.Value.TheVariants.{Nil, False, True, Int, Pair, Triple}
+use Rattle.seq_objects.specs.declared.value.Value.TheVariants.{Pair, Triple}
 use Rattle.seq_objects.specs.Functions.{kind_of_function}
 use Rattle.seq_objects.specs.Values.{function_in}
 use Rattle.events.specs.declared.event.Action.{Action}
@@ -22,12 +22,12 @@ use Rattle.events.specs.declared.event.Action.TheVariants.{Invoke, Ok, Fail, Inf
 use Rattle.events.specs.declared.event.Event.{Event}
 use Rattle.edn_fields.specs.Fields.{max_object}
 use Rattle.history.specs.declared.fault.HistoryFaultKind.{HistoryFaultKind}
-use Rattle.history.specs.declared.fault.HistoryFaultKind.TheVariants.{NotAnOperation, UnknownF, BadValue}
-use Rattle.history.specs.declared.fault.HistoryFaultKind.TheVariants.{MixedKinds, Busy, Stray, Mismatch, AfterInfo}
-use Rattle.history.specs.declared.fault.HistoryFaultKind.TheVariants.{TooMany, NoMemory}
-use Rattle.history.specs.Maps.{ClientMap, MapType, invoke, ok, fail, info, client_of, clients, op_in, reply_in}
-use Rattle.history.specs.Faults.{last_map, HasBadValue, ClientFault, IsFaultless, IsFaultlessAtAnyLength}
-use Rattle.history.specs.Faults.{IsOutstanding, IsClosed}
+use Rattle.history.specs.declared.fault.HistoryFaultKind.TheVariants.{NotAnOperation, UnknownF, BadValue, MixedKinds}
+use Rattle.history.specs.declared.fault.HistoryFaultKind.TheVariants.{Busy, Stray, Mismatch, AfterInfo, TooMany}
+use Rattle.history.specs.declared.fault.HistoryFaultKind.TheVariants.{NoMemory}
+use Rattle.history.specs.Maps.{ClientMap, invoke, info, client_of, clients}
+use Rattle.history.specs.Faults.{last_map, HasBadValue, ClientFault, IsFaultless, IsFaultlessAtAnyLength, IsOutstanding}
+use Rattle.history.specs.Faults.{IsClosed}
 use Rattle.history.specs.Denotes.{action_of, event_with, event_of, events_from}
 use Rattle.history.proofs.MapLimit.{IsSmall, faultless_within}
 use Rattle.history.proofs.OneMore.{fault_of}
@@ -35,14 +35,13 @@ use Rattle.history.proofs.Laws.{kind_of_op}
 use Rattle.desk_model.specs.declared.JournalEvent.TheVariants.{Invoked, Returned}
 use Rattle.desk_model.specs.World.{AnyEntry, AnyEvent, ticket_of}
 use Rattle.desk_model.specs.Sound.{ShareOut}
-use Rattle.recorder.specs.Histories.{AreEventsOf, IsRecord, events_of, max_tickets}
-use Rattle.recorder.specs.Histories.{events_from as journal_events}
+use Rattle.recorder.specs.Histories.{AreEventsOf, IsRecord, events_of, max_tickets, events_from as journal_events}
 use Rattle.recorder.proofs.Same.{same_by_parts}
 use Rattle.recorder.proofs.Journals.{InTurn, none, last, call, numbers_of}
 use Rattle.transcript.specs.declared.line.Call.{Call}
 use Rattle.transcript.specs.declared.line.Line.{Line}
-use Rattle.transcript.specs.Lines.{event_with as journal_event}
-use Rattle.transcript.specs.Lines.{value_of, value_form, form_of, history_text, lines_from, AreLinesOf, events_in}
+use Rattle.transcript.specs.Lines.{event_with as journal_event, value_of, value_form, form_of, history_text, lines_from}
+use Rattle.transcript.specs.Lines.{AreLinesOf, events_in}
 use Rattle.transcript.specs.Reading.{DenotesEvents}
 use Rattle.transcript.proofs.Gathered.{same_events}
 use Rattle.transcript.proofs.Turns.{turns_in, one_kind}
@@ -120,14 +119,7 @@ last_is p ls = ap (find (λ (m : ClientMap). m.process == p)) (sym (map-reverse 
         → find (λ (m : ClientMap). m.process == p) (map map_of ks)
         ≡ option_map map_of (find (λ (l : Line). l.event.process == p) ks)
     found [] = refl
-    found (k ∷ ks) = go (k.event.process == p) (found ks)
-      where
-        go : (b : Bool) → find (λ (m : ClientMap). m.process == p) (map map_of ks)
-            ≡ option_map map_of (find (λ (l : Line). l.event.process == p) ks)
-            → cond b (Some (map_of k)) (find (λ (m : ClientMap). m.process == p) (map map_of ks))
-            ≡ option_map map_of (cond b (Some k) (find (λ (l : Line). l.event.process == p) ks))
-        go true h = refl
-        go false h = h
+    found (k ∷ ks) = let rest = found ks in grind arith
 
 -- ---- no line is faulty
 
@@ -158,13 +150,7 @@ outstanding before p o h = go (last_line p before) refl (sym (last_is p before) 
         (k, is, same, i.0, i.1)
 
 no_bad : (m : ClientMap) (a : Action) → action_of m.type m ≡ Some a → HasBadValue m.type m → ⊥
-no_bad m a is h = go m.type is h
-  where
-    go : (t : MapType) → action_of t m ≡ Some a → HasBadValue t m → ⊥
-    go invoke q b = let none : option_map Invoke (op_in m) ≡ None = ap (option_map Invoke) b in absurd (cc (q, none))
-    go ok q b = let none : option_map Ok (reply_in m) ≡ None = ap (option_map Ok) b in absurd (cc (q, none))
-    go fail q b = b
-    go info q b = b
+no_bad m a is h = grind arith
 
 module _ (before : List Line) (l : Line) (fine : IsFine before l) where
   busy : (a : Action) → l.event.action ≡ a → type_map a ≡ invoke → (o : ClientMap)
@@ -174,9 +160,7 @@ module _ (before : List Line) (l : Line) (fine : IsFine before l) where
       let f : MayFollow (last_line l.event.process before) l.event.object l.op (Invoke op) =
       subst (MayFollow (last_line l.event.process before) l.event.object l.op) is fine.follows in
       f.1 k.0 k.3 k.1 k.4
-  busy (Ok r) is t o h = absurd (cc)
-  busy Fail is t o h = absurd (cc)
-  busy Info is t o h = absurd (cc)
+  busy a h t o k = absurd cc
 
   -- a completion's process has its call outstanding
   pending : (a : Action) → l.event.action ≡ a → (type_map a ≢ invoke)
@@ -199,10 +183,7 @@ module _ (before : List Line) (l : Line) (fine : IsFine before l) where
       fine.none_unknown k.0 k.1 (go k.0.event.action t)
     where
       go : (a : Action) → type_map a ≡ info → a ≡ Info
-      go (Invoke op) e = absurd (cc)
-      go (Ok r) e = absurd (cc)
-      go Fail e = absurd (cc)
-      go Info e = refl
+      go a e = grind arith
 
   no_fault : (kind : HistoryFaultKind) → ClientFault (map map_of before) (map_of l) kind → ⊥
   no_fault NotAnOperation h = h
@@ -271,30 +252,12 @@ invocation_event c x t y op (Returned u a ∷ js) i = elim i [
 -- ---- what the lines spell
 
 value_fits : (n : ℕ) → 0 < n → (v : Value) → Fits n (value_form v)
-value_fits n low Nil = tt
-value_fits n low False = tt
-value_fits n low True = tt
-value_fits n low (Int z) = tt
 value_fits n low (Pair a b) = (low, (tt, (tt, tt)))
 value_fits n low (Triple a b c) = (low, (tt, (tt, (tt, tt))))
+value_fits n h v = tt
 
 form_fits : (l : Line) → Fits max_open (form_of l)
-form_fits l = (
-  lit< tt,
-  (
-    (λ h. cc, (λ h. cc, (λ h. cc, (λ h. cc, tt)))),
-    tt,
-    (
-      (λ h. cc, (λ h. cc, (λ h. cc, tt))),
-      tt,
-      (
-        (λ h. cc, (λ h. cc, tt)),
-        tt,
-        ((λ h. cc, tt), value_fits 15 (lit< tt) (value_of l.op l.event.action), (tt, tt, tt)),
-      ),
-    ),
-  ),
-)
+form_fits l = let value = value_fits 15 (lit< tt) (value_of l.op l.event.action) in grind arith
 
 each_spelled : (ls : List Line) → ((l : Line) → In l ls → InProfile (form_of l)) → EachSpelled (map form_of ls)
 each_spelled [] p = tt

@@ -7,7 +7,7 @@ use Rattle.std.specs.Fmt.{signed_decimal}
 use Rattle.seq_objects.specs.Functions.{name_of}
 use Rattle.seq_objects.specs.Values.{function_in}
 use Rattle.seq_objects.specs.declared.value.Value.{Value}
-use Rattle.seq_objects.specs.declared.value.Value.TheVariants.{Nil, False, True, Int, Pair, Triple}
+use Rattle.seq_objects.specs.declared.value.Value.TheVariants.{Pair, Triple}
 use Rattle.transcript.specs.declared.line.Line.{Line}
 use Rattle.transcript.specs.Lines.{type_of, value_form, value_of, form_of, history_text}
 use Rattle.transcript.specs.Segments.{value_text, object_text, line_text, lines_text}
@@ -17,13 +17,10 @@ rest_of_triple : (b c : List ℕ)
 rest_of_triple b c = ap (λ l. codes " " ++ l) (append_assoc b (codes " " ++ c) (codes "]"))
 
 value_is : (v : Value) → text_of (value_form v) ≡ value_text v
-value_is Nil = refl
-value_is False = refl
-value_is True = refl
-value_is (Int z) = refl
 value_is (Pair a b) = simp (append_assoc, append-nil)
 value_is (Triple a b c) = simp (append_assoc, append-nil) (ap (λ l. codes "[" ++ (signed_decimal a ++ l))
     (rest_of_triple (signed_decimal b) (signed_decimal c)))
+value_is v = refl
 
 flat : (o k p l t m f q v r x c n : List ℕ)
     → (o ++ (((k ++ p) ++ ((l ++ t) ++ ((m ++ f) ++ ((q ++ v) ++ ((r ++ x) ++ []))))) ++ c)) ++ n
