@@ -1,4 +1,5 @@
--- How a desk begins: the first state, a new client, and a client's first step.
+-- A desk begins by the rule: the first state has no client and the initial world, a new client knows nothing yet, and
+-- at its first step it comes to the world.
 use Rattle.std.proofs.Common.{◌≡◌, ◌≢◌, ℕ, zero, suc, ◌+◌, ◌<◌, ◌≤◌, true, false, List, [], ◌∷◌, ◌++◌, length}
 use Rattle.std.proofs.Common.{replicate, get_or, set, Some, refl, sym, ap, ◌∙◌, subst, ◌⊎◌, inl, inr, arith}
 use mathlib.Core.Option as maybe

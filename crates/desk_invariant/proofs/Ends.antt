@@ -1,4 +1,4 @@
--- The end of a client, and the sight of another's.
+-- The end of a client, and the sight of another's, keep the rule: an end writes one word, and who has ended stays so.
 use Rattle.std.proofs.Common.{All, inr, inl, ◌≡◌, ◌≢◌, ℕ, ◌+◌, ◌<◌, Bool, true, false, List, ◌∷◌, map, length, get_or}
 use Rattle.std.proofs.Common.{set, Some, refl, sym, ap, ◌∙◌, subst, arith}
 use mathlib.Core.Logic.{dite}
@@ -74,12 +74,10 @@ own_is (own.Taken q a) t is = ap request_of (sym is)
 
 -- a client at rest has come
 has_come : (o : Own) (t : Stage) → IsAtRest o → OwnOk o t → t ≢ absent
-has_come own.Absent t calm is gone = absurd calm
 has_come own.Idle t calm is gone = absurd cc
-has_come (own.Drawn q) t calm is gone = absurd calm
 has_come (own.Waiting q) t calm is gone =
     let e : Some q ≡ request_of absent = own_is (own.Waiting q) t is ∙ ap request_of gone in absurd (cc)
-has_come (own.Taken q a) t calm is gone = absurd calm
+has_come o t calm h k = absurd calm
 
 module _ {S O R : Type 0} (content : S → Content) (op_in : O → AnyOp) (reply_in : R → AnyReply) (kinds : List Kind)
     (clients quota : ℕ) where

@@ -1,6 +1,6 @@
--- Views that are no client's and only carry what one client tells another: such a view comes, and is spent.
-use Rattle.std.proofs.Common.{◌≡◌, ℕ, List, [], ◌∷◌, ◌++◌, set, All, refl, sym, ap, ◌∙◌, subst, ◌⊎◌}
-use Rattle.std.proofs.Common.{inl, inr}
+-- A view that only carries what one client tells another owes the truth of that, and nothing more. So the rule stays
+-- where such a view comes and where a client takes it in: the views alone change (`kept_views`).
+use Rattle.std.proofs.Common.{◌≡◌, ℕ, List, [], ◌∷◌, ◌++◌, set, All, refl, sym, ap, ◌∙◌, subst, ◌⊎◌, inl, inr}
 use mathlib.Core.Option.{some}
 use lib.ListN.{get_elem?}
 use Rattle.std.proofs.lemmas.List.Elements.{All-nil}

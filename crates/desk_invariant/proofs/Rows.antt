@@ -1,7 +1,7 @@
 -- Picking a request up, putting it back and answering it keep the rule.
 use Rattle.std.proofs.Common.{◌≡◌, ◌≢◌, ℕ, ◌+◌, ◌<◌, eqb, Bool, true, ◌&&◌, ◌||◌, List, [], ◌∷◌, ◌++◌, length, get_or}
-use Rattle.std.proofs.Common.{set, filter, not, cond, Option, Some, None, All, refl, sym, ap, subst, ◌∙◌, ⊎_elim}
-use Rattle.std.proofs.Common.{inl, inr, arith, eq-eqb, ne_eqb}
+use Rattle.std.proofs.Common.{set, filter, not, cond, Option, Some, None, All, refl, sym, ap, subst, ◌∙◌, ⊎_elim, inl}
+use Rattle.std.proofs.Common.{inr, arith, eq-eqb, ne_eqb}
 use mathlib.Core.Logic.{dite}
 use mathlib.Core.Option as maybe
 use mathlib.Core.Option.{some}
@@ -172,9 +172,6 @@ seat_row kinds w c r q t hands logs v o bs in_rows from to never grow ok now = r
 noted : (kinds : List Kind) (quota c x : ℕ) (w : World) (o : Own) → Sound kinds quota w → w.hand x ≡ None
     → row_word (w.stage c) ≢ 1 + x → waits_on x o ≡ true → OwnOk o (w.stage c)
     → (q : AnyRequest) × (a : AnyAnswer) × (w.stage c ≡ answered q a)
-noted kinds quota c x w own.Absent k free miss e ok = absurd (cc)
-noted kinds quota c x w own.Idle k free miss e ok = absurd (cc)
-noted kinds quota c x w (own.Drawn q) k free miss e ok = absurd (cc)
 noted kinds quota c x w (own.Waiting q) k free miss e ok = let at : q.object ≡ x = eqb-true q.object x e in
     elim ok [
       | inl b ↦ absurd (miss (ap row_word b ∙ ap (λ z. 1 + z) at))
@@ -183,7 +180,7 @@ noted kinds quota c x w (own.Waiting q) k free miss e ok = let at : q.object ≡
         | inr d ↦ (q, d.0, d.1)
       ]
     ]
-noted kinds quota c x w (own.Taken q a) k free miss e ok = absurd (cc)
+noted kinds quota c x w o k h e g q = absurd cc
 
 noting_ok : (kinds : List Kind) (quota c x r : ℕ) (w : World) (v : DeskView) (l : List AnyEntry)
     → v.held ≡ held.Pass x l → Sound kinds quota w

@@ -1,4 +1,5 @@
--- What a step of one client leaves of what the others know.
+-- What a step of one client leaves of what the others know: each fact of a view is of what the step does not write
+-- (`Later`), so the view stays true (`seats_after`).
 use Rattle.std.proofs.Common.{inr, inl, ◌≡◌, ◌≢◌, ℕ, ◌+◌, ◌<◌, ◌≤◌, Bool, true, false, List, [], length, get_or, set}
 use Rattle.std.proofs.Common.{Some, All, refl, sym, ap, subst, ◌∙◌, arith}
 use mathlib.Core.Option as maybe
@@ -185,7 +186,8 @@ seats_after kinds lists clients w w' so vs id v v' at cl alike makers before lea
         received = λ x. starts_longer (w'.log x) (w.log x) (received_of u x) (logs x) (b.received x);
         left = left_stays w w' u.left leave b.left;
         client = λ is. let c = b.client is in
-            (c.0, seat_stays kinds w w' u.number u leave (others u.number (λ g. t.0 (sym c.0 ∙ (ap so g ∙ here.0)))) c.1);
+            let other : u.number ≢ v.number = λ g. t.0 (sym c.0 ∙ (ap so g ∙ here.0)) in
+            (c.0, seat_stays kinds w w' u.number u leave (others u.number other) c.1);
         unmade = λ is c l. unmade c (is_made c u j t.1 is l) (b.unmade is c l);
         maker_kinds = b.maker_kinds;
         lists_are = b.lists_are;

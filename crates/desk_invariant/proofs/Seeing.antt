@@ -1,4 +1,5 @@
--- A client sees more of a log.
+-- A client sees more of a log: what it sees begins the log, so it has the entries of the client's own calls in their
+-- order.
 use Rattle.std.proofs.Common.{◌≡◌, ◌≢◌, ℕ, ◌<◌, true, false, cond, eqb, ◌⊎◌, inl, inr, length-append, List, [], ◌∷◌}
 use Rattle.std.proofs.Common.{◌++◌, length, get_or, set, refl, sym, ap, subst, ◌∙◌, arith, append_assoc, append-nil}
 use Rattle.std.proofs.Common.{length-set, get_or-set_other, get_or-set_same}
@@ -10,8 +11,8 @@ use Rattle.desk_invariant.specs.declared.board.Own.TheVariants as own
 use Rattle.desk_invariant.specs.declared.board.DeskView.{DeskView}
 use Rattle.std.proofs.lemmas.List.{append_cancel_left, nil_from_length}
 use Rattle.desk_model.specs.declared.Answer.TheVariants.{Reply, Refused}
-use Rattle.desk_model.specs.World.{AnyEntry, AnyRequest, AnyAnswer, AnyDone, Stage, World}
-use Rattle.desk_model.specs.World.{logged, logged_on, entries_of, served, served_now, StartsWith}
+use Rattle.desk_model.specs.World.{AnyEntry, AnyRequest, AnyAnswer, AnyDone, Stage, World, logged, logged_on}
+use Rattle.desk_model.specs.World.{entries_of, served, served_now, StartsWith}
 use Rattle.desk_model.specs.Sound.{Sound}
 use Rattle.desk_model.proofs.Entries.{entries-append}
 use Rattle.desk_invariant.specs.Views.{owed, after_meet, IsAtRest, MayHold, IsAccount}
@@ -78,10 +79,8 @@ short_logged x c q Refused = elim (eqb q.object x) as (λ b. length (cond b (log
 
 held_now : (x c : ℕ) (o : Own) (t : Stage) (now more : List AnyEntry) → IsAtRest o → OwnOk o t
     → served_now x c t ≡ now ++ more → MayHold x c o now
-held_now x c own.Absent t now more rest ok e = absurd rest
 held_now x c own.Idle t now more rest ok e =
     elim (one_front [] now more (omega arith) (ap (served_now x c) (sym ok) ∙ e)) [ inl f ↦ f | inr f ↦ f ]
-held_now x c (own.Drawn q) t now more rest ok e = absurd rest
 held_now x c (own.Waiting q) t now more rest ok e =
     elim ok [
       | inl f ↦ inl
@@ -97,7 +96,7 @@ held_now x c (own.Waiting q) t now more rest ok e =
             ]
       ]
     ]
-held_now x c (own.Taken q a) t now more rest ok e = absurd rest
+held_now x c o t now more rest h e = absurd rest
 
 -- a list that the client has seen has of its own calls what it is to have
 pub accounts : (kinds : List Kind) (quota : ℕ) (w : World) (x : ℕ) (v : DeskView) (l : List AnyEntry) → IsAtRest v.own
