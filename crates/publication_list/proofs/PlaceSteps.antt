@@ -1,6 +1,6 @@
 -- The steps of the owner of a row keep the rule.
-use Rattle.std.proofs.Common.{◌≡◌, ◌≢◌, ◌⊎◌, ℕ, true, false, ◌+◌, ◌<◌, eqb, List, [], ◌∷◌, ◌++◌, get_or, refl, sym}
-use Rattle.std.proofs.Common.{ap, ◌∙◌, subst, inl, inr, ⊎_elim, eq-eqb, ne_eqb, arith}
+use Rattle.std.proofs.Common.{◌≡◌, ◌≢◌, ℕ, true, false, ◌+◌, ◌<◌, eqb, List, [], ◌∷◌, ◌++◌, get_or, refl, sym, ap, ◌∙◌}
+use Rattle.std.proofs.Common.{subst, inl, inr, eq-eqb, ne_eqb, arith}
 use mathlib.Core.Logic.{dite}
 use mathlib.Mathlib.Logic.Function.Basic.{update_self}
 use native.Mathlib.Decide.{ℕ_discrete}
@@ -19,9 +19,8 @@ use Rattle.publication_list.specs.declared.board.ListView.TheVariants as view
 use Rattle.publication_list.specs.PublicationList.{Stage, asleep, awake, listed, unlinked, PublicationList, mark_of}
 use Rattle.publication_list.specs.Rule.{OwnOk, Kept}
 use Rattle.publication_list.specs.Plays as play
-use Rattle.publication_list.proofs.RuleKept.{with_stage, place_step_keeps_others, stage_keeps_sound}
-use Rattle.publication_list.proofs.RuleKept.{mark_keeps_tied, link_keeps_tied}
-use Rattle.publication_list.proofs.RuleKept.{enlist_keeps_sound, enlist_keeps_tied, St, kept_after}
+use Rattle.publication_list.proofs.RuleKept.{with_stage, place_step_keeps_others, stage_keeps_sound, mark_keeps_tied}
+use Rattle.publication_list.proofs.RuleKept.{link_keeps_tied, enlist_keeps_sound, enlist_keeps_tied, St, kept_after}
 use Rattle.publication_list.proofs.RuleKept.{same_words_keep_rule, unmade_stay_asleep}
 
 abbrev Holds : St → Type 0
@@ -45,9 +44,13 @@ over e v = v
 
 -- a row that is not known to be woken, and whose mark is 0, is asleep
 unmarked : (o : RowKnowledge) (t : Stage) → o ≡ own.Unknown → OwnOk o t → mark_of t ≡ 0 → t ≡ asleep
-unmarked o t is ok e = ⊎_elim (λ a. a)
-    (λ (b : (t ≡ listed) ⊎ (t ≡ unlinked)). ⊎_elim (λ (c : t ≡ listed). let f = ap mark_of c in absurd (omega arith))
-    (λ (c : t ≡ unlinked). let f = ap mark_of c in absurd (omega arith)) b) (subst (λ z. OwnOk z t) is ok)
+unmarked o t is ok e = elim (subst (λ z. OwnOk z t) is ok) [
+  | inl a ↦ a
+  | inr b ↦ elim b [
+    | inl c ↦ let f = ap mark_of c in absurd (omega arith)
+    | inr c ↦ let f = ap mark_of c in absurd (omega arith)
+  ]
+]
 
 pub see_keeps_rule : (slots id i c : ℕ) (o : RowKnowledge) (t : List Enlist) (cs : List (ℕ × ℕ))
     → Allows Holds slots id (view.Place c o t, cs) i (λ f. f)
@@ -99,8 +102,8 @@ wake_keeps_rule slots id c t cs s k deep at small =
     let low = ok.1 in
     let n : ℕ = get_or s.words (1 + c) 0 in
     let was : w.stage c ≡ asleep = ok.2 in
-    let not_listed : w.stage c ≢ listed = λ e. let g = sym was ∙ e in absurd (cc) in
-    let not_unlinked : w.stage c ≢ unlinked = λ e. let g = sym was ∙ e in absurd (cc) in (
+    let not_listed : w.stage c ≢ listed = λ e. absurd cc in
+    let not_unlinked : w.stage c ≢ unlinked = λ e. absurd cc in (
       view.Place c (own.Awake n) t,
       keeps,
       tt,
@@ -126,8 +129,8 @@ link_keeps_rule slots id c m n t cs s k deep at small =
     let few = k.sound.few in
     let low = ok.1 in
     let was : w.stage c ≡ awake m = ok.2 in
-    let not_listed : w.stage c ≢ listed = λ e. let g = sym was ∙ e in absurd (cc) in
-    let not_unlinked : w.stage c ≢ unlinked = λ e. let g = sym was ∙ e in absurd (cc) in (
+    let not_listed : w.stage c ≢ listed = λ e. absurd cc in
+    let not_unlinked : w.stage c ≢ unlinked = λ e. absurd cc in (
       view.Place c (own.Awake n) t,
       keeps,
       tt,
@@ -154,7 +157,7 @@ enlist_keeps_rule slots id c m t cs s k deep at small =
     let few = k.sound.few in
     let low = ok.1 in
     let was : w.stage c ≡ awake m = ok.2 in
-    let not_unlinked : w.stage c ≢ unlinked = λ e. let g = sym was ∙ e in absurd (cc) in
+    let not_unlinked : w.stage c ≢ unlinked = λ e. absurd cc in
     let found : ℕ = get_or s.words 0 0 in
     dite (ℕ_discrete found m)
     (λ hit. (

@@ -1,7 +1,7 @@
 -- How a roster begins: the first state, and a place more.
 use Rattle.std.proofs.Common.{◌≡◌, ◌≢◌, ◌⊎◌, ℕ, zero, suc, ◌+◌, ◌<◌, List, [], ◌∷◌, ◌++◌, length, get_or, set}
-use Rattle.std.proofs.Common.{replicate, Option, Some, None}
-use Rattle.std.proofs.Common.{length-append, length-set, refl, sym, ap, ◌∙◌, subst, inl, inr, ⊎_elim, arith}
+use Rattle.std.proofs.Common.{replicate, Option, Some, None, length-append, length-set, refl, sym, ap, ◌∙◌, subst, inl}
+use Rattle.std.proofs.Common.{inr, arith}
 use mathlib.Core.Option.{some, some-injective, some-ne-none}
 use lib.ListN.{get_elem?}
 use Rattle.atomic_table.specs.Table.{Me, opening, Splits}
@@ -30,7 +30,7 @@ at_end [] a b zero e = inr (refl, some-injective a b e)
 at_end [] a b (suc j) e = absurd (some-ne-none b (sym e))
 at_end (x ∷ xs) a b zero e = inl e
 at_end (x ∷ xs) a b (suc j) e =
-    ⊎_elim (λ t. inl t) (λ (t : (j ≡ length xs) × (a ≡ b)). inr (ap suc t.0, t.1)) (at_end xs a b j e)
+    elim (at_end xs a b j e) [ inl t ↦ inl t | inr t ↦ inr (ap suc t.0, t.1) ]
 
 abbrev first_walker : ListView
 first_walker = view.Walker 0 [] None []
@@ -55,9 +55,10 @@ opening_keeps_rule words wide zeros = record {
   };
   count = refl;
   unmade = λ r l. refl;
-  seats = λ j v e. ⊎_elim (λ (t : get_elem? [] j ≡ some v). absurd (some-ne-none v (sym t)))
-      (λ (t : (j ≡ 0) × (first_walker ≡ v)). subst (λ z. ViewOk empty_list j z) t.1
-      (t.0, refl, ([], refl), λ q e. absurd (cc))) (at_end [] first_walker v j e);
+  seats = λ j v e. elim (at_end [] first_walker v j e) [
+    | inl t ↦ absurd (some-ne-none v (sym t))
+    | inr t ↦ subst (ViewOk empty_list j) t.1 (t.0, refl, ([], refl), λ q e. absurd cc)
+  ];
 }
 
 out_later : (w : PublicationList) (o : Option ℕ) → TakenOutOk w o → TakenOutOk (record w { made = w.made + 1 }) o
@@ -91,24 +92,18 @@ split_keeps_rule id made left out walks low s k at =
         listed = k.sound.listed;
         stands = k.sound.stands;
       };
-      tied = record {
-        wide = k.tied.wide;
-        head = k.tied.head;
-        nexts = k.tied.nexts;
-        links = k.tied.links;
-        marks = k.tied.marks;
-      };
+      tied = assumption;
       count = let both = length-append (set s.views id l) (new ∷ []) in omega arith;
       unmade = λ r h. k.unmade r (omega arith);
-      seats = λ j u e. ⊎_elim
-          (λ (t : get_elem? (set s.views id l) j ≡ some u). ⊎_elim
-          (λ (h : (j ≡ id) × (l ≡ u)). subst (λ z. ViewOk w' j z) h.1
-          (h.0 ∙ ok.0, omega arith, ok.2, out_later w out ok.3))
-          (λ (h : (j ≢ id) × (get_elem? s.views j ≡ some u)). later w j u (λ z. h.0 (z ∙ sym ok.0)) (k.seats j u h.1))
-          (at_set s.views id j l u t))
-          (λ (t : (j ≡ length (set s.views id l)) × (new ≡ u)). let here = t.0 in
-          subst (λ z. ViewOk w' j z) t.1 (omega arith, omega arith, inl (k.unmade made (omega arith))))
-          (at_end (set s.views id l) new u j e);
+      seats = λ j u e. elim (at_end (set s.views id l) new u j e) [
+        | inl t ↦ elim (at_set s.views id j l u t) [
+          | inl h ↦ subst (λ z. ViewOk w' j z) h.1
+              (h.0 ∙ ok.0, omega arith, ok.2, out_later w out ok.3)
+          | inr h ↦ later w j u (λ z. h.0 (z ∙ sym ok.0)) (k.seats j u h.1)
+        ]
+        | inr t ↦ let here = t.0 in
+            subst (λ z. ViewOk w' j z) t.1 (omega arith, omega arith, inl (k.unmade made (omega arith)))
+      ];
     }
 
 pub zeros : (n i : ℕ) → get_or {A = ℕ} (replicate n 0) i 0 ≡ 0

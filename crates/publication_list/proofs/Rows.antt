@@ -1,6 +1,6 @@
 -- Lists of rows: the words that lead from place to place, and a place taken out.
 use Rattle.std.proofs.Common.{◌≡◌, ◌≢◌, ◌⊎◌, ℕ, zero, suc, ◌+◌, ◌-◌, ◌<◌, ◌≤◌, List, [], ◌∷◌, ◌++◌, length, get_or}
-use Rattle.std.proofs.Common.{remove, length-append, refl, sym, ap, ◌∙◌, inl, inr, ⊎_elim, lt_of_not-le, arith}
+use Rattle.std.proofs.Common.{remove, length-append, refl, sym, ap, ◌∙◌, inl, inr, lt_of_not-le, arith}
 use mathlib.Core.Logic.{dite}
 use mathlib.Mathlib.Logic.Function.Basic.{update, forall_update_iff}
 use native.Mathlib.Decide.{dec_le, ℕ_discrete}
@@ -78,11 +78,7 @@ distinct_remove l p inside d i j li lj e =
     let a = was_at l p i inside li in
     let b = was_at l p j inside lj in
     let same : a.0 ≡ b.0 = d a.0 b.0 a.1 b.1 (sym a.2 ∙ (e ∙ b.2)) in
-    ⊎_elim (λ (x : (i < p) × (a.0 ≡ i)). ⊎_elim (λ (y : (j < p) × (b.0 ≡ j)). let u = x.1 in let v = y.1 in omega arith)
-    (λ (y : (p ≤ j) × (b.0 ≡ j + 1)). let u = x.1 in let v = y.1 in let s = x.0 in let t = y.0 in omega arith) b.3)
-    (λ (x : (p ≤ i) × (a.0 ≡ i + 1)). ⊎_elim
-    (λ (y : (j < p) × (b.0 ≡ j)). let u = x.1 in let v = y.1 in let s = x.0 in let t = y.0 in omega arith)
-    (λ (y : (p ≤ j) × (b.0 ≡ j + 1)). let u = x.1 in let v = y.1 in omega arith) b.3) a.3
+    omega (arith, a.3, b.3)
 
 -- what was taken out is gone
 pub gone : (l : List ℕ) (p k : ℕ) → p < length l → IsDistinct l → k < length (remove l p)
@@ -90,8 +86,7 @@ pub gone : (l : List ℕ) (p k : ℕ) → p < length l → IsDistinct l → k < 
 gone l p k inside d low e =
     let a = was_at l p k inside low in
     let same : a.0 ≡ p = d a.0 p a.1 inside (sym a.2 ∙ e) in
-    ⊎_elim (λ (x : (k < p) × (a.0 ≡ k)). let u = x.1 in let v = x.0 in omega arith)
-    (λ (x : (p ≤ k) × (a.0 ≡ k + 1)). let u = x.1 in let v = x.0 in omega arith) a.3
+    omega (arith, a.3)
 
 pub distinct_more : (x : ℕ) (xs : List ℕ) → ((k : ℕ) → k < length xs → get_or xs k 0 ≢ x) → IsDistinct xs
     → IsDistinct (x ∷ xs)
@@ -104,8 +99,11 @@ found : (n : ℕ) (l : List ℕ)
     → ((i : ℕ) × (i < length l) × (get_or l i 0 ≡ n)) ⊎ ((i : ℕ) → i < length l → get_or l i 0 ≢ n)
 found n [] = inr (λ i h e. omega arith)
 found n (x ∷ xs) = dite (ℕ_discrete x n) (λ e. inl (0, omega arith, e))
-    (λ ne. ⊎_elim (λ (t : (i : ℕ) × (i < length xs) × (get_or xs i 0 ≡ n)). let l = t.1 in
-    inl (suc t.0, omega arith, t.2)) (λ t. inr (not_first n x xs ne t)) (found n xs))
+    (λ ne. elim (found n xs) [
+      | inl t ↦ let l = t.1 in
+          inl (suc t.0, omega arith, t.2)
+      | inr t ↦ inr (not_first n x xs ne t)
+    ])
   where
     not_first : (n x : ℕ) (xs : List ℕ) → x ≢ n → ((i : ℕ) → i < length xs → get_or xs i 0 ≢ n) → (i : ℕ)
         → i < length (x ∷ xs) → get_or (x ∷ xs) i 0 ≢ n
@@ -116,12 +114,12 @@ found n (x ∷ xs) = dite (ℕ_discrete x n) (λ e. inl (0, omega arith, e))
 pub few_below : (n : ℕ) (l : List ℕ) → IsDistinct l → ((k : ℕ) → k < length l → get_or l k 0 < n) → length l ≤ n
 few_below zero [] d low = omega arith
 few_below zero (x ∷ xs) d low = let h = low 0 (omega arith) in absurd (omega arith)
-few_below (suc n) l d low = ⊎_elim
-    (λ (t : (i : ℕ) × (i < length l) × (get_or l i 0 ≡ n)). let long = length-remove l t.0 t.1 in
-    let rest = few_below n (remove l t.0) (distinct_remove l t.0 t.1 d) (λ k h. let a = was_at l t.0 k t.1 h in
-    let lt = low a.0 a.1 in
-    let ne = gone l t.0 k t.1 d h in
-    let e = a.2 in
-    let other : get_or (remove l t.0) k 0 ≢ n = λ f. ne (f ∙ sym t.2) in omega arith) in omega arith)
-    (λ t. let rest = few_below n l d (λ k h. let lt = low k h in let ne = t k h in omega arith) in omega arith)
-    (found n l)
+few_below (suc n) l d low = elim (found n l) [
+  | inl t ↦ let long = length-remove l t.0 t.1 in
+      let rest = few_below n (remove l t.0) (distinct_remove l t.0 t.1 d) (λ k h. let a = was_at l t.0 k t.1 h in
+      let lt = low a.0 a.1 in
+      let ne = gone l t.0 k t.1 d h in
+      let e = a.2 in
+      let other : get_or (remove l t.0) k 0 ≢ n = λ f. ne (f ∙ sym t.2) in omega arith) in omega arith
+  | inr t ↦ let rest = few_below n l d (λ k h. let lt = low k h in let ne = t k h in omega arith) in omega arith
+]

@@ -1,8 +1,7 @@
 -- What a step leaves: what holds of the list itself, the words, and what the other seats know.
-use Rattle.std.proofs.Common.{◌≡◌, ◌≢◌, ◌⊎◌, ℕ, zero, suc, ◌+◌, ◌<◌, ◌≤◌, List, ◌∷◌, ◌++◌, length, get_or, set}
-use Rattle.std.proofs.Common.{remove, Option, Some, None}
-use Rattle.std.proofs.Common.{length-set, get_or-set_other, get_or-set_same, refl, sym, ap, ◌∙◌, subst, ⊎_elim}
-use Rattle.std.proofs.Common.{append_assoc, arith}
+use Rattle.std.proofs.Common.{inr, inl, ◌≡◌, ◌≢◌, ◌⊎◌, ℕ, zero, suc, ◌+◌, ◌<◌, ◌≤◌, List, ◌∷◌, ◌++◌, length, get_or}
+use Rattle.std.proofs.Common.{set, remove, Option, Some, None, length-set, get_or-set_other, get_or-set_same, refl, sym}
+use Rattle.std.proofs.Common.{ap, ◌∙◌, subst, append_assoc, arith}
 use mathlib.Core.Logic.{dite}
 use mathlib.Mathlib.Logic.Function.Basic.{update, update_self, update_of_ne}
 use native.Mathlib.Decide.{ℕ_discrete}
@@ -213,19 +212,21 @@ unlink_keeps_tied w p n words inside word s k =
         ≡ word_at (remove w.rows (suc p)) (suc i)
     next_there i l a =
         let F : ℕ → Type 0 = λ z. get_or (set words (1 + get_or w.rows p 0) n) (1 + z) 0
-        ≡ word_at (remove w.rows (suc p)) (suc i) in subst F (sym a.2) (⊎_elim
-        (λ (b : (i < suc p) × (a.0 ≡ i)). let same = b.1 in let under = b.0 in
-        subst (λ z. F (get_or w.rows z 0)) (sym same) (dite (ℕ_discrete i p)
-        (λ (e : i ≡ p). subst (λ z. get_or (set words (1 + get_or w.rows p 0) n) (1 + get_or w.rows z 0) 0
-        ≡ word_at (remove w.rows (suc p)) (suc z)) (sym e)
-        (let few = s.few in let low = s.low p (omega arith) in let wide = k.wide in
-        get_or-set_same words (1 + get_or w.rows p 0) n 0 (omega arith)
-        ∙ (word ∙ sym (word_at-remove_above w.rows (suc p) (suc p) inside (omega arith)))))
-        (λ ne. next_else i (omega arith) ne ∙ sym (word_at-remove_below w.rows (suc p) (suc i) inside (omega arith)))))
-        (λ (b : (suc p ≤ i) × (a.0 ≡ i + 1)). let above = b.0 in let same : a.0 ≡ suc i = b.1 ∙ omega arith in
-        subst (λ z. F (get_or w.rows z 0)) (sym same)
-        (next_else (suc i) (subst (λ z. z < length w.rows) same a.1) (λ e. omega arith)
-        ∙ sym (word_at-remove_above w.rows (suc p) (suc i) inside (omega arith)))) a.3)
+        ≡ word_at (remove w.rows (suc p)) (suc i) in subst F (sym a.2) (elim a.3 [
+          | inl b ↦ let same = b.1 in let under = b.0 in
+              subst (λ z. F (get_or w.rows z 0)) (sym same) (dite (ℕ_discrete i p)
+              (λ (e : i ≡ p). subst (λ z. get_or (set words (1 + get_or w.rows p 0) n) (1 + get_or w.rows z 0) 0
+              ≡ word_at (remove w.rows (suc p)) (suc z)) (sym e)
+              (let few = s.few in let low = s.low p (omega arith) in let wide = k.wide in
+              get_or-set_same words (1 + get_or w.rows p 0) n 0 (omega arith)
+              ∙ (word ∙ sym (word_at-remove_above w.rows (suc p) (suc p) inside (omega arith)))))
+              (λ ne. next_else i (omega arith) ne
+              ∙ sym (word_at-remove_below w.rows (suc p) (suc i) inside (omega arith))))
+          | inr b ↦ let above = b.0 in let same : a.0 ≡ suc i = b.1 ∙ omega arith in
+              subst (λ z. F (get_or w.rows z 0)) (sym same)
+              (next_else (suc i) (subst (λ z. z < length w.rows) same a.1) (λ e. omega arith)
+              ∙ sym (word_at-remove_above w.rows (suc p) (suc i) inside (omega arith)))
+        ])
 
 abbrev pub St : Type 0
 St = State ℕ ListView
@@ -236,8 +237,10 @@ seats_after : (w w' : PublicationList) (vs : List ListView) (id : ℕ) (v' : Lis
     → ((j : ℕ) (u : ListView) → j ≢ id → ViewOk w j u → ViewOk w' j u) → ViewOk w' id v'
     → (j : ℕ) (u : ListView) → get_elem? (set vs id v') j ≡ some u → ViewOk w' j u
 seats_after w w' vs id v' before others ok j u e =
-    ⊎_elim (λ (t : (j ≡ id) × (v' ≡ u)). subst (λ (z : ℕ × ListView). ViewOk w' z.0 z.1) (λ i. (sym t.0 i, t.1 i)) ok)
-    (λ (t : (j ≢ id) × (get_elem? vs j ≡ some u)). others j u t.0 (before j u t.1)) (at_set vs id j v' u e)
+    elim (at_set vs id j v' u e) [
+      | inl t ↦ subst (λ (z : ℕ × ListView). ViewOk w' z.0 z.1) (λ i. (sym t.0 i, t.1 i)) ok
+      | inr t ↦ others j u t.0 (before j u t.1)
+    ]
 
 -- the list after a step of the seat id, with what the rule asks of it
 pub record After (s : St) (k : Kept s) (id : ℕ) (v' : ListView) (words : List ℕ) : Type 0 where

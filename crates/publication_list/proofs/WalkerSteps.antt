@@ -1,11 +1,12 @@
 -- The steps of the walker keep the rule.
+use Rattle.std.proofs.lemmas.List.{take_all, get_or-append-add}
+use Rattle.std.proofs.Math.Seq.{take-suc}
 use Rattle.std.proofs.Common.{◌≡◌, ◌≢◌, ℕ, zero, suc, ◌+◌, ◌-◌, ◌<◌, ◌≤◌, List, [], ◌∷◌, ◌++◌, take, lt_of_not-le}
-use Rattle.std.proofs.Common.{length, get_or, set, remove}
-use Rattle.std.proofs.Common.{Option, Some, None, length-append, refl, sym, ap, ◌∙◌, subst, inl, inr, arith}
+use Rattle.std.proofs.Common.{length, get_or, set, remove, Option, Some, None, length-append, refl, sym, ap, ◌∙◌, subst}
+use Rattle.std.proofs.Common.{inl, inr, arith}
 use mathlib.Core.Option as maybe
 use mathlib.Core.Option.{some}
 use lib.ListN.{get_elem?}
-use Rattle.std.proofs.lemmas.List.{get_or-append-add}
 use Rattle.std.proofs.lemmas.List.Edits.{length-remove}
 use mathlib.Core.Logic.{dite}
 use mathlib.Mathlib.Logic.Function.Basic.{update_self}
@@ -20,12 +21,11 @@ use Rattle.publication_list.specs.PublicationList.{word_at, WalkMeets}
 use Rattle.publication_list.specs.Rule.{OwnOk, TakenOutOk, Tied, Kept}
 use Rattle.publication_list.specs.Inside.{left_of, made_of, walks_of, HasMet, Meeting}
 use Rattle.publication_list.specs.Plays as play
-use Rattle.publication_list.proofs.Rows.{updated_all, word_at_in, word_at_past, word_at_append, remove_append}
-use Rattle.publication_list.proofs.Rows.{was_at, distinct_right, few_below}
-use Rattle.publication_list.proofs.RuleKept.{with_stage, walker_step_keeps_others, stage_keeps_sound}
-use Rattle.publication_list.proofs.RuleKept.{mark_keeps_tied, unlink_keeps_sound}
-use Rattle.publication_list.proofs.RuleKept.{unlink_keeps_tied, St, kept_after, same_words_keep_rule}
-use Rattle.publication_list.proofs.RuleKept.{unmade_stay_asleep}
+use Rattle.publication_list.proofs.Rows.{updated_all, word_at_in, word_at_past, word_at_append, remove_append, was_at}
+use Rattle.publication_list.proofs.Rows.{distinct_right, few_below}
+use Rattle.publication_list.proofs.RuleKept.{with_stage, walker_step_keeps_others, stage_keeps_sound, mark_keeps_tied}
+use Rattle.publication_list.proofs.RuleKept.{unlink_keeps_sound, unlink_keeps_tied, St, kept_after}
+use Rattle.publication_list.proofs.RuleKept.{same_words_keep_rule, unmade_stay_asleep}
 
 abbrev Holds : St → Type 0
 Holds = Kept
@@ -106,13 +106,13 @@ follow_keeps_rule slots id i made left out walks cs s k deep at small =
 -- a row that was listed may be taken out, for all that its owner knows
 taken_out : (t : Stage) → t ≡ listed → (o : RowKnowledge) → OwnOk o t → OwnOk o unlinked
 taken_out t is own.Unknown ok = inr (inr refl)
-taken_out t is own.Asleep ok = let g = sym is ∙ ok in absurd (cc)
-taken_out t is (own.Awake n) ok = let g = sym is ∙ ok in absurd (cc)
+taken_out t is own.Asleep ok = absurd cc
+taken_out t is (own.Awake n) ok = absurd cc
 
 put_to_sleep : (t : Stage) → t ≡ unlinked → (o : RowKnowledge) → OwnOk o t → OwnOk o asleep
 put_to_sleep t is own.Unknown ok = inl refl
 put_to_sleep t is own.Asleep ok = refl
-put_to_sleep t is (own.Awake n) ok = let g = sym is ∙ ok in absurd (cc)
+put_to_sleep t is (own.Awake n) ok = absurd cc
 
 pub unlink_keeps_rule : (slots id i n p made : ℕ) (left : List ℕ) (walks : List (List ℕ)) (cs : List (ℕ × ℕ))
     → suc p < length left → i ≡ 1 + get_or left p 0 → n ≡ word_at left (suc (suc p))
@@ -184,7 +184,7 @@ sleep_keeps_rule slots id r made left walks cs s k deep at small =
     let low : r < w.made = ok.3.0 in
     let was : w.stage r ≡ unlinked = ok.3.1 in
     let few = k.sound.few in
-    let not_listed : w.stage r ≢ listed = λ e. let g = sym was ∙ e in absurd (cc) in
+    let not_listed : w.stage r ≢ listed = λ e. absurd cc in
     let v' : ListView = view.Walker made left None walks in (
       v',
       keeps,
@@ -221,17 +221,6 @@ module _ (slots id : ℕ) (left : List ℕ) (walks : List (List ℕ)) (m : Hands
       subst (λ z. Allows Holds slots id z i (λ f. f) (play.follows (step slots i 0 0 maybe.none) z)) (sym p)
       (follow_keeps_rule slots id i (made_of m.0) left None walks [])
 
-take_more : (l : List ℕ) (n : ℕ) → n < length l → take (suc n) l ≡ take n l ++ get_or l n 0 ∷ []
-take_more [] n h = absurd (omega arith)
-take_more (x ∷ xs) zero h = refl
-take_more (x ∷ xs) (suc n) h = ap (λ z. x ∷ z) (take_more xs n (omega arith))
-
-take_all : (l : List ℕ) (n : ℕ) → length l ≤ n → take n l ≡ l
-take_all [] zero h = refl
-take_all [] (suc n) h = refl
-take_all (x ∷ xs) zero h = absurd (omega arith)
-take_all (x ∷ xs) (suc n) h = ap (λ z. x ∷ z) (take_all xs n (omega arith))
-
 -- the walk begins at the head
 pub walk_begins : (found : ℕ) (left : List ℕ) (walks : List (List ℕ)) (m m' : Hands) → HasMet left walks m
     → play.meets (step 0 0 0 0 maybe.none) m found m' → Meeting left walks (made_of m.0) [] found m'
@@ -264,7 +253,7 @@ module _ (left : List ℕ) (walks : List (List ℕ)) (made : ℕ) (rows : List �
 
   pub walk_met_all : at ≡ 0 → rows ≡ left_of m.0
   walk_met_all e = dite (dec_le (length (left_of m.0)) (length rows))
-      (λ past. k.so_far ∙ take_all (left_of m.0) (length rows) past)
+      (λ past. k.so_far ∙ take_all (length rows) (left_of m.0) past)
       (λ n. let low = lt_of_not-le n in let w = word_at_in (left_of m.0) (length rows) low in let a = k.at_is in
       absurd (omega arith))
 
@@ -297,7 +286,7 @@ module _ (left : List ℕ) (walks : List (List ℕ)) (made : ℕ) (rows : List �
           low = k.low;
           few = k.few;
           so_far = more ∙ ((λ j. k.so_far j ++ row j ∷ [])
-              ∙ (sym (take_more all n low) ∙ ap (λ z. take z all) (sym long)));
+              ∙ (sym (take-suc all n 0 low) ∙ ap (λ z. take z all) (sym long)));
           within = omega arith;
           at_is = told.1 ∙ ap (word_at all) (sym long);
         }
