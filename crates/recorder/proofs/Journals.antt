@@ -43,8 +43,7 @@ in_turn c (Invoked t x op ∷ Returned u (Reply r) ∷ es) h d shape =
     call t x op u (Reply r) es fits
     (in_turn c es d.0 d.2 (λ o s i back. shape o s (subst (In o) (sym calls) (inr i)) back))
 in_turn c (Invoked t x op ∷ Returned u Refused ∷ es) h d shape = call t x op u Refused es tt (in_turn c es h d shape)
-in_turn c (Invoked t x op ∷ Invoked u y o ∷ es) h d shape = absurd d
-in_turn c (Returned u a ∷ es) h d shape = absurd d
+in_turn c js h d k = absurd d
 
 -- the client does what it may
 pub runs_of : (c x : ℕ) (js : List AnyEvent) → InTurn js → Runs c idle (events_from c x js)

@@ -1,6 +1,7 @@
 -- A list of events in which each process does only what it may, and each object is used by one kind, is proper.
 use Rattle.std.proofs.Common.{◌≡◌, ℕ, ◌<◌, ◌==◌, Bool, true, false, cond, List, [], ◌∷◌, ◌++◌, filter, Option, Some}
 use Rattle.std.proofs.Common.{None, refl, ap, sym, ◌∙◌, subst, append_assoc}
+use Rattle.std.proofs.lemmas.List.{append-nil}
 use Rattle.std.proofs.lemmas.Bool.{eq-eqb}
 use Rattle.model.specs.declared.AnyOp.{AnyOp}
 use Rattle.model.specs.declared.Kind.{Kind}
@@ -13,17 +14,13 @@ use Rattle.events.specs.Events.{last_event, IsIdle, IsIdleAfter, IsOfKindAt, Fol
 use Rattle.events.proofs.ProcessRuns.{State, idle, state_by, state_after, MayDo, Runs, last_push}
 
 -- the process runs on after more events
-behind : (p : ℕ) (front earlier es : List Event) → Runs p (state_after (last_event p front)) (earlier ++ es)
+runs_after : (p : ℕ) (front earlier es : List Event) → Runs p (state_after (last_event p front)) (earlier ++ es)
     → Runs p (state_after (last_event p (front ++ earlier))) es
-behind p front [] es h =
+runs_after p front [] es h =
     subst (λ (xs : List Event). Runs p (state_after (last_event p xs)) es) (sym (append-nil front)) h
-  where
-    append-nil : (xs : List Event) → xs ++ [] ≡ xs
-    append-nil [] = refl
-    append-nil (x ∷ xs) = ap (λ ys. x ∷ ys) (append-nil xs)
-behind p front (e ∷ earlier) es h =
+runs_after p front (e ∷ earlier) es h =
     subst (λ (xs : List Event). Runs p (state_after (last_event p xs)) es) (append_assoc front (e ∷ []) earlier)
-    (behind p (front ++ e ∷ []) earlier es (next (e.process == p) refl))
+    (runs_after p (front ++ e ∷ []) earlier es (next (e.process == p) refl))
   where
     next : (b : Bool) → (e.process == p) ≡ b → Runs p (state_after (last_event p (front ++ e ∷ []))) (earlier ++ es)
     next true q = subst (λ l. Runs p (state_after l) (earlier ++ es))
@@ -108,7 +105,7 @@ proper_from kinds es up runs of_kind = record {
   rising = all_from_pairs (λ a b. a.number < b.number) es up;
   each = λ earlier later e is.
       let here : Runs e.process (state_after (last_event e.process earlier)) (e ∷ later) =
-      behind e.process [] earlier (e ∷ later) (subst (Runs e.process idle) is (runs e.process)) in
+      runs_after e.process [] earlier (e ∷ later) (subst (Runs e.process idle) is (runs e.process)) in
       follows earlier e.process e.object e.action (of_one_kind earlier later e is)
       (here.0 (eq-eqb e.process e.process refl)).0;
 }

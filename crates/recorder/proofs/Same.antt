@@ -4,9 +4,9 @@ use Rattle.std.proofs.lemmas.Bool.{eq-eqb}
 use Rattle.model.proofs.Lists.{In, Pairs, in_filter, in_filter_from}
 
 -- what is in both lists, except for the equal first elements, stands after them
-behind : {X : Type 0} (f : X → ℕ) (x y z : X) (xs ys : List X) → ((w : X) → In w xs → f x < f w) → x ≡ y → In z xs
+among_later : {X : Type 0} (f : X → ℕ) (x y z : X) (xs ys : List X) → ((w : X) → In w xs → f x < f w) → x ≡ y → In z xs
     → In z (y ∷ ys) → In z ys
-behind f x y z xs ys low same i j = elim j [
+among_later f x y z xs ys low same i j = elim j [
   | inl e ↦ let l = low z i in let k : f z ≡ f x = ap f (e ∙ sym same) in absurd (omega arith)
   | inr k ↦ k
 ]
@@ -24,8 +24,8 @@ same_rising f (x ∷ xs) (y ∷ ys) p q g h =
         | inr j ↦ let a = q.0 x i in let b = p.0 y j in absurd (omega arith)
       ]
     ] in
-    let rest : xs ≡ ys = same_rising f xs ys p.1 q.1 (λ z i. behind f x y z xs ys p.0 first i (g z (inr i)))
-    (λ z i. behind f y x z ys xs q.0 (sym first) i (h z (inr i))) in
+    let rest : xs ≡ ys = same_rising f xs ys p.1 q.1 (λ z i. among_later f x y z xs ys p.0 first i (g z (inr i)))
+    (λ z i. among_later f y x z ys xs q.0 (sym first) i (h z (inr i))) in
     ap (λ z. z ∷ xs) first ∙ ap (λ zs. y ∷ zs) rest
 
 -- where also the parts of each process are the same, the lists are
