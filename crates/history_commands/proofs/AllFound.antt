@@ -1,5 +1,5 @@
 -- Where a certificate is found for each object, and the text that is made of the certificates.
-use Rattle.std.proofs.Common.{◌≡◌, ◌∙◌, ◌&&◌, Bool, true, false, ℕ, List, [], ◌∷◌, ◌++◌, All, Option, Some, IsSome}
+use Rattle.std.proofs.Common.{arith, ◌≡◌, ◌∙◌, ◌&&◌, Bool, true, ℕ, List, [], ◌∷◌, ◌++◌, All, Option, Some, IsSome}
 use Rattle.std.proofs.Common.{refl, ap, sym, subst, inl, inr}
 use Rattle.std.specs.List.{list_all, cons_option, filter_map}
 use Rattle.std.proofs.lemmas.List.{append-nil}
@@ -12,21 +12,15 @@ use Rattle.history_commands.specs.declared.status.Status.TheVariants as status_i
 -- ---- by the status
 
 pub yes_of : (b c : Bool) → status_by b c ≡ status_is.Yes → c ≡ true
-yes_of true c e = absurd cc
-yes_of false true e = refl
-yes_of false false e = absurd cc
+yes_of b c e = grind arith
 
 pub no_of : (b c : Bool) → status_by b c ≡ status_is.No → b ≡ true
-no_of true c e = refl
-no_of false true e = absurd cc
-no_of false false e = absurd cc
+no_of b c e = grind arith
 
 -- ---- all found
 
 pub both : (a b : Bool) → (a && b) ≡ true → (a ≡ true) × (b ≡ true)
-both true true e = (refl, refl)
-both true false e = absurd cc
-both false b e = absurd cc
+both a b e = grind arith
 
 -- answers with or without a certificate, and the text that their lines make up
 module _ {A : Type 0} (is_found : A → Bool) (certificate : A → Option Certificate) (line : A → List ℕ)

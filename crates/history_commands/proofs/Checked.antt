@@ -1,9 +1,8 @@
 -- What the status of the lines of a verdict shows: a yes comes of no other verdict.
-use Rattle.std.proofs.Common.{◌≡◌, ◌≢◌, ◌∙◌, ℕ, List, sym}
+use Rattle.std.proofs.Common.{arith, ◌≡◌, ◌≢◌, ◌∙◌, ℕ, List, sym}
 use Rattle.checker.specs.declared.refusal.Refusal.{Refusal}
-use Rattle.checker.specs.declared.refusal.Refusal.TheVariants as refusal
 use Rattle.report.specs.declared.verdict.Verdict.{Verdict}
-use Rattle.report.specs.declared.verdict.Verdict.TheVariants.{Yes, No, Malformed, NoMemory}
+use Rattle.report.specs.declared.verdict.Verdict.TheVariants.{Yes, No}
 use Rattle.judging.specs.Texts.{IsLinearizableText}
 use Rattle.judging.specs.Verdicts.{Holds, OnYes}
 use Rattle.history_commands.specs.Checked.{IsCheck}
@@ -12,16 +11,12 @@ use Rattle.history_commands.specs.declared.status.Status.{Status}
 use Rattle.history_commands.specs.declared.status.Status.TheVariants as status_is
 
 refusal_is_no_yes : (r : Refusal) → status_of (No r) ≢ status_is.Yes
-refusal_is_no_yes (refusal.NoCertificate x) e = absurd cc
-refusal_is_no_yes (refusal.StrangeObject x) e = absurd cc
-refusal_is_no_yes (refusal.BadOrder x f) e = absurd cc
-refusal_is_no_yes refusal.NoMemory e = absurd cc
+refusal_is_no_yes r e = grind arith
 
 pub yes_shows : (P : Type 0) (v : Verdict) → OnYes v P → status_of v ≡ status_is.Yes → P
 yes_shows P (Yes s) p e = p
 yes_shows P (No r) p e = absurd (refusal_is_no_yes r e)
-yes_shows P (Malformed f) p e = absurd cc
-yes_shows P NoMemory p e = absurd cc
+yes_shows P v p e = absurd cc
 
 pub is_check : (h c : List ℕ) (status : Status) (out : List ℕ) → IsVerdictOutput (Holds h c) status out
     → IsCheck h c status out

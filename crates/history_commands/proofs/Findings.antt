@@ -1,48 +1,18 @@
 -- The worst of what is found: what it says of each finding, by cases of two and by induction on the list.
-use Rattle.std.proofs.Common.{◌≡◌, ◌⊎◌, inl, inr, List, [], ◌∷◌, ◌++◌, map, fold, refl, ap, sym, ◌∙◌}
+use Rattle.std.proofs.Common.{arith, ◌≡◌, ◌⊎◌, inl, inr, List, [], ◌∷◌, ◌++◌, map, fold, refl, ap, sym, ◌∙◌}
 use Rattle.std.proofs.lemmas.List.{map_push}
 use Rattle.model.proofs.Lists.{In}
 use Rattle.history_commands.specs.Merged.{Answer, status_with, worse, worst}
 use Rattle.history_commands.specs.declared.finding.Finding.{Finding}
-use Rattle.history_commands.specs.declared.finding.Finding.TheVariants.{Certified, Undecided, Refuted, Malformed}
+use Rattle.history_commands.specs.declared.finding.Finding.TheVariants.{Certified, Refuted}
 use Rattle.history_commands.specs.declared.status.Status.TheVariants as ends
 
 both_certified : (f g : Finding) → worse f g ≡ Certified → (f ≡ Certified) × (g ≡ Certified)
-both_certified Certified Certified e = (refl, refl)
-both_certified Certified Undecided e = absurd cc
-both_certified Certified Refuted e = absurd cc
-both_certified Certified Malformed e = absurd cc
-both_certified Undecided Certified e = absurd cc
-both_certified Undecided Undecided e = absurd cc
-both_certified Undecided Refuted e = absurd cc
-both_certified Undecided Malformed e = absurd cc
-both_certified Refuted Certified e = absurd cc
-both_certified Refuted Undecided e = absurd cc
-both_certified Refuted Refuted e = absurd cc
-both_certified Refuted Malformed e = absurd cc
-both_certified Malformed Certified e = absurd cc
-both_certified Malformed Undecided e = absurd cc
-both_certified Malformed Refuted e = absurd cc
-both_certified Malformed Malformed e = absurd cc
+both_certified f g e = grind arith
 
 -- the worse of two is one of them
 one_of_two : (f g : Finding) → (worse f g ≡ f) ⊎ (worse f g ≡ g)
-one_of_two Certified Certified = inl refl
-one_of_two Certified Undecided = inr refl
-one_of_two Certified Refuted = inr refl
-one_of_two Certified Malformed = inr refl
-one_of_two Undecided Certified = inl refl
-one_of_two Undecided Undecided = inl refl
-one_of_two Undecided Refuted = inr refl
-one_of_two Undecided Malformed = inr refl
-one_of_two Refuted Certified = inl refl
-one_of_two Refuted Undecided = inl refl
-one_of_two Refuted Refuted = inl refl
-one_of_two Refuted Malformed = inr refl
-one_of_two Malformed Certified = inl refl
-one_of_two Malformed Undecided = inl refl
-one_of_two Malformed Refuted = inl refl
-one_of_two Malformed Malformed = inl refl
+one_of_two f g = grind arith
 
 -- ---- the findings of a list
 
@@ -88,13 +58,7 @@ own_finding a = a.finding
 -- ---- how a merge ends
 
 pub yes_certified : (f : Finding) → status_with f ≡ ends.Yes → f ≡ Certified
-yes_certified Certified e = refl
-yes_certified Undecided e = absurd cc
-yes_certified Refuted e = absurd cc
-yes_certified Malformed e = absurd cc
+yes_certified f e = grind arith
 
 pub no_refuted : (f : Finding) → status_with f ≡ ends.No → f ≡ Refuted
-no_refuted Certified e = absurd cc
-no_refuted Undecided e = absurd cc
-no_refuted Refuted e = refl
-no_refuted Malformed e = absurd cc
+no_refuted f e = grind arith

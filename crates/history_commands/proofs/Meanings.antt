@@ -1,11 +1,10 @@
 -- What the status of an output shows.
-use Rattle.std.proofs.Common.{◌≢◌, ◌∙◌, ℕ, List, inl, inr, sym}
+use Rattle.std.proofs.Common.{arith, ◌≢◌, ◌∙◌, ℕ, List, inl, inr, sym}
 use Rattle.events.specs.declared.event.Event.{Event}
 use Rattle.certificate.specs.declared.Certificate.{Certificate}
 use Rattle.checker.specs.Refusals.{AreValid}
 use Rattle.judging.specs.Texts.{DenotesHistory, IsLinearizableText}
 use Rattle.report.specs.declared.verdict.Verdict.{Verdict}
-use Rattle.report.specs.declared.verdict.Verdict.TheVariants.{Yes, No, Malformed, NoMemory}
 use Rattle.history_commands.specs.Outputs.{status_of}
 use Rattle.history_commands.specs.declared.status.Status.TheVariants as status_is
 use Rattle.history_commands.specs.declared.status.Status.{Status}
@@ -15,16 +14,10 @@ use Rattle.history_commands.specs.Searches.{IsSearch, IsSearchOutput, IsHistoryU
 -- ---- a search
 
 unsearched_no_yes : (h : List ℕ) (v : Verdict) → IsHistoryUnread h v → status_of v ≢ status_is.Yes
-unsearched_no_yes h (Yes s) u e = absurd u
-unsearched_no_yes h (No r) u e = absurd u
-unsearched_no_yes h (Malformed f) u e = absurd cc
-unsearched_no_yes h NoMemory u e = absurd cc
+unsearched_no_yes h v u e = grind arith
 
 unsearched_no_no : (h : List ℕ) (v : Verdict) → IsHistoryUnread h v → status_of v ≢ status_is.No
-unsearched_no_no h (Yes s) u e = absurd u
-unsearched_no_no h (No r) u e = absurd u
-unsearched_no_no h (Malformed f) u e = absurd cc
-unsearched_no_no h NoMemory u e = absurd cc
+unsearched_no_no h v u e = grind arith
 
 pub is_search : ((text : List ℕ) (es : List Event) (cs : List Certificate) → DenotesHistory text es → AreValid es cs
     → IsLinearizableText text)

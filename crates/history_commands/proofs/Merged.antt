@@ -1,6 +1,6 @@
 -- What a merge shows. An answer on a shard with the numbers of the whole shows the same of its text, since numbers do
 -- not matter; and lines that are put in order, and joined, keep those of each object.
-use Rattle.std.proofs.Common.{◌≡◌, ◌∙◌, ◌||◌, ℕ, true, false, Bool, cond, List, [], ◌∷◌, ◌++◌, inl, inr, refl}
+use Rattle.std.proofs.Common.{arith, ◌≡◌, ◌∙◌, ◌||◌, ℕ, true, false, Bool, cond, List, [], ◌∷◌, ◌++◌, inl, inr, refl}
 use Rattle.std.proofs.Common.{ap, sym, subst, map, Any, IsSome, append_assoc}
 use Rattle.std.specs.List.{AllZip, flat_map, list_all, list_any}
 use Rattle.std.proofs.lemmas.List.Folds.{Any-from_list_any}
@@ -40,9 +40,8 @@ use Rattle.history_commands.proofs.Findings.{yes_certified}
 zip_push : {X Y : Type 0} (R : X → Y → Type 0) (xs : List X) (ys : List Y) (x : X) (y : Y) → AllZip R xs ys → R x y
     → AllZip R (xs ++ x ∷ []) (ys ++ y ∷ [])
 zip_push R [] [] x y h r = (r, tt)
-zip_push R [] (z ∷ ys) x y h r = absurd h
-zip_push R (z ∷ xs) [] x y h r = absurd h
 zip_push R (w ∷ xs) (z ∷ ys) x y h r = (h.0, zip_push R xs ys x y h.1 r)
+zip_push R xs ys x y h r = absurd h
 
 flat_push : {X : Type 0} (f : Answer → List X) (answers : List Answer) (a : Answer)
     → flat_map f answers ++ f a ≡ flat_map f (answers ++ a ∷ [])
@@ -85,11 +84,7 @@ all_orders ds e = go (list_any (λ d. is_impossible d.1) ds) (list_all (λ d. is
     go false false q = absurd cc
 
 order_certificate : (d : Decision) → is_order d ≡ true → IsSome (certificate_in d)
-order_certificate (Order c) e = refl
-order_certificate (Impossible f) e = absurd cc
-order_certificate (OutOfSteps n) e = absurd cc
-order_certificate NoMemory e = absurd cc
-order_certificate Open e = absurd cc
+order_certificate d e = grind arith
 
 certificates : (ds : List (ℕ × Decision)) → list_all (λ d. is_order d.1) ds ≡ true → (d : ℕ × Decision) → In d ds
     → IsSome (certificate_in d.1)

@@ -51,9 +51,7 @@ same_lines es n whole limit reason OtherObject e = refl
 pub named_by : (es : List Event) (reason : Reason) (answer : Refutation) → IsAnswer es reason answer
     → is_impossible answer ≡ true → IsNamed es reason.object
 named_by es reason (Impossible part) a e = a.own_object (λ q. absurd cc)
-named_by es reason (NotShown part why) a e = absurd cc
-named_by es reason NoPart a e = absurd cc
-named_by es reason OtherObject a e = absurd cc
+named_by es reason answer a e = absurd cc
 
 pub answered : (es : List Event) (reasons : List Reason) (limit : ℕ) (answers : List Refutation)
     → AllZip (IsAnswer es) reasons answers

@@ -1,5 +1,5 @@
 -- A verification of a history by claims.
-use Rattle.std.proofs.Common.{◌≡◌, ◌≢◌, ◌∙◌, ◌⊎◌, ◌||◌, ℕ, true, false, List, [], ◌∷◌, ◌++◌, inl, inr, refl, ap}
+use Rattle.std.proofs.Common.{arith, ◌≡◌, ◌≢◌, ◌∙◌, ◌⊎◌, ◌||◌, ℕ, true, false, List, [], ◌∷◌, ◌++◌, inl, inr, refl, ap}
 use Rattle.std.proofs.Common.{sym, subst}
 use Rattle.std.specs.List.{list_all, list_any}
 use Rattle.std.proofs.lemmas.List.{append_assoc}
@@ -13,8 +13,7 @@ use Rattle.checker.specs.Refusals.{AreValid}
 use Rattle.verifying.specs.declared.claim.Claim.{Claim}
 use Rattle.verifying.specs.declared.decision.Decision.{Decision}
 use Rattle.verifying.specs.declared.decision.Decision.TheVariants.{Order, Impossible, OutOfSteps, NoMemory, Open}
-use Rattle.verifying.specs.Decisions.{AreDecisionsOn, IsDecisionOn, certificates_in, is_impossible}
-use Rattle.verifying.specs.Decisions.{is_order}
+use Rattle.verifying.specs.Decisions.{AreDecisionsOn, IsDecisionOn, certificates_in, is_impossible, is_order}
 use Rattle.report.specs.declared.verdict.Verdict.{Verdict}
 use Rattle.report.specs.declared.verdict.Verdict.TheVariants as verdict
 use Rattle.judging.specs.Texts.{DenotesHistory, IsLinearizableText}
@@ -22,10 +21,9 @@ use Rattle.report.specs.Verdicts.{IsVerdictOnCheck}
 use Rattle.std.specs.Prelude.{Ok}
 use Rattle.edn_reader.specs.Sound.{IsShort}
 use Rattle.history_commands.specs.Searches.{IsHistoryUnread}
-use Rattle.history_commands.specs.Verified.{decision_lines, impossible_lines, verified_status}
-use Rattle.history_commands.specs.Verified.{AreJudged, AreOpen, DenotesClaims, IsEvidenceFault}
-use Rattle.history_commands.specs.Verified.{IsExplained, IsVerdictBy, IsVerdictText, IsVerification}
-use Rattle.history_commands.specs.Verified.{IsVerificationOutput}
+use Rattle.history_commands.specs.Verified.{decision_lines, impossible_lines, verified_status, AreJudged, AreOpen}
+use Rattle.history_commands.specs.Verified.{DenotesClaims, IsEvidenceFault, IsExplained, IsVerdictBy, IsVerdictText}
+use Rattle.history_commands.specs.Verified.{IsVerification, IsVerificationOutput}
 use Rattle.history_commands.specs.Outputs.{lines_on, status_of}
 use Rattle.history_commands.specs.declared.status.Status.TheVariants as status_is
 use Rattle.history_commands.specs.declared.status.Status.{Status}
@@ -140,10 +138,7 @@ on_text h e limit es status text short denotes (inr fault) = inl (short, es, den
 
 -- what stops the reading of a history stops its verification
 pub unread : (h e : List ℕ) (limit : ℕ) (v : Verdict) → IsHistoryUnread h v → IsVerdictText h e limit v
-unread h e limit (verdict.Yes s) u = absurd u
-unread h e limit (verdict.No r) u = absurd u
-unread h e limit (verdict.Malformed f) u = u
-unread h e limit verdict.NoMemory u = tt
+unread h e limit v u = grind arith
 
 -- ---- what the status shows
 
@@ -159,14 +154,10 @@ verdict_yes : (h e : List ℕ) (limit : ℕ) (v : Verdict) → IsVerdictText h e
 verdict_yes h e limit (verdict.Yes s) k is =
     record { client_events = k.1; history_text = k.2; linearizable = k.5.linearizable }
 verdict_yes h e limit (verdict.No r) k is = absurd k
-verdict_yes h e limit (verdict.Malformed f) k is = absurd cc
-verdict_yes h e limit verdict.NoMemory k is = absurd cc
+verdict_yes h e limit v k g = absurd cc
 
 verdict_not_no : (h e : List ℕ) (limit : ℕ) (v : Verdict) → IsVerdictText h e limit v → status_of v ≢ status_is.No
-verdict_not_no h e limit (verdict.Yes s) k is = absurd cc
-verdict_not_no h e limit (verdict.No r) k is = absurd k
-verdict_not_no h e limit (verdict.Malformed f) k is = absurd cc
-verdict_not_no h e limit verdict.NoMemory k is = absurd cc
+verdict_not_no h e limit v k f = grind arith
 
 open_not_yes : status_is.Undecided ≢ status_is.Yes
 open_not_yes e = absurd cc
