@@ -1,4 +1,5 @@
--- A transition of the machine's world leaves a machine.
+-- A transition of the machine's world leaves a machine. Each step writes some fields, and the others stay; the run that
+-- led to the world has one transition more (`kept`).
 use Rattle.std.proofs.Common.{◌≡◌, ◌≢◌, ℕ, zero, suc, ◌+◌, ◌<◌, List, [], ◌∷◌, ◌++◌, length, Option, Some, None, IsSome}
 use Rattle.std.proofs.Common.{true, set, get_or, map, refl, ap, sym, ◌∙◌, subst, arith, slice_get}
 use Rattle.std.proofs.lemmas.List.{length-set, get_or-set_same, get_or-set_other}
