@@ -1,4 +1,5 @@
--- Checking one object after the other.
+-- The objects are checked in turn. While all before this one are fine, the first refusal here is the first of all
+-- (`next_is_first`); in the end all orders are valid, or the least object that only a certificate names is refused.
 use Rattle.std.proofs.Common.{◌≡◌, ◌≢◌, ℕ, zero, suc, ◌+◌, ◌<◌, ◌≤◌, ◌⊎◌, ◌↔◌, ◌++◌, ◌∷◌, [], List, Option, Some}
 use Rattle.std.proofs.Common.{None, IsSome, All, AllPairs}
 use Rattle.std.proofs.Common.{Contains, map, length, get_or, take, drop, OnOk, IfErr, Result, Ok, Err, inl, inr}

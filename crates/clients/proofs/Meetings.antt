@@ -1,4 +1,5 @@
--- Two clients that meet on each object.
+-- Two clients that meet on each object have seen the same logs, and the clients that each met before stay met
+-- (`met_more`, `has_met`). A meeting adds to what a view has seen of logs, and changes nothing of its calls.
 use Rattle.std.proofs.Common.{◌≡◌, ℕ, ◌+◌, ◌<◌, List, [], ◌∷◌, ◌++◌, length, Contains, refl, sym, ap, ◌∙◌, subst, arith}
 use Rattle.std.proofs.lemmas.List.{get_or-set_other}
 use Rattle.std.proofs.lemmas.List.Elements.{Contains-push, Contains-append_left}

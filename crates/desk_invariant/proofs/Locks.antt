@@ -1,4 +1,5 @@
--- Winning and releasing an object keep the rule.
+-- Winning and releasing an object keep the rule. The client's own seat changes with what it holds (`seat_held`), and
+-- every other client keeps what it knows, since it does not hold the object before or after.
 use Rattle.std.proofs.Common.{◌≡◌, ◌≢◌, ℕ, ◌+◌, ◌<◌, eqb, false, List, [], ◌∷◌, length, get_or, set, Option, Some, None}
 use Rattle.std.proofs.Common.{All, refl, sym, ap, subst, ◌∙◌, arith, eq-eqb, ne_eqb}
 use mathlib.Core.Logic.{dite}

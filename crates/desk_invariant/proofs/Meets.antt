@@ -1,4 +1,5 @@
--- How what one client has seen comes to another.
+-- A meeting in both directions: a client that gets the other's message, and sends its own back, has seen the same log
+-- as the other (`told_back`). By what a message adds to a view, which is at least what was seen.
 use Rattle.std.proofs.Common.{◌≡◌, ℕ, ◌<◌, List, [], length, get_or, refl, sym, ap, ◌∙◌, subst, arith, get_or-set_same}
 use mathlib.Core.Option as maybe
 use Rattle.std.proofs.lemmas.List.Elements.{All-nil}

@@ -1,4 +1,5 @@
--- The values of a map, pair by pair.
+-- The walk over the pairs of a map keeps the value of each key so far (`walk_goes_on`), and at the end has the value
+-- of each key, or nothing where no pair has the key (`walk_ends`). By induction along the pairs.
 use Rattle.std.proofs.Common.{◌≡◌, ℕ, Bool, true, false, cond, Option, Some, None, List, [], ◌∷◌, ◌++◌, length}
 use Rattle.std.proofs.Common.{refl, sym, ap, subst, ◌∙◌, append_assoc, arith}
 use Rattle.std.specs.Prelude.{◌==◌}

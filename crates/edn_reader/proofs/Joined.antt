@@ -1,4 +1,5 @@
--- The laws of reading and writing.
+-- The laws of reading and writing: what is written for a form spells it (`text_spells_it`), and texts of forms joined
+-- by a line feed spell all their forms (`joined_spell`), since a line feed ends a token and a comment.
 use Rattle.std.proofs.Common.{◌≡◌, ℕ, false, ◌++◌, List, [], ◌∷◌, refl, sym, ap, ◌∙◌, subst, append_assoc, inl, inr}
 use Rattle.std.proofs.lemmas.List.{append-nil}
 use Rattle.std.proofs.lemmas.Str.{IsUtf8-append, IsUtf8-nil}

@@ -1,4 +1,5 @@
--- What is read so far has distinct keys, and is not too deep.
+-- Each step of the reader keeps that what is read so far has distinct keys and is not nested too deep (`step_fits`).
+-- By cases on the token and on the innermost form that is open.
 use Rattle.std.proofs.Common.{◌≡◌, ℕ, suc, ◌-◌, ◌<◌, ◌≤◌, true, false, Some, List, [], ◌∷◌, ◌++◌, length, sym, subst}
 use Rattle.std.proofs.Common.{arith}
 use Rattle.std.specs.Prelude.{nat_lt}

@@ -1,4 +1,5 @@
--- A step of the reader, and the same without the forms.
+-- A step of the reader on shapes, which have no forms but only the keys so far, is the shape of a step on forms
+-- (`step_shape`). By cases on the token and on the innermost frame.
 use Rattle.std.proofs.Common.{arith, ◌≡◌, ℕ, suc, Bool, true, false, cond, Option, Some, None, List, [], ◌∷◌, ◌++◌}
 use Rattle.std.proofs.Common.{length, refl, sym, ap, ◌∙◌}
 use Rattle.std.specs.Prelude.{option_map, nat_lt, ◌||◌}

@@ -1,4 +1,5 @@
--- Operations gathered by object, from the last event back.
+-- Operations gathered by object, from the last event back to the first: after each event the lists have the
+-- operations that begin from there on (`ahead_begun`, `ahead_other`). By cases on what the event is.
 use Rattle.std.proofs.Common.{◌≡◌, ◌≢◌, ℕ, pos, ◌==◌, ◌+◌, ◌-◌, ◌<◌, ◌≤◌, Bool, true, false, cond, List, [], ◌∷◌}
 use Rattle.std.proofs.Common.{◌++◌, length, drop, reverse}
 use Rattle.std.proofs.Common.{unwrap_or, Option, Some, None, get_or, refl, ap, sym, ◌∙◌, subst, arith}

@@ -1,4 +1,5 @@
--- One more map of a piece.
+-- If a piece of a text continues what was read before it, it also does with one more map (`continues_more`). By
+-- cases: whether the map is the first of its process, and of its object, in the piece.
 use Rattle.std.proofs.Common.{◌≡◌, ◌≢◌, ℕ, ◌+◌, ◌≤◌, inl, inr, true, List, [], ◌∷◌, ◌++◌, map, length, Option, Some}
 use Rattle.std.proofs.Common.{None, All, refl, ap, sym, ◌∙◌, subst, append_assoc, zero-add, arith}
 use Rattle.std.specs.Prelude.{Result, Ok, Err, is_ok, Contains, if◌then◌else◌}

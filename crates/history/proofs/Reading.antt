@@ -1,4 +1,5 @@
--- The forms read so far.
+-- After each form the history read so far is that of the forms so far (`one_read`), and the first form with a fault
+-- is the first fault of all (`first_fault`). By what one more form adds to events and to what is kept.
 use Rattle.std.proofs.Common.{◌≡◌, ℕ, ◌+◌, ◌<◌, ◌≤◌, ◌⊎◌, inl, inr, List, [], ◌∷◌, ◌++◌, length, take, drop, get_or}
 use Rattle.std.proofs.Common.{zero, suc, append_assoc, zero-add, refl, ap, sym, ◌∙◌, subst, arith}
 use Rattle.std.proofs.lemmas.List.{append-nil, length-append, map-append, take_more, take_all}

@@ -1,4 +1,5 @@
--- What a form says, by its entries or by its tokens.
+-- What a form says by its entries is what it says by its tokens (`client_is`): the value by its first tokens, the
+-- object and the keys by the walk over the pairs.
 use Rattle.std.proofs.Common.{◌≡◌, ℕ, ℤ, true, false, Option, Some, None, IfSome, List, [], ◌∷◌, ◌++◌, codes, refl, sym}
 use Rattle.std.proofs.Common.{ap, ◌∙◌}
 use Rattle.std.specs.Prelude.{option_map, option_and_then}

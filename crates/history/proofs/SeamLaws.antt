@@ -1,4 +1,5 @@
--- One more piece after those that are joined.
+-- One more piece that fits after the joined ones is joined to them (`joined_more`): what it was first to say of a
+-- process or an object is taken over once for each (`taken_more`). By cases on whether the key was met.
 use Rattle.std.proofs.Common.{◌≡◌, ℕ, ◌+◌, ◌<◌, ◌≤◌, ◌⊎◌, inl, inr, false}
 use Rattle.std.proofs.Common.{List, [], ◌∷◌, ◌++◌, map, length, take, drop, get_or, suc}
 use Rattle.std.proofs.Common.{drop-cons, Option, Some, None, All, refl, ap, sym, ◌∙◌, subst}

@@ -1,4 +1,5 @@
--- A verification of a history by claims.
+-- The status and the text of a verification are those of `IsVerification` (`is_verification`): if each object has an
+-- order, the verdict on these certificates; otherwise a line for each object (`are_open`). By cases on the decisions.
 use Rattle.std.proofs.Common.{arith, ◌≡◌, ◌≢◌, ◌∙◌, ◌⊎◌, ◌||◌, ℕ, true, false, List, [], ◌∷◌, ◌++◌, inl, inr, refl, ap}
 use Rattle.std.proofs.Common.{sym, subst}
 use Rattle.std.specs.List.{list_all, list_any}

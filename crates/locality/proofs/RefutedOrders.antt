@@ -1,4 +1,5 @@
--- What is refused of the worked histories.
+-- Worked histories that are not linearizable, orders that are not valid, and event lists that are not histories: each
+-- is refuted by computation, or by the first call of the only order that precedence allows (`first_in_first_out`).
 use Rattle.std.proofs.Common.{◌&&◌, ◌≢◌, ◌≡◌, ℤ, pos, ◌<◌, ◌⊎◌, true, false, inl, inr, List, [], ◌∷◌, ◌++◌, map, Option}
 use Rattle.std.proofs.Common.{Some, None, IfSome, IsSome, Contains, lit<, refl, ap, sym, ◌∙◌, subst, arith, Bool}
 use Rattle.std.proofs.Common.{int_eq}

@@ -1,4 +1,5 @@
--- The valid orders of the worked histories.
+-- Worked histories and a valid order for each: so they are linearizable, by locality. Each fact about their events
+-- and calls is shown by computation.
 use Rattle.std.proofs.Common.{ℕ, ℤ, pos, true, false, [], ◌∷◌, Option, Some, None, lit<, refl}
 use Rattle.std.proofs.lemmas.List.Elements.{All-from_recursion}
 use Rattle.model.specs.declared.Kind.TheVariants.{Queue, Mutex}

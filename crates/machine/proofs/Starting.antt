@@ -1,4 +1,5 @@
--- A machine at the start.
+-- The lists of a new machine are the world at the start (`world-start`), and they make a machine (`machine_start`).
+-- By the laws of lists in which one value is repeated.
 use Rattle.std.proofs.Common.{◌≡◌, ℕ, zero, suc, add-one, ◌+◌, ◌<◌, ◌≤◌, inl, inr, List, [], ◌∷◌, ◌++◌, length}
 use Rattle.std.proofs.Common.{replicate, Option, Some, None, Bool}
 use Rattle.std.proofs.Common.{true, false, nat_lt, if◌then◌else◌, get_or, map, slice_get, refl, ap, sym, ◌∙◌, subst}

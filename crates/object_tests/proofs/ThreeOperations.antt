@@ -1,4 +1,5 @@
--- The events of three operations are proper.
+-- The events of the test of three operations are proper (`three_proper`): each one fits after those before it. By
+-- cases on each of the events.
 use Rattle.std.proofs.Common.{◌≡◌, ℕ, ◌<◌, inl, inr, pos, List, [], ◌∷◌, ◌++◌, None, refl, ap, sym, ◌∙◌, subst}
 use Rattle.std.proofs.Common.{append_assoc, arith}
 use Rattle.std.proofs.lemmas.List.{append-nil}

@@ -1,4 +1,5 @@
--- The parts that workers gather, joined.
+-- The objects that workers gather by parts, joined, are the objects of the history (`all_split`, `all_listed`). Each
+-- part is put into one map (`put_more`), part by part (`join_more`), and the map lists objects by rising number.
 use Rattle.std.proofs.Common.{◌≡◌, ◌≢◌, ℕ, ◌+◌, ◌%◌, ◌<◌, inl, inr, List, [], ◌∷◌, ◌++◌, length, map, get_or}
 use Rattle.std.proofs.Common.{Option, Some, None, Result, Ok, Err, IfOk, All, AllPairs, ◌↔◌}
 use Rattle.std.proofs.Common.{false, Contains, refl, ap, sym, ◌∙◌, subst, append_assoc, arith}

@@ -1,4 +1,5 @@
--- Places that are shared among workers.
+-- Worker w checks the places w, w + workers, and so on; so each place has one worker (`its_worker`), and the least of
+-- the refusals that workers found first is the first of all (`first_of_all`). By the remainders of places.
 use Rattle.std.proofs.Common.{◌≡◌, ◌≢◌, ℕ, zero, suc, ◌+◌, ◌*◌, ◌/◌, ◌%◌, ◌<◌, ◌≤◌, ◌++◌, ◌∷◌, [], List, All}
 use Rattle.std.proofs.Common.{AllPairs, Contains, length, get_or}
 use Rattle.std.proofs.Common.{take, Result, Ok, Err, IsOk, Option, Some, None, IfNone, inl, inr, refl, ap, sym, ◌∙◌}

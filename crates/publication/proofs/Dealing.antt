@@ -1,4 +1,5 @@
--- Places in publication lists, dealt out to the clients.
+-- Each client gets its own place in every publication list: places are dealt out list by list (`walkers_left`), and a
+-- try at one changes no row and no roster (`same_rosters`). By what one step changes at one position.
 use Rattle.std.proofs.Common.{◌≡◌, ℕ, zero, suc, ◌+◌, ◌<◌, List, [], ◌∷◌, ◌++◌, length, length-append, map}
 use Rattle.std.proofs.Common.{replicate, get_or, set, remove, refl, sym, ap, subst, ◌∙◌, arith}
 use mathlib.Core.Option.{some, some-injective, some-ne-none}

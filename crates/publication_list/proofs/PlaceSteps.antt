@@ -1,4 +1,5 @@
--- The steps of the owner of a row keep the rule.
+-- Each step of the owner of a row keeps the rule of the list: it looks, wakes, links and enlists (`.._keeps_rule`),
+-- may do so (`.._allowed`), and knows afterwards what its try has left (`.._leaves_..`).
 use Rattle.std.proofs.Common.{◌≡◌, ◌≢◌, ℕ, true, false, ◌+◌, ◌<◌, eqb, List, [], ◌∷◌, ◌++◌, get_or, refl, sym, ap, ◌∙◌}
 use Rattle.std.proofs.Common.{subst, inl, inr, eq-eqb, ne_eqb, arith}
 use mathlib.Core.Logic.{dite}

@@ -1,4 +1,5 @@
--- How a roster begins: the first state, and a place more.
+-- A new roster keeps the rule: all words are 0, and no row is listed (`opening_keeps_rule`). To make one more place
+-- keeps it too, since what is known of other rows stays true (`split_keeps_rule`).
 use Rattle.std.proofs.Common.{◌≡◌, ◌≢◌, ◌⊎◌, ℕ, zero, suc, ◌+◌, ◌<◌, List, [], ◌∷◌, ◌++◌, length, get_or, set}
 use Rattle.std.proofs.Common.{replicate, Option, Some, None, length-append, length-set, refl, sym, ap, ◌∙◌, subst, inl}
 use Rattle.std.proofs.Common.{inr, arith}

@@ -1,4 +1,5 @@
--- The steps of the walker keep the rule.
+-- Each step of the walker keeps the rule of the list: it meets newcomers, follows links, takes a row out and lets it
+-- sleep (`.._keeps_rule`). The list is newcomers first, then what the walker has met, in its order.
 use Rattle.std.proofs.lemmas.List.{take_all, get_or-append-add}
 use Rattle.std.proofs.Math.Seq.{take-suc}
 use Rattle.std.proofs.Common.{◌≡◌, ◌≢◌, ℕ, zero, suc, ◌+◌, ◌-◌, ◌<◌, ◌≤◌, List, [], ◌∷◌, ◌++◌, take, lt_of_not-le}

@@ -1,4 +1,5 @@
--- A sound record is a record.
+-- The journals and logs of a sound record make a record (`record_from`): tickets are distinct and below the bound,
+-- and the events in their order are proper.
 use Rattle.std.proofs.Common.{◌≡◌, ℕ, ◌<◌, ◌==◌, List, map, filter, length, Some, Contains, refl, sym, subst}
 use Rattle.std.proofs.Common.{eq-eqb, arith}
 use Rattle.model.specs.declared.Kind.{Kind}

@@ -1,4 +1,5 @@
--- An object of which no order is valid, against locality.
+-- A reason that refutes one object of a history refutes the history (`refutes`, by locality): the answer is on the
+-- object whose number the reason has, or there is no such object (`answered`, `answer_is`).
 use Rattle.std.proofs.Common.{◌≡◌, ◌≢◌, ◌↔◌, ℕ, ◌<◌, ◌+◌, take, List, [], ◌∷◌, ◌++◌, length, get_or, map, true}
 use Rattle.std.proofs.Common.{All, Any, Contains, inl, inr, refl, ap, sym, ◌∙◌, subst}
 use Rattle.std.specs.Prelude.{Result, Ok, Err, IfOk}

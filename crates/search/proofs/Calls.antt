@@ -1,4 +1,5 @@
--- Operations as calls.
+-- The operations that did not fail are the calls of the history, as many and in the same order (`calls-filter`); so
+-- how many of them returned is counted alike for both, in any order (`count-owed`).
 use Rattle.std.proofs.Common.{◌≡◌, ℕ, suc, zero, ◌+◌, ◌<◌, ◌≤◌, ◌≢◌, ◌&&◌, Bool, true, false, cond, List, [], ◌∷◌}
 use Rattle.std.proofs.Common.{Some, None, IsSome, is_some}
 use Rattle.std.proofs.Common.{length, map, filter, count_by, take, get_or, add-one, inl, All, Any, refl, ap, sym}

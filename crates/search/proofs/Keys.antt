@@ -1,4 +1,5 @@
--- A key that was changed gets back what it had.
+-- An operation on a key of a map or set changes what the key has, and to undo it gives the key back what it had
+-- (`key_step`, `sets_back`). A lemma for each operation, by what the table has at one key and at the others.
 use Rattle.std.proofs.Common.{◌≡◌, ℤ, Bool, true, false, cond, Option, Some, None, Ordering, Less, Equal, Greater}
 use Rattle.std.proofs.Common.{refl, ap, sym, subst, ◌∙◌}
 use Rattle.std.specs.Ordering.{int_cmp, is_eq, eq_by_cmp}

@@ -1,4 +1,6 @@
--- The linked list of the places that are left.
+-- The linked list of the places that are left: to take a place out joins its neighbours (`linked_without`), and to
+-- put it back restores both links (`next_again`, `before_again`). A slot is a place or the head, each with its next
+-- stop.
 use Rattle.std.proofs.Common.{◌≡◌, ◌≢◌, ℕ, zero, suc, ◌<◌, ◌≤◌, inl, inr, List, [], ◌∷◌, length, set, get_or, refl}
 use Rattle.std.proofs.Common.{ap, sym, ◌∙◌, subst, arith}
 use Rattle.std.proofs.lemmas.List.{length-set, get_or-set_same, get_or-set_other, set-get_or}

@@ -1,4 +1,6 @@
--- What one step of a search keeps, and what its end says.
+-- What one step of the search keeps: the places so far are a beginning that can be reached, and each choice before
+-- the present one is dead. So an end with nothing left to try says that no order is valid (`dead_now`), and one with
+-- all calls placed is one.
 use Rattle.std.proofs.Common.{◌≡◌, ◌≢◌, ℕ, suc, ◌+◌, ◌<◌, ◌≤◌, ◌⊎◌, inl, inr, List, [], ◌∷◌, Some, get_or, add-one}
 use Rattle.std.proofs.Common.{refl, ap, sym, ◌∙◌, subst, arith}
 use Rattle.std.proofs.lemmas.Bool.{cases_eq, cases_order}

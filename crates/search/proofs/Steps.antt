@@ -1,4 +1,5 @@
--- Steps of a search, as its lists are written.
+-- The steps of the search as its code writes its lists: back a level (`back_step`), on to the next place
+-- (`pass_walk`), or a dead end, are those of `Stack`. By reading each list at the operands of the code.
 use Rattle.std.proofs.Common.{◌≡◌, ℕ, zero, suc, add-one, ◌<◌, ◌≤◌, ◌+◌, Bool, true, false, cond, ◌⊎◌, inl, inr}
 use Rattle.std.proofs.Common.{List, [], ◌∷◌, ◌++◌, append_assoc}
 use Rattle.std.proofs.Common.{Option, Some, IsSome, is_some, length, reverse, get_or, take, refl, ap, sym, ◌∙◌}

@@ -1,4 +1,5 @@
--- The keys of an ordered set, as a finite set.
+-- The keys of an ordered set are the elements of a finite set: each operation changes one key and leaves the others
+-- (`Updates`), so its step is that of the definition (`next-add` and its siblings). By comparing both at each key.
 use Rattle.std.proofs.Common.{◌≡◌, ℤ, Bool, true, false, cond, not, ◌||◌, ◌&&◌, T, List, [], ◌∷◌, map, Option, None}
 use Rattle.std.proofs.Common.{Some, refl, ap, sym, subst, ◌∙◌}
 use Rattle.std.specs.Bool.{Decides}

@@ -1,4 +1,4 @@
--- Where each function stands among all.
+-- Each function is at its own place among all (`get_or-place`), and there are 27. By cases on the function.
 use Rattle.std.proofs.Common.{◌≡◌, ℕ, ◌<◌, get_or, refl, lit<}
 use Rattle.seq_objects.specs.declared.function.Function.{Function}
 use Rattle.seq_objects.specs.declared.function.Function.TheVariants.{Enqueue, Dequeue, Push, Pop, Insert}

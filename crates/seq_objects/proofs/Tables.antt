@@ -1,4 +1,5 @@
--- The entries of an ordered map, as a finite map.
+-- The entries of an ordered map are a finite map: each operation changes one key and leaves the others (`Changes`),
+-- so its step is that of the definition (`next-put` and its siblings). By comparing both at each key.
 use Rattle.std.proofs.Common.{◌≡◌, ℤ, Bool, true, false, cond, not, T, List, [], ◌∷◌, ◌&&◌, Option, None, Some}
 use Rattle.std.proofs.Common.{is_some, length, refl, ap, sym, subst, ◌∙◌, Less}
 use Rattle.std.specs.Bool.{Decides}

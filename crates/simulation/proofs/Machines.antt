@@ -1,4 +1,5 @@
--- A machine that has taken the steps of a schedule.
+-- A machine made from a schedule's header has as many empty objects as the header has kinds (`count_is`), each of its
+-- own kind (`empty_more`), and takes the steps of the schedule in turn.
 use Rattle.std.proofs.Common.{◌≡◌, ℕ, ◌+◌, ◌<◌, false, List, [], ◌∷◌, ◌++◌, length, map, All, ap, sym, ◌∙◌, subst}
 use Rattle.std.proofs.Common.{arith}
 use Rattle.std.proofs.lemmas.List.{map-append, length-map}

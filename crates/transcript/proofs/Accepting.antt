@@ -1,4 +1,5 @@
--- The certificates of a sound record are valid.
+-- The certificates of a sound record are valid orders of its history: the log of each object is one, by the invariant
+-- of the desk, and its calls are those of the object (`kind_named`).
 use Rattle.std.proofs.Common.{◌≡◌, ℕ, ◌<◌, ◌==◌, Bool, true, false, cond, inl, inr, List, [], ◌∷◌, map, refl, ap}
 use Rattle.std.proofs.Common.{sym, ◌∙◌, subst}
 use Rattle.std.proofs.lemmas.Bool.{eqb-true, eq-eqb}

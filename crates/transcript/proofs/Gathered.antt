@@ -1,4 +1,5 @@
--- The lines of all journals, sorted by ticket.
+-- The lines of all journals, sorted by ticket, are the events of the record: those of one client rise (`lines_at`),
+-- and no ticket is of two clients, so each comes once and the sorted list rises (`sorted_rises`).
 use Rattle.std.proofs.lemmas.Bool.Decides.{nat_tests}
 use Rattle.std.proofs.lemmas.List.{append-nil, get_or-map, length-map}
 use Rattle.std.proofs.Common.{◌≡◌, ◌≢◌, ℕ, zero, suc, ◌+◌, ◌<◌, ◌≤◌, ◌==◌, eqb, Bool, true, false, cond, inl, inr, List}

@@ -1,4 +1,5 @@
--- The lines of a record are read back as its events.
+-- The lines of a record are read back as its events: each line is a form that says its event, no line has a fault
+-- after those before it, and an outstanding call is the last line of its client. By induction along the lines.
 use Rattle.std.proofs.Common.{◌≡◌, ◌≢◌, ℕ, ◌+◌, ◌<◌, ◌≤◌, ◌==◌, inl, inr, List, [], ◌∷◌, ◌++◌, map, length, find}
 use Rattle.std.proofs.Common.{reverse, Option, Some, None, option_map, All, lit<, refl, ap, sym, ◌∙◌, subst, eq-eqb}
 use Rattle.std.proofs.Common.{arith}

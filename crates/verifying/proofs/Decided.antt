@@ -1,4 +1,5 @@
--- The decisions on all objects of a history.
+-- The decisions on all objects together: if each is an order, the orders certify the history (`certifies`); if one is
+-- impossible, the history is not linearizable, by locality (`not_linearizable`).
 use Rattle.std.proofs.Common.{◌≡◌, ◌∙◌, ◌&&◌, ◌⊎◌, ℕ, Bool, List, [], ◌∷◌, true, false, All, Any, get_or, inl, inr}
 use Rattle.std.proofs.Common.{refl, ap, sym, subst, map}
 use Rattle.std.specs.List.{list_all}

@@ -1,4 +1,5 @@
--- What one more claim makes of the decision on an object.
+-- A decision by some claims is a decision by these and one more claim: an order, a reason or a search that one of
+-- them gives is still given by one. By cases on the decision.
 use Rattle.std.proofs.Common.{◌≡◌, ◌≢◌, ◌∙◌, ◌⊎◌, ℕ, true, false, List, [], ◌∷◌, ◌++◌, Any, Contains, refl, ap, sym}
 use Rattle.std.proofs.Common.{subst}
 use Rattle.std.proofs.lemmas.List.Elements.{All-push, Contains-append_left, Contains-push}
