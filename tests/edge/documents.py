@@ -279,14 +279,11 @@ def head_of(text):
 
 
 def heads_of_proofs(program, report):
-    """Each file of proofs with 40 lines or more begins with a comment, which says what is proved and how; in a long file it is no mere title."""
+    """Each file of proofs with 40 lines or more begins with a comment, which says what is proved and how: it is no mere title."""
     texts = {os.path.relpath(path, ROOT): read(path) for path in glob.glob(f"{ROOT}/crates/*/proofs/**/*.antt", recursive=True)}
-    texts = {path: text for path, text in sorted(texts.items()) if not path.endswith("/Lib.antt")}
     report.holds("heads_of_proofs: there are files", texts)
-    silent = [path for path, text in texts.items() if text.count("\n") >= 40 and not head_of(text)]
-    report.equal("heads_of_proofs: files without a comment at the head", [], silent)
-    titles = [path for path, text in texts.items() if text.count("\n") > 100 and len(head_of(text)) < 60]
-    report.equal("heads_of_proofs: long files whose head is a mere title", [], titles)
+    long = {path: text for path, text in sorted(texts.items()) if text.count("\n") >= 40 and not path.endswith("/Lib.antt")}
+    report.equal("heads_of_proofs: files whose head is missing or a mere title", [], [path for path, text in long.items() if len(head_of(text)) < 60])
 
 
 def like_lines(program, report):

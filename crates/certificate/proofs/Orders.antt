@@ -1,4 +1,5 @@
--- A certificate, by what is kept of it.
+-- What a form says as a certificate, by what is kept of it: its object, and the integers of its order
+-- (`certificate_by`). By cases on whether each of the two is there.
 use Rattle.std.proofs.Common.{◌≡◌, ℕ, Option, Some, None, List, refl, sym, ap, ◌∙◌, codes}
 use Rattle.std.specs.Prelude.{ℤ}
 use Rattle.edn_reader.specs.Truncation.{truncated_entries, truncated, integer_vector_at}

@@ -34,7 +34,7 @@ IsFault earlier d NoMemory = ⊥
 abbrev pub IsFaultless : List Datum → Type 0
 IsFaultless ds = AreFaultless IsFault ds
 
--- the first fault: that of the least faulty form. A form has one fault at most.
+-- the first fault: that of the first faulty form. A form has one fault at most.
 abbrev pub IsFirstFault : List Datum → CertFault → Type 0
 IsFirstFault ds fault = IsFirstFaultBy IsFault number_of ds fault.form fault.kind
 

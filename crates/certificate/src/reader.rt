@@ -123,7 +123,7 @@ fn next_certificate(
     }
 }
 
-/// Reads each form as a certificate, in order. A fault is that of the least faulty form, except for
+/// Reads each form as a certificate, in order. A fault is that of the first faulty form, except for
 /// an allocation failure, which names the form that was being read.
 pub fn read_certificates(alloc: Global, forms: Vec<Form>) -> Result<Vec<Certificate>, CertFault>
     requires fit { All (λ f. Fits max_open (view f)) forms.items }
@@ -132,7 +132,7 @@ pub fn read_certificates(alloc: Global, forms: Vec<Form>) -> Result<Vec<Certific
 
     ensures fault { IfErr result (λ e. e.kind ≢ CertFaultKind.NoMemory →
         IsFirstFault (views forms.items) e) }
-    // Memory ran out when nothing was wrong yet, up to this form and with it.
+    // An allocation failed, and nothing was wrong up to and including this form.
     ensures memory { IfErr result (λ e. e.kind ≡ CertFaultKind.NoMemory →
         IsSoundAt (views forms.items) e.form) }
     // Such a fault means that the forms denote no certificates.

@@ -1,4 +1,5 @@
--- One object: Ok exactly where its order is valid.
+-- The check of one object is Ok exactly where its order is valid: a valid order has no fault, and is refused by an
+-- allocation failure alone (`valid_is_ok`); an order without a fault is valid. By `Deciding` and `Exact`.
 use Rattle.std.proofs.Common.{◌≡◌, ◌<◌, ℕ, ℤ, List, AllPairs, refl}
 use Rattle.std.specs.Result.{IfErr, OnOk}
 use Rattle.std.specs.declared.result.Result.{Result}

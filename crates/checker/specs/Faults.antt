@@ -69,7 +69,7 @@ rank (NotPossible z) = 4
 rank (WrongReply z gives) = 5
 rank (Omitted n) = 6
 
--- a fault of the least faulty place, the first there
+-- a fault of the first faulty place, the first there
 pub record IsFirstAtPlace (kind : Kind) (calls : List Call) (order : List ℤ) (fault : OrderFault) :
     Type 0 where
   pub place : ℕ
@@ -87,7 +87,7 @@ pub record IsLeastOmitted (kind : Kind) (calls : List Call) (order : List ℤ) (
   pub left_out : Contains order (pos n) → ⊥
   pub least : All (λ c. IsSome c.returned → c.number < n → Contains order (pos c.number)) calls
 
--- the first fault of an order: that of its least faulty place, or else the least operation that is
+-- the first fault of an order: that of its first faulty place, or else the least operation that is
 -- left out
 abbrev pub IsFirstFault : Kind → List Call → List ℤ → OrderFault → Type 0
 IsFirstFault kind calls order (Omitted n) = IsLeastOmitted kind calls order n

@@ -87,9 +87,9 @@ pub fn strange_object(
     least_placed(&places, certificates)
 }
 
-/// Checks the certificates of a history's objects. Returns `Ok` exactly if each named object has a
-/// valid order and no other object has a certificate; otherwise the first refusal, or an allocation
-/// failure.
+/// Checks the certificates of a history's objects. Returns `Ok` if each named object has a valid
+/// order and no other object has a certificate, otherwise the first refusal. Either may be an
+/// allocation failure instead.
 pub fn check_all(
     alloc: Global,
     history: &History,

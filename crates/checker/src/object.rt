@@ -13,8 +13,8 @@ use events::ObjectHistory;
 use seq_objects::AnyObject;
 use std::alloc::Global;
 
-/// Checks the certificate of an object. `Ok` exactly if its order is valid, and else the first
-/// fault, except for an allocation failure.
+/// Checks the certificate of an object. Returns `Ok` if its order is valid, otherwise the first
+/// fault. Either may be an allocation failure instead.
 pub fn check_object(
     alloc: Global,
     history: &ObjectHistory,

@@ -119,8 +119,8 @@ fn check_entries<S: SeqObject<Op = AnyOp, Reply = AnyReply>>(
 }
 
 /// Checks an order of the operations of the object with this number, from an object of its kind
-/// that is empty. `Ok` exactly if the order is valid, and else the first fault, except for an
-/// allocation failure.
+/// that is empty. Returns `Ok` if the order is valid, otherwise the first fault. Either may be an
+/// allocation failure instead.
 pub fn check_order<S: SeqObject<Op = AnyOp, Reply = AnyReply>>(
     alloc: Global,
     number: u32,

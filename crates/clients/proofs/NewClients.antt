@@ -1,4 +1,5 @@
--- Clients that have made no call.
+-- Clients that have made no call: all that a desk was made with (`all_new`), and each that has made none since
+-- (`still_none`). The last of them is taken off the list and put back (`one_fewer`, `one_more`).
 use Rattle.std.proofs.Common.{◌≡◌, ℕ, zero, suc, ◌+◌, ◌<◌, List, [], ◌∷◌, ◌++◌, length, length-append, refl, sym, ap}
 use Rattle.std.proofs.Common.{◌∙◌, subst, ⊎_elim, arith}
 use mathlib.Core.Option.{some, some-injective, some-ne-none}

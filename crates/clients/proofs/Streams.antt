@@ -1,4 +1,5 @@
--- One call more, drawn from a stream.
+-- One call more, drawn from a stream of numbers: after it the calls so far and those that the stream still gives are
+-- the same list as before (`drawn_more`). By one step of the definition of the workload.
 use Rattle.std.proofs.Common.{◌≡◌, ℕ, suc, ◌<◌, List, [], ◌∷◌, ◌++◌, length, append_assoc, ap, sym, ◌∙◌, arith}
 use Rattle.std.proofs.lemmas.List.FromFn.{length-map-range_with_len, get_or-map-range_with_len}
 use Rattle.rand_core.specs.Stream.{Stream}

@@ -22,7 +22,7 @@ use std::thread::{self, Promise, PromisedHandle, SpawnError, Threads};
 pub enum RunFault {
     /// F1: an allocation failed, before any call.
     NoMemory,
-    /// F2: a thread could not be started. Those that were have ended.
+    /// F2: a thread could not be started. The threads that were started have ended.
     NoThread,
 }
 

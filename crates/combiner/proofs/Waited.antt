@@ -1,4 +1,5 @@
--- What a call that waited did.
+-- A call that waits posts, and then tries in rounds. Rounds without an answer keep what the client has called
+-- (`keeps_round`); so at the end it has made this call, with this answer (`called`).
 use Rattle.std.proofs.Common.{◌≡◌, ℕ, ◌+◌, ◌<◌, [], ◌∷◌, ◌++◌, All, length, sym, ap, subst, ◌∙◌, length-append}
 use Rattle.std.proofs.Common.{append_assoc}
 use Rattle.model.specs.declared.AnyOp.{AnyOp}

@@ -51,7 +51,7 @@ pub record Goes (p q : Holding) : Type 0 where
   pub calls : KeepsCalls p.knows q.knows
   pub ready : p.knows.ready ≡ true → q.knows.ready ≡ true
 
--- The own row was tried: its request for the object, if there is one, is known to be answered, or
+-- Its own row was tried: its request for the object, if there is one, is known to be answered, or
 -- it was put back, since the object cannot do it now.
 abbrev pub IsTried : Holding → Tried → Type 0
 IsTried p tried.PutBack =

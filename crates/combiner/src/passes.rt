@@ -33,16 +33,16 @@ enum Tried {
 /// A pass whose number is a multiple of this cleans up.
 const CLEANING: u64 = 64;
 
-/// A row that was of no use for more passes than this goes out of the list.
+/// A row without a request for more passes than this is taken out of the list.
 const IDLE: u64 = 128;
 
 /// The most clients of a desk, and so the most rows of a list.
 const MAX_CLIENTS: usize = 32;
 
 /// Tries to win the object. If it is won, and the log has room for a call of each client, serves
-/// the client's own row, then each other row of the publication list, and then the own one again if
+/// the client's own row, then each other row of the publication list, and then its own again if
 /// its request was put back. A request whose operation is not possible is put back. In each pass
-/// whose number is a multiple of 64 it takes rows out of the list that were of no use in the last
+/// whose number is a multiple of 64 it takes rows out of the list that had no request in the last
 /// 128 passes, but never the first. The clauses cover the client and its own row. Tests cover which
 /// other rows are served or taken out, and the numbers in `Served`.
 pub fn combine<S: SeqObject>(
@@ -77,8 +77,8 @@ pub fn combine<S: SeqObject>(
     }
 }
 
-/// Serves the own row, the others, and the own one again if its request was put back. Answers how
-/// many were answered.
+/// Serves its own row, the others, and its own again if its request was put back. Returns how many
+/// requests were answered.
 fn serve<S: SeqObject>(desk: &Desk<S>, pass: Pass<S>) -> (Pass<S>, u64)
     requires { pass.desk ≡ desk.now.id }
     ensures goes { Goes pass result.0 }
@@ -129,7 +129,7 @@ fn make_current<S: SeqObject>(pass: &mut Pass<S>, at: usize)
     pass.set_age(row);
 }
 
-/// If it is this pass's turn, takes out the rows that were of no use for long, but not the
+/// If it is this pass's turn, takes out the rows that had no request for long, but not the
 /// first.
 #[inline(always)]
 fn clean<S: SeqObject>(pass: &mut Pass<S>, number: u64)
@@ -145,7 +145,7 @@ fn clean<S: SeqObject>(pass: &mut Pass<S>, number: u64)
     }
 }
 
-/// Takes out the row at this place, if it was of no use for long.
+/// Takes out the row at this place, if it had no request for long.
 #[inline(always)]
 fn clean_at<S: SeqObject>(pass: &mut Pass<S>, at: usize, number: u64)
     requires { (1 ≤ at) × (at < length pass.old.state.list.rows) }
@@ -161,7 +161,7 @@ fn clean_at<S: SeqObject>(pass: &mut Pass<S>, at: usize, number: u64)
     pass.unlink(at);
 }
 
-/// Serves each listed row but the own one, in the order of the list.
+/// Serves each listed row but its own, in the order of the list.
 fn serve_others<S: SeqObject>(desk: &Desk<S>, pass: Pass<S>, own: u32) -> (Pass<S>, u64)
     requires { pass.desk ≡ desk.now.id }
     ensures goes { Goes pass result.0 }

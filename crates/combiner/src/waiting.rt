@@ -77,7 +77,7 @@ pub fn wait_for<S: SeqObject, R: Wait>(
         client = after;
         match combined {
             Combined::NoMemory => return (client, Err(AllocError)),
-            // Something was answered, the own call too unless it was put back: the next yields are
+            // Something was answered, its own call too unless it was put back: the next yields are
             // short ones.
             Combined::Served { count, .. } if count > 0 => backoff.reset(),
             _ => {}

@@ -1,4 +1,5 @@
--- The output for a record.
+-- The output for a record says its history, its certificates and their verdict (`says_of`), and the certificates of a
+-- sound record are accepted (`sound_as_it_is`). By what the record denotes.
 use Rattle.std.proofs.Common.{◌≡◌, ℕ, List, sym, subst}
 use Rattle.model.specs.declared.AnyOp.{AnyOp}
 use Rattle.model.specs.declared.AnyReply.{AnyReply}

@@ -33,7 +33,7 @@ pub enum ShardFile {
     Status,
 }
 
-/// Why a history was not divided, where that is not its text.
+/// Why a history was not divided, other than by a fault of its text.
 #[derive(Clone, Copy, Debug, PartialEq, Eq)]
 pub enum SplitFailure {
     /// The history could not be read.
@@ -242,8 +242,8 @@ pub fn split_history<F: Source, D: Folder, S: Sink>(
     Ok(write_output(Ok(output), sink))
 }
 
-/// Reads and answers all shards, or returns which one cannot be read. Returns None if an allocation
-/// fails.
+/// Reads and verifies all shards, or returns the one that cannot be read. Returns `None` if an
+/// allocation fails.
 fn merge_all<F: ShardFiles>(
     alloc: Global,
     files: &F,

@@ -1,4 +1,5 @@
--- The steps of a client's own call keep the rule: drawing tickets, posting, and taking the answer.
+-- The steps of a client's own call keep the rule: drawing tickets, posting, and taking the answer. The client's call
+-- is in no hand, so no other client knows its stage (`later_gone`), and its own view changes with it (`seat_gone`).
 use Rattle.std.proofs.Common.{inr, ◌≡◌, ◌≢◌, ℕ, ◌+◌, ◌%◌, ◌^◌, ◌<◌, eqb, false, List, [], ◌∷◌, ◌++◌, length, get_or}
 use Rattle.std.proofs.Common.{set, None, All, refl, sym, ap, subst, ◌∙◌, inl, arith, eq-eqb, ne_eqb, append-nil}
 use Rattle.std.proofs.lemmas.Bool.{false_from_ne_true}

@@ -1,4 +1,5 @@
--- How the end of one client comes to another.
+-- The end of one client comes to another by a message: the other may then count on it. The message carries only what
+-- is true of the world, and an end stays so at each later step.
 use Rattle.std.proofs.Common.{◌≡◌, ℕ, true, List, [], refl, sym, ◌∙◌}
 use Rattle.std.proofs.lemmas.List.Elements.{All-nil, All-cons, All-append}
 use Rattle.atomic_table.specs.Table.{State, Splits, Joins}

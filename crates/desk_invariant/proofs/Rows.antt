@@ -1,4 +1,5 @@
--- Picking a request up, putting it back and answering it keep the rule.
+-- Picking a request up, putting it back and answering it keep the rule. The holder writes the stage of one row: its
+-- own client knows only that its call waits (`own_waits`), and every other row and view stays (`later_row`).
 use Rattle.std.proofs.Common.{◌≡◌, ◌≢◌, ℕ, ◌+◌, ◌<◌, eqb, Bool, true, ◌&&◌, ◌||◌, List, [], ◌∷◌, ◌++◌, length, get_or}
 use Rattle.std.proofs.Common.{set, filter, not, cond, Option, Some, None, All, refl, sym, ap, subst, ◌∙◌, ⊎_elim, inl}
 use Rattle.std.proofs.Common.{inr, arith, eq-eqb, ne_eqb}

@@ -1,4 +1,6 @@
--- A log and the calls that its entries are of, one beside the other.
+-- Calls chosen for the entries of a log one by one (`Along`) have what the entries have: numbers, operations,
+-- replies. If the entries of each client rise, no ticket is in the log twice (`tickets_once`). By induction on the
+-- log.
 use Rattle.std.proofs.Common.{◌≡◌, ◌≢◌, ℕ, ℤ, pos, ◌<◌, ◌==◌, Bool, true, false, cond, inl, inr, List, [], ◌∷◌, ◌++◌}
 use Rattle.std.proofs.Common.{map, IfSome, refl, ap, sym, ◌∙◌, subst, eq-eqb, arith}
 use Rattle.model.specs.Objects.{Content, next}

@@ -1,4 +1,5 @@
--- An operation leaves an object of the same kind.
+-- An operation leaves an object of the same kind, and so does a log of operations (`kind_replayed`); a log leaves one
+-- content (`replays_once`). By cases on the operation, and induction along the log.
 use Rattle.std.proofs.Common.{◌≡◌, Bool, true, false, cond, List, [], ◌∷◌, Option, Some, None}
 use Rattle.std.proofs.Common.{refl, sym, ap, subst, ◌∙◌}
 use Rattle.std.proofs.lemmas.Option.{same_Some}

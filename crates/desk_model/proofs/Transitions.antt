@@ -1,4 +1,5 @@
--- Each transition keeps the invariant.
+-- Each transition keeps the invariant of the world. By cases on the transition: what it changes is in `Effects`, and
+-- what it leaves is as it was.
 use Rattle.std.proofs.Common.{◌≡◌, ℕ, ◌<◌, List, Some, None, refl, sym, ap, subst, ◌∙◌}
 use Rattle.model.specs.declared.Kind.{Kind}
 use Rattle.model.specs.Objects.{empty}

@@ -1,4 +1,5 @@
--- Finding the value of a key.
+-- The value of a key is that of the first entry with this key: the search finds it at its place (`found_here`), and
+-- passes over each other entry (`passed_over`). By the entries from a place on.
 use Rattle.std.proofs.Common.{◌≡◌, ℕ, ◌+◌, ◌<◌, ◌==◌, ◌&&◌, nat_eq, Bool, true, false, cond, List, [], ◌∷◌, length}
 use Rattle.std.proofs.Common.{drop, Some, get_or, refl, ap, sym, ◌∙◌}
 use lib.Pointwise.{pointwise}

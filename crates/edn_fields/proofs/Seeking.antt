@@ -1,4 +1,5 @@
--- The value of one key, pair by pair.
+-- The value of a key is in the pairs that are left (`Left`): a pair of another key is passed over (`left_more`), a
+-- pair of the key has it (`left_found`), and without pairs there is none (`left_none`).
 use Rattle.std.proofs.Common.{◌≡◌, ℕ, Bool, true, false, cond, Some, List, [], ◌∷◌, ◌++◌, refl, sym, ap, subst, ◌∙◌}
 use Rattle.std.proofs.Common.{append_assoc}
 use Rattle.edn_reader.specs.Datum.{keyword, Datum, atom, vector, dictionary, Entries, no_entries, entry}

@@ -1,4 +1,5 @@
--- `after_open` passes over exactly one vector or map.
+-- `after_open` passes over exactly one vector or map (`after_value_is`): each bracket changes by one how many are
+-- open, and any other token changes nothing. By induction on the form.
 use Rattle.std.proofs.Common.{◌≡◌, ℕ, zero, suc, ◌+◌, ◌-◌, ◌<◌, List, [], ◌∷◌, ◌++◌, refl, ap, ◌∙◌, append_assoc}
 use Rattle.std.proofs.Common.{add-one, arith}
 use Rattle.edn_reader.specs.Datum.{Datum, atom, vector, dictionary, Items, no_items, item, Entries, no_entries, entry}

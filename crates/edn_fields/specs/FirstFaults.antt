@@ -10,7 +10,7 @@ AreFaultless {Kind} IsFault ds =
     (earlier later : List Datum) (d : Datum) (kind : Kind) → ds ≡ earlier ++ d ∷ later
     → IsFault earlier d kind → ⊥
 
--- the first fault: that of the least faulty form, and of the faults there that of the least number
+-- the first fault: that of the first faulty form, and of the faults there that of the least number
 pub record IsFirstFaultBy {Kind : Type 0} (IsFault : List Datum → Datum → Kind → Type 0)
     (number_of : Kind → ℕ) (ds : List Datum) (at : ℕ) (kind : Kind) : Type 0 where
   pub earlier : List Datum

@@ -1,4 +1,5 @@
--- A number in decimal is spelled as one, and has its value.
+-- A number in decimal is spelled as an integer and has its value (`decimal_is`, `integer_text`). By induction on its
+-- digits, from the last one on.
 use Rattle.std.proofs.Common.{◌≡◌, ℕ, ◌+◌, ◌-◌, ◌*◌, ◌/◌, ◌%◌, ◌^◌, ◌<◌, ◌≤◌, suc, true, List, [], ◌∷◌, ◌++◌}
 use Rattle.std.proofs.Common.{get_or, refl, sym, ap, ◌∙◌, arith, inl, inr}
 use Rattle.std.specs.Prelude.{◌==◌, ◌&&◌, not, nat_le, ℤ, pos, negsuc}

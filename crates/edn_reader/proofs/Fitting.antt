@@ -1,4 +1,5 @@
--- Whether the pairs of a map fit, pair by pair.
+-- Whether the pairs of a map fit, from a place on: not if its key comes again further on (`key_again`), and else if
+-- its value fits and the later pairs do (`fits_on`). By one pair at a time.
 use Rattle.std.proofs.Common.{◌≡◌, ℕ, ◌+◌, ◌<◌, Bool, true, false, List, [], ◌∷◌, length, get_or, drop, refl, sym}
 use Rattle.std.proofs.Common.{ap, ◌∙◌, subst}
 use Rattle.std.specs.Prelude.{◌||◌, ◌↔◌}

@@ -1,4 +1,5 @@
--- When keys are the same, and which keys some pairs have.
+-- When keys are the same, and which keys some pairs have: equality of bytes decides equality of keys (`same_is`,
+-- `same_not`), and one more pair adds its key. By induction along the pairs.
 use Rattle.std.proofs.Common.{arith, ◌≡◌, ℕ, Bool, true, false, cond, List, [], ◌∷◌, ◌++◌, refl, sym, ap, ◌∙◌, inl, inr}
 use Rattle.std.specs.Prelude.{◌||◌}
 use Rattle.std.specs.Str.{bytes_eq}

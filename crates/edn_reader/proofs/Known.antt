@@ -1,4 +1,5 @@
--- Which names a set of them has.
+-- Which names a set of them has: the set that the code keeps has exactly the names that came so far (`names_with`).
+-- By what an insertion changes.
 use Rattle.std.proofs.Common.{◌≡◌, ℕ, ◌+◌, ◌<◌, Bool, true, false, cond, List, [], ◌∷◌, ◌++◌, length, take, get_or}
 use Rattle.std.proofs.Common.{refl, sym, ap, ◌∙◌}
 use Rattle.std.specs.Prelude.{◌||◌}

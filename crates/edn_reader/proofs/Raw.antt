@@ -1,4 +1,5 @@
--- Strings as they are written, and where they end.
+-- Strings as they are written, and where they end: bytes before the closing quote are the string (`raw_is`), and what
+-- follows is shorter than the text (`end_shorter`). By induction along the bytes, two at an escape.
 use Rattle.std.proofs.Common.{◌≡◌, ℕ, ◌<◌, ◌-◌, false, Option, Some, None, List, [], ◌∷◌, ◌++◌, length, take, refl}
 use Rattle.std.proofs.Common.{sym, ap, ◌∙◌, arith, inl, inr}
 use Rattle.std.specs.Prelude.{◌==◌, option_map}

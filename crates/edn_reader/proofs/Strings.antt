@@ -1,4 +1,5 @@
--- Strings between their quotes.
+-- Strings between their quotes: a text is quoted exactly where the reader finds its end, with the bytes that the
+-- escapes stand for. By induction along the bytes, in both directions.
 use Rattle.std.proofs.Common.{◌≡◌, ℕ, ◌<◌, Bool, true, false, cond, Option, Some, None, List, [], ◌∷◌, ◌++◌, length}
 use Rattle.std.proofs.Common.{refl, sym, ap, ◌∙◌, arith, inl, inr}
 use Rattle.std.specs.Prelude.{◌==◌, option_and_then}

@@ -1,4 +1,5 @@
--- Tokens that are written in the usual way, at the front of a text.
+-- A text that begins as usual texts do begins with these tokens: a word, a space, a key and its value. By comparing
+-- it byte by byte.
 use Rattle.std.proofs.Common.{◌≡◌, ℕ, ◌-◌, ◌<◌, ◌≤◌, ◌⊎◌, inl, inr, true, List, [], ◌∷◌, ◌++◌, length, take, drop}
 use Rattle.std.proofs.Common.{get_or, refl, sym, ap, subst, ◌∙◌, arith}
 use Rattle.std.specs.Prelude.{pos}

@@ -170,7 +170,7 @@ impl<'a> Elements<'a> {
         ensures same { IfErr result (λ _. left_of self.new ≡ left_of self.old) }
         ensures none { IfErr result (λ e. e.kind ≢ FaultKind.NoMemory
             → (ds : List Datum) → Spells ds (left_of self.old) → ⊥) }
-        // Memory ran out when nothing was wrong yet, as in `read_forms`.
+        // An allocation failed, and nothing was wrong yet, as in `read_forms`.
         ensures memory { IfErr result (λ e. e.kind ≡ FaultKind.NoMemory
             → IsSoundFrom (start_of self.old) e.place (left_of self.old)) }
         ensures short { IfErr result (λ e. e.kind ≢ FaultKind.TooLong) }

@@ -1,4 +1,5 @@
 //! What is open while an element is read: of what kind, and the keys of each map.
+
 ghost use Rattle.std.specs.Prelude.{◌≡◌, [], List, ℕ, IfOk, OnOk, IfSome, IfNone, true, false};
 ghost use Rattle.std.specs.Str.{bytes_eq};
 ghost use Rattle.std.specs.Option.{ForSome};
@@ -36,8 +37,8 @@ pub enum Level<'a> {
     Map(Keys<'a>),
 }
 
-/// What is open: the innermost apart, the vectors right around it, which are only counted, and the
-/// others from the outermost in; and room for the keys of the next map.
+/// What is open: the innermost level, how many vectors are directly around it, and the other
+/// levels, the outermost first; and room for the keys of the next map.
 #[derive(Drop)]
 pub struct Levels<'a> {
     inner: Level<'a>,
@@ -46,7 +47,8 @@ pub struct Levels<'a> {
     spare: Vec<&'a str>,
 }
 
-/// Whether the first two bytes differ, as they do for most names of one length.
+/// Whether one of the first two bytes differs, as for most names of one length. Shorter names are
+/// not compared.
 #[inline(always)]
 fn differ_early(a: &[u8], b: &[u8]) -> bool
     ensures { result ≡ true → bytes_eq a.now b.now ≡ false }
@@ -197,7 +199,7 @@ impl<'a> Keys<'a> {
         }
     }
 
-    /// A key, which then waits for its value. After an error the keys are of no use.
+    /// A key, which then waits for its value. Do not use the keys after an error.
     #[inline(always)]
     fn put_key(&mut self, alloc: Global, name: &'a str) -> Result<(), Cause>
         ensures { Becomes result
@@ -439,7 +441,7 @@ impl<'a> Levels<'a> {
         self.inner.put_value()
     }
 
-    /// Takes one more token. After an error the levels are of no use.
+    /// Takes one more token. Do not use the levels after an error.
     #[inline(always)]
     #[tactic(auto, unfolding(crate::specs::Shapes::shape_step))]
     pub fn step(&mut self, alloc: Global, piece: &Piece<'a>) -> Result<(), Cause>

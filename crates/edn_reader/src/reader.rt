@@ -34,8 +34,8 @@ pub fn read_forms(alloc: Global, text: &[u8]) -> Result<Vec<Form>, EdnFault>
     // Any other fault comes only if the text spells no forms.
     ensures none { IfErr result (λ e. e.kind ≢ FaultKind.NoMemory → e.kind ≢ FaultKind.TooLong
         → (ds : List Datum) → Spells ds text.now → ⊥) }
-    // Memory ran out when nothing was wrong yet: the token at that place still is one of some
-    // forms.
+    // An allocation failed, and nothing was wrong yet: the token at that place still is one of
+    // some forms.
     ensures memory { IfErr result (λ e. e.kind ≡ FaultKind.NoMemory → IsSoundAt e.place text.now) }
 {
     let mut elements = Elements::new(alloc, text)?;

@@ -1,4 +1,5 @@
 //! A text, element by element, on a token buffer that is used again.
+
 ghost use Rattle.std.specs.Prelude.{◌≡◌, ◌≢◌, ◌<◌, [], List, length, Some, None, IfOk, IfErr};
 ghost use Rattle.std.specs.Prelude.{IfSome, OnOk, MatchResult, option_map};
 ghost use Rattle.std.specs.Str.{IsUtf8};
@@ -84,7 +85,7 @@ impl<'a> TokenBuffer<'a> {
         Ok(())
     }
 
-    /// Takes the token at the front, of whatever kind.
+    /// Takes the token at the front, of whatever kind: the slow way of `take`.
     #[inline(never)]
     fn take_any(&mut self, alloc: Global, here: &'a [u8]) -> Result<(), Cause>
         requires some { 0 < length here.now }
@@ -111,8 +112,8 @@ impl<'a> TokenBuffer<'a> {
         }
     }
 
-    /// Takes the token at the front, and keeps what follows it. After an error the token buffer is
-    /// of no use.
+    /// Takes the token at the front, and keeps what follows it. Do not use the token buffer after
+    /// an error.
     #[inline(always)]
     #[tactic(auto, unfolding(crate::specs::Reading::first))]
     fn take(&mut self, alloc: Global, here: &'a [u8]) -> Result<(), Cause>
@@ -144,7 +145,7 @@ impl<'a> TokenBuffer<'a> {
         }
     }
 
-    /// Reads the next element. After an error the token buffer is of no use.
+    /// Reads the next element. Do not use the token buffer after an error.
     #[tactic(auto, using(crate::proofs::Lexical::skip_within, crate::proofs::Turns::after_piece_shorter))]
     fn try_read(
         &mut self,

@@ -95,7 +95,7 @@ denoted (e ∷ later) =
 
 -- ---- objects
 
--- some invocation, be it failed, names the object
+-- some invocation, even a failed one, names the object
 pub record IsNamed (es : List Event) (x : ℕ) : Type 0 where
   pub event : Event
   pub op : AnyOp

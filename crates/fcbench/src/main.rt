@@ -108,8 +108,8 @@ fn is_divided(status: u8) -> bool {
     status == Status::Yes.number() || status == Status::Undecided.number()
 }
 
-/// Divides a history into shards in a folder that has none. Where it is not divided, nothing of it
-/// is left there.
+/// Divides a history into shards in a folder that has none. If it is not divided, nothing of it is
+/// left there.
 fn split<R: Host>(rt: &R, history: &str, name: &str, shards: u32) -> io::Result<u8> {
     let shards = match u16::try_from(shards) {
         Ok(shards) if shards > 0 => shards,
@@ -141,7 +141,7 @@ fn split<R: Host>(rt: &R, history: &str, name: &str, shards: u32) -> io::Result<
     }
 }
 
-/// Verifies the shards in a folder, or believes the exit status of each.
+/// Verifies the shards in a folder, or trusts the exit status of each.
 fn merge<R: Host>(rt: &R, name: &str, steps: u32, trust_statuses: bool) -> io::Result<u8> {
     let folder = ShardFolder::new(rt, rt.alloc(), name);
     let shards = match folder.count() {
@@ -193,6 +193,7 @@ fn asks_for_version(words: &[String]) -> bool {
     }
 }
 
+/// Does what the words ask for.
 fn do_words<R: Host>(rt: &R, words: &[String]) -> io::Result<u8> {
     if asks_for_version(words) {
         rt.println(VERSION)?;
@@ -219,6 +220,7 @@ fn words_of<R: AllocGlobal + Env>(rt: &R) -> io::Result<Vec<String>> {
     Ok(std::env::args(rt)?.collect(rt.alloc())?)
 }
 
+/// Reads the words of the command line, and does what they ask for.
 fn do_command_line<R: Host + Env>(rt: &R) -> io::Result<u8> {
     match words_of(rt) {
         Ok(words) => do_words(rt, &words),

@@ -80,8 +80,8 @@ impl<'a, R: Files> ShardFolder<'a, R> {
         }
     }
 
-    /// Makes the files of this many shards, in a folder that has no whole history. If some file
-    /// cannot be made, those that were are removed.
+    /// Makes the files of this many shards, in a folder that has no full history. If some file
+    /// cannot be made, the files that were made are removed.
     pub fn make(&self, shards: u16) -> io::Result<()> {
         make_folder(self.files, self.name)?;
         if fs::exists(self.files, self.count_path()?)? {

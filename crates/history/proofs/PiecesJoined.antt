@@ -1,4 +1,5 @@
--- A text in pieces, and the pieces that are read from them.
+-- A text that is cut at line feeds is its pieces (`piece_more`). If each was read, joining them one by one
+-- (`join_more`) gives the forms of the text (`all_joined`).
 use Rattle.std.proofs.Common.{◌≡◌, ℕ, zero, suc, ◌<◌, List, [], ◌∷◌, ◌++◌, length, get_or, Option}
 use Rattle.std.proofs.Common.{Some, IfSome, refl, ap, sym, ◌∙◌, subst, append_assoc, arith}
 use Rattle.std.proofs.lemmas.List.{append-nil}

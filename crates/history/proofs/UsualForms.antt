@@ -1,4 +1,5 @@
--- The parts of an operation map in the usual form, and the map that they make.
+-- A text in the usual form is read as the map that its parts say (`usual_is`). Each part begins with its tokens, and
+-- pairs are put in front of the last ones one by one (`other_pair`, `object_pair`).
 use Rattle.std.proofs.Common.{◌≡◌, ℕ, ◌⊎◌, true, false, Bool, cond, Some, Option, List, [], ◌∷◌, ◌++◌, codes, refl, sym}
 use Rattle.std.proofs.Common.{ap, subst, ◌∙◌, append_assoc, arith}
 use Rattle.std.specs.Prelude.{ℤ, pos}

@@ -63,7 +63,7 @@ impl<'a> MapReader<'a> {
         ensures same { IfErr result (λ _. left_in self.new ≡ left_in self.old) }
         ensures none { IfErr result (λ e. e.kind ≢ FaultKind.NoMemory
             → (ds : List Datum) → Spells ds (left_in self.old) → ⊥) }
-        // Memory ran out when nothing was wrong yet.
+        // An allocation failed, and nothing was wrong yet.
         ensures memory { IfErr result (λ e. e.kind ≡ FaultKind.NoMemory
             → IsSoundFrom (start_in self.old) e.place (left_in self.old)) }
         ensures short { IfErr result (λ e. e.kind ≢ FaultKind.TooLong) }

@@ -1,4 +1,5 @@
--- What the status of an output shows.
+-- What the status of an output shows: yes, that each object has a valid order, and no, that some object has none. So
+-- by locality the history is, or is not, linearizable (`is_search`, `is_refute`).
 use Rattle.std.proofs.Common.{arith, ◌≢◌, ◌∙◌, ℕ, List, inl, inr, sym}
 use Rattle.events.specs.declared.event.Event.{Event}
 use Rattle.certificate.specs.declared.Certificate.{Certificate}

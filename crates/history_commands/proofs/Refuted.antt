@@ -1,4 +1,5 @@
--- The answers to reasons on a history.
+-- The answers to reasons on a history are those of its objects (`answered`): each has the lines of its own object
+-- (`named_by`), and the number of calls is that of this object (`counted`). By cases on the answer.
 use Rattle.std.proofs.Common.{◌≡◌, ◌≢◌, ◌∙◌, ◌<◌, ◌≤◌, ℕ, true, false, List, length, map, get_or, All, Any, Contains}
 use Rattle.std.proofs.Common.{refl, ap, sym, arith}
 use Rattle.std.specs.List.{AllZip, list_any}

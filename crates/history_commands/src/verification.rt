@@ -1,5 +1,5 @@
 //! The verification of a history by claims, from any source: the claims are checked, and the
-//! history is judged by what they show. Of an object that has no order it is said why.
+//! history is judged by what they show. If an object has no order, the lines say why.
 
 ghost use Rattle.std.specs.Prelude.{◌≡◌, ◌⊎◌, ◌++◌, ℕ, List, true, false, All, IfOk, OnOk};
 ghost use Rattle.std.specs.Prelude.{IsSome, codes, decimal};
@@ -198,8 +198,7 @@ fn judge_decisions(
     output_of(alloc, history, answers)
 }
 
-/// Checks the claims on a history. If they name no number of steps a search has the limit
-/// `steps`.
+/// Checks the claims on a history. `steps` is the limit of a search if its claim names none.
 fn verify_claims(
     alloc: Global,
     history: &History,
@@ -230,9 +229,10 @@ fn verify_by_text(
     }
 }
 
-/// Checks the claims in a text, whatever that holds, on a history that was read from another text,
-/// and judges the history by them; or says what stopped its reading. A search for which a claim
-/// names no number of steps has the limit `steps`.
+/// Checks the claims in a text, which may be any bytes, on a history that was read from another
+/// text, and judges the history by them; or says what stopped its reading. The history comes as a
+/// result, since the evidence is read after it. `steps` is the limit of a search if its claim names
+/// none.
 pub fn verify_history(
     alloc: Global,
     history: Result<History, TextFailure>,
@@ -248,7 +248,7 @@ pub fn verify_history(
     }
 }
 
-/// Checks the claims in one text, whatever that holds, on the history in another, as
+/// Checks the claims in one text, which may be any bytes, on the history in another, as
 /// `verify_history` does.
 pub fn verify(
     alloc: Global,

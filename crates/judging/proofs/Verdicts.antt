@@ -1,4 +1,5 @@
--- What the verdict on a check says, from what the check says.
+-- The verdict on a check follows from what the check answers: yes for valid certificates, no with the first refusal,
+-- and an allocation failure by itself. By cases on the answer.
 use Rattle.std.proofs.Common.{◌≡◌, ◌∙◌, List, subst, sym}
 use Rattle.std.specs.Prelude.{Result, Ok, Err, OnOk, IfErr}
 use Rattle.events.specs.declared.event.Event.{Event}

@@ -11,7 +11,7 @@ use history::{History, ReadPiece, join_pieces, pieces_of, read_piece};
 use std::alloc::Global;
 use std::thread::{Threads, map_indices};
 
-/// The most workers that share a check.
+/// The most workers of one judgement.
 pub(crate) const MAX_WORKERS: u32 = 16;
 
 /// A text that is shorter is not read in pieces.

@@ -1,4 +1,5 @@
--- Valid orders of the objects that are called are enough.
+-- Valid orders of the objects that are called are enough (`named_objects_lem`): an object without calls has the empty
+-- order, which is valid.
 use Rattle.std.proofs.Common.{◌≡◌, ℕ, ◌==◌, List, [], ◌∷◌, map, filter, All, refl, sym, subst, arith, inl}
 use Rattle.std.proofs.lemmas.Bool.{eqb-true}
 use Rattle.model.specs.Specification.{Specification}

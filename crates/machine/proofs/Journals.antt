@@ -1,4 +1,5 @@
--- A journal with one event more.
+-- A journal with one event more: an invocation, or the return of the call that is outstanding (`journal_called`,
+-- `journal_returned`). The other journals stay as they are (`grown`, `ungrown`).
 use Rattle.std.proofs.Common.{◌≡◌, ℕ, List, [], ◌∷◌, ◌++◌, Option, Some, None, refl, ap}
 use Rattle.std.proofs.Common.{◌<◌, length, map, set, get_or, sym, ◌∙◌, Result, Ok, Err, IfErr, IsErrAnd}
 use Rattle.std.specs.declared.vec.Vec.{Vec}

@@ -1,4 +1,5 @@
--- Lists by number, and what is past their end.
+-- Lists by number, and what is past their end: a list that is written at one place has the new value there, and each
+-- other value where it was (`get_or-set_by`). By induction along the list.
 use Rattle.std.proofs.Common.{◌≡◌, ◌≢◌, ℕ, zero, suc, [], ◌∷◌, ◌<◌, inl, inr, List, length, Option, Some, None, set}
 use Rattle.std.proofs.Common.{get_or, map, slice_get, refl, ap, sym, ◌∙◌, arith}
 use Rattle.std.proofs.lemmas.List.{get_or_past, get_or-set_same, get_or-set_other}

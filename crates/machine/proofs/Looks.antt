@@ -1,4 +1,5 @@
--- What a look at the machine's fields says of its state.
+-- What a look at the machine's fields says of its state: an element of a list is that of the world with this number
+-- (`seen_at`), and a client that has come is one of the list (`stage_there`).
 use Rattle.std.proofs.Common.{◌≡◌, ◌≢◌, ℕ, zero, suc, ◌*◌, ◌<◌, inl, inr, List, [], ◌∷◌, length, Option, Some, None}
 use Rattle.std.proofs.Common.{IsSome, IfSome, get_or, map, refl, ap, sym, ◌∙◌, subst, arith, slice_get}
 use Rattle.std.specs.declared.vec.Vec.{Vec}

@@ -1,4 +1,5 @@
--- The record of a machine is that of its world, and is sound.
+-- The record of a machine is that of its world, which is sound, since it came by a run. So its journals and logs are
+-- those of a linearizable history.
 use Rattle.std.proofs.Common.{◌≡◌, ℕ, List, [], length, get_or, map, ap, sym, ◌∙◌, subst}
 use Rattle.std.proofs.Math.ListN as ListN
 use Rattle.model.specs.declared.AnyOp.{AnyOp}

@@ -1,4 +1,5 @@
--- Steps taken or passed over, one list after another.
+-- Steps that are taken or passed over, one list after another: the transitions of both lists together are those of
+-- their concatenation (`more`). By induction along the steps.
 use Rattle.std.proofs.Common.{◌≡◌, inl, inr, ℕ, zero, suc, add-one, ◌+◌, ◌<◌, List, [], ◌∷◌, ◌++◌, take, length}
 use Rattle.std.proofs.Common.{get_or, map, ap, sym, ◌∙◌, subst, arith}
 use Rattle.model.specs.declared.Kind.{Kind}

@@ -1,4 +1,5 @@
--- A run keeps the world sound.
+-- A run keeps the world sound (`run_sound`), and draws few tickets (`run_few`). It begins in a sound world
+-- (`start_sound`), and each transition keeps the invariant; by induction along the run.
 use Rattle.std.proofs.Common.{◌≡◌, ◌≢◌, ℕ, ◌*◌, ◌<◌, ◌≤◌, Contains, Bool, true, false, List, [], ◌∷◌, nat_lt}
 use Rattle.std.proofs.Common.{if◌then◌else◌, Option, Some, None, All, AllPairs, map, refl, ap, sym, ◌∙◌, subst}
 use Rattle.std.proofs.Common.{arith}

@@ -64,9 +64,9 @@ fn check_objects<R: Threads + Sync, G: Gate>(
 }
 
 /// Checks the certificates of a history's objects by this many workers. The answer is that of
-/// `check_all`: `Ok` exactly if each named object has a valid order and no other object has a
-/// certificate, and else the first refusal, that of the least object and strange objects last,
-/// whichever was found first in time.
+/// `check_all`: `Ok` if each named object has a valid order and no other object has a certificate,
+/// otherwise the first refusal, that of the least object and strange objects last, whichever was
+/// found first in time. Either may be an allocation failure instead.
 ///
 /// The objects come in rising number. Worker `w` checks those at the places `w`, `w + workers`, and
 /// so on, each between the gate's `before` and `after`, and stops at the first that is refused. No

@@ -1,4 +1,5 @@
--- The part that cuts name, one after another.
+-- The part that the cuts name: at first the calls themselves (`not_cut`), and after one more cut what it names of the
+-- part so far (`cut_further`). If a cut names nothing, all of them do (`none_left`).
 use Rattle.std.proofs.Common.{◌≡◌, suc, ℕ, ℤ, ◌<◌, ◌+◌, List, ◌∷◌, length, get_or, drop, ap, sym, ◌∙◌, subst, arith}
 use Rattle.std.proofs.Math.Seq.{drop-cons}
 use Rattle.std.specs.declared.alloc.AllocError.{AllocError}

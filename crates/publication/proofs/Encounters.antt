@@ -1,4 +1,5 @@
--- Two clients after they have met.
+-- Two clients after they have met: each has seen the same log of the object (`met`), which goes on from what each had
+-- seen before. By what the messages in both directions add.
 use Rattle.std.proofs.Common.{◌≡◌, ℕ, ◌<◌, Bool, List, [], length, sym, ap, subst, ◌∙◌}
 use Rattle.std.proofs.lemmas.List.{get_or-set_same}
 use Rattle.atomic_table.specs.Table.{Me}

@@ -1,4 +1,5 @@
--- The end of a client, and the sight of another's.
+-- The end of a client, and the sight of another's: one more client is known to have ended (`one_ended`), or is still
+-- there (`there_still`). By whether the word that was read is 1.
 use Rattle.std.proofs.Common.{◌≡◌, ◌≢◌, ℕ, ◌+◌, ◌<◌, Bool, List, [], ◌∷◌, ◌++◌, Contains, All, eqb, eq-eqb, ne_eqb}
 use Rattle.std.proofs.Common.{if◌then◌else◌, sym, ap, subst, ◌∙◌, arith}
 use mathlib.Core.Logic.{dite}

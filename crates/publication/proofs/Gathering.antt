@@ -1,4 +1,5 @@
--- The logs and journals that a record is made of, row by row.
+-- The logs and journals that a record is made of, taken row by row: what is gathered so far is that of the rows so
+-- far. By what one more row adds at the end (`grown`).
 use Rattle.std.proofs.Common.{◌≡◌, ℕ, ◌+◌, ◌<◌, ◌≤◌, List, [], ◌∷◌, ◌++◌, length, get_or, length-append, sym, ap}
 use Rattle.std.proofs.Common.{subst, ◌∙◌, arith}
 use mathlib.Core.Logic.{dite}

@@ -1,4 +1,5 @@
--- Lists read by `get_elem?` that grow at the end.
+-- Lists read by `get_elem?` that grow at the end: each earlier place reads as before, and the new one reads what was
+-- added. By cases on whether the place is the last.
 use Rattle.std.proofs.Common.{◌≡◌, ℕ, zero, suc, ◌+◌, ◌<◌, ◌≤◌, List, [], ◌∷◌, ◌++◌, length, length-append}
 use Rattle.std.proofs.Common.{append-nil, refl, sym, ap, ◌∙◌, ⊎_elim, arith}
 use mathlib.Core.Logic.{dite}

@@ -1,4 +1,5 @@
--- A new desk, and a client that has made no call.
+-- A new desk keeps its rule, and each client that is made of it knows that it has made no call. By the lists with
+-- which a desk begins, and what making one more client adds.
 use Rattle.std.proofs.Common.{◌≡◌, ℕ, zero, suc, ◌+◌, ◌<◌, false, List, [], ◌∷◌, length, map, get_or, replicate}
 use Rattle.std.proofs.Common.{refl, sym, ap, subst, ◌∙◌, arith}
 use mathlib.Core.Option.{some, some-injective, some-ne-none}

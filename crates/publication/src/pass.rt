@@ -30,10 +30,11 @@ impl<S: SeqObject> Pass<S> {
         self.number
     }
 
-    /// Tries once to pick up the row's request for this object. Got: it is of the object's kind; if
-    /// this pass had put one back there it is that one, and at the own row it is the own call. Not:
-    /// there was none, so this pass had put none back there, and at the own row an own call on this
-    /// object is answered. A row past the last client has none.
+    /// Tries once to pick up the row's request for this object. `Got`: the request is of the
+    /// object's kind. If this pass had put one of the row back, it is that one; at its own row it
+    /// is the client's own call. `Not`: the row had no request, so this pass had put none of it
+    /// back, and at its own row the client's call on this object, if there is one, is answered. A
+    /// row past the last client has no request.
     pub fn pick(self, desk: &Desk<S>, row: u32) -> Picked<S>
         requires desk { self.desk ≡ desk.now.id }
         requires row { row < max_clients }

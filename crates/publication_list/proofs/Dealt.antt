@@ -1,4 +1,5 @@
--- Dealing places out to the owners of rows.
+-- Dealing places out to the owners of rows: each gets the place of its own row, and those that are left are the
+-- places of the rows after it (`popped`). By one place at a time, from the last.
 use Rattle.std.proofs.Common.{rules, ◌≡◌, ℕ, zero, suc, ◌+◌, ◌<◌, List, [], ◌∷◌, ◌++◌, length, get_or, set, vec_len}
 use Rattle.std.proofs.Common.{vec_capacity, length-append}
 use Rattle.std.proofs.Common.{length-set, get_or-set_same, get_or-set_other, refl, sym, ap, ◌∙◌, subst, arith}

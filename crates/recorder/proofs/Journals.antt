@@ -1,4 +1,5 @@
--- The client events of a journal whose calls and returns come in turn.
+-- A journal whose calls and returns come in turn makes events of one process that does only what it may (`runs_of`),
+-- with the tickets as numbers (`numbers_of`). By induction on the turns.
 use Rattle.std.proofs.Common.{◌≡◌, ℕ, ◌<◌, inl, inr, List, [], ◌∷◌, map, length, Some, refl, ap, sym, ◌∙◌, subst}
 use Rattle.std.proofs.lemmas.Bool.{eq-eqb}
 use Rattle.model.specs.declared.Kind.{Kind}

@@ -1,4 +1,5 @@
--- Keys in rising order, put in one by one, are the same keys.
+-- Keys in rising order, put in one by one, are the same keys: each comes after all that are there (`put_last`), so
+-- the list only grows at its end (`put_next`). By induction along the keys.
 use Rattle.std.proofs.Common.{◌≡◌, List, [], ◌∷◌, ◌++◌, refl, ap, ◌∙◌}
 use Rattle.std.specs.Ordering.{match_ordering, ordering_reverse}
 use Rattle.std.specs.declared.cmp.Ordering.{Ordering}

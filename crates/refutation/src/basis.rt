@@ -126,7 +126,7 @@ fn search(form: Option<&Form>) -> Option<Basis>
     }
 }
 
-/// The basis of a reason: a count, or if the map names none a search.
+/// The basis of a reason: a count, or a search if the map names no count.
 #[tactic(auto, using(edn_reader::proofs::Pairs::map_view))]
 pub(crate) fn basis(count: Option<&Form>, searched: Option<&Form>) -> Option<Basis>
     ensures { result ≡ spec.basis_in (option_map (λ f. view f.now) count.entry)

@@ -97,8 +97,8 @@ fn doubt_of(alloc: Global, part: &ObjectHistory, basis: Basis, limit: u64) -> Op
 }
 
 /// Whether the reason shows that no order of the object's operations is valid. A search takes at
-/// most the steps that the reason gives, or else `limit`. The part that the reason names is
-/// returned.
+/// most the steps that the reason gives, or `limit` if it gives none. The part that the reason
+/// names is returned.
 ///
 /// An error: an allocation failed for the part.
 pub fn refute(
@@ -110,7 +110,7 @@ pub fn refute(
     // Impossible is answered only if no order of the whole is valid.
     ensures impossible { IfOk result (λ r. is_impossible r ≡ true
         → IsNoneValid history.now.kind (calls_of history.now.ops)) }
-    // What is handed out is the part that the reason names.
+    // The part that is returned is the one that the reason names.
     ensures part { IfOk result (λ r. IfPart r (IsNamedPart reason.now.cuts.items
         history.now.object history.now.kind (calls_of history.now.ops))) }
     // Impossible is answered only if the basis shows it of that part: a count is exceeded. No

@@ -114,7 +114,7 @@ fn count_operations(kind: Option<Kind>, all: &[Invoked]) -> usize
     all.iter().filter(|i| is_of(kind, i) && !i.failed).count()
 }
 
-/// Puts in an object: one more if it is new, else none.
+/// Inserts an object. Returns 1 if it is new, otherwise 0.
 fn insert_object(objects: &mut NumberMap<()>, object: u32) -> Result<usize, AllocError>
     ensures among { OnOk result ((x : ℕ) → is_some (value_of objects.new x)
         ≡ (if object == x then true else is_some (value_of objects.old x))) }
@@ -238,7 +238,7 @@ pub(crate) fn summary_of(alloc: Global, events: &[Event]) -> Result<Summary, All
 }
 
 /// Counts what a history has. The operations are those that did not fail. The objects and the kinds
-/// are those that some invocation names, be it failed.
+/// are those that some invocation names, even a failed one.
 pub fn summary(alloc: Global, history: &History) -> Result<Summary, AllocError>
     ensures operations { IfOk result (λ s. s.operations ≡ length (operations_in history.now)) }
     ensures objects { IfOk result (λ s. s.objects ≡ length (objects_in (uses history.now))) }

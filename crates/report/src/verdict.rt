@@ -6,8 +6,8 @@ use edn::EdnFault;
 use history::HistoryFault;
 use seq_objects::Kind;
 
-/// What a history has of one kind: objects that some invocation names, be it failed, and operations
-/// that did not fail.
+/// What a history has of one kind: objects that some invocation names, even a failed one, and
+/// operations that did not fail.
 #[derive(Clone, Copy, Debug, PartialEq, Eq)]
 pub struct KindCount {
     pub kind: Kind,

@@ -1,4 +1,5 @@
--- The answers on all objects of a history.
+-- The answers on all objects of a history: if each is a certificate, the certificates are valid (`certifies`); if one
+-- is impossible, the history is not linearizable, by locality (`not_linearizable`).
 use Rattle.std.proofs.Common.{◌≡◌, ℕ, List, Some, Any, subst}
 use Rattle.std.proofs.lemmas.Option.{same_Some}
 use Rattle.model.specs.Linearizable.{IsLinearizable}

@@ -1,4 +1,5 @@
--- An element that was added or removed, put back.
+-- An element that was added or removed is put back by the undo of its operation (`add_step`, `remove_step`). The two
+-- sets agree on each other element (`Alike`), and then on this one.
 use Rattle.std.proofs.Common.{◌≡◌, ℤ, Bool, true, false, not, ◌||◌, ◌&&◌, Ordering, Less, Equal, Greater}
 use Rattle.std.proofs.Common.{refl, ap, sym, ◌∙◌}
 use Rattle.std.specs.Ordering.{int_cmp, is_eq}

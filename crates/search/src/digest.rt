@@ -1,4 +1,5 @@
-//! A digest of the operations done and the content.
+//! A digest of the operations done and the content. It is a sum, so that an operation is taken out
+//! again by a subtraction.
 
 /// Two ways to do the same operations that leave the same content have one digest, so that a pair
 /// is found again by its hash. Whether it is the same pair is always compared: nothing is promised
@@ -7,14 +8,17 @@
 pub(crate) struct Digest {
     done: u64,
     content: u64,
-    /// How many values have gone in at the back, those that came out there again taken off, and how
-    /// many out in front.
+    /// The place of the next value that goes in at the back.
     back: u64,
+    /// The place of the first value.
     front: u64,
 }
 
+/// The step of splitmix64 (Steele, Lea, Flood, "Fast Splittable Pseudorandom Number Generators",
+/// OOPSLA 2014).
 const STEP: u64 = 0x9e37_79b9_7f4a_7c15;
 
+/// Mixes two numbers, by the finalizer of splitmix64.
 pub(crate) fn mixed(a: u64, b: u64) -> u64 {
     let x = a.wrapping_add(b.wrapping_mul(STEP)).wrapping_add(STEP);
     let x = (x ^ (x >> 30)).wrapping_mul(0xbf58_476d_1ce4_e5b9);
@@ -52,6 +56,7 @@ impl Digest {
         }
     }
 
+    /// After this value has gone in at the back.
     pub fn in_at_back(self, v: i64) -> Digest {
         Digest {
             content: self.content.wrapping_add(of_value(v, self.back)),
@@ -60,6 +65,7 @@ impl Digest {
         }
     }
 
+    /// After this value, which was the last, has come out at the back.
     pub fn out_at_back(self, v: i64) -> Digest {
         let back = self.back.wrapping_sub(1);
         Digest {
@@ -69,6 +75,7 @@ impl Digest {
         }
     }
 
+    /// After this value, which was the first, has come out in front.
     pub fn out_at_front(self, v: i64) -> Digest {
         Digest {
             content: self.content.wrapping_sub(of_value(v, self.front)),
@@ -77,6 +84,7 @@ impl Digest {
         }
     }
 
+    /// With one more part of the content, such as a key with its value.
     pub fn with(self, part: u64) -> Digest {
         Digest {
             content: self.content.wrapping_add(part),
@@ -84,6 +92,7 @@ impl Digest {
         }
     }
 
+    /// Without this part of the content.
     pub fn without(self, part: u64) -> Digest {
         Digest {
             content: self.content.wrapping_sub(part),
@@ -91,6 +100,7 @@ impl Digest {
         }
     }
 
+    /// With this part as the full content.
     pub fn only(self, part: u64) -> Digest {
         Digest {
             content: part,

@@ -1,4 +1,5 @@
--- Forms that are steps, and the first that is none.
+-- The forms up to a place are steps: one more is (`step_more`), or it is the first that is not (`no_step`), and then
+-- the forms denote no schedule (`refuses`). By one form at a time.
 use Rattle.std.proofs.Common.{◌≡◌, ◌≢◌, ℕ, ◌+◌, ◌<◌, List, [], ◌∷◌, ◌++◌, length, take, drop, map, get_or, Some}
 use Rattle.std.proofs.Common.{None, refl, ap, sym, ◌∙◌, subst, arith}
 use Rattle.std.proofs.lemmas.List.{map-append, take_more, drop_more, take-append-drop, length-map, length-take-le}

@@ -49,7 +49,7 @@ FaultIs ds NotAStep n =
     × IsNoStepAt rest n
 FaultIs ds NoMemory n = IsSoundTo ds n
 
--- The first fault: that of the least faulty form, or an allocation failure before one was met.
+-- The first fault: that of the first faulty form, or an allocation failure before one was met.
 abbrev pub IsFirstFault : List Datum → ScheduleFault → Type 0
 IsFirstFault ds fault = FaultIs ds fault.kind fault.form
 

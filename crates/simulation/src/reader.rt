@@ -47,8 +47,8 @@ fn read_steps(alloc: Global, forms: &[Form]) -> Result<Vec<(u32, Step<AnyOp>)>, 
 }
 
 /// Reads the forms as a schedule: a header, and then a step for each further form. The fault is
-/// that of the least faulty form; an allocation failure comes only if nothing is wrong up to a form
-/// and with it.
+/// that of the first faulty form; an allocation failure comes only if nothing is wrong up to and
+/// including a form.
 pub fn read_schedule(alloc: Global, forms: &[Form]) -> Result<Schedule, ScheduleFault>
     ensures denotes { IfOk result (λ s. Denotes (views forms.now) s.header s.steps.items) }
     // What the header asks for is within the bounds of a machine.

@@ -1,4 +1,5 @@
--- The certificates of a record.
+-- The tickets of the logs of the named objects are the certificates of a record (`are_certificates`). By one object
+-- more at a time (`objects_more`), whose names rise (`names_rise`).
 use Rattle.std.proofs.Common.{◌≡◌, ◌↔◌, ℕ, ℤ, pos, ◌+◌, ◌<◌, List, [], ◌∷◌, ◌++◌, length, map, take, get_or, All}
 use Rattle.std.proofs.Common.{AllPairs, Contains, refl, ap, sym, ◌∙◌, subst}
 use Rattle.std.proofs.lemmas.List.{map-append, take_more}

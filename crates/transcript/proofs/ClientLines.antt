@@ -1,4 +1,5 @@
--- The lines of a client: a call, what came of it, the next call, and so on.
+-- Each line of a record may follow the last one of its process (`line_follows`): a client's lines are a call, what
+-- came of it, the next call, and so on. By induction on its journal.
 use Rattle.std.proofs.lemmas.List.{append-nil, reverse-append}
 use Rattle.std.proofs.Common.{◌≡◌, ℕ, ◌==◌, Bool, true, false, cond, List, [], ◌∷◌, ◌++◌, filter, find, reverse, Option}
 use Rattle.std.proofs.Common.{Some, None, refl, ap, sym, ◌∙◌, subst, append_assoc}

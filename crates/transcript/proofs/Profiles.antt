@@ -1,4 +1,5 @@
--- Lines have integers and names that a text can have.
+-- The lines of a record have integers and names that a text can have (`form_in_profile`), one line at a time
+-- (`profiles_more`): tickets and clients are below 2^63, and names are those of functions.
 use Rattle.std.proofs.Common.{◌≡◌, ℕ, ◌+◌, ◌<◌, ◌≤◌, ◌^◌, ◌==◌, true, List, [], length, map, get_or, take, All, refl}
 use Rattle.std.proofs.Common.{ap, subst, inl, inr, arith, eq-eqb}
 use Rattle.std.proofs.lemmas.Bool.{cases_lt}

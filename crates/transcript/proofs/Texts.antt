@@ -1,4 +1,5 @@
--- The text of a line's form is that of its segments.
+-- The text of a line's form is that of its segments, so the text of all lines is what is written piece by piece
+-- (`texts_are`). By computation for each form of a line.
 use Rattle.std.proofs.Common.{◌≡◌, ℕ, ◌+◌, ◌<◌, ◌++◌, [], ◌∷◌, List, length, drop, get_or, refl, ap, sym, ◌∙◌}
 use Rattle.std.proofs.Common.{append_assoc, codes, decimal}
 use Rattle.std.proofs.lemmas.List.{drop_more, append-nil}

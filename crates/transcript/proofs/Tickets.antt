@@ -1,4 +1,5 @@
--- The journals of a record, as they are in memory.
+-- The journals of a record, as they are in memory, have the tickets of its events, each of which is low
+-- (`ticket_low`). By reading each event back from its entry.
 use Rattle.std.proofs.Common.{◌≡◌, ℕ, ◌<◌, ◌≤◌, ◌==◌, List, [], ◌∷◌, ◌++◌, length, drop, map, filter, get_or, refl}
 use Rattle.std.proofs.Common.{ap, sym, ◌∙◌, subst}
 use Rattle.std.specs.declared.vec.Vec.{Vec}

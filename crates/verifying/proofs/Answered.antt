@@ -1,4 +1,5 @@
--- What one reason shows of an object.
+-- What one reason shows of an object is an answer to its claim: impossible, if the part has no valid order, or what
+-- the doubt is. By what `refute` says of the reason.
 use Rattle.std.proofs.Common.{ℕ, ℤ, List, Option, inl, inr, refl}
 use Rattle.std.specs.Global.{Vec}
 use Rattle.model.specs.declared.Kind.{Kind}

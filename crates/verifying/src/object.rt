@@ -58,7 +58,7 @@ fn decide_by_doubt(reason: &Reason, limit: u64, doubt: Doubt) -> Decision
     }
 }
 
-/// What is decided by a reason. If it names no number of steps a search has the limit `limit`.
+/// What is decided by a reason. `limit` is the limit of a search if the reason names none.
 ///
 /// An error: an allocation failed.
 fn decide_by_reason(
@@ -83,8 +83,8 @@ fn decide_by_reason(
     }
 }
 
-/// What is decided of an object by a claim on it. If a reason names no number of steps a search
-/// has the limit `limit`.
+/// What is decided of an object by a claim on it. `limit` is the limit of a search if the claim
+/// names none.
 ///
 /// An error: an allocation failed.
 pub fn decide_by_claim(

@@ -1,5 +1,5 @@
--- `try_row`: the pass goes on, and where the row is its own, it was tried as told. There is one law of `Served` for
--- each of the three ends: nothing there, answered, put back.
+-- `try_row`: the pass goes on, and if the row is its own, it was tried as `IsTried` says. There is one law of `Served`
+-- for each of the three ends: nothing there, answered, put back.
 use Rattle.std.proofs.Common.{ap}
 use Rattle.combiner.specs.declared.passes.Tried.TheVariants as tried
 use Rattle.combiner.proofs.Served.{goes_on, goes_same, same_tried, not_goes, not_tried, answered_goes}

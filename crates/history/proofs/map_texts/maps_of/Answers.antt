@@ -1,4 +1,4 @@
--- `maps_of`: the maps are those that the piece spells, each with its own bytes, or the fault is as told. The maps
+-- `maps_of`: the maps are those that the piece spells, each with its own bytes, or the fault is the first one. The maps
 -- so far are of the forms up to the place that was reached, and `form_alone` gives the bytes of the next.
 use Rattle.std.proofs.Common.{Option, List, [], ◌∷◌, ◌++◌, length, sym, ap, subst, ◌∙◌, inr, inl, arith}
 use Rattle.std.specs.Str.{IsUtf8}
