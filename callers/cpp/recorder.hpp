@@ -371,7 +371,7 @@ public:
         const auto missing = std::count(events.begin(), events.end(), nullptr);
         if (missing != 0) {
             throw std::logic_error(std::to_string(missing)
-                + " events are missing: a journal is missing, or this recorder was already used");
+                + " events are missing: a journal is missing, or this recorder has already made a history");
         }
         std::string text;
         for (const Event *event : events) {

@@ -200,7 +200,7 @@ static void a_journal_that_is_not_handed_in() {
     }).join();
     journals[0].call("dequeue", std::nullopt, [] { return 7; });
     const std::string missing = message_of([&] { return recorder.history(journals); });
-    want(missing == "3 events are missing: a journal is missing, or this recorder was already used", "a missing journal", missing);
+    want(missing == "3 events are missing: a journal is missing, or this recorder has already made a history", "a missing journal", missing);
     const std::string foreign = message_of([&] { return another.history(journals); });
     want(foreign == "a journal of another recorder was handed in", "a journal of another recorder", foreign);
     static_assert(!std::is_copy_constructible_v<fcbench::Journal>, "a copy would take calls with it");

@@ -331,6 +331,6 @@ func (r *Recorder) wantEach(events []event) {
 		}
 	}
 	if missing := atomic.LoadInt64(&r.tickets) - int64(len(events)); missing != 0 {
-		panic(fmt.Sprintf("%d events are missing: a journal is missing, or this recorder was already used", missing))
+		panic(fmt.Sprintf("%d events are missing: a journal is missing, or this recorder has already made a history", missing))
 	}
 }

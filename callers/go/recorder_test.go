@@ -177,7 +177,7 @@ func TestJournalThatIsNotHandedIn(t *testing.T) {
 	lost.Call("enqueue", Number(7), func() Value { return Nil })
 	lost.Invoke(0, "enqueue", Number(8))
 	kept.Call("dequeue", Nil, func() Value { return Number(7) })
-	wantMessage(t, "3 events are missing: a journal is missing, or this recorder was already used", func() { recorder.History([]*Journal{kept}) })
+	wantMessage(t, "3 events are missing: a journal is missing, or this recorder has already made a history", func() { recorder.History([]*Journal{kept}) })
 	wantMessage(t, "a journal was handed in twice", func() { recorder.History([]*Journal{kept, kept}) })
 	wantMessage(t, "a journal of another recorder was handed in", func() { (&Recorder{}).History([]*Journal{kept}) })
 	if answer := Judge(recorder.History([]*Journal{kept, lost})); !answer.IsYes() {

@@ -298,7 +298,7 @@ public final class Recorder {
         List<Event> events = eventsOf(journals);
         long missing = tickets.get() - events.size();
         if (missing != 0) {
-            throw new IllegalStateException(missing + " events are missing: a journal is missing, or this recorder was already used");
+            throw new IllegalStateException(missing + " events are missing: a journal is missing, or this recorder has already made a history");
         }
         StringBuilder text = new StringBuilder();
         events.forEach(event -> event.appendTo(text));

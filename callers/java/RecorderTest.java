@@ -263,7 +263,7 @@ public final class RecorderTest {
         lost.invoke(0, "enqueue", 8);
         kept.call("dequeue", null, () -> 7);
         String missing = messageOf(() -> recorder.history(List.of(kept)));
-        want(missing.equals("3 events are missing: a journal is missing, or this recorder was already used"), "a lost journal", missing);
+        want(missing.equals("3 events are missing: a journal is missing, or this recorder has already made a history"), "a lost journal", missing);
         String other = messageOf(() -> new Recorder().history(List.of(kept)));
         want(other.equals("a journal of another recorder was handed in"), "another recorder", other);
         Recorder adds = new Recorder();

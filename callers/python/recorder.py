@@ -227,7 +227,7 @@ class Recorder:
         events = sorted((event for journal in journals for event in journal.events), key=lambda event: event[0])
         missing = self._drawn() - len(events)
         if missing:
-            raise ValueError(f"{missing} events are missing: a journal is missing, or this recorder was already used")
+            raise ValueError(f"{missing} events are missing: a journal is missing, or this recorder has already made a history")
         return "".join(
             f"{{:process {process}, :type :{kind}, :f :{function}, :value {written(value)}, :object {number}}}\n"
             for _, process, kind, function, value, number in events

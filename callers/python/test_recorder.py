@@ -166,7 +166,7 @@ class Queues(unittest.TestCase):
         lost.invoke("enqueue", 8)
         kept.call("dequeue", None, lambda: 7)
         for _ in range(2):
-            with self.assertRaisesRegex(ValueError, "^3 events are missing: a journal is missing, or this recorder was already used$"):
+            with self.assertRaisesRegex(ValueError, "^3 events are missing: a journal is missing, or this recorder has already made a history$"):
                 recorder.history([kept])
         with self.assertRaisesRegex(ValueError, "^a journal was handed in twice$"):
             recorder.history([kept, lost, kept])

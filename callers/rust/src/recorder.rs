@@ -333,7 +333,7 @@ impl Recorder {
         assert!(is_own, "a journal of another recorder was handed in");
         let mut events: Vec<Event> = journals.iter().flat_map(|journal| journal.events.iter().copied()).collect();
         let missing = self.tickets.load(Ordering::SeqCst) - events.len() as u64;
-        assert!(missing == 0, "{missing} events are missing: a journal is missing, or this recorder was already used");
+        assert!(missing == 0, "{missing} events are missing: a journal is missing, or this recorder has already made a history");
         journals.iter().for_each(Journal::want_replies);
         events.sort_by_key(|event| event.ticket);
         let pending = journals.iter().filter_map(|journal| journal.outstanding);

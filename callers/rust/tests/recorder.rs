@@ -176,7 +176,7 @@ fn a_journal_that_is_not_handed_in() {
     assert!(lost.is_err());
     kept.call("dequeue", (), || 7);
     let journals = [kept];
-    assert_eq!(message_of(|| recorder.history(&journals)), "3 events are missing: a journal is missing, or this recorder was already used");
+    assert_eq!(message_of(|| recorder.history(&journals)), "3 events are missing: a journal is missing, or this recorder has already made a history");
     assert_eq!(message_of(|| other.history(&journals)), "a journal of another recorder was handed in");
 }
 
@@ -231,7 +231,7 @@ fn a_recorder_of_two_rounds() {
         recorder.history(&[journal])
     };
     assert!(judge(round()).is_yes());
-    assert_eq!(message_of(round), "2 events are missing: a journal is missing, or this recorder was already used");
+    assert_eq!(message_of(round), "2 events are missing: a journal is missing, or this recorder has already made a history");
 }
 
 /// A pop that gives an error if the queue is empty: that is a reply. As a failure a wrong one would not be found.

@@ -103,7 +103,7 @@ pub(crate) fn by_search(history: &ObjectHistory, by: Search) -> Option<Evidence>
     }
 }
 
-/// The evidence for an object, one of this many, with a reason of an earlier event if one is as small.
+/// The evidence for one of `objects` objects, with a reason of an earlier event if one is as small.
 fn decide_early(history: &ObjectHistory, steps: Option<u64>, objects: usize) -> Evidence {
     match decide_object(history, steps) {
         Evidence::Reason(reason) => Evidence::Reason(earlier(history, reason, objects)),
