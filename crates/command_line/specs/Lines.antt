@@ -71,9 +71,9 @@ IsFile name rows file = first_of name rows ≡ Some file
 -- The line of this command has the files that the rows have, and for each option the value that the
 -- rows have, or its default.
 abbrev pub IsLine : Verb → List Row → Line → Type 0
-IsLine v rows (Check history certs workers) =
+IsLine v rows (Check history certificates workers) =
     (v ≡ is.Check) × IsFile (codes "HISTORY") rows (string_bytes history)
-    × IsFile (codes "CERTS") rows (string_bytes certs)
+    × IsFile (codes "CERTS") rows (string_bytes certificates)
     × IsNumber WORKERS (first_of (codes "workers") rows) workers
 IsLine v rows (Search history steps first) =
     (v ≡ is.Search) × IsFile (codes "HISTORY") rows (string_bytes history)

@@ -33,7 +33,7 @@ pub enum Line {
     /// workers, from 1 to 16.
     Check {
         history: String,
-        certs: String,
+        certificates: String,
         workers: u32,
     },
     /// To search for certificates of the history in a file, with at most this number of steps for

@@ -130,11 +130,11 @@ fn files_of(alloc: Global, found: &ArgMatches<'_>, second: &str) -> Result<(Stri
 fn check_of(alloc: Global, found: &ArgMatches<'_>) -> Result<Line, NoLine>
     ensures { spec.IsRead Verb.Check (rows_in found.now) result }
 {
-    let (history, certs) = files_of(alloc, found, "CERTS")?;
+    let (history, certificates) = files_of(alloc, found, "CERTS")?;
     let workers = number_of(found, "workers", WORKERS)? as u32;
     Ok(Line::Check {
         history,
-        certs,
+        certificates,
         workers,
     })
 }

@@ -1,4 +1,5 @@
 -- The output for a sound record is a yes, except where an allocation fails.
+use Rattle.std.proofs.Common.{arith}
 use Rattle.std.proofs.Common.{◌≡◌, ◌≢◌, ◌∙◌, ℕ, List, [], ◌++◌, true, inl, inr, refl, sym, ap, append_assoc}
 use Rattle.model.specs.declared.Kind.{Kind}
 use Rattle.desk_model.specs.World.{AnyEntry, AnyEvent}
@@ -20,10 +21,7 @@ use Rattle.commands.proofs.Reports.{sound_as_it_is}
 module _ (kinds : List Kind) (quota : ℕ) (journals : ℕ → List AnyEvent) (logs : ℕ → List AnyEntry) (between : List ℕ)
     (sound : IsSoundRecord kinds quota journals logs) where
   not_no : (v : Verdict) → IsYesUnlessMemory v → status_of v ≡ status_is.No → ⊥
-  not_no (Yes counts) k e = absurd cc
-  not_no (No n) k e = k
-  not_no (Malformed f) k e = k
-  not_no NoMemory k e = absurd cc
+  not_no v k e = grind arith
 
   accepted_as : (status : Status) (out : List ℕ) (h : IsReported journals logs between status out) → (v : Verdict)
       → h.verdict ≡ v → IsYesUnlessMemory v
@@ -45,9 +43,8 @@ module _ (kinds : List Kind) (quota : ℕ) (journals : ℕ → List AnyEvent) (l
         ∙ ap (λ xs. h.is_text.history ++ xs)
         (append_assoc between (comment_lines h.is_text.certificates) (verdict_text true (Yes counts))))));
   }
-  accepted_as status out h (No n) is k e says = absurd k
-  accepted_as status out h (Malformed f) is k e says = absurd k
   accepted_as status out h NoMemory is k e says = absurd cc
+  accepted_as status out h v e k g q = absurd k
 
   pub record_accepted : (status : Status) (out : List ℕ) → IsReported journals logs between status out
       → status ≡ status_is.Yes → IsAcceptedOutput journals logs between out
@@ -73,9 +70,9 @@ module _ (o : RunOptions) where
         ran = h.1;
         lines = record_accepted s.0 s.1 (journals_of h.0) (logs_of h.0) [] s.2 status out h.2 e;
       }
-  run_accepted status out (inr h) e = let t = sym h.0 ∙ e in absurd cc
+  run_accepted status out (inr h) e = absurd cc
 
   pub run_not_no : (status : Status) (out : List ℕ) → IsRunOutput o status out → status ≢ status_is.No
   run_not_no status out (inl h) e =
       let s = sound_run h.0 h.1 in record_not_no s.0 s.1 (journals_of h.0) (logs_of h.0) [] s.2 status out h.2 e
-  run_not_no status out (inr h) e = let t = sym h.0 ∙ e in absurd cc
+  run_not_no status out (inr h) e = absurd cc

@@ -1,4 +1,5 @@
 -- What a command leaves, put together from what was sent: all lines, or a beginning of them.
+use Rattle.std.proofs.Common.{arith}
 use Rattle.std.proofs.Common.{◌≡◌, ◌≢◌, ◌∙◌, ℕ, Bool, true, false, List, Option, refl, subst, sym, inl, inr}
 use Rattle.std.specs.Prelude.{◌⊎◌, Result, Ok, Err, IfOk}
 use Rattle.std.specs.Io.KnownBytes.{Appends}
@@ -29,14 +30,7 @@ leaves_as h more = record {
 
 -- no number but its own is that of a failed output
 own_number : (status : Status) → status ≢ Failed → number_of status ≢ number_of Failed
-own_number Yes other e = absurd cc
-own_number No other e = absurd cc
-own_number Malformed other e = absurd cc
-own_number Undecided other e = absurd cc
-own_number OutOfMemory other e = absurd cc
-own_number NoThread other e = absurd cc
-own_number Failed other e = other refl
-own_number Usage other e = absurd cc
+own_number status h e = grind arith
 
 module _ (status : Status) (lines : List ℕ) {before after : Option (List ℕ)} {broken : Bool} where
   pub wrote_all : status ≢ Failed → Appends before after lines → broken ≡ false
@@ -79,16 +73,11 @@ exactly o own lines h status out k = (k.0 ∙ h.0, k.1 ∙ h.1)
 -- ---- a verdict
 
 no_fails : (r : Refusal) → status_of (verdict.No r) ≢ Failed
-no_fails (refusal.NoCertificate x) e = absurd cc
-no_fails (refusal.StrangeObject x) e = absurd cc
-no_fails (refusal.BadOrder x f) e = absurd cc
-no_fails refusal.NoMemory e = absurd cc
+no_fails r e = grind arith
 
 verdict_is_written : (v : Verdict) → status_of v ≢ Failed
-verdict_is_written (verdict.Yes s) e = absurd cc
 verdict_is_written (verdict.No r) e = no_fails r e
-verdict_is_written (verdict.Malformed f) e = absurd cc
-verdict_is_written verdict.NoMemory e = absurd cc
+verdict_is_written v e = absurd cc
 
 -- the lines of this verdict, of which it holds
 module _ (IsSaid : Verdict → Type 0) (v : Verdict) (said : IsSaid v) {before after : Option (List ℕ)} {broken : Bool}

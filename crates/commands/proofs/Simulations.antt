@@ -16,10 +16,10 @@ accepts text status out (inl h) e = record {
   lines = record_accepted (kinds_of h.2.header) h.2.header.quota (journals_of h.1) (logs_of h.1) (refused_line h.0)
       h.2.played.sound status out h.3 e;
 }
-accepts text status out (inr h) e = let t = sym h.2.0 ∙ e in absurd cc
+accepts text status out (inr h) e = absurd cc
 
 pub never_no : (text : List ℕ) (status : Status) (out : List ℕ) → IsSimulateOutput text status out
     → status ≢ status_is.No
 never_no text status out (inl h) e = record_not_no (kinds_of h.2.header) h.2.header.quota (journals_of h.1)
     (logs_of h.1) (refused_line h.0) h.2.played.sound status out h.3 e
-never_no text status out (inr h) e = let t = sym h.2.0 ∙ e in absurd cc
+never_no text status out (inr h) e = absurd cc

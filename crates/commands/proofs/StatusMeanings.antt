@@ -1,5 +1,6 @@
 -- What the exit status of a command says of the history in its first file, by the status of its output: the number 0 is
 -- that of a yes alone, and 1 that of a no alone.
+use Rattle.std.proofs.Common.{arith}
 use Rattle.std.proofs.Common.{◌≡◌, ◌≢◌, ◌∙◌, ℕ, true, List, Option, inl, inr, sym, refl}
 use Rattle.std.proofs.Common.{Bool}
 use Rattle.command_line.specs.declared.asking.Line.{Line}
@@ -14,36 +15,22 @@ use Rattle.commands.specs.Leaves.{Leaves}
 use Rattle.commands.specs.Performed.{IsPerformedOn, says_no, says_yes}
 
 pub is_yes : (status : Status) → number_of status ≡ number_of Yes → status ≡ Yes
-is_yes Yes e = refl
-is_yes No e = absurd cc
-is_yes Malformed e = absurd cc
-is_yes Undecided e = absurd cc
-is_yes OutOfMemory e = absurd cc
-is_yes NoThread e = absurd cc
-is_yes Failed e = absurd cc
-is_yes Usage e = absurd cc
+is_yes status e = grind arith
 
 pub is_no : (status : Status) → number_of status ≡ number_of No → status ≡ No
-is_no Yes e = absurd cc
-is_no No e = refl
-is_no Malformed e = absurd cc
-is_no Undecided e = absurd cc
-is_no OutOfMemory e = absurd cc
-is_no NoThread e = absurd cc
-is_no Failed e = absurd cc
-is_no Usage e = absurd cc
+is_no status e = grind arith
 
 pub memory_not_yes : (status : Status) → status ≡ OutOfMemory → status ≢ Yes
-memory_not_yes status e y = let t = sym e ∙ y in absurd cc
+memory_not_yes status e y = absurd cc
 
 pub memory_not_no : (status : Status) → status ≡ OutOfMemory → status ≢ No
-memory_not_no status e n = let t = sym e ∙ n in absurd cc
+memory_not_no status e n = absurd cc
 
 pub yes_not_failed : (number : ℕ) → number ≡ number_of Yes → number ≢ number_of Failed
-yes_not_failed number y f = let t = sym y ∙ f in absurd cc
+yes_not_failed number y f = absurd cc
 
 pub no_not_failed : (number : ℕ) → number ≡ number_of No → number ≢ number_of Failed
-no_not_failed number n f = let t = sym n ∙ f in absurd cc
+no_not_failed number n f = absurd cc
 
 -- the sources of the two files, before and after
 module _ (one one_after other other_after : Option (List ℕ)) where
@@ -54,29 +41,21 @@ module _ (one one_after other other_after : Option (List ℕ)) where
   said_yes (Check h c w) status out (inl done) s y = (done.0, done.2, done.4.linearizable y)
   said_yes (Search h n o) status out (inl (a, b, r, q, inl done)) s y = (a, r, done.linearizable y)
   said_yes (Search h n o) status out (inl (a, b, r, q, inr memory)) s y = absurd (memory_not_yes status memory.0 y)
-  said_yes (Refute h r n) status out (inl done) s y = absurd cc
   said_yes (Verify h e n w) status out (inl (a, b, r, q, inl done)) s y = (a, r, done.linearizable y)
   said_yes (Verify h e n w) status out (inl (a, b, r, q, inr memory)) s y = absurd (memory_not_yes status memory.0 y)
-  said_yes (Run o) status out (inl done) s y = absurd cc
-  said_yes (Simulate h) status out (inl done) s y = absurd cc
-  said_yes (Split h f n) status out (inl done) s y = absurd cc
-  said_yes (Merge f n t) status out (inl done) s y = absurd cc
+  said_yes line status out h s y = absurd cc
 
   said_no : (line : Line) (status : Status) (out : List ℕ)
       → IsPerformedOn line one one_after other other_after status out → says_no line ≡ true → status ≡ No
       → IsNotLinearizableRead one one_after
   said_no line status out (inr memory) s n = absurd (memory_not_no status memory.0 n)
-  said_no (Check h c w) status out (inl done) s n = absurd cc
   said_no (Search h k o) status out (inl (a, b, r, q, inl done)) s n = (a, r, done.refuted n)
   said_no (Search h k o) status out (inl (a, b, r, q, inr memory)) s n = absurd (memory_not_no status memory.0 n)
   said_no (Refute h c k) status out (inl (a, b, r, q, inl done)) s n = (a, r, done.refuted n)
   said_no (Refute h c k) status out (inl (a, b, r, q, inr memory)) s n = absurd (memory_not_no status memory.0 n)
   said_no (Verify h e k w) status out (inl (a, b, r, q, inl done)) s n = (a, r, done.refuted n)
   said_no (Verify h e k w) status out (inl (a, b, r, q, inr memory)) s n = absurd (memory_not_no status memory.0 n)
-  said_no (Run o) status out (inl done) s n = absurd cc
-  said_no (Simulate h) status out (inl done) s n = absurd cc
-  said_no (Split h f k) status out (inl done) s n = absurd cc
-  said_no (Merge f k t) status out (inl done) s n = absurd cc
+  said_no line status out h s n = absurd cc
 
   module _ (line : Line) {before after : Option (List ℕ)} {number : ℕ} {broken : Bool}
       (left : Leaves (IsPerformedOn line one one_after other other_after) before number after broken) where

@@ -27,7 +27,8 @@ IsVerificationIn steps first second status out =
 -- verdict. A command on a folder is not done on texts: it prints nothing, and ends with the
 -- status of refused words.
 abbrev pub IsPerformed : Line → List ℕ → List ℕ → Status → List ℕ → Type 0
-IsPerformed (Check history certs workers) first second status out = IsCheck first second status out
+IsPerformed (Check history certificates workers) first second status out =
+    IsCheck first second status out
 IsPerformed (Search history steps tried_first) first second status out =
     IsSearch first steps status out ⊎ IsOutOfMemory status out
 IsPerformed (Refute history reasons steps) first second status out =
@@ -46,7 +47,7 @@ IsPerformed (Merge folder steps trust_statuses) first second status out =
 
 -- whether 0 says that it is linearizable
 abbrev pub says_yes : Line → Bool
-says_yes (Check history certs workers) = true
+says_yes (Check history certificates workers) = true
 says_yes (Search history steps tried_first) = true
 says_yes (Refute history reasons steps) = false
 says_yes (Verify history evidence steps workers) = true
@@ -57,7 +58,7 @@ says_yes (Merge folder steps trust_statuses) = false
 
 -- whether 1 says that it is not
 abbrev pub says_no : Line → Bool
-says_no (Check history certs workers) = false
+says_no (Check history certificates workers) = false
 says_no (Search history steps tried_first) = true
 says_no (Refute history reasons steps) = true
 says_no (Verify history evidence steps workers) = true
@@ -70,7 +71,7 @@ says_no (Merge folder steps trust_statuses) = false
 
 -- whether the command reads a file, and whether it reads two
 abbrev pub has_first : Line → Bool
-has_first (Check history certs workers) = true
+has_first (Check history certificates workers) = true
 has_first (Search history steps tried_first) = true
 has_first (Refute history reasons steps) = true
 has_first (Verify history evidence steps workers) = true
@@ -80,7 +81,7 @@ has_first (Split history folder shards) = false
 has_first (Merge folder steps trust_statuses) = false
 
 abbrev pub has_second : Line → Bool
-has_second (Check history certs workers) = true
+has_second (Check history certificates workers) = true
 has_second (Search history steps tried_first) = false
 has_second (Refute history reasons steps) = true
 has_second (Verify history evidence steps workers) = true

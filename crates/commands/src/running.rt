@@ -56,14 +56,14 @@ fn verdict_by(alloc: Global, history: &History, certificates: &[Certificate]) ->
 /// verdict of the check on them in memory.
 fn report_of(
     alloc: Global,
-    record: &Record<AnyObject>,
+    recorded: &Record<AnyObject>,
     between: &[u8],
 ) -> Result<(Vec<u8>, Verdict), AllocError>
     ensures text { IfOk result (λ r.
-        IsTextOf (journals_of record.now) (logs_of record.now) between.now r.0.items) }
-    ensures says { IfOk result (λ r. Says (journals_of record.now) (logs_of record.now) r.1) }
+        IsTextOf (journals_of recorded.now) (logs_of recorded.now) between.now r.0.items) }
+    ensures says { IfOk result (λ r. Says (journals_of recorded.now) (logs_of recorded.now) r.1) }
     ensures accepted { (kinds : List Kind) (quota : ℕ) →
-        IsSoundRecord kinds quota (journals_of record.now) (logs_of record.now) →
+        IsSoundRecord kinds quota (journals_of recorded.now) (logs_of recorded.now) →
         IfOk result (λ r. IsYesUnlessMemory r.1) }
 {
     // This does nothing: it says that the certificates of a sound record are valid.
@@ -72,7 +72,7 @@ fn report_of(
         history,
         certificates,
         text,
-    } = account_of(alloc, record)?;
+    } = account_of(alloc, recorded)?;
     let verdict = verdict_by(alloc, &history, &certificates);
     let text = text_of(alloc, text, between, &certificates)?;
     Ok((text, verdict))
@@ -81,13 +81,13 @@ fn report_of(
 /// The history of the record, this text, its certificates and the verdict on it.
 pub(crate) fn record_output(
     alloc: Global,
-    record: &Record<AnyObject>,
+    recorded: &Record<AnyObject>,
     between: &[u8],
 ) -> Result<Output, AllocError>
-    ensures { IfOk result (λ o. IsReported (journals_of record.now) (logs_of record.now)
+    ensures { IfOk result (λ o. IsReported (journals_of recorded.now) (logs_of recorded.now)
         between.now o.status o.text.items) }
 {
-    let (text, verdict) = report_of(alloc, record, between)?;
+    let (text, verdict) = report_of(alloc, recorded, between)?;
     with_verdict(text, &verdict, true)
 }
 

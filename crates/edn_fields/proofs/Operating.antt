@@ -81,9 +81,8 @@ walk_starts es tokens v h k = record { before = []; left = es; parts = refl; goe
 pub is_map : (tokens : List Token) (v : OperationValues)
     → ((es : Entries) → tokens ≡ entries_tokens es ++ close_map ∷ [] → HasValues v es)
     → (d : Datum) → open_map ∷ tokens ≡ tokens_of d → IsMapWith v d
-is_map tokens v h (atom a) e = absurd cc
-is_map tokens v h (vector ds) e = absurd cc
 is_map tokens v h (dictionary es) e = (es, refl, h es cc)
+is_map tokens v h d e = absurd cc
 
 abbrev pub WithPair : OperationValues → OperationValues → List ℕ → List Piece → Type 0
 WithPair v new name value =

@@ -80,6 +80,5 @@ left_none key es tokens none l = by_left l.left refl
 pub value_in_map : (tokens : List Token) (key : List ℕ) (value : List Piece)
     → ((es : Entries) → tokens ≡ entries_tokens es ++ close_map ∷ [] → IsValue value (value_at key es)) → (d : Datum)
     → open_map ∷ tokens ≡ tokens_of d → IsValueIn value key d
-value_in_map tokens key value h (atom a) e = absurd cc
-value_in_map tokens key value h (vector ds) e = absurd cc
 value_in_map tokens key value h (dictionary es) e = h es cc
+value_in_map tokens key value h d e = absurd cc

@@ -10,22 +10,11 @@ use Rattle.edn_fields.specs.Values.{IsValue, natural_first, keyword_first}
 
 natural_by : (d : Datum) (ts : List Token) → natural_first (tokens_of d ++ ts) ≡ natural_in (Some d)
 natural_by (atom nil) ts = refl
-natural_by (atom (boolean b)) ts = refl
-natural_by (atom (integer (pos n))) ts = refl
-natural_by (atom (integer (negsuc n))) ts = refl
-natural_by (atom (string s)) ts = refl
-natural_by (atom (keyword k)) ts = refl
-natural_by (vector ds) ts = refl
-natural_by (dictionary es) ts = refl
+natural_by d ts = refl
 
 keyword_by : (d : Datum) (ts : List Token) → keyword_first (tokens_of d ++ ts) ≡ keyword_in (Some d)
 keyword_by (atom nil) ts = refl
-keyword_by (atom (boolean b)) ts = refl
-keyword_by (atom (integer z)) ts = refl
-keyword_by (atom (string s)) ts = refl
-keyword_by (atom (keyword k)) ts = refl
-keyword_by (vector ds) ts = refl
-keyword_by (dictionary es) ts = refl
+keyword_by d ts = refl
 
 pub natural_is : (ps : List Piece) (o : Option Datum) → IsValue ps o
     → natural_first (token_buffer_tokens ps) ≡ natural_in o

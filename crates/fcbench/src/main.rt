@@ -65,7 +65,11 @@ fn report_unwritten<R: Print + Eprint>(rt: &R, name: &str, lacks_memory: bool) -
 /// The names of the files of a command. Where it has none, the name is empty.
 fn files_of(line: &Line) -> (&str, &str) {
     match line {
-        Line::Check { history, certs, .. } => (history, certs),
+        Line::Check {
+            history,
+            certificates,
+            ..
+        } => (history, certificates),
         Line::Search { history, .. } => (history, ""),
         Line::Refute {
             history,

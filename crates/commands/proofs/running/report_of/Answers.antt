@@ -6,8 +6,8 @@ use Rattle.commands.proofs.running.report_of.Goals as goal
 
 pub returns : goal.returns
 returns c =
-    let js = journals_of c.args.record.now in
-    let ls = logs_of c.args.record.now in
+    let js = journals_of c.args.recorded.now in
+    let ls = logs_of c.args.recorded.now in
     let es = c.in_ok-history.field-0.history in
     let cs = c.deref.result.now in
     let are_events = c.in_ok-history.ensures.history in
