@@ -143,6 +143,13 @@ def without_the_kit(program, report):
     shutil.copy(program.path, f"{top}/crates/fcbench/out/fcbench")
     ran = run("bash", f"{top}/fcbench", "--version")
     report.holds("embedding: ./fcbench that is built, without the kit", ran.returncode == 0 and ran.stdout and not ran.stderr, ran)
+    is_proved = lambda: run(sys.executable, f"{top}/crates/build", "--is-proved").returncode  # noqa: E731
+    put_back = f"{top}/crates/fcbench/src/put_back.rt"
+    before = is_proved()
+    with open(put_back, "w"):
+        pass
+    os.utime(put_back, (0, 0))
+    report.equal("embedding: a file that is put back with an old time was changed", (0, 1), (before, is_proved()))
     ran = run(sys.executable, f"{SOURCES}/build")
     report.equal("embedding: a library that is built, without the kit", (0, ""), (ran.returncode, ran.stderr))
 
