@@ -1,8 +1,10 @@
 #!/usr/bin/env python3
 """Prints the clauses of public functions that a commit has and this tree does not have, word for word. Each was lost, renamed, or is said
-otherwise now: a reader has to say which.
+otherwise now: a reader has to say which. With "added" before it, it prints each requires that this tree has and the commit does not, of a
+function whose name the commit has too.
 
     docs/scripts/lost_clauses.py COMMIT [FUNCTION..]     of the functions of these names, or of all"""
+import collections
 import os
 import subprocess
 import sys
@@ -21,6 +23,16 @@ def contracts(root):
     return found
 
 
+def beyond(clauses, others):
+    """The clauses that others have not, or less often: several functions may have one name."""
+    left = collections.Counter((kind, text) for _, kind, _, text in others)
+    for crate, kind, label, text in clauses:
+        if left[kind, text]:
+            left[kind, text] -= 1
+        else:
+            yield crate, kind, label, text
+
+
 def main(words):
     if not words:
         print(__doc__, file=sys.stderr)
@@ -32,14 +44,19 @@ def main(words):
         if made.returncode or subprocess.run(["tar", "-x", "-C", room], input=made.stdout).returncode:
             return 4
         before = contracts(room)
-    count, lost = 0, 0
-    for name, said in sorted(before.items()):
-        for crate, kind, label, text in said if not names or name in names else ():
-            count += 1
-            if (kind, text) not in ((kind, text) for _, kind, _, text in now.get(name, ())):
-                lost += 1
-                print(f"{crate}::{name}: {kind} {label or ''} {{ {text} }}")
-    print(f"{count} clauses of {commit}, {lost} of which are not here word for word")
+    count, lost, added = 0, 0, 0
+    for name, clauses in sorted(before.items()):
+        if names and name not in names:
+            continue
+        count += len(clauses)
+        for crate, kind, label, text in beyond(clauses, now.get(name, ())):
+            lost += 1
+            print(f"{crate}::{name}: {kind} {label or ''} {{ {text} }}")
+        for crate, kind, label, text in beyond(now.get(name, ()), clauses):
+            if kind == "requires":
+                added += 1
+                print(f"added {crate}::{name}: {kind} {label or ''} {{ {text} }}")
+    print(f"{count} clauses of {commit}, {lost} of which are not here word for word; {added} new requires")
     return 0
 
 
