@@ -49,6 +49,8 @@ def page(text):
 
 
 def main(*options):
+    if set(options) - {"--check"}:
+        sys.exit(__doc__)
     with open(PAGE) as file:
         text = file.read()
     made, missing = page(text)
