@@ -399,7 +399,8 @@ def dispatched(program, report):
     env = {**os.environ, "FCBENCH": program.path, "FCBENCH_TOOLS": program.tools}
     script = lambda *words: subprocess.run([DISPATCH, *words], cwd=program.room, env=env, capture_output=True)  # noqa: E731
     lines = [("judge", HISTORY), ("find", HISTORY), ("draw", HISTORY), ("search", HISTORY), ("verify", HISTORY, CERTIFICATES)]
-    lines += [("check", HISTORY, CERTIFICATES), ("judge",), ("check",), ("--version",), ("judge", "--help"), ("check", "--help")]
+    lines += [("check", HISTORY, CERTIFICATES), ("judge",), ("check",), ("--version",)]
+    lines += [(it, "--help") for it in (*COMMANDS, *OF_TOOLS)]
     for words in lines:
         direct, ran = program.run(*words), script(*words)
         report.equal(f"fcbench.sh {' '.join(words)}", (direct.status, direct.out, direct.err), (ran.returncode, ran.stdout, ran.stderr))

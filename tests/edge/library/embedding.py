@@ -7,8 +7,9 @@ import signal
 import subprocess
 import sys
 
-from ..running import EXAMPLES, ROOT, Program, Ran, at_once
+from ..running import EXAMPLES, OF_TOOLS, ROOT, Program, Ran, at_once
 from ..timing import slowness
+from ..words import COMMANDS
 
 SOURCES = f"{ROOT}/callers"
 OUT = f"{ROOT}/crates/embedding/out"
@@ -129,16 +130,21 @@ def without_the_kit(program, report):
             (status, "", says),
             (ran.returncode, ran.stdout, ran.stderr),
         )
-    history = program.write("of_help.edn", "")
-    asked = [(("--help",), 0), (("check", "--help"), 0), (("help", "check"), 0), (("judge", "--help"), 0), (("help", "judge"), 0)]
-    for words, status in (*asked, ((), 64), (("find", f"{program.room}/{history}"), 0)):
+    for words in (("--help",), ("-h",), ("help",), ("check", "--help"), ("help", "check")):
         ran = run("bash", f"{top}/fcbench", *words)
-        is_well = ran.returncode == status and (
-            words[:1] == ("find",)
-            or "HISTORY" in ran.stdout + ran.stderr
-            or "commands of the verifier" in ran.stdout + ran.stderr
-        )
-        report.holds(f"embedding: ./fcbench {' '.join(words)} needs no kit", is_well and "rt, the command" not in ran.stderr, ran)
+        lacks = [it for it in (*COMMANDS, *OF_TOOLS) if not re.search(rf"\b{it}\b", ran.stdout)]
+        report.equal(f"embedding: ./fcbench {' '.join(words)} names each command, and needs no kit", (0, [], ""), (ran.returncode, lacks, ran.stderr))
+    for it in OF_TOOLS:
+        own = program.run(it, "--help").out.decode()
+        for words in ((it, "--help"), ("help", it)):
+            ran = run("bash", f"{top}/fcbench", *words)
+            report.equal(f"embedding: ./fcbench {' '.join(words)} needs no kit", (0, own, ""), (ran.returncode, ran.stdout, ran.stderr))
+    ran = run("bash", f"{top}/fcbench")
+    lacks = [it for it in (*COMMANDS, *OF_TOOLS) if not re.search(rf"\b{it}\b", ran.stderr)]
+    report.equal("embedding: ./fcbench without a word names each command, and needs no kit", (64, "", []), (ran.returncode, ran.stdout, lacks))
+    history = program.write("of_help.edn", "")
+    ran = run("bash", f"{top}/fcbench", "find", f"{program.room}/{history}")
+    report.equal("embedding: ./fcbench find needs no kit", (0, ""), (ran.returncode, ran.stderr))
     nothing_to_prove(program, report, top)
     shutil.copy(program.path, f"{top}/crates/fcbench/out/fcbench")
     ran = run("bash", f"{top}/fcbench", "--version")
