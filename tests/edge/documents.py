@@ -77,13 +77,16 @@ def rows_of_several():
         yield re.findall(r"`(\w+)`", names), crates & set(re.findall(r"`(\w+)`", said))
 
 
-def is_defined_in(crate, name):
-    """Whether specs/ of a crate defines a name, maybe in a module with parameters, or its code has a type of this name."""
-    in_specs = rf"^ *(?:(?:abbrev|unfoldable) pub (?:\w+ )?|pub (?:record|data) ){name}(?= |$)"
-    for pattern, files in ((in_specs, "specs/**/*.antt"), (rf"^pub (?:struct|enum) {name}\b", "src/**/*.rt")):
-        if any(re.search(pattern, read(path), re.M) for path in glob.glob(f"{ROOT}/crates/{crate}/{files}", recursive=True)):
-            return True
-    return False
+def definition_of(name):
+    """The pattern of a definition in specs/, maybe in a module with parameters or in a mutual block. There its clauses distinguish it from a field."""
+    return rf"^ *(?:(?:abbrev|unfoldable) pub (?:\w+ )?|pub (?:record|data) ){name}(?= |$)|^( *)pub {name} : .*\n(?:\1 .*\n)*\1{name} "
+
+
+def is_defined_in(crate, name, file="**/*"):
+    """Whether a file of specs/ of a crate defines a name, or any of them or a type of its code."""
+    sources = [(definition_of(name), f"specs/{file}.antt")] + ([(rf"^pub(?:\(crate\))? (?:struct|enum) {name}\b", "src/**/*.rt")] if file == "**/*" else [])
+    paths = ((pattern, path) for pattern, files in sources for path in glob.glob(f"{ROOT}/crates/{crate}/{files}", recursive=True))
+    return any(re.search(pattern, read(path), re.M) for pattern, path in paths)
 
 
 def names_of_several(program, report):
@@ -98,6 +101,32 @@ def names_of_several(program, report):
         own = set().union(*(defined.get(name, set()) for name in names))
         own |= {crate for crate in crates if any(is_defined_in(crate, name) for name in names)}
         report.equal(f"names_of_several: the crates of {', '.join(names)}", sorted(own), sorted(crates))
+
+
+def names_of_rows(program, report):
+    """Each name in the first column of a table of docs/definitions.md is defined: `File.name` and the names after it in that file, and others in a
+    crate that the heading or the row names. In any page `File.name` is defined in a file of that name."""
+    every, (crates, strange, count) = set(os.listdir(f"{ROOT}/crates")), (set(), [], 0)
+    text = read(f"{ROOT}/docs/definitions.md")
+    for line in text[text.index("\n## `model`") :].split("\n"):
+        if line.startswith("#"):
+            crates = every & set(re.findall(r"`(\w+)`", line))
+        own = crates
+        # A cell of several groups, each after its crate or file. A crate is named once.
+        for group in line.partition(" | ")[0].split("; ") if line.startswith("| `") and "| in words |" not in line else ():
+            crate, _, names = group.rpartition("`: ")
+            own, file = every & {crate.removeprefix("| `")} or own, ""
+            for before, name in re.findall(r"`((?:\w+\.)*)(\w+)`", names):
+                file, count = before[:-1].replace(".", "/") or file, count + 1
+                if name != "antt" and not any(is_defined_in(crate, name, file or "**/*") for crate in own):
+                    strange.append(f"{file} {name}".strip())
+    report.holds("names_of_rows: there are some", count >= 900, count)
+    report.equal("names_of_rows: not defined where docs/definitions.md says", [], strange)
+    for page in PAGES:
+        named = [(it[:-1].replace(".", "/"), name) for it, name in re.findall(r"`((?:[A-Z]\w*\.)+)(\w+)`", read(page)) if name != "antt"]
+        files = {it for it, _ in named if glob.glob(f"{ROOT}/crates/*/specs/{it}.antt")}
+        strange = [f"{it} {name}" for it, name in named if it in files and not is_defined_in("*", name, it)]
+        report.equal(f"names_of_rows: not defined where {os.path.relpath(page, ROOT)} says", [], strange)
 
 
 def clauses_by_function():
@@ -341,4 +370,4 @@ def usages(program, report):
         report.holds(f"usages: {os.path.relpath(script, ROOT)} --help", ran.returncode == 0 and "options:" in ran.stdout, ran)
 
 
-PARTS = (documents, links, names_of_several, named_clauses, definitions_of_clauses, plain_words, widths, heads_of_proofs, snippets, usages, like_lines)
+PARTS = (documents, links, names_of_several, names_of_rows, named_clauses, definitions_of_clauses, plain_words, widths, heads_of_proofs, snippets, usages, like_lines)
