@@ -1,15 +1,19 @@
-"""The crates that crates.txt lists, and when they were changed. crates/build, callers/build and tests/quick use it."""
+"""The crates that crates.txt lists, and when they were changed. What builds, tests and describes the crates uses it."""
 import os
 
 TOP = os.path.dirname(os.path.dirname(os.path.realpath(__file__)))
 LIST = f"{TOP}/crates.txt"
 
 
+def lines():
+    """The line of each crate of the repository, by its name, in the order of crates.txt."""
+    with open(LIST) as file:
+        return {line.partition(":")[0].split()[0]: line.strip() for line in file if line.strip() and not line.startswith("#")}
+
+
 def listed():
     """Of each crate of the repository the libraries that it uses, in the order of crates.txt."""
-    with open(LIST) as file:
-        rows = [line.strip().partition(":") for line in file if line.strip() and not line.startswith("#")]
-    return {name.split()[0]: used.split() for name, _, used in rows}
+    return {name: line.partition(":")[2].split() for name, line in lines().items()}
 
 
 def with_below(name):

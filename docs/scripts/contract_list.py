@@ -10,6 +10,7 @@ import re
 import sys
 
 from crate_tables import ROOT, groups
+from listed import listed
 
 HEAD = """# The contracts, crate by crate
 
@@ -148,8 +149,7 @@ def page(chosen):
 
 
 def main(*chosen):
-    own = {name for _, crates in groups() for name, _ in crates}
-    if unknown := set(chosen) - own:
+    if unknown := set(chosen) - set(listed()):
         sys.exit(f"contract_list.py: no such crate: {min(unknown)}")
     print(page(chosen), end="")
 

@@ -9,21 +9,25 @@ import os
 import re
 import sys
 
+sys.dont_write_bytecode = True
 ROOT = os.path.dirname(os.path.dirname(os.path.dirname(os.path.realpath(__file__))))
+sys.path.insert(0, f"{ROOT}/crates")
+
+from listed import LIST, listed  # noqa: E402
+
 PAGE = f"{ROOT}/docs/architecture.md"
 ROW = re.compile(r"\| `(\w+)` \| (.*) \|([^|]*)\|$")
 
 
 def groups():
     """The headings of crates.txt, each with its crates and what these depend on."""
-    found, heading = [], None
-    with open(f"{ROOT}/crates.txt") as file:
+    found, used = [], listed()
+    with open(LIST) as file:
         for line in map(str.strip, file):
             if line.startswith("# ") and not line.startswith("# Each line"):
                 found.append((line[2:], []))
-            elif line and not line.startswith("#"):
-                name, _, used = line.partition(":")
-                found[-1][1].append((name.split()[0], used.split()))
+            elif name := re.match(r"\w+", line):
+                found[-1][1].append((name[0], used[name[0]]))
     return found
 
 
@@ -36,10 +40,9 @@ def cell_of(used, own):
 def page(text):
     """The page with its tables made anew, and the names of crates that have no words yet."""
     rows = {name: words for name, words, _ in (found.groups() for found in map(ROW.match, text.split("\n")) if found)}
-    listed = groups()
-    own = [name for _, crates in listed for name, _ in crates]
+    own = listed()
     missing = [name for name in own if not rows.get(name, '').strip()]
-    for heading, crates in listed:
+    for heading, crates in groups():
         made = "\n".join(f"| `{name}` | {rows.get(name, '')} |{cell_of(used, own)}|" for name, used in crates)
         table = re.compile(rf"(### {re.escape(heading)}\n\n\| crate [^\n]*\n\|---[^\n]*\n)(?:\|[^\n]*\n)*")
         if not table.search(text):

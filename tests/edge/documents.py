@@ -10,6 +10,12 @@ import tokenize
 
 from .running import ROOT
 
+sys.path[:0] = [f"{ROOT}/crates", f"{ROOT}/docs/scripts"]
+
+import contract_list  # noqa: E402
+import lines_to_believe  # noqa: E402
+from listed import listed, with_below  # noqa: E402
+
 PAGES = [
     f"{base}/{file}"
     for folder in ("", "docs", "bench", "examples")
@@ -91,9 +97,6 @@ def is_defined_in(crate, name, file="**/*"):
 
 def names_of_several(program, report):
     """Of each name that docs/definitions.md says several crates define, these crates define one of the row, and no other crate does."""
-    sys.path.insert(0, f"{ROOT}/docs/scripts")
-    import lines_to_believe
-
     defined = lines_to_believe.crates_of_names()
     rows = list(rows_of_several())
     report.holds("names_of_several: the table has rows", len(rows) >= 15, rows)
@@ -131,9 +134,6 @@ def names_of_rows(program, report):
 
 def clauses_by_function():
     """The names of the clauses of each public function, by the name of the function."""
-    sys.path.insert(0, f"{ROOT}/docs/scripts")
-    import contract_list
-
     found = {}
     for crate in sorted(os.listdir(f"{ROOT}/crates")):
         if not os.path.exists(f"{ROOT}/crates/{crate}/src/lib.rt"):
@@ -143,29 +143,15 @@ def clauses_by_function():
     return found
 
 
-def crates_below():
-    """The crates of each crate's own and of those that it uses, by its name."""
-    uses = {row.split(":")[0].split()[0]: row.split(":")[1].split() for row in read(f"{ROOT}/crates.txt").split("\n") if re.match(r"\w", row)}
-
-    def below(name):
-        return {name}.union(*(below(it) for it in uses[name] if it in uses))
-
-    return {name: below(name) for name in uses}
-
-
 def definitions_of_clauses(program, report):
     """Each definition in specs/ whose name begins with a capital, and that is in a clause of a public function, is on docs/definitions.md."""
-    sys.path.insert(0, f"{ROOT}/docs/scripts")
-    import contract_list
-    import lines_to_believe
-
     defined, page = lines_to_believe.crates_of_names(), read(f"{ROOT}/docs/definitions.md")
     explained = {name for quoted in re.findall(r"`([^`\n]+)`", page) for name in re.findall(r"\w+", quoted)}
     used = set()
-    for crate, below in crates_below().items():
+    for crate in listed():
         if not crate.endswith("_tests") and os.path.exists(f"{ROOT}/crates/{crate}/src/lib.rt"):
             words = {word for _, _, clauses in contract_list.functions(crate) for clause in clauses for word in re.findall(r"\b[A-Z]\w*", clause[3])}
-            used |= {word for word in words if defined.get(word, set()) & below}
+            used |= {word for word in words if defined.get(word, set()) & set(with_below(crate))}
     report.holds("definitions_of_clauses: there are some", len(used) >= 200, len(used))
     report.equal("definitions_of_clauses: not on docs/definitions.md", [], sorted(used - explained))
 
