@@ -9,8 +9,10 @@ import os
 import re
 import sys
 
-from crate_tables import ROOT, groups
-from listed import listed
+sys.dont_write_bytecode = True
+
+from crate_tables import ROOT, groups  # noqa: E402
+from listed import listed  # noqa: E402
 
 HEAD = """# The contracts, crate by crate
 

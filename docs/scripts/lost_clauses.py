@@ -10,7 +10,9 @@ import subprocess
 import sys
 import tempfile
 
-import contract_list
+sys.dont_write_bytecode = True
+
+import contract_list  # noqa: E402
 
 
 def contracts(root):
