@@ -12,8 +12,13 @@ import subprocess
 import sys
 import time
 
+sys.dont_write_bytecode = True
 HERE = os.path.dirname(os.path.realpath(__file__))
 TOP = os.path.dirname(HERE)
+sys.path.insert(0, f"{TOP}/crates")
+
+from usage import words_for  # noqa: E402
+
 KINDS = ("queue", "stack", "heap", "register", "map", "mutex")
 COMMANDS = ("check", "judge")
 # Of a short history: calls that are timed together, and how often in a round.
@@ -110,6 +115,4 @@ def main(folder, program=None, rounds=9):
 
 
 if __name__ == "__main__":
-    if len(sys.argv) not in (2, 3, 4):
-        sys.exit(__doc__)
-    sys.exit(main(*sys.argv[1:]))
+    sys.exit(main(*words_for(__doc__, lambda words: len(words) in (1, 2, 3) and not words[0].startswith("-"))))

@@ -14,6 +14,11 @@ import subprocess
 import sys
 import time
 
+sys.dont_write_bytecode = True
+sys.path.insert(0, str(pathlib.Path(__file__).resolve().parents[1] / "crates"))
+
+from usage import words_for  # noqa: E402
+
 KINDS = ["queue", "stack", "heap", "register", "map", "mutex"]
 CALLS = [4096, 500000]
 CONCURRENCY = [2, 16, 1000]
@@ -43,8 +48,7 @@ def verdict(fcbench, file, found):
     return said.stdout.split(":")[0]
 
 
-def main():
-    fcbench, folder, *plain = sys.argv[1:]
+def main(fcbench, folder, *plain):
     folder = pathlib.Path(folder)
     print("| calls | at once | kind | found | `check` of it | `fcbench find` | plain finder | ratio |")
     print("|---|---|---|---|---|---|---|---|")
@@ -70,4 +74,5 @@ def main():
                 )
 
 
-main()
+if __name__ == "__main__":
+    main(*words_for(__doc__, lambda words: len(words) in (2, 3) and not words[0].startswith("-")))

@@ -13,6 +13,7 @@ sys.dont_write_bytecode = True
 
 from crate_tables import ROOT, groups  # noqa: E402
 from listed import listed  # noqa: E402
+from usage import words_for  # noqa: E402
 
 HEAD = """# The contracts, crate by crate
 
@@ -150,11 +151,5 @@ def page(chosen):
     return "".join(made)
 
 
-def main(*chosen):
-    if unknown := set(chosen) - set(listed()):
-        sys.exit(f"contract_list.py: no such crate: {min(unknown)}")
-    print(page(chosen), end="")
-
-
 if __name__ == "__main__":
-    main(*sys.argv[1:])
+    print(page(words_for(__doc__, lambda words: set(words) <= set(listed()))), end="")

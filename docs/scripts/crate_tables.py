@@ -14,6 +14,7 @@ ROOT = os.path.dirname(os.path.dirname(os.path.dirname(os.path.realpath(__file__
 sys.path.insert(0, f"{ROOT}/crates")
 
 from listed import LIST, listed  # noqa: E402
+from usage import words_for  # noqa: E402
 
 PAGE = f"{ROOT}/docs/architecture.md"
 ROW = re.compile(r"\| `(\w+)` \| (.*) \|([^|]*)\|$")
@@ -51,15 +52,13 @@ def page(text):
     return text, missing
 
 
-def main(*options):
-    if set(options) - {"--check"}:
-        sys.exit(__doc__)
+def main(options):
     with open(PAGE) as file:
         text = file.read()
     made, missing = page(text)
     for name in missing:
         print(f"docs/architecture.md has no words for {name}")
-    if "--check" in options:
+    if options:
         if made != text:
             print("docs/architecture.md does not agree with crates.txt: docs/scripts/crate_tables.py mends it")
         return 1 if missing or made != text else 0
@@ -69,4 +68,4 @@ def main(*options):
 
 
 if __name__ == "__main__":
-    sys.exit(main(*sys.argv[1:]))
+    sys.exit(main(words_for(__doc__, lambda words: words in ([], ["--check"]))))

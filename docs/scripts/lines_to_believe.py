@@ -14,7 +14,12 @@ import os
 import re
 import sys
 
+sys.dont_write_bytecode = True
 ROOT = os.path.dirname(os.path.dirname(os.path.dirname(os.path.realpath(__file__))))
+sys.path.insert(0, f"{ROOT}/crates")
+
+from usage import words_for  # noqa: E402
+
 WORD = re.compile(r"[^\s(){}\[\],;.λ]+")
 # What a yes says of a history in memory, and what judge says of a text.
 CLAUSES = {"history": ("model.Linearizable.IsLinearizable", "events.Events.denoted", "events.Events.kind_at", "model.Orders.events"),
@@ -208,6 +213,4 @@ def main(names):
 
 
 if __name__ == "__main__":
-    if sys.argv[1:2] in (["--help"], ["-h"]):
-        sys.exit(print(__doc__))
-    main(sys.argv[1:])
+    main(words_for(__doc__, lambda words: words in ([], ["--twice"]) or len(words) == 1 and words[0].count(".") == 2))

@@ -13,6 +13,7 @@ import tempfile
 sys.dont_write_bytecode = True
 
 import contract_list  # noqa: E402
+from usage import words_for  # noqa: E402
 
 
 def contracts(root):
@@ -36,9 +37,6 @@ def beyond(clauses, others):
 
 
 def main(words):
-    if not words:
-        print(__doc__, file=sys.stderr)
-        return 64
     (commit, *names), here = words, contract_list.ROOT
     now = contracts(here)
     with tempfile.TemporaryDirectory(prefix="lost-clauses-") as room:
@@ -63,4 +61,4 @@ def main(words):
 
 
 if __name__ == "__main__":
-    sys.exit(main(sys.argv[1:]))
+    sys.exit(main(words_for(__doc__, lambda words: words and not words[0].startswith("-"))))

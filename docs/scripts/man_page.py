@@ -7,7 +7,12 @@ import os
 import re
 import sys
 
+sys.dont_write_bytecode = True
 ROOT = os.path.dirname(os.path.dirname(os.path.dirname(os.path.realpath(__file__))))
+sys.path.insert(0, f"{ROOT}/crates")
+
+from usage import words_for  # noqa: E402
+
 HEAD = """.\\" Made by docs/scripts/man_page.py from docs/commands.md, docs/formats.md and docs/import.md
 .TH FCBENCH 1 "" "fcbench" "User Commands"
 .SH NAME
@@ -128,6 +133,5 @@ def page():
 
 
 if __name__ == "__main__":
-    if sys.argv[1:]:
-        sys.exit(__doc__)
+    words_for(__doc__, lambda words: not words)
     sys.stdout.write(page())

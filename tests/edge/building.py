@@ -26,7 +26,7 @@ def copy_of_scripts(top, *names):
 def is_taken_for_current(changed):
     """Whether the library of a crate is, if a source of that crate, or of the one that it uses, was changed while it was proved."""
     with tempfile.TemporaryDirectory() as top:
-        copy_of_scripts(top, "crates/build", "crates/listed.py", "callers/build")
+        copy_of_scripts(top, "crates/build", "crates/listed.py", "crates/usage.py", "callers/build")
         with open(f"{top}/crates.txt", "w") as file:
             file.write("low:\nhigh: low\n")
         for it in ("low", "high"):

@@ -347,13 +347,21 @@ def snippets(program, report):
         report.equal(f"snippets: lines of {recorder} that no test has", [], lacks)
 
 
+# Those that a user copies or is shown.
+OF_USERS = ("callers/python/", "callers/dask/", "docs/record_queue.py")
+
+
 def usages(program, report):
-    """Each script that reads its words by argparse says its usage, so that what it imports is there."""
-    scripts = [it for it in sorted(glob.glob(f"{ROOT}/bench/*.py") + glob.glob(f"{ROOT}/tests/*")) if os.path.isfile(it) and "argparse" in read(it)]
-    report.holds("usages: there are some", len(scripts) >= 5, scripts)
+    """Each script in Python says its usage, so that what it imports is there, and refuses another word. Those with argparse do so with 2."""
+    listed = subprocess.run(["git", "ls-files"], cwd=ROOT, capture_output=True, text=True, check=True).stdout.split("\n")
+    texts = {it: read(f"{ROOT}/{it}") for it in listed if re.fullmatch(r"[^.]+(\.py)?", it) and not it.startswith(OF_USERS)}
+    by_argparse = [it for it, text in texts.items() if re.search("^import argparse", text, re.M)]
+    scripts = sorted({*by_argparse, *(it for it, text in texts.items() if "python3" in text.partition("\n")[0])})
+    report.holds("usages: there are some", len(scripts) >= 20, scripts)
     for script in scripts:
-        ran = subprocess.run([sys.executable, script, "--help"], capture_output=True, text=True)
-        report.holds(f"usages: {os.path.relpath(script, ROOT)} --help", ran.returncode == 0 and "options:" in ran.stdout, ran)
+        for word, status in (("--help", 0), ("-h", 0), ("--no-such-word", 2 if script in by_argparse else 64)):
+            ran = subprocess.run([sys.executable, f"{ROOT}/{script}", word], capture_output=True, text=True)
+            report.equal(f"usages: {script} {word}", (status, status == 0, status != 0), (ran.returncode, bool(ran.stdout), bool(ran.stderr)), ran)
 
 
 PARTS = (documents, links, names_of_several, names_of_rows, named_clauses, definitions_of_clauses, plain_words, widths, heads_of_proofs, snippets, usages, like_lines)

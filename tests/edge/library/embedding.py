@@ -109,7 +109,7 @@ def without_the_kit(program, report):
     top, bare = f"{program.room}/built", {**os.environ, "PATH": "/usr/bin:/bin"}
     for it in ("out", "src", "specs", "proofs"):
         os.makedirs(f"{top}/crates/fcbench/{it}")
-    for it in ("fcbench", "crates.txt", "crates/build", "crates/listed.py"):
+    for it in ("fcbench", "crates.txt", "crates/build", "crates/listed.py", "crates/usage.py"):
         shutil.copy(f"{ROOT}/{it}", f"{top}/{it}")
     shutil.copytree(f"{ROOT}/tools", f"{top}/tools", ignore=shutil.ignore_patterns("target"))
     os.makedirs(f"{top}/tools/target/release")
