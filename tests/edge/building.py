@@ -1,13 +1,17 @@
-"""./fcbench and crates/build: what is built, and what is kept as current."""
+"""./fcbench and crates/build: what is built, what is kept as current, and what works if the kit is missing."""
 import os
+import re
 import shutil
 import subprocess
 import sys
 import tempfile
 import time
 
-from .running import ROOT
+from .running import OF_TOOLS, ROOT
+from .words import COMMANDS
 
+# Where no kit is.
+BARE = "/usr/bin:/bin"
 # Keeps a library that was made as crates/build does, and prints whether callers/build takes it for current.
 KEEPS = """import runpy, sys
 top, name, begun = sys.argv[1:]
@@ -17,8 +21,8 @@ print(runpy.run_path(f"{top}/callers/build")["are_proved"]([name]))
 
 
 def copy_of_scripts(top, *names):
-    """Copies these scripts into a folder, as those of another repository."""
-    for it in names:
+    """Copies these scripts, and what they import, into a folder, as those of another repository."""
+    for it in (*names, "crates/listed.py", "crates/usage.py"):
         os.makedirs(os.path.dirname(f"{top}/{it}"), exist_ok=True)
         shutil.copy(f"{ROOT}/{it}", f"{top}/{it}")
 
@@ -26,7 +30,7 @@ def copy_of_scripts(top, *names):
 def is_taken_for_current(changed):
     """Whether the library of a crate is, if a source of that crate, or of the one that it uses, was changed while it was proved."""
     with tempfile.TemporaryDirectory() as top:
-        copy_of_scripts(top, "crates/build", "crates/listed.py", "crates/usage.py", "callers/build")
+        copy_of_scripts(top, "crates/build", "callers/build")
         with open(f"{top}/crates.txt", "w") as file:
             file.write("low:\nhigh: low\n")
         for it in ("low", "high"):
@@ -49,4 +53,99 @@ def changed_while_proved(program, report):
         report.equal(f"building: a library is current if {' '.join(changed) or 'nothing'} was changed while it was proved", f"{not changed}\n", is_current)
 
 
-PARTS = (changed_while_proved,)
+def not_built(program):
+    """The folder of a repository whose tools are built, and whose verifier has no code and is not built."""
+    top = f"{program.room}/not_built"
+    for it in ("out", "src", "specs", "proofs"):
+        os.makedirs(f"{top}/crates/fcbench/{it}")
+    copy_of_scripts(top, "fcbench", "crates.txt", "crates/build")
+    shutil.copytree(f"{ROOT}/tools", f"{top}/tools", ignore=shutil.ignore_patterns("target"))
+    os.makedirs(f"{top}/tools/target/release")
+    shutil.copy(program.tools, f"{top}/tools/target/release/fcbench-tools")
+    return top
+
+
+def script_of(top, path):
+    """Runs ./fcbench of a repository with these words."""
+    env = {**os.environ, "PATH": path}
+    return lambda *words, **how: subprocess.run(["bash", f"{top}/fcbench", *words], env=env, capture_output=True, text=True, **how)
+
+
+def not_named(text):
+    """The commands that a text does not name."""
+    return [it for it in (*COMMANDS, *OF_TOOLS) if not re.search(rf"\b{it}\b", text)]
+
+
+def without_the_kit(program, report):
+    """Where the program is to be built, ./fcbench says that the kit is missing. Help and the finder need none, nor does a program that is built."""
+    if shutil.which("rt", path=BARE):
+        return f"SKIPPED: rt is in one of {BARE}"
+    top = not_built(program)
+    run = script_of(top, BARE)
+    advice = "fcbench: rt, the command of the Rattle kit, is not on the PATH\n"
+    no_shards = "fcbench: split takes no --quick: an unproved build writes no folder of shards\n"
+    for words, status, says in (
+        (("--version",), 127, advice),
+        (("--quick", "--version"), 127, advice),
+        (("--quick", "split", "/not/there.edn", "shards"), 64, no_shards),
+    ):
+        ran = run(*words)
+        report.equal(f"building: ./fcbench {' '.join(words)} without the kit", (status, "", says), (ran.returncode, ran.stdout, ran.stderr))
+    for words in (("--help",), ("-h",), ("help",), ("check", "--help"), ("help", "check")):
+        ran = run(*words)
+        came = (ran.returncode, not_named(ran.stdout), ran.stderr)
+        report.equal(f"building: ./fcbench {' '.join(words)} names each command, and needs no kit", (0, [], ""), came)
+    for it in OF_TOOLS:
+        own = program.run(it, "--help").out.decode()
+        for words in ((it, "--help"), ("help", it)):
+            ran = run(*words)
+            report.equal(f"building: ./fcbench {' '.join(words)} needs no kit", (0, own, ""), (ran.returncode, ran.stdout, ran.stderr))
+    ran = run()
+    report.equal("building: ./fcbench names each command, and needs no kit", (64, "", []), (ran.returncode, ran.stdout, not_named(ran.stderr)))
+    ran = run("find", f"{program.room}/{program.write('of_find.edn', '')}")
+    report.equal("building: ./fcbench find needs no kit", (0, ""), (ran.returncode, ran.stderr))
+    shutil.copy(program.path, f"{top}/crates/fcbench/out/fcbench")
+    ran = run("--version")
+    report.holds("building: ./fcbench that is built needs no kit", ran.returncode == 0 and ran.stdout and not ran.stderr, ran)
+    return None
+
+
+def put_back(program, report):
+    """The verifier is out of date where a source is put back, with the old time of its content."""
+    top = not_built(program)
+    shutil.copy(program.path, f"{top}/crates/fcbench/out/fcbench")
+    is_proved = lambda: subprocess.run([f"{top}/crates/build", "--is-proved"]).returncode  # noqa: E731
+    before = is_proved()
+    source = f"{top}/crates/fcbench/src/put_back.rt"
+    with open(source, "w"):
+        pass
+    os.utime(source, (0, 0))
+    report.equal("building: a file that is put back with an old time was changed", (0, 1), (before, is_proved()))
+
+
+def nothing_to_prove(program, report):
+    """Where the verifier is not proved, and the words are refused or a file cannot be read, ./fcbench says so and proves nothing. Otherwise it
+    begins to, which ends at once here, where the crates have no code. It has no first answer where a pipe is read, and gives the version of
+    the unproved build."""
+    top, folder = not_built(program), f"{program.room}/with_rt"
+    os.mkdir(folder)
+    with open(f"{folder}/rt", "w") as file:
+        file.write("#!/bin/sh\nexit 1\n")
+    os.chmod(f"{folder}/rt", 0o755)
+    shutil.copy(program.path, f"{top}/crates/fcbench/out/unproved")
+    history = f"{program.room}/{program.write('judged.edn', '')}"
+    run = script_of(top, f"{folder}:{BARE}")
+    for words, status in ((("judge",), 64), (("judge", "--json", history), 64), (("judge", "/not/there.edn"), 4), (("judge", history), 1)):
+        ran = run(*words)
+        is_first = ran.stdout == "" and "NOT PROVED YET" in ran.stderr
+        is_well = ran.returncode == status and is_first and ("proving and building" in ran.stderr) == (status == 1)
+        report.holds(f"building: ./fcbench {' '.join(words)} where the verifier is not proved", is_well, ran)
+    ran = run("search", "/dev/stdin", input="")
+    is_well = (ran.returncode, ran.stdout) == (1, "") and "no first answer" in ran.stderr and "NOT PROVED YET" not in ran.stderr
+    report.holds("building: ./fcbench reads a pipe once", is_well and "proving and building" in ran.stderr, ran)
+    ran = run("--version")
+    is_well = (ran.returncode, ran.stderr) == (0, "") and ran.stdout.startswith("fcbench ")
+    report.holds("building: ./fcbench --version proves nothing", is_well, ran)
+
+
+PARTS = (changed_while_proved, without_the_kit, put_back, nothing_to_prove)

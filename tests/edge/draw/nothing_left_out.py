@@ -1,7 +1,6 @@
 """Whether pages leave nothing out silently: of histories with few and many processes and pending operations, drawn in
 each way, the operations with bars and those that gaps count are all."""
 import random
-import re
 
 from .. import histories
 from .tables_and_boxes import shown_counts, stretches_of
@@ -16,7 +15,7 @@ PROCESSES = (2, 3, 8, 24, 25, 60, 200, 1_000)
 KINDS = ("queue", "stack", "heap", "register", "map", "mutex")
 
 
-def whole_case(seed):
+def case_of(seed):
     """A history with 2 to 1,000 processes and up to 40 % of pending operations, checked by its order, or by none."""
     rng = random.Random(f"whole {seed}")
     processes = PROCESSES[seed % len(PROCESSES)]
@@ -25,10 +24,10 @@ def whole_case(seed):
     kind = rng.choice(KINDS[:5] if lost else KINDS)
     made = played((kind,), calls, processes, seed=seed, lost=lost, refused=rng.choice((0, 3)), nemeses=rng.choice((0, 2)))
     options = () if rng.random() < 0.6 else ("--from", str(rng.randrange(2 * calls)))
-    return Case(f"whole {seed}", made.text(), rng.choice((made.certificates(), "")), options)
+    return Case(f"case {seed}", made.text(), rng.choice((made.certificates(), "")), options)
 
 
-def why_not_whole(page, history):
+def why_something_is_left_out(page, history):
     """The figure of the object, and each other stretch, whose operations are not all drawn or counted, or None."""
     calls, _ = histories.calls_of(history)
     figures = [("the figure", page.by_id("fig0"))] + [(f"the stretch {stretch}", it) for stretch, it in stretches_of(page, 0)]
@@ -39,17 +38,17 @@ def why_not_whole(page, history):
     return None
 
 
-def drawn_wholes(program, report):
+def nothing_is_left_out(program, report):
     """Of each page the operations with bars and those of the gaps are all operations of the object."""
 
     def draw(seed):
-        case = whole_case(seed)
+        case = case_of(seed)
         drawn, _, _ = run(program, case)
-        return case, why_not_whole(Drawn(drawn.out), case.history)
+        return case, why_something_is_left_out(Drawn(drawn.out), case.history)
 
     for case, wrong in at_once(draw, range(PAGES)):
         report.equal(f"draw: {case.name}: each operation is drawn or counted", None, wrong)
     return f"{PAGES} pages"
 
 
-PARTS = (drawn_wholes,)
+PARTS = (nothing_is_left_out,)

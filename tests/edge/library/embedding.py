@@ -7,9 +7,9 @@ import signal
 import subprocess
 import sys
 
-from ..running import EXAMPLES, OF_TOOLS, ROOT, Program, Ran, at_once
+from ..building import BARE
+from ..running import EXAMPLES, ROOT, Program, Ran, at_once
 from ..timing import slowness
-from ..words import COMMANDS
 
 SOURCES = f"{ROOT}/callers"
 OUT = f"{ROOT}/crates/embedding/out"
@@ -104,94 +104,12 @@ def uses_of(part, path):
     return re.findall(rf"\t(\w+) [^\n]*\n\t+[0-9a-f]+: R_\w+\t{re.escape(part)}\b", code), len(re.findall(rf" {re.escape(part)}\b", places))
 
 
-def without_the_kit(program, report):
-    """A program and a library that are built need no kit on the PATH. Where the program is to be built, ./fcbench says that the kit is missing."""
-    top, bare = f"{program.room}/built", {**os.environ, "PATH": "/usr/bin:/bin"}
-    for it in ("out", "src", "specs", "proofs"):
-        os.makedirs(f"{top}/crates/fcbench/{it}")
-    for it in ("fcbench", "crates.txt", "crates/build", "crates/listed.py", "crates/usage.py"):
-        shutil.copy(f"{ROOT}/{it}", f"{top}/{it}")
-    shutil.copytree(f"{ROOT}/tools", f"{top}/tools", ignore=shutil.ignore_patterns("target"))
-    os.makedirs(f"{top}/tools/target/release")
-    shutil.copy(program.tools, f"{top}/tools/target/release/fcbench-tools")
-    run = lambda *words: subprocess.run(words, env=bare, capture_output=True, text=True)  # noqa: E731
-    if shutil.which("rt", path=bare["PATH"]):
-        return
-    advice = "fcbench: rt, the command of the Rattle kit, is not on the PATH\n"
-    no_shards = "fcbench: split takes no --quick: an unproved build writes no folder of shards\n"
-    for words, status, says in (
-        (("--version",), 127, advice),
-        (("--quick", "--version"), 127, advice),
-        (("--quick", "split", "/not/there.edn", "shards"), 64, no_shards),
-    ):
-        ran = run("bash", f"{top}/fcbench", *words)
-        report.equal(
-            f"embedding: ./fcbench {' '.join(words)} that is not built, without the kit",
-            (status, "", says),
-            (ran.returncode, ran.stdout, ran.stderr),
-        )
-    for words in (("--help",), ("-h",), ("help",), ("check", "--help"), ("help", "check")):
-        ran = run("bash", f"{top}/fcbench", *words)
-        lacks = [it for it in (*COMMANDS, *OF_TOOLS) if not re.search(rf"\b{it}\b", ran.stdout)]
-        report.equal(f"embedding: ./fcbench {' '.join(words)} names each command, and needs no kit", (0, [], ""), (ran.returncode, lacks, ran.stderr))
-    for it in OF_TOOLS:
-        own = program.run(it, "--help").out.decode()
-        for words in ((it, "--help"), ("help", it)):
-            ran = run("bash", f"{top}/fcbench", *words)
-            report.equal(f"embedding: ./fcbench {' '.join(words)} needs no kit", (0, own, ""), (ran.returncode, ran.stdout, ran.stderr))
-    ran = run("bash", f"{top}/fcbench")
-    lacks = [it for it in (*COMMANDS, *OF_TOOLS) if not re.search(rf"\b{it}\b", ran.stderr)]
-    report.equal("embedding: ./fcbench without a word names each command, and needs no kit", (64, "", []), (ran.returncode, ran.stdout, lacks))
-    history = program.write("of_help.edn", "")
-    ran = run("bash", f"{top}/fcbench", "find", f"{program.room}/{history}")
-    report.equal("embedding: ./fcbench find needs no kit", (0, ""), (ran.returncode, ran.stderr))
-    nothing_to_prove(program, report, top)
-    shutil.copy(program.path, f"{top}/crates/fcbench/out/fcbench")
-    ran = run("bash", f"{top}/fcbench", "--version")
-    report.holds("embedding: ./fcbench that is built, without the kit", ran.returncode == 0 and ran.stdout and not ran.stderr, ran)
-    is_proved = lambda: run(sys.executable, f"{top}/crates/build", "--is-proved").returncode  # noqa: E731
-    put_back = f"{top}/crates/fcbench/src/put_back.rt"
-    before = is_proved()
-    with open(put_back, "w"):
-        pass
-    os.utime(put_back, (0, 0))
-    report.equal("embedding: a file that is put back with an old time was changed", (0, 1), (before, is_proved()))
-    ran = run(sys.executable, f"{SOURCES}/build")
-    report.equal("embedding: a library that is built, without the kit", (0, ""), (ran.returncode, ran.stderr))
-
-
-def nothing_to_prove(program, report, top):
-    """Where the verifier is not proved, and the words are refused or a file cannot be read, ./fcbench says so and proves nothing. Otherwise it
-    begins to, which ends at once here, where the crates have no code. It has no first answer where a pipe is read, and gives the version of
-    the unproved build."""
-    folder, unproved = f"{program.room}/with_rt", f"{top}/crates/fcbench/out/unproved"
-    os.mkdir(folder)
-    with open(f"{folder}/rt", "w") as file:
-        file.write("#!/bin/sh\nexit 1\n")
-    os.chmod(f"{folder}/rt", 0o755)
-    shutil.copy(program.path, unproved)
-    env = {**os.environ, "PATH": f"{folder}:/usr/bin:/bin"}
-    history = f"{program.room}/{program.write('judged.of.help.edn', '')}"
-    run = lambda *words, **more: subprocess.run(["bash", f"{top}/fcbench", *words], env=env, capture_output=True, text=True, **more)  # noqa: E731
-    for words, status in ((("judge",), 64), (("judge", "--json", history), 64), (("judge", "/not/there.edn"), 4), (("judge", history), 1)):
-        ran = run(*words)
-        is_first = ran.stdout == "" and "NOT PROVED YET" in ran.stderr
-        is_well = ran.returncode == status and is_first and ("proving and building" in ran.stderr) == (status == 1)
-        report.holds(f"embedding: ./fcbench {' '.join(words)} where the verifier is not proved", is_well, ran)
-    ran = run("search", "/dev/stdin", input="")
-    is_well = (ran.returncode, ran.stdout) == (1, "") and "no first answer" in ran.stderr and "NOT PROVED YET" not in ran.stderr
-    report.holds("embedding: ./fcbench reads a pipe once", is_well and "proving and building" in ran.stderr, ran)
-    ran = run("--version")
-    is_well = (ran.returncode, ran.stderr) == (0, "") and ran.stdout.startswith("fcbench ")
-    report.holds("embedding: ./fcbench --version proves nothing", is_well, ran)
-    os.remove(unproved)
-
-
 def library(program, report):
     """The library is built where it is missing, needs no kit then, and has five functions in two halves. The proved half calls only what allocates
     and copies, and has no state; of its functions, a program that uses these alone takes no other code."""
     done(report, "the library is built", [f"{SOURCES}/build"], seconds=SECONDS_TO_PROVE)
-    without_the_kit(program, report)
+    ran = subprocess.run([sys.executable, f"{SOURCES}/build"], env={**os.environ, "PATH": BARE}, capture_output=True, text=True)
+    report.equal("embedding: a library that is built, without the kit", (0, ""), (ran.returncode, ran.stderr))
     defined = "ABCDGRSTVWuvw"
     subprocess.run(["ar", "x", LIBRARY], cwd=program.room, check=True)
     for name, exports in HALVES.items():

@@ -1,7 +1,7 @@
-"""Faults that are planted in long histories of a set: how many operations judge lists of each.
+"""Bugs that are planted in long histories of a set: how many operations judge lists of each.
 
 A history has 4,000 calls on 100 elements, 16 of them at once, of which two in a hundred are pending. Each call takes effect at a moment that
-is drawn, on a set that is right except for one call. The fault counts where a second look, at the calls on its element alone, shows that no order is valid."""
+is drawn, on a set that is right except for one call. The bug counts where a second look, at the calls on its element alone, shows that no order is valid."""
 import random
 
 from ..brute_force import has_order
@@ -11,23 +11,23 @@ from ..verify.reasons import explained_in, why_not_explained
 from ..worked_rows import HISTORY
 
 CALLS, ELEMENTS, CLIENTS = 4000, 100, 16
-# How many histories there are of each fault, how many operations a reason is to list at most, and for what share of the histories.
+# How many histories there are of each bug, how many operations a reason is to list at most, and for what share of the histories.
 OF_EACH, MOST_OPERATIONS, LEAST_SHARE = 67, 4, 0.95
-FAULTS = ("an addition is lost", "an element is added twice", "an older state is seen")
+BUGS = ("an addition is lost", "an element is added twice", "an older state is seen")
 
 
 def replied(f, is_there):
     return is_there != (f == "add")
 
 
-class Faulty:
-    """A set in which one call, of those of a fault's function, goes wrong."""
+class BuggySet:
+    """A set in which one call, of those of a bug's function, goes wrong."""
 
-    def __init__(self, rng, fault):
-        self.rng, self.fault, self.content, self.left, self.element = rng, fault, {}, rng.randrange(20, 150), None
+    def __init__(self, rng, bug):
+        self.rng, self.bug, self.content, self.left, self.element = rng, bug, {}, rng.randrange(20, 150), None
 
     def is_due(self, applies):
-        """Whether the fault is to happen now: once, after some calls to which it applies."""
+        """Whether the bug is to happen now: once, after some calls to which it applies."""
         self.left -= applies
         return applies and self.left == 0
 
@@ -35,7 +35,7 @@ class Faulty:
         """What the set replies."""
         is_there, before = self.content.get(element, (False, False))
         applies = {"an addition is lost": f == "add" and not is_there, "an element is added twice": f == "add" and is_there}
-        if self.is_due(applies.get(self.fault, f == "contains" and is_there != before)):
+        if self.is_due(applies.get(self.bug, f == "contains" and is_there != before)):
             self.element = element
             # A lost addition replies as if it had taken place; of a contains the state before the last change is the reply.
             return True if f == "add" else before
@@ -44,10 +44,10 @@ class Faulty:
         return replied(f, is_there)
 
 
-def history_of(fault, seed):
-    """The events of a history with a fault, and the element of the fault."""
-    rng = random.Random(f"{fault} {seed}")
-    at, names, running, events, begun = Faulty(rng, fault), list(range(CLIENTS)), {}, [], 0
+def history_of(bug, seed):
+    """The events of a history with a bug, and the element of the bug."""
+    rng = random.Random(f"{bug} {seed}")
+    at, names, running, events, begun = BuggySet(rng, bug), list(range(CLIENTS)), {}, [], 0
     while begun < CALLS or running:
         place = rng.randrange(CLIENTS)
         process = names[place]
@@ -83,20 +83,20 @@ def text_of(events):
     return lines(*[write[kind](process, f, value, 0) for process, kind, f, value in events])
 
 
-def faults_of_sets(program, report):
-    """Nearly each fault is shown by few operations, and every reason holds."""
-    for fault in FAULTS:
+def bugs_of_sets(program, report):
+    """Nearly each bug is shown by few operations, and every reason holds."""
+    for bug in BUGS:
         shown, counted = 0, 0
-        made = [history_of(fault, seed) for seed in range(OF_EACH)]
+        made = [history_of(bug, seed) for seed in range(OF_EACH)]
         bad = [events for events, element in made if not has_order(calls_on(events, element))]
         texts = [text_of(events) for events in bad]
         runs = at_once(lambda it: program.run("judge", program.write(f"{it}.{HISTORY}", texts[it])), range(len(texts)))  # noqa: B023
         for text, ran in zip(texts, runs):
-            report.equal(f"judge: {fault}: why", None, why_not_explained(program, text, ran), ran)
+            report.equal(f"judge: {bug}: why", None, why_not_explained(program, text, ran), ran)
             explained, _ = explained_in(ran.out)
             counted += 1
             shown += len(explained) == 1 and len(explained[0][1]) <= MOST_OPERATIONS
-        report.holds(f"judge: {fault}: of {counted} faults {shown} are shown by {MOST_OPERATIONS} operations", counted > 20 and shown >= LEAST_SHARE * counted)
+        report.holds(f"judge: {bug}: of {counted} bugs {shown} are shown by {MOST_OPERATIONS} operations", counted > 20 and shown >= LEAST_SHARE * counted)
 
 
-PARTS = (faults_of_sets,)
+PARTS = (bugs_of_sets,)
