@@ -12,7 +12,7 @@ import sys
 sys.dont_write_bytecode = True
 
 from crate_tables import ROOT, groups  # noqa: E402
-from listed import listed  # noqa: E402
+from sources import listed  # noqa: E402
 from usage import words_for  # noqa: E402
 
 HEAD = """# The contracts, crate by crate

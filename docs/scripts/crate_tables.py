@@ -13,7 +13,7 @@ sys.dont_write_bytecode = True
 ROOT = os.path.dirname(os.path.dirname(os.path.dirname(os.path.realpath(__file__))))
 sys.path.insert(0, f"{ROOT}/crates")
 
-from listed import LIST, listed  # noqa: E402
+from sources import LIST, listed  # noqa: E402
 from usage import words_for  # noqa: E402
 
 PAGE = f"{ROOT}/docs/architecture.md"

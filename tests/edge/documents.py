@@ -14,7 +14,7 @@ sys.path[:0] = [f"{ROOT}/crates", f"{ROOT}/docs/scripts"]
 
 import contract_list  # noqa: E402
 import lines_to_believe  # noqa: E402
-from listed import listed, with_below  # noqa: E402
+from sources import listed, with_below  # noqa: E402
 
 PAGES = [
     f"{base}/{file}"
