@@ -155,7 +155,7 @@ pub enum Map {
 }
 
 impl<'a> Fields<'a> {
-    /// Those of the map that begins with this token.
+    /// The fields of the map that begins with this token.
     fn read(reader: &mut Reader<'a>, first: Token) -> Option<Fields<'a>> {
         if first.kind != TokenKind::OpenMap {
             return None;

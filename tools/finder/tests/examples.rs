@@ -1,4 +1,4 @@
-//! The examples of this repository, with what is said of them there.
+//! The examples of this repository, with the answers beside them.
 
 use finder::{Evidence, History, Options, decide, read_history};
 use std::fs;

@@ -1,5 +1,5 @@
 //! Planted bugs of sets, counters, locks, and of the functions of registers and maps that reply
-//! whether they were done, or nothing: what is said of each, and how many operations show it.
+//! whether they were done, or nothing: the sentence for each, and how many operations show it.
 
 use finder::{Evidence, Options, decide, read_history};
 
@@ -24,7 +24,7 @@ fn text_of(calls: &[&str]) -> String {
     text
 }
 
-/// What is said of the object, and how many operations its reason has.
+/// The sentence for the object, and how many operations its reason has.
 fn found(calls: &[&str]) -> (String, usize) {
     let history = read_history(text_of(calls).as_bytes()).expect("a history");
     match &decide(&history, Options::default())[0].evidence {

@@ -178,7 +178,7 @@ fn is_readable(name: &str) -> bool {
         && name.chars().all(is_part)
 }
 
-/// What is said of an `:f` that is not one of the functions.
+/// The sentence for an `:f` that is not one of the functions.
 fn no_function(f: &Form) -> String {
     match f {
         Form::Nil => format!(":f is missing; it must be one of {}", function_names()),

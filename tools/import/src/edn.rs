@@ -230,7 +230,7 @@ impl<'a> Reader<'a> {
     }
 }
 
-/// What is said of a key that a map has already.
+/// The sentence for a key that a map has already.
 pub fn twice(key: &Form) -> String {
     format!("the key {key} is in the same map twice")
 }

@@ -32,7 +32,7 @@ impl Replies {
         Replies(["empty", "not-found"].map(|it| Form::Keyword(it.to_owned())).into())
     }
 
-    /// This error, or those of this set. Nil stands for none.
+    /// This error, or the errors of this set. Nil stands for none.
     pub fn of(errors: Form) -> Replies {
         match errors {
             Form::Set(errors) => Replies(errors),
@@ -147,7 +147,7 @@ impl Failures {
         format!("--fail-is-reply='{}'", errors.to_string().replace('\'', "'\\''"))
     }
 
-    /// What is said of them, if there are some.
+    /// The sentence for these failures, if there are some.
     pub fn warning(mut self, replies: &Replies) -> Option<String> {
         self.0.sort_by_key(|it| std::cmp::Reverse(it.count));
         let mut said = String::new();

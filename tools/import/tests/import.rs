@@ -321,7 +321,7 @@ fn options() {
     assert!(import(text, &Options::default()).is_ok());
 }
 
-/// Each history, and what is said of it.
+/// Each history, and the sentence for it.
 #[test]
 fn what_cannot_be_mapped_is_named_with_its_line() {
     let write = "{:process 0, :type :invoke, :f :write, :value 1}\n";

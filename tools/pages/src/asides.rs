@@ -29,7 +29,7 @@ fn nemesis_value(map: &[u8]) -> Option<String> {
 }
 
 impl Asides {
-    /// Those of the text of this history. A history whose first map has no time has none.
+    /// The asides of the text of this history. A history whose first map has no time has none.
     pub fn read(text: &[u8], history: &History) -> Asides {
         let mut asides = Asides::default();
         let first = elements_in(text, 0).next();

@@ -124,7 +124,7 @@ pub enum Refusal {
     },
 }
 
-/// What is said of an object that has no order.
+/// The answer for an object that has no order.
 #[derive(Clone, Copy, Debug, PartialEq, Eq)]
 pub enum Answer {
     Impossible,

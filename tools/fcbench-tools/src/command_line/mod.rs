@@ -248,7 +248,7 @@ mod tests {
         assert!(is_help("import --other --help", "rewrites a history from a Jepsen store"));
     }
 
-    /// Command lines, and what is said of them.
+    /// Command lines, and the sentence for each.
     const REFUSED: [(&str, &str); 44] = [
         ("", "a command is missing"),
         ("other h.edn", "no such command: 'other'"),

@@ -44,7 +44,7 @@ impl Undone {
 }
 
 impl Facts {
-    /// Those of a pattern of this history, at a map under this key, which this part shows.
+    /// The facts on a pattern of this history, at a map under this key, which this part shows.
     pub fn of(
         history: &ObjectHistory,
         part: &ObjectHistory,

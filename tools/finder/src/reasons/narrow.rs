@@ -94,8 +94,7 @@ impl<'a> Narrowing<'a> {
     }
 }
 
-/// The pattern that is said of a window: what says how often something was done is not so of the
-/// whole.
+/// The pattern for a window: one that says how often something was done is not true of the whole.
 fn pattern_in_window(pattern: Pattern) -> Pattern {
     match pattern {
         Pattern::Stale(_) | Pattern::RefusedUnderItsValue { .. } => pattern,

@@ -417,7 +417,7 @@ mod tests {
     use crate::cuts::part_by;
     use crate::read_history;
 
-    /// What is said of where the part begins that these cuts leave of one process's calls.
+    /// The words for where the part begins that these cuts leave of one process's calls.
     fn beginning_of(calls: &[(&str, &str, &str)], cuts: &[Cut]) -> Option<String> {
         let events = calls.iter().map(|(function, argument, reply)| {
             let head = format!("{{:process 0, :f :{function}");

@@ -42,7 +42,7 @@ impl Touches {
         touches
     }
 
-    /// Those of each value.
+    /// The touches of each value.
     pub fn by_value(&self) -> impl Iterator<Item = &[Touch]> {
         self.known.chunk_by(|one, other| one.value == other.value)
     }

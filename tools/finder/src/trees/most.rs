@@ -10,10 +10,10 @@ struct Sums {
 }
 
 impl Sums {
-    /// Those of no place.
+    /// The sums of no place.
     const NONE: Sums = Sums { added: 0, most: i64::MIN };
 
-    /// Those of these places and of others after them.
+    /// The sums of these places and of others after them.
     fn before(self, later: Sums) -> Sums {
         Sums {
             added: self.added + later.added,

@@ -436,7 +436,7 @@ fn invocation_in(part: &[Invocation], number: u32) -> Option<&Invocation> {
     Some(&part[place])
 }
 
-/// Those of the operations that returned and are pending in the part.
+/// The operations that returned and are pending in the part.
 fn outside_of(operations: &[Operation], part: &[Invocation]) -> Vec<Operation> {
     let is_outside = |operation: &&Operation| {
         operation.state() == State::Done

@@ -168,13 +168,13 @@ fn of_end(text: &[u8]) -> String {
     format!("the text ends inside the {} of line {}", opened.word(), line_of(text, from))
 }
 
-/// What a text that is no EDN begins with, and what is said of it.
+/// What a text that is no EDN begins with, and the sentence for it.
 const BEGINNINGS: [(&[u8], &str); 2] = [
     (b"\xef\xbb\xbf", "a byte order mark: remove it"),
     (b"\x1f\x8b", "the file is compressed: decompress it with zcat first"),
 ];
 
-/// What is said of a text with a fault at its beginning, if the text is of a sort that is known.
+/// The sentence for a text with a fault at its beginning, if the text is of a sort that is known.
 fn of_beginning(text: &[u8], byte: usize) -> Option<&'static str> {
     let known = BEGINNINGS.iter().find(|(begin, _)| byte < begin.len() && text.starts_with(begin));
     known.map(|(_, said)| *said)

@@ -72,7 +72,7 @@ fn words_of(nemesis: &Nemesis, words: &Words) -> String {
     }
 }
 
-/// What is said of the nemesis where it is pointed at.
+/// The words on the nemesis where it is pointed at.
 fn title_of(nemesis: &Nemesis, words: &Words) -> String {
     let (process, event) = (&nemesis.process, words.event(nemesis.number));
     let at = words.exact_time(nemesis.number).map(|time| format!(", at {time}"));

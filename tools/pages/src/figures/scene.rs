@@ -40,7 +40,7 @@ pub struct Scene<'a> {
     pub maps: u32,
     /// Whether labels name the object.
     pub names_objects: bool,
-    /// Those of the window whose processes have no lane, by their numbers.
+    /// The operations of the window whose processes have no lane, by their numbers.
     pub without_lane: &'a BTreeSet<u32>,
     pub words: Words<'a>,
     /// The map that is faulty, after all that is drawn.

@@ -47,7 +47,7 @@ pub enum PageKind {
 pub struct ObjectRow {
     pub object: u32,
     pub kind: Kind,
-    /// Those that did not fail, those of them that are pending, and those that failed.
+    /// How many operations did not fail, how many of these are pending, and how many failed.
     pub operations: usize,
     pub pending: usize,
     pub failed: usize,

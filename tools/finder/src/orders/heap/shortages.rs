@@ -39,7 +39,7 @@ impl Shortage {
             && self.from < cover.to
     }
 
-    /// Those of the gaps that are looked at, if there are any.
+    /// The gaps that are looked at, if there are any.
     fn gaps(&self) -> Range<u32> {
         self.from..self.to.clamp(self.from, self.from.saturating_add(MOST_GAPS))
     }
@@ -72,7 +72,7 @@ pub struct Demands {
 }
 
 impl Demands {
-    /// Those of one value.
+    /// The demands on one value.
     pub fn of(&self, value: i64) -> &[(i64, u32)] {
         let from = self.demands.partition_point(|demand| demand.0 < value);
         let to = self.demands.partition_point(|demand| demand.0 <= value);

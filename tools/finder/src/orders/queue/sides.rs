@@ -17,7 +17,7 @@ pub struct Call {
 
 /// The puts, or the removals, and which of them are left.
 pub struct Side {
-    /// By value, and those of a value by their returns.
+    /// By value, and calls of one value by their returns.
     pub calls: Vec<Call>,
     /// Of each value the place of its first call, and then the number of calls.
     starts: Vec<usize>,
@@ -30,8 +30,7 @@ pub struct Side {
 }
 
 impl Side {
-    /// Those of the touches, which are sorted by their values, that put values in, or those that
-    /// take them.
+    /// The puts, or the removals, among these touches, which are sorted by their values.
     pub fn new(all: &[Touch], takes: bool) -> Side {
         let mut calls = Vec::new();
         let mut starts = vec![0];

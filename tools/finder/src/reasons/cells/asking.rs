@@ -53,7 +53,7 @@ fn stale(scene: &Scene, access: &Access, contents: &[usize], sight: Sight) -> Ca
     scene.candidate(stale_pattern(scene, access, contents[0], sight), plan, 2)
 }
 
-/// What is said of a call that asks for this content after another was shown.
+/// The pattern for a call that asks for this content after another was shown.
 fn stale_pattern(scene: &Scene, access: &Access, content: usize, sight: Sight) -> Pattern {
     let shown = &scene.cell.accesses[sight.place];
     let is_repeated = access.sets.is_some() && shown.sets == access.sets;

@@ -15,7 +15,7 @@ fn of_time(candidate: Candidate, pattern: Pattern) -> Candidate {
     Candidate { plan, pattern, ..candidate }
 }
 
-/// What is said of the last call of a plan: the lock has another owner than the call needs, or no
+/// The pattern for the last call of a plan: the lock has another owner than the call needs, or no
 /// owner.
 fn pattern_of(scene: &Scene, plan: &Plan) -> Option<Pattern> {
     let access = scene.cell.accesses.iter().find(|it| Some(it.call.until()) == plan.until)?;

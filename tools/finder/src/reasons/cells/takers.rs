@@ -127,7 +127,7 @@ fn window(
     Some(candidates.collect())
 }
 
-/// What is said of calls, of which this is the last, that take away too often what is counted; a
+/// The pattern for calls, of which this is the last, that take away too often what is counted; a
 /// register that contains nothing is not.
 fn window_pattern(counted: Option<Counted>, last: &Call) -> Pattern {
     let (name, number) = (last.op.name(), last.number);

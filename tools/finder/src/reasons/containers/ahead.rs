@@ -250,8 +250,8 @@ impl<'a> Asking<'a> {
     }
 }
 
-/// Those of the questions that show that values were lost. Afterwards the fewest pending removals
-/// come first.
+/// The questions among these that show that values were lost, with the fewest pending removals
+/// first.
 fn answered<'a>(mut questions: Vec<Question<'a>>, pairs: &mut Pairs) -> Vec<Question<'a>> {
     questions.sort_by_key(|question| question.before);
     let mut looks = 0;
