@@ -298,7 +298,7 @@ def truth(ops, drawn):
 
 
 def judged(program, folder, number, limit):
-    """What is said of a history: the answer, the operations, the seconds."""
+    """The result for a history: the answer, the operations, the seconds."""
     path = os.path.join(folder, "%d.edn" % number)
     with open(os.path.join(folder, "%d.json" % number)) as text:
         drawn = json.load(text)

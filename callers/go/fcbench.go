@@ -22,7 +22,7 @@ const Steps = 1<<32 - 1
 // capacity is how much room there is for lines at first.
 const capacity = 512
 
-// Verdict is what is answered.
+// Verdict is the answer for a history.
 type Verdict uint32
 
 const (

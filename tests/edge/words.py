@@ -203,7 +203,7 @@ NAMED = {
     "import h.edn --fail-is-reply=(": "--fail-is-reply takes one form of EDN, not '('",
 }
 
-# What the files of command lines hold, and what is answered of them.
+# What the files of command lines hold, and the answer for them.
 CHECKED = (worked_rows.OVERLAPPING, worked_rows.order(1, 0, 4)), worked_rows.THREE_YES, 0
 FOUND = (worked_rows.OVERLAPPING,), worked_rows.order(1, 0, 4), 0
 JUDGED = (worked_rows.OVERLAPPING,), worked_rows.THREE_YES, 0

@@ -67,7 +67,7 @@ mod c {
     }
 }
 
-/// What is answered.
+/// The answer for a history.
 #[derive(Clone, Copy, Debug, PartialEq, Eq)]
 pub enum Verdict {
     /// The history is linearizable, which is proved.
@@ -106,7 +106,7 @@ impl Display for Verdict {
 #[derive(Clone, Debug, PartialEq, Eq)]
 #[must_use]
 pub struct Answer {
-    /// What is answered.
+    /// The answer itself.
     pub verdict: Verdict,
     /// The lines of the program's command.
     pub lines: String,

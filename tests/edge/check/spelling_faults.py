@@ -221,7 +221,7 @@ AS = (("check", "history"), ("check", "certificates"), ("refute", "reasons"))
 
 
 def read_as(program, number, text):
-    """What is said of a text as a history, as certificates and as reasons."""
+    """The answers for a text as a history, as certificates and as reasons."""
     text = text if isinstance(text, bytes) else text.encode()
     name, none = program.write(f"spelled.{number}.edn", text), program.write("none.edn", "")
     return [program.run("check", name, none), program.run("check", none, name), program.run("refute", none, name)]

@@ -111,13 +111,13 @@ def why_note_false(page):
     return None if notes == wanted else f"the notes on its lines are {notes}, and not {wanted}"
 
 
-# What the heading says of an answer, and what is said of a history whose order is missing (C1) or refused.
+# The heading of an answer, and the sentences for a history whose order is missing (C1) or refused.
 HEADINGS = {"impossible": "Not linearizable", "no": "Order refused", "C1": "Order missing"}
 NO_ORDER, REFUSED = "This says nothing of the history", "This refuses the order, and not the history"
 
 
 def why_heading_false(page, code):
-    """What is false of the heading, and of what is said of a missing or refused order, or None."""
+    """What is false of the heading, and of the sentence for a missing or refused order, or None."""
     heading = "".join(page.body.find("header/h1").itertext())
     if not heading.endswith(HEADINGS["C1"] if code == "C1" else HEADINGS.get(page.answer, "")):
         return f"the heading is {heading}"

@@ -210,7 +210,7 @@ class Said:
         return bool(is_so and (not rest or self.source(call, order, int(k), walk, rest)))
 
     def source(self, call, order, k, walk, rest):
-        """What is said of the value that the call returned."""
+        """Checks the sentence for the value that the call returned."""
         live = [it for it in self.on(call.on) if it.is_live() and it.number < call.at]
         same_key = [it for it in live if key_of(it) == key_of(call) or it.f not in ("put", "get", "del")]
         nothing = re.fullmatch(r" No (other )?operation that was invoked before event (\d+) put (-?\d+)\.", rest)

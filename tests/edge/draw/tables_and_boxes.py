@@ -381,7 +381,7 @@ def drawn_alone(shown, numbers):
 
 
 def outside_note(calls):
-    """What is said of the operations that are not wholly within a reason."""
+    """The sentence for the operations that are not wholly within a reason."""
     if not calls:
         return []
     more = len(calls) - FEW_NAMED
@@ -475,7 +475,7 @@ class View:
         self.through = {it.number for it in others if any(it.number < at < ends(it) for at in starts)}
 
     def note(self):
-        """What is said of what is left out."""
+        """The sentence for what is left out."""
         words, hidden = "", len(self.through - self.bars)
         if self.gone:
             processes = len({it.process for it in self.gone})
@@ -495,7 +495,7 @@ class View:
         return [range(earlier + 1, later) for (one, earlier), (other, later) in zip(ends, ends[1:]) if other - one > 1]
 
     def words_of(self, gap):
-        """What is said of a gap: its maps, and the operations that were invoked there and have no bar."""
+        """The words for a gap: its maps, and the operations that were invoked there and have no bar."""
         count = sum(it.number in gap and it.number not in self.bars for it in self.calls)
         maps = f"{grouped(len(gap))} map{'' if len(gap) == 1 else 's'}"
         return f"{maps} left out, with {grouped(count)} operation{'' if count == 1 else 's'}"

@@ -6,7 +6,7 @@ import subprocess
 
 from .. import worked_rows
 
-# What an event has beside its process and type, and what is said of it.
+# What an event has beside its process and type, and the sentence for it.
 OF_EVENTS = (
     (":f :write, :value \"abc\"", ":value \"abc\": :write takes an integer"),
     (":f :write, :value :a", ":value :a: :write takes an integer"),
@@ -24,7 +24,7 @@ OF_EVENTS = (
     (":f :read, :object 4294967295", ":object 4294967295: expected is an integer from 0 to 65535; fcbench split takes greater ones"),
     (":f :read, :object 4294967296", ":object 4294967296: expected is an integer from 0 to 65535"),
 )
-# A whole text, and what is said of it.
+# A whole text, and the sentence for it.
 OF_TEXTS = (
     (
         "{:process 0, :type :invoke, :f :cas, :value [1 2]}\n{:process 0, :type :ok, :f :cas, :value true}",
@@ -49,7 +49,7 @@ OF_TEXTS = (
     ("{:process 0, :type :invoke, :f :write, :value 1.5}", "; line 1: 1.5: this is EDN that is not read"),
 )
 
-# A text of each fault that is printed, and what is said of it. A history has at most 1,000,000 maps, and a text 268,435,456 bytes.
+# A text of each fault that is printed, and the sentence for it. A history has at most 1,000,000 maps, and a text 268,435,456 bytes.
 READ = "{:process 0, :type :invoke, :f :read}"
 OF_CODES = (
     ("H1 at map 0", "7", "; event 0, line 1: it is no map"),

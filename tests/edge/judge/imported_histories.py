@@ -61,7 +61,7 @@ WRONGLY_REFUSED = """{{:process 0, :type :invoke, :f :write, :value 1}}
 {{:process 0, :type :invoke, :f :cas, :value [1 2]}}
 {{:process 0, :type :fail, :f :cas, :value [1 2], {}}}
 """
-# A history, and what is said of it.
+# A history, and the sentence for it.
 REFUSED = (
     (
         "{:process 0, :type :invoke, :f :write, :value 1.5}",

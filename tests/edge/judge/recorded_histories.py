@@ -22,7 +22,7 @@ MOST_SECONDS = 2
 
 
 def yes(kind, count):
-    """What is said of a history of one object."""
+    """The answer for a history of one object."""
     return f"yes: {count} operations, 1 objects\n{kind}: 1 objects, {count} operations\n"
 
 

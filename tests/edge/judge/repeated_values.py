@@ -442,7 +442,7 @@ MOST_SECONDS = 1
 
 
 def generated(program, kind, words):
-    """Makes a history and returns its name, and what is said of it."""
+    """Makes a history and returns its name, and the answer for it."""
     folder = f"{program.room}/generated"
     os.makedirs(folder, exist_ok=True)
     words = ["--kind", kind, "--fail", "0.05", *words.split()]

@@ -303,7 +303,7 @@ def without_the_library(program, report):
         source = program.write("no_reply.cpp", NO_REPLY.replace("REPLY", reply))
         ran = subprocess.run([*CPP, f"-I{SOURCES}/cpp", "-fsyntax-only", f"{program.room}/{source}"], capture_output=True, text=True)
         is_well = ran.returncode == status and (OF_NO_REPLY in ran.stderr) == (status == 1)
-        report.holds(f"embedding: C++: what is said of the reply {reply}", is_well, ran.stderr[-2000:])
+        report.holds(f"embedding: C++: what the compiler says about the reply {reply}", is_well, ran.stderr[-2000:])
 
 
 def rust_callers(program, report):

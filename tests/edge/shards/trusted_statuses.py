@@ -18,7 +18,7 @@ BELIEVED = "; not checked: the exit statuses of %d shards are believed\n"
 WHOLES = 120
 # What a shard is said to be by each text of its status. With every other one, and with no file, it has no status.
 WORDS = {b"0\n": None, b"1\n": "no", b"2\n": "malformed", b"3\n": "undecided"}
-# The statuses of a merge, the worst first, with what is said of the shard that has it.
+# The statuses of a merge, the worst first, with the words for the shard that has it.
 RANKS = ((2, {"malformed"}), (1, {"no"}), (3, {"undecided", "no status"}))
 # Texts that are no status from 0 to 3: those of other statuses, those that are cut, and other bytes.
 NO_STATUS = (
@@ -154,7 +154,7 @@ def refused_memory_of_statuses(program, report):
 
 
 def of_each_shard(ran, shards):
-    """The status that a worker is to have which judges a shard alone, for each shard, by what is said of the whole."""
+    """The status that a worker is to have which judges a shard alone, for each shard, by the answer for the whole."""
     of = [0] * shards
     for on, word in re.findall(rb"^; object (\d+): (\w+)", ran.out, re.M):
         shard = shard_of(int(on), shards)

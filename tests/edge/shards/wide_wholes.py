@@ -23,7 +23,7 @@ class Wide:
     longer: tuple
 
     def answer(self, ran):
-        """What is said of the small history, said of this one: in its numbers, and in their order."""
+        """The answer for this history, made of the answer for the small one: in its numbers, and in their order."""
         told = re.fullmatch(rb"malformed history: (E\d+) at byte (\d+)\n", ran.out)
         if told:
             at = int(told[2])
@@ -32,7 +32,7 @@ class Wide:
         return replace(ran, out=head + b"".join(text for _, text in sorted(map(self.of_object, those))))
 
     def of_object(self, text):
-        """What is said of one object: its number in this whole, and what is said of it here."""
+        """Of the lines on one object its number in this whole, and the lines with that number."""
         on = self.numbers[int(re.match(rb"; object (\d+)", text)[1])]
         return on, re.sub(rb"^(; object |; \{:object )\d+", rb"\g<1>%d" % on, text, flags=re.M)
 

@@ -190,7 +190,7 @@ def reason_on(on):
 
 
 def refuted_no(on):
-    """What is said of that object."""
+    """The lines on that object."""
     return lines(
         f"; object {on}: impossible",
         f"; {NOTE}",
