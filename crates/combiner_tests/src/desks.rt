@@ -66,7 +66,8 @@ fn a_desk_begins_with_its_clients(rt: HostRuntime) -> Result<(), Fail> {
     Ok(())
 }
 
-/// The bench as it was, and the client that has not retired.
+/// Client `number` tries to close the desk, which must fail. Returns the bench as it was, and the
+/// client that has not retired.
 fn closes_too_early<R: Abort>(rt: &R, bench: Bench, number: u64) -> Result<(Bench, u32), Fail> {
     match bench.close(number)? {
         Closing::Unretired(bench, client) => Ok((bench, client)),

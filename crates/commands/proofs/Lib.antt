@@ -6,4 +6,4 @@ pub mod Leaving
 pub mod InMemory
 pub mod StatusMeanings
 pub mod Merges
-pub mod BelievedShards
+pub mod TrustedShards

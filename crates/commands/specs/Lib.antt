@@ -1,7 +1,7 @@
-pub mod Statuses
+pub mod LineFaults
 pub mod Leaves
 pub mod Runs
 pub mod Simulated
 pub mod Performed
 pub mod Sharded
-pub mod Believed
+pub mod Trusted

@@ -10,7 +10,7 @@ use history_commands::{Output, Status, line_with_place, text_with_number};
 use simulation::{Played, SimulationFault, simulate};
 use std::alloc::{AllocError, Global};
 
-/// The line that says why there is no record.
+/// The line that says why there is no record. An error: an allocation failed.
 fn fault_line(alloc: Global, fault: SimulationFault) -> Result<Vec<u8>, AllocError>
     ensures { IfOk result (λ v. v.items ≡ spec.fault_line fault) }
 {

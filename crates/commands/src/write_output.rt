@@ -1,4 +1,4 @@
-//! What a command made is written.
+//! Writes what a command made.
 
 ghost use Rattle.std.specs.Prelude.{◌≡◌, ◌≢◌, false};
 ghost use Rattle.commands.specs.Leaves.{IsMade, Leaves};

@@ -35,7 +35,7 @@ impl<R: Files<File = File> + AllocGlobal + Print + Eprint + Clock + Threads + Wa
     for R {}
 
 /// Says that an allocation failed.
-fn no_memory<R: Print>(rt: &R) -> io::Result<u8> {
+fn report_no_memory<R: Print>(rt: &R) -> io::Result<u8> {
     rt.println("out of memory")?;
     Ok(Status::OutOfMemory.number())
 }
@@ -48,7 +48,7 @@ fn report_failed<R: Print + Eprint>(
     lacks_memory: bool,
 ) -> io::Result<u8> {
     if lacks_memory {
-        return no_memory(rt);
+        return report_no_memory(rt);
     }
     rt.eprintln(format_args!("fcbench: cannot {verb} {name}"))?;
     Ok(Status::Failed.number())
@@ -106,8 +106,8 @@ fn report_few_shards<R: Print>(rt: &R, object: u32) -> io::Result<u8> {
     Ok(Status::Undecided.number())
 }
 
-/// Whether a split with this status has divided the whole. After 3 it has, and a shard is too large
-/// for one text: an allocation failure is `SplitFailure::NoMemory`.
+/// Whether a split that ended with this status divided the history. With 3 it did, but a shard is
+/// too large for one text: an allocation failure is `SplitFailure::NoMemory`.
 fn is_divided(status: u8) -> bool {
     status == Status::Yes.number() || status == Status::Undecided.number()
 }
@@ -141,7 +141,7 @@ fn split<R: Host>(rt: &R, history: &str, name: &str, shards: u32) -> io::Result<
         Err(SplitFailure::Unread) => report_unreadable(rt, history, source.lacks_memory()),
         Err(SplitFailure::Unwritten) => report_unwritten(rt, name, folder.lacks_memory()),
         Err(SplitFailure::FewShards(object)) => report_few_shards(rt, object),
-        Err(SplitFailure::NoMemory) => no_memory(rt),
+        Err(SplitFailure::NoMemory) => report_no_memory(rt),
     }
 }
 
@@ -150,7 +150,7 @@ fn merge<R: Host>(rt: &R, name: &str, steps: u32, trust_statuses: bool) -> io::R
     let folder = ShardFolder::new(rt, rt.alloc(), name);
     let shards = match folder.count() {
         Ok(shards) => shards,
-        Err(ReadFault::NoMemory) => return no_memory(rt),
+        Err(ReadFault::NoMemory) => return report_no_memory(rt),
         Err(ReadFault::Failed) => {
             rt.eprintln(format_args!("fcbench: cannot read {name}/shards"))?;
             return Ok(Status::Failed.number());
@@ -214,7 +214,7 @@ fn explain<R: Print + Eprint>(rt: &R, fault: &LineFault) -> io::Result<u8> {
     match fault {
         LineFault::Help(text) => rt.print(text.as_str())?,
         LineFault::Refused(text) => rt.eprint(text.as_str())?,
-        LineFault::NoMemory => return no_memory(rt),
+        LineFault::NoMemory => return report_no_memory(rt),
     }
     Ok(status_of_fault(fault).number())
 }
@@ -228,7 +228,7 @@ fn words_of<R: AllocGlobal + Env>(rt: &R) -> io::Result<Vec<String>> {
 fn do_command_line<R: Host + Env>(rt: &R) -> io::Result<u8> {
     match words_of(rt) {
         Ok(words) => do_words(rt, &words),
-        Err(error) if error.kind() == io::ErrorKind::OutOfMemory => no_memory(rt),
+        Err(error) if error.kind() == io::ErrorKind::OutOfMemory => report_no_memory(rt),
         Err(_) => {
             rt.eprintln("fcbench: a word of the command line is not UTF-8")?;
             Ok(Status::Usage.number())

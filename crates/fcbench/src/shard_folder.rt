@@ -96,7 +96,7 @@ impl<'a, R: Files> ShardFolder<'a, R> {
         Ok(())
     }
 
-    /// Says that the files that were made have a whole history.
+    /// Says that the files that were made have a full history.
     pub fn complete(&self, shards: u16) -> io::Result<()> {
         let text = format!(in self.alloc; "{shards}\n")?;
         let path = self.count_path()?;

@@ -10,7 +10,7 @@ use crate::status::Status;
 pub enum Finding {
     /// Each object has an order.
     Certified,
-    /// None of the other three is found.
+    /// No text is malformed and no object impossible, but some object has no order.
     Undecided,
     /// An object is impossible.
     Refuted,
@@ -42,7 +42,7 @@ impl Finding {
         }
     }
 
-    /// How a merge ends that finds this.
+    /// The status of a merge with this finding.
     pub fn status(self) -> Status
         ensures is { result ≡ spec.status_with self }
         ensures not_failed { result ≢ Status.Failed }

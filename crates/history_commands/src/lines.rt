@@ -38,6 +38,7 @@ pub fn line_with_place(
     Ok(text)
 }
 
+/// Appends `; object X`.
 fn push_object(text: &mut Vec<u8>, object: u32) -> Result<(), AllocError>
     ensures { OnOk result (text.new.items ≡ text.old.items
         ++ (codes "; object " ++ decimal object)) }

@@ -1,5 +1,5 @@
 //! The merge of what is found of the shards of a history: the evidence on each shard is checked,
-//! and the whole is judged by what it shows of all. Nothing that comes from a worker is believed.
+//! and the full history is judged by all of it. Nothing that comes from a worker is trusted.
 
 ghost use Rattle.std.specs.Prelude.{◌++◌, ◌∷◌, [], List, IfOk, OnOk};
 ghost use Rattle.history_commands.specs.Merged.{AnswersShard, AreMerged, IsMerge, Shard, seen};
@@ -34,7 +34,7 @@ impl Merging {
         }
     }
 
-    /// Puts what is answered of one more shard to what is known.
+    /// Adds the answer for one more shard.
     fn add(&mut self, answer: ShardAnswer) -> Result<(), AllocError>
         ensures { OnOk result ((shards : List Shard) (shard : Shard) → AreMerged self.old shards
             → AnswersShard shard (seen answer) → AreMerged self.new (shards ++ shard ∷ [])) }

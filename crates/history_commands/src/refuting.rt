@@ -87,8 +87,8 @@ fn call_count_of(objects: &[ObjectHistory], number: u32) -> usize
     0
 }
 
-/// The beginning of a line on the object of a reason.
-fn push_object(text: &mut Vec<u8>, reason: &Reason) -> Result<(), AllocError>
+/// Appends `object X`, the beginning of a line on the object of a reason.
+fn push_reason_object(text: &mut Vec<u8>, reason: &Reason) -> Result<(), AllocError>
     ensures { OnOk result (text.new.items ≡ text.old.items ++ spec.object_text reason.now) }
 {
     text.extend_from_slice(b"object ")?;
@@ -115,7 +115,7 @@ fn push_shown(
         ++ shown_line whole reason.now part.now) }
 {
     text.extend_from_slice(b"not linearizable: ")?;
-    push_object(text, reason)?;
+    push_reason_object(text, reason)?;
     text.extend_from_slice(b": ")?;
     push_counts(text, whole, part)?;
     text.extend_from_slice(b" operations have no valid order\n")
@@ -142,7 +142,7 @@ fn push_unfit(text: &mut Vec<u8>, reason: &Reason, why: &[u8]) -> Result<(), All
     ensures { OnOk result (text.new.items ≡ text.old.items
         ++ (spec.object_text reason.now ++ why.now)) }
 {
-    push_object(text, reason)?;
+    push_reason_object(text, reason)?;
     text.extend_from_slice(why)
 }
 
@@ -164,7 +164,7 @@ fn push_answer_on(
             push_operations(text, false, history, part)
         }
         Refutation::NotShown { part: _, doubt } => {
-            push_object(text, reason)?;
+            push_reason_object(text, reason)?;
             push_doubt(text, reason.basis.steps(u64::from(steps)), doubt)
         }
         Refutation::NoPart => push_unfit(text, reason, b": not shown: the cuts name no part\n"),

@@ -1,5 +1,5 @@
-//! What is answered of a shard of a history: its text, its table, and the evidence on it are
-//! checked, whatever they hold.
+//! The answer for one shard of a history. Its text, its table and the evidence on it may be any
+//! bytes: all are checked.
 
 ghost use Rattle.std.specs.Prelude.{◌≡◌, IfOk, MatchBool};
 ghost use Rattle.history_commands.specs.Merged as spec;
@@ -31,7 +31,7 @@ pub struct ShardNumber {
     pub count: u16,
 }
 
-/// What is answered of a shard.
+/// The answer for a shard.
 #[derive(Drop)]
 pub(crate) struct ShardAnswer {
     pub(crate) finding: Finding,
@@ -52,7 +52,7 @@ fn shard_line(alloc: Global, shard: u16, said: &[u8]) -> Result<Vec<u8>, AllocEr
     Ok(line)
 }
 
-/// What is answered if nothing is decided, but this is said of the shard.
+/// The answer for a shard on which nothing is decided, with a line that says why.
 fn noted(
     alloc: Global,
     shard: u16,
@@ -80,7 +80,7 @@ fn is_too_large(fault: &Fault) -> bool
     }
 }
 
-/// What is answered of a shard whose text has this fault.
+/// The answer for a shard whose text has this fault.
 fn answer_fault(alloc: Global, shard: u16, fault: Fault) -> Result<ShardAnswer, AllocError>
     ensures { IfOk result (λ a. AnswersFault shard fault (seen a)) }
 {
@@ -104,7 +104,7 @@ fn finding_of(decisions: &[(u32, Decision)]) -> Finding
     }
 }
 
-/// What is answered by claims on the history of a shard.
+/// Checks claims on the history of a shard.
 fn answer_claims(
     alloc: Global,
     shard: ShardNumber,
@@ -127,7 +127,7 @@ fn answer_claims(
     })
 }
 
-/// What is answered by evidence on the history of a shard.
+/// Checks evidence on the history of a shard.
 fn answer_evidence(
     alloc: Global,
     shard: ShardNumber,
@@ -147,7 +147,7 @@ fn answer_evidence(
     }
 }
 
-/// What is answered by evidence in the numbers of the whole, which the table has.
+/// Gives the events of a shard their numbers in the full history, and then checks the evidence.
 fn answer_history(
     alloc: Global,
     shard: ShardNumber,
@@ -174,7 +174,7 @@ fn answer_history(
     }
 }
 
-/// What is answered of a shard by its text, its table, and the evidence on it.
+/// Checks a shard: its text, its table, and the evidence on it.
 pub(crate) fn answer_shard(
     alloc: Global,
     shard: ShardNumber,

@@ -1,4 +1,4 @@
--- A merge that believes the exit statuses of workers on other machines, and checks nothing.
+-- A merge that trusts the exit statuses of workers on other machines, and checks nothing.
 use Rattle.std.specs.Prelude.{◌≡◌, ◌<◌, ◌⊎◌, ◌+◌, ℕ, List, [], ◌∷◌, ◌++◌, Option, Some, None}
 use Rattle.std.specs.Prelude.{codes, decimal, get_or, if◌then◌else◌, length, map}
 use Rattle.std.specs.Prelude.{option_and_then, option_map, unwrap_or}
@@ -12,7 +12,7 @@ use Rattle.history_commands.specs.declared.finding.Finding.{Finding}
 use Rattle.history_commands.specs.declared.finding.Finding.TheVariants.{Certified, Undecided}
 use Rattle.history_commands.specs.declared.finding.Finding.TheVariants.{Refuted, Malformed}
 use Rattle.history_commands.specs.declared.status.Status.{Status}
-use Rattle.commands.specs.declared.believing.Believed.{Believed}
+use Rattle.commands.specs.declared.trusting.Trusted.{Trusted}
 
 -- ---- what is read
 
@@ -51,16 +51,16 @@ finding_by read = worst (map finding_of read)
 
 -- ---- the lines
 
-abbrev pub shard_line : ℕ → List ℕ → List ℕ
-shard_line shard end = codes "; shard " ++ (decimal shard ++ end)
+abbrev pub status_line : ℕ → List ℕ → List ℕ
+status_line shard end = codes "; shard " ++ (decimal shard ++ end)
 
 -- the line of the shard with this number, unless it is a yes
 abbrev pub said_line : ℕ → Option Finding → List ℕ
 said_line shard (Some Certified) = []
-said_line shard (Some Refuted) = shard_line shard (codes ": no\n")
-said_line shard (Some Malformed) = shard_line shard (codes ": malformed\n")
-said_line shard (Some Undecided) = shard_line shard (codes ": undecided\n")
-said_line shard None = shard_line shard (codes ": no status\n")
+said_line shard (Some Refuted) = status_line shard (codes ": no\n")
+said_line shard (Some Malformed) = status_line shard (codes ": malformed\n")
+said_line shard (Some Undecided) = status_line shard (codes ": undecided\n")
+said_line shard None = status_line shard (codes ": no status\n")
 
 -- the lines of the shards from this number on
 abbrev pub lines_from : ℕ → List (Option (List ℕ)) → List ℕ
@@ -81,8 +81,8 @@ last_line count Refuted = []
 last_line count Malformed = []
 
 -- what is printed if these were read of this many shards
-abbrev pub believed_text : ℕ → List (Option (List ℕ)) → List ℕ
-believed_text count read =
+abbrev pub trusted_text : ℕ → List (Option (List ℕ)) → List ℕ
+trusted_text count read =
     first_line count ++ (lines_from 0 read ++ last_line count (finding_by read))
 
 -- ---- the merge
@@ -92,22 +92,22 @@ abbrev pub seen : Option (Vec ℕ) → Option (List ℕ)
 seen read = option_map (λ v. v.items) read
 
 -- these were taken, and no others, and what is kept is what they say
-pub record AreBelieved (b : Believed) (read : List (Option (List ℕ))) : Type 0 where
+pub record AreTrusted (b : Trusted) (read : List (Option (List ℕ))) : Type 0 where
   pub finding_is : b.finding ≡ finding_by read
   pub lines_are : b.lines.items ≡ lines_from 0 read
 
--- the output of a merge of this many shards, whose statuses were read and are believed
-abbrev pub IsBelievedOf : HoldingStatus → ℕ → Status → List ℕ → Type 0
-IsBelievedOf holds count status out =
+-- the output of a merge of this many shards, whose statuses were read and are trusted
+abbrev pub IsTrustedOf : HoldingStatus → ℕ → Status → List ℕ → Type 0
+IsTrustedOf holds count status out =
     (read : List (Option (List ℕ))) × (length read ≡ count) × AreStatusesRead holds read
-    × IsExactly (status_with (finding_by read)) (believed_text count read) status out
+    × IsExactly (status_with (finding_by read)) (trusted_text count read) status out
 
 -- the same, or one line says that an allocation failed
-abbrev pub IsBelievedOfFolder : HoldingStatus → ℕ → Status → List ℕ → Type 0
-IsBelievedOfFolder holds count status out =
-    IsBelievedOf holds count status out ⊎ IsOutOfMemory status out
+abbrev pub IsTrustedOfFolder : HoldingStatus → ℕ → Status → List ℕ → Type 0
+IsTrustedOfFolder holds count status out =
+    IsTrustedOf holds count status out ⊎ IsOutOfMemory status out
 
--- ---- what is believed
+-- ---- what is taken on trust
 
 -- Each yes is right: a shard of this many that may have the status 0 is empty, or its history is
 -- linearizable.

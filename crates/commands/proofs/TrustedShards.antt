@@ -1,4 +1,4 @@
--- What exit statuses show that are believed: a yes of all is a yes of each, whose text is then that of 0, and a no is a
+-- What exit statuses show that are trusted: a yes of all is a yes of each, whose text is then that of 0, and a no is a
 -- no of one. With what workers said taken for right, the shards decide the whole.
 use Rattle.std.proofs.Common.{◌≡◌, ◌∙◌, ℕ, ◌+◌, ◌<◌, ◌≤◌, ◌⊎◌, inl, inr, List, [], ◌∷◌, ◌++◌, Bool, true, false, cond}
 use Rattle.std.proofs.Common.{Option, Some, None, append-nil, append_assoc, arith, ap, codes, get_or, length, refl}
@@ -18,11 +18,11 @@ use Rattle.history_commands.specs.declared.finding.Finding.{Finding}
 use Rattle.history_commands.specs.declared.finding.Finding.TheVariants.{Certified, Undecided, Refuted, Malformed}
 use Rattle.history_commands.specs.declared.status.Status.TheVariants.{Yes, No}
 use Rattle.history_commands.proofs.Findings.{all_certified, no_refuted, some_refuted, worst_push, yes_certified}
-use Rattle.commands.specs.Believed.{AreBelieved, AreStatusesRead, HoldingStatus, IsBelievedOfFolder, IsEachNoRight}
-use Rattle.commands.specs.Believed.{IsEachYesRight, finding_by, finding_of, lines_from, said_by, said_line, said_of}
+use Rattle.commands.specs.Trusted.{AreTrusted, AreStatusesRead, HoldingStatus, IsTrustedOfFolder, IsEachNoRight}
+use Rattle.commands.specs.Trusted.{IsEachYesRight, finding_by, finding_of, lines_from, said_by, said_line, said_of}
 use Rattle.commands.specs.Leaves.{Leaves}
 use Rattle.commands.specs.Sharded.{AreShardsOf}
-use Rattle.commands.specs.declared.believing.Believed.{Believed}
+use Rattle.commands.specs.declared.trusting.Trusted.{Trusted}
 use Rattle.commands.proofs.StatusMeanings.{is_no, is_yes, memory_not_no, memory_not_yes, no_not_failed}
 use Rattle.commands.proofs.StatusMeanings.{yes_not_failed}
 
@@ -37,10 +37,10 @@ lines_push n (x ∷ read) r =
     (said_line (n + 1 + length read) (said_of r)))
     ∙ ap (λ k. lines_from n (x ∷ read) ++ said_line k (said_of r)) (omega arith))
 
-pub believed_push : (b later : Believed) (shard : ℕ) (read : List (Option (List ℕ))) (r : Option (List ℕ))
-    → AreBelieved b read → length read ≡ shard → later.finding ≡ worse b.finding (finding_of r)
-    → later.lines.items ≡ b.lines.items ++ said_line shard (said_of r) → AreBelieved later (read ++ r ∷ [])
-believed_push b later shard read r h long finding lines = record {
+pub trusted_push : (b later : Trusted) (shard : ℕ) (read : List (Option (List ℕ))) (r : Option (List ℕ))
+    → AreTrusted b read → length read ≡ shard → later.finding ≡ worse b.finding (finding_of r)
+    → later.lines.items ≡ b.lines.items ++ said_line shard (said_of r) → AreTrusted later (read ++ r ∷ [])
+trusted_push b later shard read r h long finding lines = record {
   finding_is = finding ∙ (ap (λ f. worse f (finding_of r)) h.finding_is ∙ sym (worst_push finding_of read r));
   lines_are = lines ∙ (ap (λ t. t ++ said_line shard (said_of r)) h.lines_are
       ∙ (ap (λ n. lines_from 0 read ++ said_line n (said_of r)) (omega (arith, long)) ∙ sym (lines_push 0 read r)));
@@ -123,9 +123,9 @@ module _ (holds : HoldingStatus) (count : ℕ) (some : 0 < count) (whole : List 
         (right at.0 (subst (λ n. at.0 < n) each at.1) held)
 
   module _ {before after : Option (List ℕ)} {number : ℕ} {broken : Bool}
-      (h : Leaves (IsBelievedOfFolder holds count) before number after broken) where
-    pub believed_yes : number ≡ number_of Yes → IsEachYesRight holds count files → IsLinearizableAtAnyLength whole
-    believed_yes e right =
+      (h : Leaves (IsTrustedOfFolder holds count) before number after broken) where
+    pub trusted_yes : number ≡ number_of Yes → IsEachYesRight holds count files → IsLinearizableAtAnyLength whole
+    trusted_yes e right =
         let w = h.written (yes_not_failed number e) in
         let is = is_yes w.0 (sym w.3 ∙ e) in
         elim w.2 [
@@ -133,8 +133,8 @@ module _ (holds : HoldingStatus) (count : ℕ) (some : 0 < count) (whole : List 
           | inr memory ↦ absurd (memory_not_yes w.0 memory.0 is)
         ]
 
-    pub believed_no : number ≡ number_of No → IsEachNoRight holds count files → IsLinearizableAtAnyLength whole → ⊥
-    believed_no e right =
+    pub trusted_no : number ≡ number_of No → IsEachNoRight holds count files → IsLinearizableAtAnyLength whole → ⊥
+    trusted_no e right =
         let w = h.written (no_not_failed number e) in
         let is = is_no w.0 (sym w.3 ∙ e) in
         elim w.2 [

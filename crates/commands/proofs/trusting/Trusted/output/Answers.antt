@@ -1,7 +1,7 @@
 use Rattle.std.proofs.Common.{◌≡◌, ◌++◌, ◌∙◌, ap, ap₂, append_assoc}
 use Rattle.history_commands.specs.Merged.{status_with}
-use Rattle.commands.specs.Believed.{finding_by, first_line, last_line, lines_from}
-use Rattle.commands.proofs.believing.Believed.output.Goals as goal
+use Rattle.commands.specs.Trusted.{finding_by, first_line, last_line, lines_from}
+use Rattle.commands.proofs.trusting.Trusted.output.Goals as goal
 
 pub returns : goal.returns
 returns c all h =

@@ -1,11 +1,11 @@
 use Rattle.std.proofs.Common.{◌+◌, ◌++◌, ◌∷◌, ◌∙◌, [], ap, arith, refl, subst, sym}
 use Rattle.std.proofs.lemmas.List.{length-append}
-use Rattle.commands.specs.Believed.{seen}
+use Rattle.commands.specs.Trusted.{seen}
 use Rattle.commands.proofs.Merges.{none_read, read_more}
-use Rattle.commands.proofs.believing.believe_all.Goals as goal
+use Rattle.commands.proofs.trusting.trust_all.Goals as goal
 
 pub loop-shard-init : goal.loop-shard-init
-loop-shard-init g c = ([], refl, none_read (g.F.StatusFiles.holds c.args.files.now), c.new-believed.ensures)
+loop-shard-init g c = ([], refl, none_read (g.F.StatusFiles.holds c.args.files.now), c.new-trusted.ensures)
 
 pub loop-shard-preserved : goal.loop-shard-preserved
 loop-shard-preserved g c =

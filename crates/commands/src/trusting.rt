@@ -1,14 +1,14 @@
-//! The merge that believes: a whole is judged by the exit statuses of workers on other machines,
-//! one for each shard. Nothing of it is checked, and the first line says so.
+//! `merge --trust-statuses`: a full history is judged by the exit statuses of workers on other
+//! machines, one for each shard. Nothing is checked, and the first line says so.
 
 ghost use Rattle.std.specs.Prelude.{◌≡◌, ◌<◌, ◌++◌, ◌∷◌, ℕ, [], List, Option, false, length};
 ghost use Rattle.std.specs.Prelude.{IfOk, IfSome, OnErr, OnOk};
 ghost use Rattle.history_commands.specs.Merged.{status_with};
 ghost use Rattle.history_commands.specs.Outputs.{IsExactly, number_of};
-ghost use Rattle.commands.specs.Believed as spec;
-ghost use Rattle.commands.specs.Believed.{AreBelieved, AreStatusesRead, IsBelievedOf};
-ghost use Rattle.commands.specs.Believed.{IsBelievedOfFolder, IsEachNoRight, IsEachYesRight};
-ghost use Rattle.commands.specs.Believed.{believed_text, finding_by};
+ghost use Rattle.commands.specs.Trusted as spec;
+ghost use Rattle.commands.specs.Trusted.{AreTrusted, AreStatusesRead, IsTrustedOf};
+ghost use Rattle.commands.specs.Trusted.{IsTrustedOfFolder, IsEachNoRight, IsEachYesRight};
+ghost use Rattle.commands.specs.Trusted.{trusted_text, finding_by};
 ghost use Rattle.commands.specs.Leaves.{Leaves};
 ghost use Rattle.commands.specs.Sharded.{AreShardsOf};
 ghost use Rattle.shards.specs.Dividing.{Files};
@@ -46,7 +46,7 @@ fn said_by(text: &[u8]) -> Option<Finding>
     }
 }
 
-/// What is said by what was read.
+/// The finding that a status file states, if any.
 fn said_of(read: &Option<Vec<u8>>) -> Option<Finding>
     ensures { result ≡ spec.said_of (spec.seen read.now) }
 {
@@ -56,8 +56,8 @@ fn said_of(read: &Option<Vec<u8>>) -> Option<Finding>
     }
 }
 
-fn push_shard_line(lines: &mut Vec<u8>, shard: u16, end: &[u8]) -> Result<(), AllocError>
-    ensures { OnOk result (lines.new.items ≡ lines.old.items ++ spec.shard_line shard end.now) }
+fn push_status_line(lines: &mut Vec<u8>, shard: u16, end: &[u8]) -> Result<(), AllocError>
+    ensures { OnOk result (lines.new.items ≡ lines.old.items ++ spec.status_line shard end.now) }
 {
     lines.extend_from_slice(b"; shard ")?;
     push_natural(lines, u64::from(shard))?;
@@ -70,10 +70,10 @@ fn push_line(lines: &mut Vec<u8>, shard: u16, said: Option<Finding>) -> Result<(
 {
     match said {
         Some(Finding::Certified) => Ok(()),
-        Some(Finding::Refuted) => push_shard_line(lines, shard, b": no\n"),
-        Some(Finding::Malformed) => push_shard_line(lines, shard, b": malformed\n"),
-        Some(Finding::Undecided) => push_shard_line(lines, shard, b": undecided\n"),
-        None => push_shard_line(lines, shard, b": no status\n"),
+        Some(Finding::Refuted) => push_status_line(lines, shard, b": no\n"),
+        Some(Finding::Malformed) => push_status_line(lines, shard, b": malformed\n"),
+        Some(Finding::Undecided) => push_status_line(lines, shard, b": undecided\n"),
+        None => push_status_line(lines, shard, b": no status\n"),
     }
 }
 
@@ -91,19 +91,19 @@ fn push_last_line(text: &mut Vec<u8>, shards: u16, finding: Finding) -> Result<(
     }
 }
 
-/// What is believed of the shards whose statuses were taken, and the lines on them.
+/// The finding of the shards whose statuses were taken, and the lines on them.
 #[derive(Drop)]
-struct Believed {
+struct Trusted {
     finding: Finding,
     lines: Vec<u8>,
 }
 
-impl Believed {
+impl Trusted {
     /// No status was taken.
-    fn new(alloc: Global) -> Believed
-        ensures { AreBelieved result [] }
+    fn new(alloc: Global) -> Trusted
+        ensures { AreTrusted result [] }
     {
-        Believed {
+        Trusted {
             finding: Finding::Certified,
             lines: Vec::new(alloc),
         }
@@ -111,8 +111,8 @@ impl Believed {
 
     /// Takes what was read of the status of the next shard, which has this number.
     fn take(&mut self, shard: u16, read: &Option<Vec<u8>>) -> Result<(), AllocError>
-        ensures { OnOk result ((all : List (Option (List ℕ))) → AreBelieved self.old all
-            → length all ≡ shard → AreBelieved self.new (all ++ spec.seen read.now ∷ [])) }
+        ensures { OnOk result ((all : List (Option (List ℕ))) → AreTrusted self.old all
+            → length all ≡ shard → AreTrusted self.new (all ++ spec.seen read.now ∷ [])) }
     {
         let said = said_of(read);
         let finding = said.unwrap_or(Finding::Undecided);
@@ -122,8 +122,8 @@ impl Believed {
 
     /// The output if the statuses of this many shards were taken.
     fn output(&self, alloc: Global, shards: u16) -> Result<Output, AllocError>
-        ensures { (all : List (Option (List ℕ))) → AreBelieved self.now all → IfOk result (λ o.
-            IsExactly (status_with (finding_by all)) (believed_text shards all)
+        ensures { (all : List (Option (List ℕ))) → AreTrusted self.now all → IfOk result (λ o.
+            IsExactly (status_with (finding_by all)) (trusted_text shards all)
             o.status o.text.items) }
     {
         let mut text = text_with_number(
@@ -141,42 +141,42 @@ impl Believed {
     }
 }
 
-/// What is believed of the shards, the status of each of which is read, or cannot be read. None: an
+/// The finding of the shards, the status of each of which is read, or cannot be read. None: an
 /// allocation failed.
-fn believe_all<F: StatusFiles>(
+fn trust_all<F: StatusFiles>(
     alloc: Global,
     files: &F,
     shards: u16,
-) -> Result<Option<Believed>, UnreadShard>
+) -> Result<Option<Trusted>, UnreadShard>
     ensures { IfOk result (λ made. IfSome made (λ b. (all : List (Option (List ℕ)))
         × (length all ≡ shards) × AreStatusesRead (F.holds files.now) all
-        × AreBelieved b all)) }
+        × AreTrusted b all)) }
 {
-    let mut believed = Believed::new(alloc);
+    let mut trusted = Trusted::new(alloc);
     for shard in 0..shards {
         let read = match files.read_status(alloc, shard) {
             Ok(read) => read,
             Err(ShardFault::Unread(file)) => return Err(UnreadShard { shard, file }),
             Err(ShardFault::NoMemory) => return Ok(None),
         };
-        let Ok(()) = believed.take(shard, &read) else {
+        let Ok(()) = trusted.take(shard, &read) else {
             return Ok(None);
         };
     }
-    Ok(Some(believed))
+    Ok(Some(trusted))
 }
 
 /// The output of a merge of the statuses that are read.
-fn believed_output<F: StatusFiles>(
+fn trusted_output<F: StatusFiles>(
     alloc: Global,
     files: &F,
     shards: u16,
 ) -> Result<Result<Output, AllocError>, UnreadShard>
     ensures { IfOk result (λ made. IfOk made (λ o.
-        IsBelievedOf (F.holds files.now) shards o.status o.text.items)) }
+        IsTrustedOf (F.holds files.now) shards o.status o.text.items)) }
 {
-    match believe_all(alloc, files, shards)? {
-        Some(believed) => Ok(believed.output(alloc, shards)),
+    match trust_all(alloc, files, shards)? {
+        Some(trusted) => Ok(trusted.output(alloc, shards)),
         None => Ok(Err(AllocError)),
     }
 }
@@ -198,10 +198,10 @@ pub fn merge_statuses<F: StatusFiles, S: Sink>(
     ensures refuted { IfOk result (λ number. number ≡ number_of Status.No →
         (whole : List ℕ) (divided : Files) → AreShardsOf shards whole divided →
         IsEachNoRight (F.holds files.now) shards divided → ¬ IsLinearizableAtAnyLength whole) }
-    ensures leaves { IfOk result (λ number. Leaves (IsBelievedOfFolder (F.holds files.now) shards)
+    ensures leaves { IfOk result (λ number. Leaves (IsTrustedOfFolder (F.holds files.now) shards)
         (S.sent sink.old) number (S.sent sink.new) (S.broken sink.new)) }
     ensures nothing_written { OnErr result (sink.new ≡ sink.old) }
 {
-    let made = believed_output(alloc, files, shards)?;
+    let made = trusted_output(alloc, files, shards)?;
     Ok(write_output(made, sink))
 }

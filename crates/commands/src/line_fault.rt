@@ -1,7 +1,7 @@
 //! How the program ends if words give no command.
 
 ghost use Rattle.std.specs.Prelude.{◌≡◌};
-ghost use Rattle.commands.specs.Statuses as spec;
+ghost use Rattle.commands.specs.LineFaults as spec;
 
 use command_line::LineFault;
 use history_commands::Status;
