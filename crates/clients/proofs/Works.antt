@@ -66,7 +66,7 @@ stopped cs i none v w x low k o = let u : DeskView = o.0 in let p = o.1 in let c
   made = inr record {
     front = take i cs;
     call = c;
-    behind = drop (suc i) cs;
+    later = drop (suc i) cs;
     calls = parts cs i none low;
     events = k.events;
     made = k.made;

@@ -26,15 +26,15 @@ Made (c ∷ cs) es =
     (t u : ℕ) × (a : AnyAnswer) × (rest : List AnyEvent)
     × (es ≡ Invoked t c.0 c.1 ∷ Returned u a ∷ rest) × Made cs rest
 
--- These events are of the calls up to one, in order: those in front of it were made; of this one
--- there is the invocation alone, and of those after it nothing. A client stops so if memory is
+-- These events are of the calls up to one, in order: the calls before it were made; of this one
+-- there is the invocation alone, and of the later ones nothing. A client stops so if memory is
 -- refused to the call. That it was refused is not said here, since no clause knows what the
 -- allocator refused: a client that stopped at any call would meet this too.
 pub record IsStopped (cs : List Call) (es : List AnyEvent) : Type 0 where
   pub front : List Call
   pub call : Call
-  pub behind : List Call
-  pub calls : cs ≡ front ++ call ∷ behind
+  pub later : List Call
+  pub calls : cs ≡ front ++ call ∷ later
   pub events : List AnyEvent
   pub made : Made front events
   pub ticket : ℕ

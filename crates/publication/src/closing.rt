@@ -26,7 +26,7 @@ use std::marker::Model;
 
 type Left<S, O, R> = atomic_table::Closed<Slot<S, O, R>, Global>;
 
-/// That a client has retired. Who is to close the desk may be told of it.
+/// The message that a client has retired: `tell` gives it to the client that closes the desk.
 #[derive(Drop)]
 pub struct Retired<S: SeqObject> {
     seat: Place<S, S::Op, S::Reply>,

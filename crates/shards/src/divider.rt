@@ -54,7 +54,8 @@ impl Divider {
         })
     }
 
-    /// Adds a map on this object, as its shard has it, and its place to what waits of the shard.
+    /// Queues a map on this object for the files of its shard, spelled as the shard has it, with
+    /// its place.
     fn put_text(&mut self, object: u32, place: u32, text: &[u8]) -> Result<(), AllocError>
         ensures adds { OnOk result (AddsLine (shard_among self.old.shards object) text.now place
             self.old.waiting.items self.new.waiting.items) }
@@ -66,8 +67,8 @@ impl Divider {
         self.waiting[usize::from(shard)].add(text, place)
     }
 
-    /// Adds a map of a client, which the whole has in this place and writes so, to what waits of
-    /// its shard, and counts it. It is written anew if its object has another name there.
+    /// Queues and counts the map of a client. If its object has another name in its shard, the map
+    /// is rewritten.
     fn put(
         &mut self,
         alloc: Global,
@@ -91,7 +92,7 @@ impl Divider {
         self.put_text(map.object, place, &own)
     }
 
-    /// Takes in one more map, of which this is said and which is written so.
+    /// Takes one more map: what it says, and its text.
     fn take_map(&mut self, alloc: Global, said: OperationMap, text: &[u8]) -> Result<(), PieceFault>
         ensures taken { OnOk result
             ((count : ℕ) (maps : List SpelledMap) (written : Files) (d : Datum) → Says said d

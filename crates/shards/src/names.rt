@@ -7,7 +7,7 @@ ghost use Rattle.shards.specs.Dividing.{IsObjectOf, most_names, name_in_shard, s
 /// How many objects the text of a shard may name.
 const MOST_NAMES: u32 = 65_536;
 
-/// The shard that an object is in, of this many.
+/// The shard of an object, of `shards`.
 pub(crate) fn shard_of(object: u32, shards: u16) -> u16
     requires { 0 < shards }
     ensures { result ≡ shard_among shards object }
@@ -15,21 +15,22 @@ pub(crate) fn shard_of(object: u32, shards: u16) -> u16
     ((object / MOST_NAMES + object % MOST_NAMES) % u32::from(shards)) as u16
 }
 
-/// Its name in its shard.
+/// An object's name in its shard.
 pub(crate) fn name_of(object: u32) -> u16
     ensures { result ≡ name_in_shard object }
 {
     (object % MOST_NAMES) as u16
 }
 
-/// Whether it fits: objects that fit are told apart by their shard and their name there.
+/// Whether the object's number fits this many shards: then its shard and its name there identify
+/// it.
 pub(crate) fn fits(object: u32, shards: u16) -> bool
     ensures { IsTrue result ↔ (object / most_names < shards) }
 {
     object / MOST_NAMES < u32::from(shards)
 }
 
-/// Of this many shards, the object that has this name in this one.
+/// The object with this name in shard `shard` of `shards`.
 pub fn object_named(shards: u16, shard: u16, name: u32) -> u32
     ensures { result ≡ spec.object_named shards shard name }
 {

@@ -18,7 +18,7 @@ use events::ObjectHistory;
 use refutation::{Doubt, Reason, Refutation, refute};
 use std::alloc::{AllocError, Global};
 
-/// What is decided by an order.
+/// The decision by an order.
 ///
 /// An error: an allocation failed.
 fn decide_by_order(
@@ -58,7 +58,7 @@ fn decide_by_doubt(reason: &Reason, limit: u64, doubt: Doubt) -> Decision
     }
 }
 
-/// What is decided by a reason. `limit` is the limit of a search if the reason names none.
+/// The decision by a reason. `limit` is the limit of a search if the reason names none.
 ///
 /// An error: an allocation failed.
 fn decide_by_reason(
@@ -83,7 +83,7 @@ fn decide_by_reason(
     }
 }
 
-/// What is decided of an object by a claim on it. `limit` is the limit of a search if the claim
+/// The decision on an object by a claim on it. `limit` is the limit of a search if the claim
 /// names none.
 ///
 /// An error: an allocation failed.
