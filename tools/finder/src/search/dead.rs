@@ -2,7 +2,7 @@
 //! of memory: the older half of them is forgotten, and what begins with them may then be searched
 //! again.
 
-use super::undone::Undone;
+use super::not_done::NotDone;
 use crate::content::{Content, Kept};
 use std::collections::HashMap;
 
@@ -18,19 +18,19 @@ const BYTES_OF_A_PLACE: usize = 8;
 /// A pair: the operations below `high` except for those listed are done, and none above.
 pub(super) struct Pair {
     high: usize,
-    undone: Box<[u32]>,
+    not_done: Box<[u32]>,
     content: Kept,
 }
 
 impl Pair {
-    pub fn new(high: usize, undone: &Undone, content: &Content) -> Pair {
-        let undone = undone.below(high).map(|place| place as u32).collect();
-        Pair { high, undone, content: Kept::of(content) }
+    pub fn new(high: usize, not_done: &NotDone, content: &Content) -> Pair {
+        let not_done = not_done.below(high).map(|place| place as u32).collect();
+        Pair { high, not_done, content: Kept::of(content) }
     }
 
-    fn is(&self, high: usize, undone: &Undone, content: &Content) -> bool {
+    fn is(&self, high: usize, not_done: &NotDone, content: &Content) -> bool {
         self.high == high
-            && self.undone.iter().map(|place| *place as usize).eq(undone.below(high))
+            && self.not_done.iter().map(|place| *place as usize).eq(not_done.below(high))
             && self.content.is(content)
     }
 }
@@ -52,14 +52,15 @@ impl Dead {
         Dead { keys, ..Dead::default() }
     }
 
-    pub fn holds(&self, hash: u64, high: usize, undone: &Undone, content: &Content) -> bool {
-        let is = |pair: &Pair| pair.is(high, undone, content);
+    pub fn holds(&self, hash: u64, high: usize, not_done: &NotDone, content: &Content) -> bool {
+        let is = |pair: &Pair| pair.is(high, not_done, content);
         self.younger.get(&hash).is_some_and(is) || self.older.get(&hash).is_some_and(is)
     }
 
     pub fn remember(&mut self, hash: u64, pair: Pair) {
-        let bytes =
-            BYTES_OF_A_PAIR + pair.undone.len() * BYTES_OF_A_PLACE + pair.content.bytes(self.keys);
+        let bytes = BYTES_OF_A_PAIR
+            + pair.not_done.len() * BYTES_OF_A_PLACE
+            + pair.content.bytes(self.keys);
         if self.bytes + bytes > MOST_BYTES {
             self.older = std::mem::take(&mut self.younger);
             self.bytes = 0;

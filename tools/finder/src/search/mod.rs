@@ -8,7 +8,7 @@
 
 mod dead;
 mod digest;
-mod undone;
+mod not_done;
 mod walk;
 
 use crate::history::ObjectHistory;

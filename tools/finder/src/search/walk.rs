@@ -2,7 +2,7 @@
 
 use super::dead::{Dead, Pair};
 use super::digest::Digest;
-use super::undone::Undone;
+use super::not_done::NotDone;
 use super::{Outcome, Searched, TryFirst};
 use crate::content::{Content, Undo};
 use crate::history::{Invocation, ObjectHistory};
@@ -77,7 +77,7 @@ pub(super) struct Walk {
     trials: Trials,
     levels: Vec<Level>,
     content: Content,
-    undone: Undone,
+    not_done: NotDone,
     dead: Dead,
     digest: Digest,
     /// All places in the order are below.
@@ -102,7 +102,7 @@ impl Walk {
         let mut walk = Walk {
             levels: Vec::new(),
             content: Content::empty(history.kind),
-            undone: Undone::all(trials.items.len()),
+            not_done: NotDone::all(trials.items.len()),
             dead: Dead::new(keys.len()),
             digest: Digest::default(),
             high: 0,
@@ -121,7 +121,7 @@ impl Walk {
     /// The least return of the operations that are not in the order.
     fn least_return(&self) -> u32 {
         let mut least = u32::MAX;
-        for place in self.undone.below(self.trials.items.len()) {
+        for place in self.not_done.below(self.trials.items.len()) {
             if self.trials.return_floors[place] > least {
                 break;
             }
@@ -133,7 +133,7 @@ impl Walk {
 
     /// Goes on to the next place.
     fn pass(&mut self) {
-        self.at = self.undone.after(self.at);
+        self.at = self.not_done.after(self.at);
     }
 
     /// Puts the operation, which was done, into the order, if that leads to no pair that is dead;
@@ -144,12 +144,12 @@ impl Walk {
         let digest = self.digest.after(place, item.op, reply, undo);
         let high = self.high.max(place + 1);
         let pending = match self.window.pending {
-            pending if pending == place => self.undone.after(place),
+            pending if pending == place => self.not_done.after(place),
             pending => pending,
         };
-        self.undone.take_out(place);
-        if self.dead.holds(digest.hash(), high, &self.undone, &self.content) {
-            self.undone.put_back(place);
+        self.not_done.take_out(place);
+        if self.dead.holds(digest.hash(), high, &self.not_done, &self.content) {
+            self.not_done.put_back(place);
             self.content.undo(undo);
             self.pass();
             return false;
@@ -166,7 +166,7 @@ impl Walk {
         self.high = high;
         self.window = Window { least: self.least_return(), pending };
         self.passed = self.passed.max(self.window.least);
-        self.at = self.undone.first();
+        self.at = self.not_done.first();
         self.left == 0
     }
 
@@ -177,11 +177,11 @@ impl Walk {
             return false;
         };
         if self.high <= self.trials.pending || self.left <= MOST_LISTED {
-            let pair = Pair::new(self.high, &self.undone, &self.content);
+            let pair = Pair::new(self.high, &self.not_done, &self.content);
             self.dead.remember(self.digest.hash(), pair);
         }
         self.content.undo(level.undo);
-        self.undone.put_back(level.place);
+        self.not_done.put_back(level.place);
         self.left += usize::from(self.trials.items[level.place].returned().is_some());
         self.digest = level.digest;
         self.high = level.high;

@@ -3,18 +3,18 @@
 /// The places of the operations that are not yet in the order, rising. Slot 0 is before all places,
 /// and slot `k + 1` after place `k`. A place that was taken out keeps what it knows of its
 /// neighbours, so that it can be put back: Knuth, "Dancing Links", 2000.
-pub(super) struct Undone {
+pub(super) struct NotDone {
     /// For each slot the first place after it that is in the list; the end is after the last one.
     next: Vec<usize>,
     /// For each place the slot before it in the list.
     before: Vec<usize>,
 }
 
-impl Undone {
+impl NotDone {
     /// All places below `count`.
-    pub fn all(count: usize) -> Undone {
+    pub fn all(count: usize) -> NotDone {
         let numbers: Vec<usize> = (0..=count).collect();
-        Undone { next: numbers.clone(), before: numbers }
+        NotDone { next: numbers.clone(), before: numbers }
     }
 
     pub fn first(&self) -> usize {
