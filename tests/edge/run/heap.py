@@ -21,7 +21,7 @@ def refused_heaps(program, report):
         report.holds(f"heap: {name}: with ample memory", whole.status == 0, whole)
         runs = at_once(lambda at: tests.run(name, faults={"REFUSE_AT": at}), range(1, count + 1))
         # The heaps that are compared have to be made first.
-        failed = [it for it in runs if it.status != 0 and b"OutOfMemory" not in it.err + it.out]
+        failed = [it for it in runs if it.status != 0 and b"AllocError" not in it.err]
         report.equal(f"heap: {name}: no other answer where memory is refused", [], failed)
         report.holds(f"heap: {name}: some run goes on without", any(it.status == 0 for it in runs), runs)
         tried += count
