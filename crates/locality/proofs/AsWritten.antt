@@ -1,7 +1,7 @@
 -- What is linearizable is so as the text of Herlihy and Wing reads: an operation with both events in a history is one
 -- of its completion, since a completion drops no invocation that a response answers. By counting the events of a
 -- process.
-use Rattle.std.proofs.Common.{◌≡◌, ℕ, ◌<◌, ◌≤◌, ◌==◌, false, List, [], ◌∷◌, ◌++◌, length, refl, ap, sym, ◌∙◌, subst}
+use Rattle.std.proofs.Common.{◌≡◌, ℕ, ◌<◌, ◌≤◌, ◌==◌, false, List, [], ◌∷◌, ◌++◌, length, refl, ap, sym, ◌∙◌}
 use Rattle.std.proofs.Common.{arith, pos, zero, suc, ◌⊎◌, inl, inr, Some}
 use Rattle.std.proofs.lemmas.Bool.{eqb-true, and_parts}
 use Rattle.std.proofs.lemmas.List.Elements.{All-from_recursion}
@@ -15,7 +15,7 @@ use Rattle.model.specs.declared.AnyOp.{AnyOp}
 use Rattle.model.specs.declared.AnyReply.{AnyReply}
 use Rattle.model.specs.Histories.{Event, Inv, Res, process_of, object_of, is_invocation, by_process, complete, invokes}
 use Rattle.model.specs.Histories.{responds, IsSequential, IsCompletion, IsEquivalent, Operation, IsOperation}
-use Rattle.model.specs.Linearizable.{RepliesFrom, IsLegal, IsLinearizableFor}
+use Rattle.model.specs.Linearizable.{IsLegal, IsLinearizableFor}
 use Rattle.locality.specs.WorkedHistories.{pending_overtakes_returned}
 use Rattle.locality.specs.AsWritten.{IsCompleteIn, IsLinearizableAsWritten}
 use Rattle.locality.proofs.Cuts.{complete_of_process, invokes_of_process}
@@ -97,11 +97,10 @@ peel x t (y ∷ f) rest e = inr (f, cc e, cc e)
 -- no moment is after the response of an operation and before the invocation of process 0
 after_first : (e f : Operation) → f.process ≡ 0 → f.turn ≡ 0 → Moment overtaken e f → ⊥
 after_first e f p t m = elim (peel (Inv 0 0 (Enqueue (pos 1))) _ m.front m.rest m.whole) [
-  | inl q ↦ let r =
-      subst (λ (es : List Event). e.turn < count (responds e.process) es) q m.returned in absurd (omega (arith, r))
+  | inl q ↦ let r = rw q at m.returned in absurd (omega (arith, r))
   | inr g ↦
-      let w = subst (λ (es : List Event). count (invokes f.process) es ≤ f.turn) g.1 m.waiting in
-      let w0 = subst (λ (k : ℕ). count (invokes k) (Inv 0 0 (Enqueue (pos 1)) ∷ g.0) ≤ f.turn) p w in
+      let w = rw g.1 at m.waiting in
+      let w0 = rw p at w in
       absurd (omega (arith, w0, t))
 ]
 
@@ -111,28 +110,22 @@ after_itself : (front rest : List Event) → overtaken ≡ front ++ rest → 0 <
 after_itself front rest e r w = elim (peel (Inv 0 0 (Enqueue (pos 1))) _ front rest e) [
   | inl q ↦ none front q r
   | inr f ↦ elim (peel (Res 0 0 (Value (Some (pos 1)))) _ f.0 rest f.2) [
-    | inl q ↦ none f.0 q (subst (λ (es : List Event). 0 < count (responds 2) es) f.1 r)
+    | inl q ↦ none f.0 q (rw f.1 at r)
     | inr g ↦ elim (peel (Inv 1 0 (Enqueue (pos 2))) _ g.0 rest g.2) [
-      | inl q ↦ none g.0 q
-          (subst (λ (es : List Event). 0 < count (responds 2) es)
-          (f.1 ∙ ap (λ (es : List Event). Inv 0 0 (Enqueue (pos 1)) ∷ es) g.1) r)
+      | inl q ↦ none g.0 q (rw (f.1 ∙ ap (λ (es : List Event). Inv 0 0 (Enqueue (pos 1)) ∷ es) g.1) at r)
       | inr k ↦
           let whole : front
           ≡ Inv 0 0 (Enqueue (pos 1)) ∷ Res 0 0 (Value (Some (pos 1))) ∷ Inv 1 0 (Enqueue (pos 2)) ∷ k.0 =
           f.1 ∙ ap (λ (es : List Event). Inv 0 0 (Enqueue (pos 1)) ∷ es)
           (g.1 ∙ ap (λ (es : List Event). Res 0 0 (Value (Some (pos 1))) ∷ es) k.1) in
           elim (peel (Inv 2 0 Dequeue) _ k.0 rest k.2) [
-            | inl q ↦ none k.0 q (subst (λ (es : List Event). 0 < count (responds 2) es) whole r)
+            | inl q ↦ none k.0 q (rw whole at r)
             | inr l ↦
                 let seen : count (invokes 2)
                 (Inv 0 0 (Enqueue (pos 1)) ∷ Res 0 0 (Value (Some (pos 1))) ∷ Inv 1 0 (Enqueue (pos 2))
                 ∷ Inv 2 0 Dequeue ∷ l.0)
                 ≤ 0 =
-                subst (λ (es : List Event). count (invokes 2)
-                (Inv 0 0 (Enqueue (pos 1)) ∷ Res 0 0 (Value (Some (pos 1))) ∷ Inv 1 0 (Enqueue (pos 2)) ∷ es)
-                ≤ 0)
-                l.1
-                (subst (λ (es : List Event). count (invokes 2) es ≤ 0) whole w) in
+                rw l.1 at (rw whole at w) in
                 absurd (omega (arith, seen))
           ]
     ]
@@ -141,14 +134,13 @@ after_itself front rest e r w = elim (peel (Inv 0 0 (Enqueue (pos 1))) _ front r
   where
     none : (es : List Event) → es ≡ [] → 0 < count (responds 2) es → ⊥
     none es q l =
-        let m : 0 < 0 = subst (λ (fs : List Event). 0 < count (responds 2) fs) q l in absurd (omega (arith, m))
+        let m : 0 < 0 = rw q at l in absurd (omega (arith, m))
 
 -- three processes act, and no others
 no_response : (n : ℕ) → count (responds (suc (suc (suc n)))) overtaken ≤ 0
 no_response n =
     let p : ℕ = suc (suc (suc n)) in
-    subst (λ (es : List Event). count (responds p) overtaken ≤ count (responds p) es)
-    (none_from process_of 3 overtaken refl p (omega arith)) (responds_of_process p overtaken)
+    rw (none_from process_of 3 overtaken refl p (omega arith)) at (responds_of_process p overtaken)
 
 order_kept : (p t q u : ℕ) → t < count (responds p) overtaken → u < count (responds q) overtaken
     → Moment overtaken (record { process = p; turn = t }) (record { process = q; turn = u })
@@ -199,9 +191,7 @@ overtaken-as_written = record {
       (refl, (refl, (refl, tt))),
       (pos 2 ∷ [], refl, (pos 2 ∷ pos 1 ∷ [], refl, (pos 1 ∷ [], refl, tt))),
     )
-    legal (suc x) =
-        subst (λ (es : List Event). IsSequential es × RepliesFrom (specification Queue) [] es)
-        (sym (none_from object_of 1 overtaking refl (suc x) (omega arith))) (tt, tt)
+    legal (suc x) = rw (none_from object_of 1 overtaking refl (suc x) (omega arith)) (tt, tt)
 
     equivalent : IsEquivalent (complete (overtaken ++ Res 1 0 (Value (Some (pos 2))) ∷ [])) overtaking
     equivalent zero = refl

@@ -91,7 +91,7 @@ last_ended p n x op (Res q y v ∷ es) r s =
 pub completed_any : (p : ℕ) (h : List Numbered) (es : List Event) → Turns p h → Responses es
     → IsSequential (events h ++ es) → Completed h (complete (events h ++ es))
 completed_any p h es none r s =
-    subst (λ (k : List Event). Completed [] (complete k)) (sym (no_more es r s))
+    rw (no_more es r s)
     (record {
       list = [];
       events_are = refl;
@@ -163,7 +163,7 @@ lined_step e f s q o os head same mine pair below all owned =
     let at_p = owned p in
     let at_k = owned k in
     elim (cases_eq k p) [
-      | inl t ↦ rw (eq-eqb k p t) (λ x i. owned p x (subst (In x) (sym head) (inr i)) ∙ sym t)
+      | inl t ↦ rw (eq-eqb k p t) (λ x i. owned p x (rw head (inr i)) ∙ sym t)
       | inr ne ↦ rw (ne_eqb k p ne) (owned k)
     ] in
     let rest = below q' here owns in
@@ -201,4 +201,4 @@ lined (e ∷ f ∷ s) sq q all owned = go (q (process_of e)) refl (λ q. lined s
         sym (own_events e f s (same_process e f sq.0)) ∙ (all (process_of e) ∙ ap ended_events h) in absurd (cc bad)
     go (o ∷ os) h below = lined_step e f s q o os h
         (sym (own_events e f s (same_process e f sq.0)) ∙ (all (process_of e) ∙ ap ended_events h))
-        (owned (process_of e) o (subst (In o) (sym h) (inl refl))) (same_process e f sq.0) below all owned
+        (owned (process_of e) o (rw h (inl refl))) (same_process e f sq.0) below all owned

@@ -1,6 +1,6 @@
 -- Cutting histories: to a process or an object, and at a moment. By induction on the history, event by event.
 use Rattle.std.proofs.Common.{◌≡◌, ℕ, ◌<◌, ◌≤◌, ◌==◌, ◌&&◌, nat_lt, Bool, true, false, not, cond, inl, inr, List, []}
-use Rattle.std.proofs.Common.{◌∷◌, ◌++◌, length, filter, Option, Some, None, is_some, refl, ap, sym, ◌∙◌, subst, arith}
+use Rattle.std.proofs.Common.{◌∷◌, ◌++◌, length, filter, Option, Some, None, is_some, refl, ap, sym, ◌∙◌, arith}
 use Rattle.std.specs.List.{flat_map, list_any}
 use Rattle.std.proofs.lemmas.List.{append-nil}
 use Rattle.std.proofs.lemmas.List.Elements.{filter-append}
@@ -122,7 +122,7 @@ pairs_across : (R : Numbered → Numbered → Type 0) (a b : List Numbered) (x y
     → In y b → R x y
 pairs_across R [] b x y h i j = absurd i
 pairs_across R (z ∷ a) b x y h i j = elim i [
-  | inl e ↦ subst (λ w. R w y) (sym e) (h.0 y (in_right y a b j))
+  | inl e ↦ rw e (h.0 y (in_right y a b j))
   | inr k ↦ pairs_across R a b x y h.1 k j
 ]
 

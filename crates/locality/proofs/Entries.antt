@@ -1,8 +1,7 @@
 -- A valid order as a list of operations, by recursion; the points and the replies along it. The point of an entry is
 -- the greatest number of an invocation up to it: where it may be taken to have had its effect.
-use Rattle.std.proofs.Common.{◌≡◌, ◌≢◌, ℕ, ℤ, pos, ◌<◌, ◌≤◌, ◌==◌, max, Bool, true, false, cond, ◌⊎◌, inl, inr}
-use Rattle.std.proofs.Common.{List, [], ◌∷◌, ◌++◌, map, Option}
-use Rattle.std.proofs.Common.{Some, None, IfSome, IsSome, Contains, refl, ap, sym, ◌∙◌, subst, arith}
+use Rattle.std.proofs.Common.{◌≡◌, ◌≢◌, ℕ, ℤ, pos, ◌<◌, ◌≤◌, ◌==◌, max, Bool, true, false, cond, ◌⊎◌, inl, inr, List}
+use Rattle.std.proofs.Common.{[], ◌∷◌, ◌++◌, map, Option, Some, None, IsSome, Contains, refl, ap, sym, ◌∙◌, arith}
 use Rattle.std.specs.List.{flat_map}
 use Rattle.std.proofs.lemmas.Bool.{eqb-true, ne_eqb, eq-eqb, and_from}
 use Rattle.model.specs.Specification.{Specification}
@@ -69,8 +68,7 @@ pub point_own : (m : ℕ) (es : List ProcessCall) (e : ProcessCall) → Once es 
     → number_of e ≤ point_in m es (number_of e)
 point_own m [] e o i = absurd i
 point_own m (f ∷ es) e o i = elim i [
-  | inl q ↦ subst (λ (g : ProcessCall). number_of g ≤ point_in m (f ∷ es) (number_of g)) (sym q)
-      (let h = point_here m f es in omega arith)
+  | inl q ↦ rw q (let h = point_here m f es in omega arith)
   | inr j ↦
       let h = point_there m f es (number_of e) (o.0 e j) in let r = point_own (max m (number_of f)) es e o.1 j in
       omega arith
@@ -160,7 +158,7 @@ give_recorded object c [] h e r o i q = absurd i
 give_recorded object c (f ∷ es) h e r o i q = elim i [
   | inl s ↦
       let same : f.call.returned ≡ Some r = ap (λ (g : ProcessCall). g.call.returned) (sym s) ∙ q in
-      let said : r.reply ≡ h.1 = subst (λ (x : Option Return). IfSome x (λ r. r.reply ≡ h.1)) same h.3 in
+      let said : r.reply ≡ h.1 = rw same at h.3 in
       ap (λ (g : ProcessCall). give_in object c (f ∷ es) h (number_of g)) s
       ∙ (give_here object c f es h ∙ ap Some (sym said))
   | inr j ↦ give_there object c f es h (number_of e) (o.0 e j) ∙ give_recorded object h.0 es h.4 e r o.1 j q
@@ -181,8 +179,7 @@ replies_from object c (e ∷ es) h give o g =
     let same : give e ≡ Some h.1 = g e (inl refl) ∙ give_here object c e es h in
     let rest = replies_from object h.0 es h.4 give o.1
     (λ y i. g y (inr i) ∙ give_there object c e es h (number_of y) (o.0 y i)) in
-    subst (λ (x : Option AnyReply). RepliesFrom object c (done e x ++ flat_map (λ y. done y (give y)) es)) (sym same)
-    (h.0, h.2, rest)
+    rw same (h.0, h.2, rest)
 
 -- any such list is sequential
 pub done_sequential : (es : List ProcessCall) (give : ProcessCall → Option AnyReply)
@@ -219,7 +216,7 @@ lifted ops (c ∷ cs) h =
       e.0 ∷ rest.0,
       cc (rest.1, e.2),
       λ f i. elim i [
-        | inl q ↦ subst (λ (g : ProcessCall). In g ops) (sym q) e.1
+        | inl q ↦ rw q e.1
         | inr j ↦ rest.2 f j
       ],
     )
@@ -234,9 +231,9 @@ valid_entries object ops order up v =
     let numbers : order ≡ map (λ (c : Call). pos c.number) (calls es) =
     v.numbers ∙ ap (map (λ (c : Call). pos c.number)) (sym same) in
     let once_order : Pairs (λ (a b : ℤ). a ≢ b) (map (λ (c : Call). pos c.number) (calls es)) =
-    subst (Pairs (λ (a b : ℤ). a ≢ b)) numbers (pairs_from_all (λ (a b : ℤ). a ≢ b) order v.once) in
+    rw numbers at (pairs_from_all (λ (a b : ℤ). a ≢ b) order v.once) in
     let in_order_calls : Pairs (λ (a b : Call). ReturnsBefore b a → ⊥) (calls es) =
-    subst (Pairs (λ (a b : Call). ReturnsBefore b a → ⊥)) (sym same)
+    rw same
     (pairs_from_all (λ (a b : Call). ReturnsBefore b a → ⊥) v.entries v.in_order) in (
       es,
       record {
@@ -247,15 +244,14 @@ valid_entries object ops order up v =
             (pairs_from_map (λ (a b : ℤ). a ≢ b) (λ (c : Call). pos c.number) (calls es) once_order));
         in_order = pairs_from_map (λ (a b : Call). ReturnsBefore b a → ⊥)
             (λ (e : ProcessCall). e.call) es in_order_calls;
-        replies = subst (RepliesBy object.next object.empty) (sym same) v.replies;
+        replies = rw same v.replies;
         whole = λ e r i q.
             let stands : Contains v.entries e.call =
             all_at (λ (c : Call). IsSome c.returned → Contains v.entries c) (calls ops) v.whole e.call
-            (in_map_from (λ (e : ProcessCall). e.call) e ops i)
-            (subst (λ (x : Option Return). IsSome x) (sym q) refl) in
+            (in_map_from (λ (e : ProcessCall). e.call) e ops i) (rw q refl) in
             let f = in_map (λ (e : ProcessCall). e.call) e.call es
-            (subst (In e.call) (sym same) (in_from_contains v.entries e.call stands)) in
+            (rw same (in_from_contains v.entries e.call stands)) in
             let one : e ≡ f.0 = one_number number_of ops e f.0 up i (l.2 f.0 f.1) (ap (λ (c : Call). c.number) f.2) in
-            subst (λ (g : ProcessCall). In g es) (sym one) f.1;
+            rw one f.1;
       },
     )

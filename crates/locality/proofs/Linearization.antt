@@ -10,8 +10,8 @@ use Rattle.std.proofs.lemmas.Bool.{eqb-true, eq-eqb, and_from, and_parts, ltb-tr
 use Rattle.model.specs.Specification.{Specification}
 use Rattle.model.specs.declared.AnyReply.{AnyReply}
 use Rattle.model.specs.Histories.{Event, process_of, is_invocation, by_process, by_object, complete, invokes, responds}
-use Rattle.model.specs.Histories.{IsSequential, IsWellFormed, IsEquivalent, Operation, IsOperation, Precedes}
-use Rattle.model.specs.Linearizable.{RepliesFrom, IsLegal, IsLinearizableFor}
+use Rattle.model.specs.Histories.{IsWellFormed, IsEquivalent, Operation, IsOperation, Precedes}
+use Rattle.model.specs.Linearizable.{IsLegal, IsLinearizableFor}
 use Rattle.model.specs.Orders.{Numbered, events, Return, ProcessCall, calls_in, IsHistory}
 use Rattle.model.proofs.Lists.{In, Pairs, in_filter, in_filter_passes, in_filter_from, pairs_filter, pairs_weaker}
 use Rattle.model.proofs.Lists.{filter-filter, filter_same, flat_map_filter, below_split, length_filter_le, in_flat_map}
@@ -37,7 +37,7 @@ pairs_ordered R [] a b u h i j l = absurd i
 pairs_ordered R (o ∷ os) a b u h i j l = elim i [
   | inl s ↦ elim j [
     | inl t ↦ let x = ap number_of s in let y = ap number_of t in absurd (omega arith)
-    | inr k ↦ subst (λ z. R z b) (sym s) (h.0 b k)
+    | inr k ↦ rw s (h.0 b k)
   ]
   | inr k ↦ elim j [
     | inl t ↦ let g = u.0 a k in let y = ap number_of t in absurd (omega arith)
@@ -106,13 +106,13 @@ module _ (objects : ℕ → Specification) (h : List Numbered) (hist : IsHistory
       let f = given_entry (objects e.object) (objects e.object).empty (entries e.object) (good e.object).replies
       (number_of e) r.0 r.1 in
       let same : f.0 ≡ e = one_number number_of (calls_in h) f.0 e (rise h hist) (in_ops e.object f.0 f.1) i f.2 in
-      subst (λ (g : ProcessCall). In g (entries e.object)) same f.1
+      rw same at f.1
 
   -- an operation returns after its invocation
   after_call : (e : ProcessCall) (r : Return) → In e (calls_in h) → e.call.returned ≡ Some r → number_of e ≤ r.at
   after_call e r i q =
       let j : In e (calls_in (part e.process h)) =
-      subst (In e) (sym (calls_in-part e.process h))
+      rw (calls_in-part e.process h)
       (in_filter_from (λ o. o.process == e.process) e (calls_in h) i (eq-eqb e.process e.process refl)) in
       returns_after e.process (part e.process h) e r (turn_view h hist e.process) (part_up h hist e.process) j q
 
@@ -127,9 +127,9 @@ module _ (objects : ℕ → Specification) (h : List Numbered) (hist : IsHistory
   turns_rise a b i j s t p l =
       let ops : List ProcessCall = calls_in (part b.process h) in
       let all = calls_in-part b.process h in
-      let i' : In a ops = subst (In a) (sym all)
+      let i' : In a ops = rw all
       (in_filter_from (λ o. o.process == b.process) a (calls_in h) i (eq-eqb a.process b.process p)) in
-      let j' : In b ops = subst (In b) (sym all)
+      let j' : In b ops = rw all
       (in_filter_from (λ o. o.process == b.process) b (calls_in h) j (eq-eqb b.process b.process refl)) in
       let before = pairs_ordered Before ops a b (calls_rise (part b.process h) (part_up h hist b.process))
       (one_after_another b.process (part b.process h) (turn_view h hist b.process) (part_up h hist b.process))
@@ -209,14 +209,14 @@ module _ (objects : ℕ → Specification) (h : List Numbered) (hist : IsHistory
       (added_of_process p give (calls_in h) ∙ ap (added give) (sym (calls_in-part p h))))
 
   pub well_formed : IsWellFormed (events h ++ extra)
-  well_formed p = subst IsSequential (sym (part_extended p)) (extended p (part p h) give (turn_view h hist p))
+  well_formed p = rw (part_extended p) (extended p (part p h) give (turn_view h hist p))
 
   -- each process sees the same in the completion and in the sequence
   pub equivalent : IsEquivalent completion_made sequence
   equivalent p =
       let mine : ProcessCall → Bool = λ e. e.process == p in
       let part_agrees : Agrees give (calls_in (part p h)) =
-      λ e r i q. agrees e r (in_filter mine e (calls_in h) (subst (In e) (calls_in-part p h) i)) q in
+      λ e r i q. agrees e r (in_filter mine e (calls_in h) (rw (calls_in-part p h) at i)) q in
       complete_of_process p (events h ++ extra)
       ∙ (ap complete (part_extended p)
       ∙ (completed p (part p h) give (turn_view h hist p) part_agrees
@@ -233,7 +233,7 @@ module _ (objects : ℕ → Specification) (h : List Numbered) (hist : IsHistory
   legal x =
       let cut : by_object x sequence ≡ dones give (entries x) =
       dones_of_object x give merged ∙ ap (dones give) (merged_of_object x) in
-      subst (λ es. IsSequential es × RepliesFrom (objects x) (objects x).empty es) (sym cut) (
+      rw cut (
         done_sequential (entries x) give,
         replies_from (objects x) (objects x).empty (entries x) (good x).replies give (good x).once
             (λ e i. ap (λ k. give_in (objects k) (objects k).empty (entries k) (good k).replies (number_of e))
@@ -260,8 +260,7 @@ module _ (objects : ℕ → Specification) (h : List Numbered) (hist : IsHistory
       → length (filter (responds p) (events a)) ≤ length (filter (responds p) (dones give (below m.number)))
   returned_below p a m b cut =
       let t : ℕ = m.number in
-      let u : Pairs (λ (x y : Numbered). x.number < y.number) (a ++ m ∷ b) =
-      subst (Pairs (λ (x y : Numbered). x.number < y.number)) cut (up h hist) in
+      let u : Pairs (λ (x y : Numbered). x.number < y.number) (a ++ m ∷ b) = rw cut at (up h hist) in
       let e1 : length (filter (responds p) (events a)) ≡ length (filter (λ k. responds p k.event) a) =
       length_filter_events (responds p) a in
       let e2 : length (filter (λ k. responds p k.event) a)
@@ -298,8 +297,7 @@ module _ (objects : ℕ → Specification) (h : List Numbered) (hist : IsHistory
       → length (filter (invokes p) (dones give (below m.number))) ≤ length (filter (invokes p) (events a))
   invoked_below p a m b cut =
       let t : ℕ = m.number in
-      let u : Pairs (λ (x y : Numbered). x.number < y.number) (a ++ m ∷ b) =
-      subst (Pairs (λ (x y : Numbered). x.number < y.number)) cut (up h hist) in
+      let u : Pairs (λ (x y : Numbered). x.number < y.number) (a ++ m ∷ b) = rw cut at (up h hist) in
       let e1 : length (filter (invokes p) (events a)) ≡ length (filter (λ k. invokes p k.event) a) =
       length_filter_events (invokes p) a in
       let e2 : length (filter (λ k. invokes p k.event) a)

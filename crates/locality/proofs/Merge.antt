@@ -1,14 +1,12 @@
 -- The orders of all objects, merged by point: one order over all objects.
 use Rattle.std.proofs.Common.{◌≡◌, ◌≢◌, ℕ, ◌<◌, ◌≤◌, ◌==◌, ◌&&◌, Bool, true, false, inl, inr, List, [], ◌∷◌, map}
-use Rattle.std.proofs.Common.{filter, ap, sym, ◌∙◌, subst, arith}
+use Rattle.std.proofs.Common.{filter, ap, sym, ◌∙◌, arith}
 use Rattle.std.specs.List.{flat_map}
 use Rattle.std.proofs.lemmas.List.Folds.{flat_map-map}
 use Rattle.std.proofs.lemmas.Bool.{eqb-true, eq-eqb, and_parts, and_from, cases_order}
 use Rattle.model.proofs.Lists.{In, Pairs, in_filter, in_filter_passes, in_filter_from, pairs_filter, pairs_weaker}
-use Rattle.model.proofs.Lists.{filter_all, filter_none}
-use Rattle.model.proofs.Lists.{filter-flat_map, flat_map_same, flat_map_filter, in_flat_map, same_single, batches}
-use Rattle.model.proofs.Lists.{pairs_flat_map, pairs_map}
-use Rattle.model.proofs.Lists.{in_map_from}
+use Rattle.model.proofs.Lists.{filter_all, filter_none, filter-flat_map, flat_map_same, flat_map_filter, in_flat_map}
+use Rattle.model.proofs.Lists.{same_single, batches, pairs_flat_map, pairs_map, in_map_from}
 
 -- Operations in the order of their invocations, and for each object an order of some of them. The point of one that
 -- is in an order is the number of an operation of its object.
@@ -71,8 +69,7 @@ module _ {X : Type 0} (num proc obj point : X → ℕ) (stands : X → Bool) (op
       pairs_map (λ (a b : ℕ). a < b) num (filter here ops) (pairs_filter (λ a b. num a < num b) here ops o.rising) in
       let all : (e : X) → In e (entries x) → In (point e) numbers = λ e i.
       let n = o.point_at x e i in
-      subst (λ k. In k numbers) (sym n.2)
-      (in_map_from num n.0 (filter here ops) (in_filter_from here n.0 ops n.1 (eq-eqb (obj n.0) x n.3))) in
+      rw n.2 (in_map_from num n.0 (filter here ops) (in_filter_from here n.0 ops n.1 (eq-eqb (obj n.0) x n.3))) in
       filter-flat_map here (batch num proc obj point stands ops entries) ops
       ∙ (sym (flat_map_filter cut here ops other)
       ∙ (flat_map_same cut (λ n. of_number (num n)) (filter here ops) own
@@ -142,8 +139,7 @@ module _ {X : Type 0} (num proc obj point : X → ℕ) (stands : X → Bool) (op
       let same : m.0 ≡ n = same_number m.0 n m.1 i (sym m.2 ∙ y_at e j) in
       let at : obj e ≡ obj n = sym m.3 ∙ ap obj same in
       in_filter_from mine e (filter here es)
-      (in_filter_from here e es (subst (λ k. In e (entries k)) at own) (eq-eqb (point e) (num n) (y_at e j)))
-      (y_both e j).0)
+      (in_filter_from here e es (rw at at own) (eq-eqb (point e) (num n) (y_at e j))) (y_both e j).0)
 
   -- the points of what a process made rise
   points_of_process : (p : ℕ) → Pairs (λ a b. point a ≤ point b) (made_by p)
@@ -168,7 +164,7 @@ module _ {X : Type 0} (num proc obj point : X → ℕ) (stands : X → Bool) (op
       let all : (e : X) → In e (made_by p) → In (point e) (map num ops) = λ e i.
       let f = and_parts (proc e == p) (stands e) (in_filter_passes both e ops i) in
       let n = o.point_at (obj e) e (o.included e (in_filter both e ops i) f.1) in
-      subst (λ k. In k (map num ops)) (sym n.2) (in_map_from num n.0 ops n.1) in
+      rw n.2 (in_map_from num n.0 ops n.1) in
       filter-flat_map mine (batch num proc obj point stands ops entries) ops
       ∙ (flat_map_same (λ n. filter mine (batch num proc obj point stands ops entries n)) (λ n. of_number (num n)) ops
       (same_at p)
@@ -190,4 +186,4 @@ module _ {X : Type 0} (num proc obj point : X → ℕ) (stands : X → Bool) (op
   line_in e i =
       let n = in_flat_map (batch num proc obj point stands ops entries) e ops i in
       let j = in_filter (λ e. point e == num n.0) e (entries (obj n.0)) n.2 in
-      subst (λ k. In e (entries k)) (sym (o.on_object (obj n.0) e j)) j
+      rw (o.on_object (obj n.0) e j) j

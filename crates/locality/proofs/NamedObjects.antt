@@ -1,6 +1,6 @@
 -- Valid orders of the objects that are called are enough (`named_objects_lem`): an object without calls has the empty
 -- order, which is valid.
-use Rattle.std.proofs.Common.{◌≡◌, ℕ, ◌==◌, List, [], ◌∷◌, map, filter, All, refl, sym, subst, arith, inl}
+use Rattle.std.proofs.Common.{◌≡◌, ℕ, ◌==◌, List, [], ◌∷◌, filter, All, refl, arith, inl}
 use Rattle.std.proofs.lemmas.Bool.{eqb-true}
 use Rattle.model.specs.Specification.{Specification}
 use Rattle.model.specs.Orders.{Numbered, events, ProcessCall, calls_in, IsHistory, IsValidOrderOf}
@@ -27,13 +27,11 @@ order_of : (objects : ℕ → Specification) (h : List Numbered) (x : ℕ) (on_x
     → All (λ e. HasValidOrderOf objects h e.object) (calls_in h) → HasValidOrderOf objects h x
 order_of objects h x [] e valid = (
   [],
-  subst (λ (on_x : List ProcessCall). IsValidOrderOf (objects x) (map (λ e. e.call) on_x) []) (sym e)
-      (valid_nothing (objects x)),
+  rw e (valid_nothing (objects x)),
 )
 order_of objects h x (call ∷ others) e valid =
-    let among : In call (filter (λ e. e.object == x) (calls_in h)) = subst (In call) (sym e) (inl refl) in
-    subst (HasValidOrderOf objects h)
-    (eqb-true call.object x (in_filter_passes (λ e. e.object == x) call (calls_in h) among))
+    let among : In call (filter (λ e. e.object == x) (calls_in h)) = rw e (inl refl) in
+    rw (eqb-true call.object x (in_filter_passes (λ e. e.object == x) call (calls_in h) among)) at
     (all_at (λ e. HasValidOrderOf objects h e.object) (calls_in h) valid call
     (in_filter (λ e. e.object == x) call (calls_in h) among))
 

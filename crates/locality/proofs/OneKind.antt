@@ -1,7 +1,7 @@
 -- An order of one kind's calls is valid for the kind's own specification exactly where it is valid in the contents of
 -- all kinds, since their steps agree; and so the laws of locality at the kinds.
 use Rattle.std.proofs.Common.{◌≡◌, ◌↔◌, ℕ, ℤ, Bool, true, false, List, [], ◌∷◌, Option, Some, None, if◌then◌else◌, All}
-use Rattle.std.proofs.Common.{refl, ap, subst, sym, ◌∙◌}
+use Rattle.std.proofs.Common.{refl, ap, sym, ◌∙◌}
 use Rattle.std.proofs.lemmas.Option.{same_Some}
 use Rattle.model.specs.declared.Kind.{Kind}
 use Rattle.model.specs.declared.Kind.TheVariants as kind
@@ -77,7 +77,7 @@ replies_alone : (k : Kind) (es : List Call) (c : (specification k).Content) → 
 replies_alone k [] c h = tt
 replies_alone k (e ∷ es) c h =
     let s = own_step k ((specification k).next c e.op) h.0 h.1 (sym (step_among k c e.op) ∙ h.2) in
-    (s.0, h.1, s.1, h.3, replies_alone k es s.0 (subst (λ (z : Content). RepliesBy next z es) s.2 h.4))
+    (s.0, h.1, s.1, h.3, replies_alone k es s.0 (rw s.2 at h.4))
 
 valid_among : (k : Kind) (calls : List Call) (order : List ℤ) → IsValidOrderOf (specification k) calls order
     → IsValidOrderOf (any k) calls order
@@ -88,8 +88,7 @@ valid_among k calls order v = record {
   once = v.once;
   whole = v.whole;
   in_order = v.in_order;
-  replies = subst (λ (c : Content). RepliesBy next c v.entries) (sym (empty_among k))
-      (replies_among k v.entries (specification k).empty v.replies);
+  replies = rw (empty_among k) (replies_among k v.entries (specification k).empty v.replies);
 }
 
 valid_alone : (k : Kind) (calls : List Call) (order : List ℤ) → IsValidOrderOf (any k) calls order
@@ -101,8 +100,7 @@ valid_alone k calls order v = record {
   once = v.once;
   whole = v.whole;
   in_order = v.in_order;
-  replies = replies_alone k v.entries (specification k).empty
-      (subst (λ (c : Content). RepliesBy next c v.entries) (empty_among k) v.replies);
+  replies = replies_alone k v.entries (specification k).empty (rw (empty_among k) at v.replies);
 }
 
 pub one_kind_among_all_lem : (k : Kind) (calls : List Call) (order : List ℤ)

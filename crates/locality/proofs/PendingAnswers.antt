@@ -1,6 +1,6 @@
 -- A history goes on with responses into a well-formed one exactly where they answer pending invocations of their own.
 use Rattle.std.proofs.Common.{◌≡◌, ◌≢◌, ◌↔◌, ℕ, ◌==◌, Bool, true, false, not, cond, inl, inr, List, [], ◌∷◌, ◌++◌}
-use Rattle.std.proofs.Common.{filter, All, refl, ap, sym, ◌∙◌, subst}
+use Rattle.std.proofs.Common.{filter, All, refl, ap, sym, ◌∙◌}
 use Rattle.std.specs.List.{list_any}
 use Rattle.std.proofs.lemmas.List.{append-nil}
 use Rattle.std.proofs.lemmas.List.Elements.{filter-append, recursion_from_All}
@@ -79,7 +79,7 @@ apart_from [] f = tt
 apart_from (e ∷ es) f =
     let p : ℕ = process_of e in
     let own : Pairs (λ r s. ⊥) (e ∷ by_process p es) =
-    subst (λ b. Pairs (λ r s. ⊥) (cond b (e ∷ by_process p es) (by_process p es))) (eq-eqb p p refl) (f p) in (
+    rw (eq-eqb p p refl) at (f p) in (
       λ y i same. own.0 y (in_filter_from (λ v. process_of v == p) y es i (eq-eqb (process_of y) p (sym same))),
       apart_from es (λ p. tail p (process_of e == p) (f p)),
     )
@@ -95,26 +95,24 @@ module _ (h added : List Event) (sequential : IsWellFormed h) where
 
   module _ (responses : Responses added) (whole : IsWellFormed (h ++ added)) where
     goes : (p : ℕ) (rs : List Event) → by_process p added ≡ rs → IsSequential (by_process p h ++ rs)
-    goes p rs e = subst (λ (es : List Event). IsSequential (by_process p h ++ es)) e
-        (subst IsSequential (split p) (whole p))
+    goes p rs e = rw e at (rw (split p) at (whole p))
 
     own_responses : (p : ℕ) (rs : List Event) → by_process p added ≡ rs → Responses rs
-    own_responses p rs e = subst Responses e (filter_responses (λ v. process_of v == p) added responses)
+    own_responses p rs e = rw e at (filter_responses (λ v. process_of v == p) added responses)
 
     single : (p : ℕ) (rs : List Event) → by_process p added ≡ rs → Pairs (λ r s. ⊥) rs
     single p [] e = tt
     single p (r ∷ rs) e =
         let none = (answered (by_process p h) r rs (sequential p) (own_responses p (r ∷ rs) e) (goes p (r ∷ rs) e)).1 in
-        subst (λ (es : List Event). Pairs (λ r s. ⊥) (r ∷ es)) (sym none) (λ y i. absurd i, tt)
+        rw none (λ y i. absurd i, tt)
 
     answers : (r : Event) (p : ℕ) (rs : List Event) → process_of r ≡ p → by_process p added ≡ rs → In r rs
         → (i : Event) × IsPendingIn h i × (matches i r ≡ true)
     answers r p [] own e i = absurd i
     answers r p (s ∷ rs) own e i =
         let a = answered (by_process p h) s rs (sequential p) (own_responses p (s ∷ rs) e) (goes p (s ∷ rs) e) in
-        let only : r ≡ s = elim (subst (λ (es : List Event). In r (s ∷ es)) a.1 i) [ inl q ↦ q | inr n ↦ absurd n ] in
-        let m : matches a.0.invocation r ≡ true =
-        subst (λ v. matches a.0.invocation v ≡ true) (sym only) a.0.matching in
+        let only : r ≡ s = elim (rw a.1 at i) [ inl q ↦ q | inr n ↦ absurd n ] in
+        let m : matches a.0.invocation r ≡ true = rw only a.0.matching in
         let cut = filter_cut (λ v. process_of v == p) h a.0.front [] a.0.invocation a.0.last in
         let mine : (process_of a.0.invocation == p) ≡ true =
         eq-eqb (process_of a.0.invocation) p (sym (same_process a.0.invocation r m) ∙ own) in
@@ -147,16 +145,15 @@ module _ (h added : List Event) (sequential : IsWellFormed h) where
     own_process p r i = eqb-true (process_of r) p (in_filter_passes (λ v. process_of v == p) r added i)
 
     extended : (p : ℕ) (rs : List Event) → by_process p added ≡ rs → IsSequential (by_process p h ++ rs)
-    extended p [] e = subst IsSequential (sym (append-nil (by_process p h))) (sequential p)
+    extended p [] e = rw (append-nil (by_process p h)) (sequential p)
     extended p (r ∷ s ∷ rs) e =
         let apart : Apart (r ∷ s ∷ rs) =
-        subst Apart e (pairs_filter (λ r s. process_of r ≢ process_of s) (λ v. process_of v == p) added
+        rw e at (pairs_filter (λ r s. process_of r ≢ process_of s) (λ v. process_of v == p) added
         (pairs_from_all (λ r s. process_of r ≢ process_of s) added a.apart)) in
         absurd (apart.0 s (inl refl)
-        (own_process p r (subst (In r) (sym e) (inl refl))
-        ∙ sym (own_process p s (subst (In s) (sym e) (inr (inl refl))))))
+        (own_process p r (rw e (inl refl)) ∙ sym (own_process p s (rw e (inr (inl refl))))))
     extended p (r ∷ []) e =
-        let i : In r (by_process p added) = subst (In r) (sym e) (inl refl) in
+        let i : In r (by_process p added) = rw e (inl refl) in
         let answer = all_at (λ r. (i : Event) × IsPendingIn h i × (matches i r ≡ true)) added a.each r
         (in_filter (λ v. process_of v == p) r added i) in
         let mine : (process_of answer.0 == p) ≡ true =
@@ -167,9 +164,8 @@ module _ (h added : List Event) (sequential : IsWellFormed h) where
         ∙ ap (λ b. by_process p pend.before ++ cond b (answer.0 ∷ by_process p pend.after) (by_process p pend.after))
         mine) in
         let none : list_any (matches answer.0) pend.after ≡ false = unmatched answer.0 pend.after pend.pending in
-        subst (λ (es : List Event). IsSequential (es ++ r ∷ [])) (sym parts)
-        (goes_on (by_process p pend.before) (by_process p pend.after) answer.0 r
-        (subst IsSequential parts (sequential p)) (any_of_process p answer.0 pend.after mine ∙ none) answer.2)
+        rw parts (goes_on (by_process p pend.before) (by_process p pend.after) answer.0 r
+        (rw parts at (sequential p)) (any_of_process p answer.0 pend.after mine ∙ none) answer.2)
       where
         unmatched : (i : Event) (later : List Event) → is_pending i later ≡ true → list_any (matches i) later ≡ false
         unmatched i later e = off (list_any (matches i) later)
@@ -180,7 +176,7 @@ module _ (h added : List Event) (sequential : IsWellFormed h) where
             off false e = refl
 
     pub to_well_formed : IsWellFormed (h ++ added)
-    to_well_formed p = subst IsSequential (sym (split p)) (extended p (by_process p added) refl)
+    to_well_formed p = rw (split p) (extended p (by_process p added) refl)
 
 pub completion_in_words_lem : (h added : List Event) → IsWellFormed h → All (λ e. is_invocation e ≡ false) added
     → (IsWellFormed (h ++ added) ↔ AnswersPending h added)

@@ -24,7 +24,7 @@ pub data Turns (p : ℕ) : List Numbered → Type 0 where
       → Turns p (at n (Inv p x op) ∷ at m (Res p x r) ∷ rest)
 
 turns_last : (p n : ℕ) (e : Event) → is_invocation e ≡ true → process_of e ≡ p → Turns p (at n e ∷ [])
-turns_last p n (Inv q x op) i e = subst (λ q. Turns p (at n (Inv q x op) ∷ [])) (sym e) (last n x op)
+turns_last p n (Inv q x op) i e = rw e (last n x op)
 turns_last p n (Res q x r) i e = absurd cc
 
 turns_call : (p n m : ℕ) (e f : Event) (rest : List Numbered) → matches e f ≡ true → process_of e ≡ p → Turns p rest
@@ -33,9 +33,7 @@ turns_call p n m (Inv q x op) (Res q' y r) rest t e h =
     let both = and_parts (q == q') (x == y) t in
     let pq : q' ≡ p = sym (eqb-true q q' both.0) ∙ e in
     let xy : y ≡ x = sym (eqb-true x y both.1) in
-    subst (λ k. Turns p (at n (Inv k x op) ∷ at m (Res q' y r) ∷ rest)) (sym e)
-    (subst (λ k. Turns p (at n (Inv p x op) ∷ at m (Res k y r) ∷ rest)) (sym pq)
-    (subst (λ k. Turns p (at n (Inv p x op) ∷ at m (Res p k r) ∷ rest)) (sym xy) (call n x op m r rest h)))
+    rw e (rw pq (rw xy (call n x op m r rest h)))
 turns_call p n m e f rest t h k = absurd cc
 
 pub turns : (p : ℕ) (h : List Numbered) → IsSequential (events h) → ((m : Numbered) → In m h → process_of m.event ≡ p)
@@ -290,7 +288,7 @@ module _ (h : List Numbered) (hist : IsHistory h) where
   part_up p = pairs_filter (λ (a b : Numbered). a.number < b.number) (λ m. process_of m.event == p) h up
 
   pub turn_view : (p : ℕ) → Turns p (part p h)
-  turn_view p = turns p (part p h) (subst IsSequential (sym (events-part p h)) (hist.well_formed p))
+  turn_view p = turns p (part p h) (rw (events-part p h) (hist.well_formed p))
       (λ m i. eqb-true (process_of m.event) p (in_filter_passes (λ m. process_of m.event == p) m h i))
 
   pub rise : Pairs (λ a b. number_of a < number_of b) (calls_in h)

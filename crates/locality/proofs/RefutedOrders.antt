@@ -55,16 +55,14 @@ first_out v vs (e ∷ es) d r op back f i h = elim (f e (inl refl)) [
   | inl q ↦
       let s = step (queue (v ∷ vs)) e.op Dequeue (queue vs, Value (Some v))
       (ap (λ (c : Call). c.op) q ∙ op) h.0 h.1 h.2 refl in
-      let said : r.reply ≡ h.1 =
-      subst (λ (o : Option Return). IfSome o (λ r. r.reply ≡ h.1)) (ap (λ (c : Call). c.returned) q ∙ back) h.3 in
+      let said : r.reply ≡ h.1 = rw (ap (λ (c : Call). c.returned) q ∙ back) at h.3 in
       said ∙ s.1
   | inr w ↦
       let s = step (queue (v ∷ vs)) e.op (Enqueue w.0)
       (queue (v ∷ (vs ++ w.0 ∷ [])), Value (Some w.0)) w.1 h.0 h.1 h.2 refl in
       elim i [
         | inl q ↦ absurd cc
-        | inr j ↦ first_out v (vs ++ w.0 ∷ []) es d r op back (λ e i. f e (inr i)) j
-            (subst (λ c. RepliesAlong c es) s.0 h.4)
+        | inr j ↦ first_out v (vs ++ w.0 ∷ []) es d r op back (λ e i. f e (inr i)) j (rw s.0 at h.4)
       ]
 ]
 
@@ -79,18 +77,16 @@ first_in_first_out calls a d v r s order a_op a_back d_op d_back a_in d_in first
     λ e i. in_from_contains calls e (all_at (Contains calls) valid.entries valid.known e i) in
     let stands : (e : Call) (r : Return) → In e calls → e.returned ≡ Some r → In e valid.entries =
     λ e r i q. in_from_contains valid.entries e
-    (all_at (λ (e : Call). IsSome e.returned → Contains valid.entries e) calls valid.whole e i
-    (subst (λ (o : Option Return). IsSome o) (sym q) refl)) in
+    (all_at (λ (e : Call). IsSome e.returned → Contains valid.entries e) calls valid.whole e i (rw q refl)) in
     let front = first_is a valid.entries (stands a s a_in a_back) (λ e i. first e (known e i))
     (pairs_from_all (λ (a b : Call). ReturnsBefore b a → ⊥) valid.entries valid.in_order) in
-    let along : RepliesAlong (queue []) (a ∷ front.0) = subst (RepliesAlong (queue [])) front.1 valid.replies in
+    let along : RepliesAlong (queue []) (a ∷ front.0) = rw front.1 at valid.replies in
     let s0 = step (queue []) a.op (Enqueue v) (queue (v ∷ []), Value (Some v)) a_op along.0 along.1 along.2 refl in
-    let d_later : In d (a ∷ front.0) = subst (In d) front.1 (stands d r d_in d_back) in
+    let d_later : In d (a ∷ front.0) = rw front.1 at (stands d r d_in d_back) in
     elim d_later [
       | inl q ↦ absurd cc
-      | inr j ↦ first_out v [] front.0 d r d_op d_back
-          (λ e i. other e (known e (subst (In e) (sym front.1) (inr i)))) j
-          (subst (λ c. RepliesAlong c front.0) s0.0 along.4)
+      | inr j ↦ first_out v [] front.0 d r d_op d_back (λ e i. other e (known e (rw front.1 (inr i)))) j
+          (rw s0.0 at along.4)
     ]
 
 two_not_one : Value (Some (pos 2)) ≡ Value (Some (pos 1)) → ⊥
@@ -117,9 +113,8 @@ overtaken h b d v r hist is b_op b_later d_op d_later d_back two lin =
     (λ e i. elim i [
       | inl q ↦ inl q
       | inr j ↦ elim j [
-        | inl q ↦ inr (subst (ReturnsBefore first) (sym q) (returns, refl, b_later))
-        | inr k ↦ elim k
-            [ inl q ↦ inr (subst (ReturnsBefore first) (sym q) (returns, refl, d_later)) | inr none ↦ absurd none ]
+        | inl q ↦ inr (rw q (returns, refl, b_later))
+        | inr k ↦ elim k [ inl q ↦ inr (rw q (returns, refl, d_later)) | inr none ↦ absurd none ]
       ]
     ])
     (λ e i. elim i [
@@ -129,7 +124,7 @@ overtaken h b d v r hist is b_op b_later d_op d_later d_back two lin =
         | inr k ↦ elim k [ inl q ↦ inl q | inr none ↦ absurd none ]
       ]
     ])
-    (subst (λ cs. IsValidOrder Queue cs order.0) is order.1) in
+    (rw is at order.1) in
     two_not_one (sym two ∙ one)
 
 pub dequeued_out_of_turn-history : IsHistory dequeued_out_of_turn
@@ -248,8 +243,7 @@ not_replied kind calls cs apart these fails v =
     let known : (e : Call) → In e v.entries → In e calls =
     λ e i. in_from_contains calls e (all_at (Contains calls) v.entries v.known e i) in
     let along : RepliesAlong (empty kind) cs =
-    subst (RepliesAlong (empty kind))
-    (entries_are calls cs v.entries (ordered calls apart) known these v.numbers) v.replies in
+    rw (entries_are calls cs v.entries (ordered calls apart) known these v.numbers) at v.replies in
     let holds = along_may_reply cs (empty kind) along in
     cc (fails, holds)
 

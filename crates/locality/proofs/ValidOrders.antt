@@ -2,7 +2,7 @@
 -- the events up to that moment would not count up.
 use Rattle.std.proofs.Common.{◌≡◌, ◌≢◌, ℕ, ℤ, pos, suc, ◌<◌, ◌≤◌, ◌==◌, ◌&&◌, nat_lt, Bool, true, false, cond, ◌⊎◌, inl}
 use Rattle.std.proofs.Common.{inr, List, [], ◌∷◌, ◌++◌, length, map, filter, Option, Some, None, IfSome, IsSome}
-use Rattle.std.proofs.Common.{Contains, refl, ap, sym, ◌∙◌, subst, arith}
+use Rattle.std.proofs.Common.{Contains, refl, ap, sym, ◌∙◌, arith}
 use Rattle.std.proofs.lemmas.List.{append-nil, append_assoc, length-append, map-append, length-map}
 use Rattle.std.proofs.lemmas.List.Concat.{flat_map-append}
 use Rattle.std.proofs.lemmas.List.Elements.{filter-append, recursion_from_All}
@@ -10,7 +10,7 @@ use Rattle.std.proofs.lemmas.List.Sums.{length-filter, count_by-le-length}
 use Rattle.std.proofs.lemmas.Bool.{eqb-true, eq-eqb, lt-ltb, le-ltb}
 use Rattle.model.specs.Specification.{Specification}
 use Rattle.model.specs.Histories.{Event, Inv, Res, process_of, object_of, is_invocation, by_process, by_object}
-use Rattle.model.specs.Histories.{complete, invokes, responds, IsSequential, Operation, IsOperation}
+use Rattle.model.specs.Histories.{complete, invokes, responds, Operation, IsOperation}
 use Rattle.model.specs.Linearizable.{RepliesFrom, IsLinearizableFor}
 use Rattle.model.specs.Orders.{Numbered, events, Return, Call, ProcessCall, begins, calls_in, calls_on, IsHistory}
 use Rattle.model.specs.Orders.{ReturnsBefore, RepliesBy}
@@ -103,16 +103,13 @@ back_upto : (t : ℕ) (u v : List ProcessCall) (o : ProcessCall) (r : Return) �
     → number_of o ≤ r.at → r.at < t → suc (length u) ≤ length (filter (λ e. is_back t e.call.returned) (u ++ o ∷ v))
 back_upto t [] v o r h q l k =
     let e : is_back t o.call.returned ≡ true = ap (is_back t) q ∙ lt-ltb r.at t k in
-    subst (λ b. 1 ≤ length (cond b (o ∷ filter (λ e. is_back t e.call.returned) v)
-    (filter (λ e. is_back t e.call.returned) v))) (sym e) (omega arith)
+    rw e (omega arith)
 back_upto t (x ∷ u) v o r h q l k =
     let rest = back_upto t u v o r h.1 q l k in
     let b = h.0 o (in_middle o u v) in
     let c = b.2 in
     let e : is_back t x.call.returned ≡ true = ap (is_back t) b.1 ∙ lt-ltb b.0.at t (omega arith) in
-    subst (λ d. suc (suc (length u))
-    ≤ length (cond d (x ∷ filter (λ e. is_back t e.call.returned) (u ++ o ∷ v))
-    (filter (λ e. is_back t e.call.returned) (u ++ o ∷ v)))) (sym e) (omega arith)
+    rw e (omega arith)
 
 -- the replies of a legal history are those that are recorded
 replies_back : (object : Specification) (c : object.Content) (es : List Ended) → RepliesFrom object c (ended_events es)
@@ -185,7 +182,7 @@ module _ (objects : ℕ → Specification) (h : List Numbered) (hist : IsHistory
   completed p = completed_any p (part p h) (late_events p) (turn_view h hist p)
       (filter_responses (λ v. process_of v == p) lin.completes.added
       (recursion_from_All (λ e. is_invocation e ≡ false) lin.completes.added lin.completes.responses))
-      (subst IsSequential (part_extended p) (lin.completes.well_formed p))
+      (rw (part_extended p) at (lin.completes.well_formed p))
 
   abbrev pub queue : ℕ → List Ended
   queue p = (completed p).list
@@ -198,24 +195,24 @@ module _ (objects : ℕ → Specification) (h : List Numbered) (hist : IsHistory
 
   -- what a process completed are its operations
   queue_op : (p : ℕ) (e : Ended) → In e (queue p) → In e.made (calls_in (part p h))
-  queue_op p e i = subst (In e.made) (sym (completed p).front)
+  queue_op p e i = rw (completed p).front
       (in_left e.made (ops_of (queue p)) (completed p).rest (in_map_from (λ (e : Ended). e.made) e (queue p) i))
 
   queue_owned : (p : ℕ) (e : Ended) → In e (queue p) → e.made.process ≡ p
   queue_owned p e i = eqb-true e.made.process p
       (in_filter_passes (λ o. o.process == p) e.made (calls_in h)
-      (subst (In e.made) (calls_in-part p h) (queue_op p e i)))
+      (rw (calls_in-part p h) at (queue_op p e i)))
 
   pub all : Lined lin.sequence queue
   all = lined lin.sequence lin.sequential queue seen_by queue_owned
 
   line_queue : (e : Ended) → In e all.line → In e (queue e.made.process)
-  line_queue e i = subst (In e) (all.parts e.made.process)
+  line_queue e i = rw (all.parts e.made.process) at
       (in_filter_from (λ d. d.made.process == e.made.process) e all.line i (eq-eqb e.made.process e.made.process refl))
 
   line_op : (e : Ended) → In e all.line → In e.made (calls_in h)
   line_op e i = in_filter (λ o. o.process == e.made.process) e.made (calls_in h)
-      (subst (In e.made) (calls_in-part e.made.process h) (queue_op e.made.process e (line_queue e i)))
+      (rw (calls_in-part e.made.process h) at (queue_op e.made.process e (line_queue e i)))
 
   -- where the line falls into parts at an operation, so do the operations of its process
   turn_of : (l n : List Ended) (a : Ended) → all.line ≡ l ++ a ∷ n → (rest : List ProcessCall)
@@ -258,16 +255,15 @@ module _ (objects : ℕ → Specification) (h : List Numbered) (hist : IsHistory
       let pb : ℕ = b.made.process in
       let l' : List Ended = l ++ a ∷ m in
       let e' : all.line ≡ l' ++ b ∷ n = e ∙ sym (append_assoc l (a ∷ m) (b ∷ n)) in
-      let in_a : In a all.line = subst (In a) (sym e) (in_middle a l (m ++ b ∷ n)) in
-      let in_b : In b all.line = subst (In b) (sym e') (in_middle b l' n) in
+      let in_a : In a all.line = rw e (in_middle a l (m ++ b ∷ n)) in
+      let in_b : In b all.line = rw e' (in_middle b l' n) in
       let ta = turn_of l (m ++ b ∷ n) a e in
       let tb = turn_of l' n b e' in
       let k = call_event h a.made (line_op a in_a) in
       let cut = in_split k.0 h k.1 in
       let u : List Numbered = cut.0 in
       let t : ℕ = k.0.number in
-      let rising : Pairs (λ (x y : Numbered). x.number < y.number) (u ++ k.0 ∷ cut.1) =
-      subst (Pairs (λ (x y : Numbered). x.number < y.number)) cut.2 (up h hist) in
+      let rising : Pairs (λ (x y : Numbered). x.number < y.number) (u ++ k.0 ∷ cut.1) = rw cut.2 at (up h hist) in
       let ka : ℕ = length (filter (λ e. e.made.process == pa) l) in
       let kb : ℕ = length (filter (λ e. e.made.process == pb) l') in
       let ka_is : length (ops_of (filter (λ e. e.made.process == pa) l)) ≡ ka =
@@ -290,7 +286,7 @@ module _ (objects : ℕ → Specification) (h : List Numbered) (hist : IsHistory
       ∙ ap (λ s. length (filter (λ e. nat_lt (number_of e) s)
       (ops_of (filter (λ e. e.made.process == pa) l) ++ a.made ∷ ta.0))) k.2) in
       let i5 = below_one (ops_of (filter (λ e. e.made.process == pa) l)) ta.0 a.made
-      (subst (Pairs (λ a b. number_of a < number_of b)) ta.1 (part_rise h hist pa)) in
+      (rw ta.1 at (part_rise h hist pa)) in
       -- the responses of b's process before that
       let r1 : count (responds pb) (events u) ≡ length (filter (λ m. responds pb m.event) u) =
       length_filter_events (responds pb) u in
@@ -311,7 +307,7 @@ module _ (objects : ℕ → Specification) (h : List Numbered) (hist : IsHistory
       let k2 = k.2 in
       let b2 = back.2 in
       let r6 = back_upto t (ops_of (filter (λ e. e.made.process == pb) l')) tb.0 b.made back.0
-      (subst (Pairs Before) tb.1 (one_after_another pb (part pb h) (turn_view h hist pb) (part_up h hist pb))) back.1
+      (rw tb.1 at (one_after_another pb (part pb h) (turn_view h hist pb) (part_up h hist pb))) back.1
       late (omega arith) in
       -- so b precedes a in the history, and then in the sequence
       let g1 = invocations_all pa h in
@@ -342,8 +338,8 @@ module _ (objects : ℕ → Specification) (h : List Numbered) (hist : IsHistory
   apart l m n a b e q =
       let l' : List Ended = l ++ a ∷ m in
       let e' : all.line ≡ l' ++ b ∷ n = e ∙ sym (append_assoc l (a ∷ m) (b ∷ n)) in
-      let in_a : In a all.line = subst (In a) (sym e) (in_middle a l (m ++ b ∷ n)) in
-      let in_b : In b all.line = subst (In b) (sym e') (in_middle b l' n) in
+      let in_a : In a all.line = rw e (in_middle a l (m ++ b ∷ n)) in
+      let in_b : In b all.line = rw e' (in_middle b l' n) in
       let same : a.made ≡ b.made =
       one_number number_of (calls_in h) a.made b.made (rise h hist) (line_op a in_a) (line_op b in_b) q in
       let tb = turn_of l' n b e' in
@@ -352,7 +348,7 @@ module _ (objects : ℕ → Specification) (h : List Numbered) (hist : IsHistory
       (eq-eqb a.made.process b.made.process (ap (λ (o : ProcessCall). o.process) same)) in
       let less : number_of a.made < number_of b.made =
       across (ops_of (filter (λ e. e.made.process == b.made.process) l')) tb.0 a.made b.made
-      (subst (Pairs (λ a b. number_of a < number_of b)) tb.1 (part_rise h hist b.made.process))
+      (rw tb.1 at (part_rise h hist b.made.process))
       (in_map_from (λ (e : Ended). e.made) a (filter (λ e. e.made.process == b.made.process) l') i) in
       omega arith
 
@@ -370,8 +366,7 @@ module _ (objects : ℕ → Specification) (h : List Numbered) (hist : IsHistory
               let o : In e.0.made (filter (λ o. o.object == x) (calls_in h)) =
               in_filter_from (λ o. o.object == x) e.0.made (calls_in h) (line_op e.0 (in_filter own e.0 all.line e.1))
               (in_filter_passes own e.0 all.line e.1) in
-              contains_from_in (calls_on x h) c
-              (subst (λ d. In d (calls_on x h)) (sym e.2)
+              contains_from_in (calls_on x h) c (rw e.2
               (in_map_from (λ (o : ProcessCall). o.call) e.0.made (filter (λ o. o.object == x) (calls_in h)) o)));
           once = all_from_pairs (λ (a b : ℤ). a ≢ b) (map (λ (c : Call). pos c.number) cs)
               (pairs_map (λ (a b : ℤ). a ≢ b) (λ (c : Call). pos c.number) cs
@@ -384,24 +379,22 @@ module _ (objects : ℕ → Specification) (h : List Numbered) (hist : IsHistory
               let r = returned_some c.returned s in
               let p : ℕ = o.0.process in
               let io : In o.0 (calls_in (part p h)) =
-              subst (In o.0) (sym (calls_in-part p h))
-              (in_filter_from (λ o. o.process == p) o.0 (calls_in h)
+              rw (calls_in-part p h) (in_filter_from (λ o. o.process == p) o.0 (calls_in h)
               (in_filter (λ o. o.object == x) o.0 (calls_in h) o.1) (eq-eqb p p refl)) in
               let e = (completed p).whole o.0 r.0 io (ap (λ (c : Call). c.returned) (sym o.2) ∙ r.1) in
               let on_line : In e.0 all.line =
-              in_filter (λ e. e.made.process == p) e.0 all.line (subst (In e.0) (sym (all.parts p)) e.1) in
+              in_filter (λ e. e.made.process == p) e.0 all.line (rw (all.parts p) e.1) in
               let at_x : (e.0.made.object == x) ≡ true =
               ap (λ (o : ProcessCall). o.object == x) e.2
               ∙ in_filter_passes (λ o. o.object == x) o.0 (calls_in h) o.1 in
-              contains_from_in cs c (subst (λ d. In d cs) (ap (λ (o : ProcessCall). o.call) e.2 ∙ sym o.2)
+              contains_from_in cs c (rw (ap (λ (o : ProcessCall). o.call) e.2 ∙ sym o.2) at
               (in_map_from (λ (e : Ended). e.made.call) e.0 es (in_filter_from own e.0 all.line on_line at_x))));
           in_order = all_from_pairs (λ (a b : Call). ReturnsBefore b a → ⊥) cs
               (pairs_map (λ (a b : Call). ReturnsBefore b a → ⊥) (λ (e : Ended). e.made.call) es
               (pairs_filter (λ a b. ReturnsBefore b.made.call a.made.call → ⊥) own all.line
               (pairs_by_parts (λ a b. ReturnsBefore b.made.call a.made.call → ⊥) [] all.line not_before)));
           replies = replies_back (objects x) (objects x).empty es
-              (subst (RepliesFrom (objects x) (objects x).empty)
-              (ap (by_object x) all.events_are ∙ ended_of_object x all.line) (lin.legal x).1)
+              (rw (ap (by_object x) all.events_are ∙ ended_of_object x all.line) at (lin.legal x).1)
               (λ e r i q. let j = line_queue e (in_filter own e all.line i) in
               (completed e.made.process).recorded e r j q);
         },

@@ -1,7 +1,7 @@
 -- Histories and orders that are written out: tests that compute, and what they decide.
 use Rattle.std.proofs.Common.{◌≡◌, ◌≢◌, ℕ, ℤ, pos, zero, suc, ◌<◌, ◌≤◌, ◌==◌, ◌&&◌, nat_lt, nat_le, Bool, true}
 use Rattle.std.proofs.Common.{false, not, inl, inr, List, [], ◌∷◌}
-use Rattle.std.proofs.Common.{filter, map, Option, Some, IsSome, Contains, refl, ap, sym, ◌∙◌, subst, arith}
+use Rattle.std.proofs.Common.{filter, map, Option, Some, IsSome, Contains, refl, ap, ◌∙◌, arith}
 use Rattle.std.specs.List.{list_all, AllByRecursion}
 use Rattle.std.proofs.lemmas.List.Elements.{All-from_recursion}
 use Rattle.std.proofs.lemmas.Bool.{eqb-true, eq-eqb, ne_eqb, and_parts, ltb-true, leb-true, lt-ltb, not-true}
@@ -65,7 +65,7 @@ one_of zero h e p l = absurd (omega arith)
 one_of (suc n) h e p l =
     let both = and_parts (is_sequential (by_process n h)) (are_sequential n h) e in
     elim (cases_order p n) [
-      | inl q ↦ subst (λ k. IsSequential (by_process k h)) (sym q) (sequential (by_process n h) both.0)
+      | inl q ↦ rw q (sequential (by_process n h) both.0)
       | inr r ↦ elim r [ inl less ↦ one_of n h both.1 p less | inr more ↦ absurd (omega arith) ]
     ]
 
@@ -85,7 +85,7 @@ well_formed n h all each p = elim (cases_order p n) [
 ]
   where
     absent : n ≤ p → IsSequential (by_process p h)
-    absent l = subst IsSequential (sym (none_from process_of n h all p l)) tt
+    absent l = rw (none_from process_of n h all p l) tt
 
 -- a history of processes below n
 abbrev is_history_of : ℕ → List Numbered → Bool
@@ -156,5 +156,4 @@ pub linearizable : (kinds : ℕ → Kind) (h : List Numbered) → IsHistory h
     → list_all (λ e. e.object == 0) (calls_in h) ≡ true → HasValidOrder kinds h 0 → IsLinearizable kinds (events h)
 linearizable kinds h hist all valid =
     named_kinds kinds h hist (all_from_in (λ (e : ProcessCall). HasValidOrder kinds h e.object) (calls_in h)
-    (λ e i. subst (HasValidOrder kinds h)
-    (sym (eqb-true e.object 0 (passes (λ e. e.object == 0) (calls_in h) all e i))) valid))
+    (λ e i. rw (eqb-true e.object 0 (passes (λ e. e.object == 0) (calls_in h) all e i)) valid))
