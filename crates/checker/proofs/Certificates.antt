@@ -1,19 +1,18 @@
 -- The objects are checked in turn. While all before this one are fine, the first refusal here is the first of all
 -- (`next_is_first`); in the end all orders are valid, or the least object that only a certificate names is refused.
-use Rattle.std.proofs.Common.{◌≡◌, ◌≢◌, ℕ, zero, suc, ◌+◌, ◌<◌, ◌≤◌, ◌⊎◌, ◌↔◌, ◌++◌, ◌∷◌, [], List, Option, Some}
-use Rattle.std.proofs.Common.{None, IsSome, All, AllPairs}
-use Rattle.std.proofs.Common.{Contains, map, length, get_or, take, drop, OnOk, IfErr, Result, Ok, Err, inl, inr}
-use Rattle.std.proofs.Common.{refl, ap, sym, ◌∙◌, subst, arith}
+use Rattle.std.proofs.Common.{◌≡◌, ◌≢◌, ℕ, zero, suc, ◌+◌, ◌<◌, ◌≤◌, ◌↔◌, ◌++◌, ◌∷◌, [], List, Option, Some, None}
+use Rattle.std.proofs.Common.{IsSome, All, AllPairs, Contains, map, length, get_or, take, drop, OnOk, IfErr, Result, Ok}
+use Rattle.std.proofs.Common.{Err, inl, inr, refl, ap, sym, ◌∙◌, subst, arith}
 use Rattle.std.specs.Prelude.{IfSome, IfNone}
 use Rattle.std.proofs.lemmas.Option.{same_Some}
 use Rattle.number_map.specs.Lookup.{value_of}
 use Rattle.number_map.specs.declared.NumberMap.{NumberMap}
-use Rattle.std.proofs.lemmas.Bool.{cases_order}
+use Rattle.std.proofs.lemmas.Bool.{cases_eq}
 use Rattle.std.proofs.lemmas.List.{get_or_default, take_more, take_all}
 use Rattle.model.specs.declared.Kind.{Kind}
 use Rattle.model.specs.Orders.{Call, IsValidOrder, calls_on}
-use Rattle.model.proofs.Lists.{In, Pairs, in_append, in_map, in_map_from, in_from_contains, contains_from_in}
-use Rattle.model.proofs.Lists.{in_from_get, all_at, all_from_in, pairs_from_all}
+use Rattle.model.proofs.Lists.{In, Pairs, in_append, in_left, in_middle, in_map, in_map_from, in_from_contains}
+use Rattle.model.proofs.Lists.{contains_from_in, in_from_get, all_at, all_from_in, pairs_from_all}
 use Rattle.events.specs.declared.event.Event.{Event}
 use Rattle.events.specs.Events.{IsNamed, kind_at, denoted}
 use Rattle.events.specs.Operations.{ObjectCalls, calls_of}
@@ -26,15 +25,6 @@ use Rattle.checker.specs.Refusals.{RefusesOrder, HasCertificate, AreValid, IsRef
 use Rattle.checker.specs.Checking.{IsPlace, ArePlaces, AreAllPlaces, IsFine, IsRefused, AreForThese, IsLeastBesides}
 use Rattle.checker.specs.Checking.{IsLeastPlaced}
 
-apart_or_same : (x y : ℕ) → (x ≡ y) ⊎ (x ≢ y)
-apart_or_same x y = elim (cases_order x y) [
-  | inl e ↦ inl e
-  | inr r ↦ elim r [
-    | inl l ↦ inr (λ e. let e' : x ≡ y = e in omega arith)
-    | inr l ↦ inr (λ e. let e' : x ≡ y = e in omega arith)
-  ]
-]
-
 -- one more certificate has its place
 pub one_placed : (certificates : List Certificate) (m n : NumberMap ℕ) (k : ℕ) (d : Certificate)
     → k < length certificates
@@ -43,23 +33,20 @@ pub one_placed : (certificates : List Certificate) (m n : NumberMap ℕ) (k : �
     → value_of n d.object ≡ Some k → ((x : ℕ) → x ≢ d.object → value_of n x ≡ value_of m x) → ArePlaces n certificates
     × ((c : Certificate) → In c (take (k + 1) certificates) → IsSome (value_of n c.object))
 one_placed certificates m n k d l is places some own others = (
-  λ x j q. elim (apart_or_same x d.object) [
-    | inl e ↦ (
+  λ x j q. elim (cases_eq x d.object) [
+    | inl e ↦
         let same : k ≡ j = same_Some k j (sym own ∙ (ap (value_of n) (sym e) ∙ q)) in
-        subst (IsPlace certificates x) same
-        (record {
+        rw (← same) (record {
           inside = l;
           for_object =
               λ c. ap (λ (z : Certificate). z.object) (get_or_default certificates k c d l ∙ sym is) ∙ sym e;
         })
-        )
     | inr ne ↦ places x j (sym (others x ne) ∙ q)
   ],
-  λ c i. elim (apart_or_same c.object d.object) [
-    | inl e ↦ subst IsSome (sym (ap (value_of n) e ∙ own)) refl
-    | inr ne ↦ subst IsSome (sym (others c.object ne))
-        (elim (in_append c (take k certificates) (get_or certificates k d ∷ [])
-        (subst (In c) (take_more certificates k d l) i)) [
+  λ c i. elim (cases_eq c.object d.object) [
+    | inl e ↦ rw (e, own) refl
+    | inr ne ↦ rw (others c.object ne) (elim (in_append c (take k certificates) (get_or certificates k d ∷ [])
+        (rw (take_more certificates k d l) at i)) [
           | inl j ↦ some c j
           | inr j ↦ elim j [
             | inl e ↦ absurd (ne (ap (λ (z : Certificate). z.object) (e ∙ sym is)))
@@ -74,7 +61,7 @@ pub all_placed : (certificates : List Certificate) (m : NumberMap ℕ) (k : ℕ)
     → All (λ c. IsSome (value_of m c.object)) certificates
 all_placed certificates m k l some =
     all_from_in (λ (c : Certificate). IsSome (value_of m c.object)) certificates
-    (λ c i. some c (subst (In c) (sym (take_all k certificates l)) i))
+    (λ c i. some c (rw (take_all k certificates l) i))
 
 -- a history's objects, in rising number, each with its kind and calls
 pub record AreObjects (es : List Event) (os : List ObjectCalls) : Type 0 where
@@ -103,8 +90,7 @@ abbrev pub has_here : (certificates : List Certificate) (x k : ℕ) (d : Certifi
     → d ≡ get_or certificates k d → HasCertificate certificates x
 has_here certificates x k d p is = record {
   certificate = d;
-  stands = contains_from_in certificates d
-      (subst (λ z. In z certificates) (sym is) (in_from_get certificates k d p.inside));
+  stands = contains_from_in certificates d (rw is (in_from_get certificates k d p.inside));
   for_object = ap (λ (c : Certificate). c.object) is ∙ p.for_object d;
 }
 
@@ -126,9 +112,8 @@ pub refused_here : (kind : Kind) (calls : List Call) (certificates : List Certif
 refused_here kind calls certificates x k d (Ok u) p is h exact = tt
 refused_here kind calls certificates x k d (Err (BadOrder y f)) p is h exact =
     (h.0, has_here certificates x k d p is, h.1, λ v. let e = exact v in cc e)
-refused_here kind calls certificates x k d (Err (NoCertificate y)) p is h exact = absurd h
-refused_here kind calls certificates x k d (Err (StrangeObject y)) p is h exact = absurd h
 refused_here kind calls certificates x k d (Err NoMemory) p is h exact = tt
+refused_here kind calls certificates x k d (Err e) p is h exact = absurd h
 
 has_some : (o : Option ℕ) → o ≡ None → IsSome o → ⊥
 has_some None q s = cc s
@@ -150,7 +135,7 @@ pub one_more_fine : (es : List Event) (certificates : List Certificate) (os : Li
 one_more_fine es certificates os o h fine = λ p i. elim (in_append p os (o ∷ []) i) [
   | inl j ↦ h p j
   | inr j ↦ elim j [
-    | inl e ↦ subst (λ (q : ObjectCalls). IsFineAt es certificates q.object) (sym e) fine
+    | inl e ↦ rw e fine
     | inr n ↦ absurd n
   ]
 ]
@@ -169,12 +154,12 @@ pub one_taken : (certificates : List Certificate) (os : List ObjectCalls) (o : O
     → value_of new o.object ≡ None → ((x : ℕ) → x ≢ o.object → value_of new x ≡ value_of left x)
     → AreLeft certificates (os ++ o ∷ []) new
 one_taken certificates os o left new h own others = record {
-  places = λ x k q. elim (apart_or_same x o.object) [
+  places = λ x k q. elim (cases_eq x o.object) [
     | inl e ↦ (let n : None ≡ Some k = sym own ∙ (ap (value_of new) (sym e) ∙ q) in cc n)
     | inr ne ↦ h.places x k (sym (others x ne) ∙ q)
   ];
   apart = λ p i. elim (in_append p os (o ∷ []) i) [
-    | inl j ↦ elim (apart_or_same p.object o.object) [
+    | inl j ↦ elim (cases_eq p.object o.object) [
       | inl e ↦ ap (value_of new) e ∙ own
       | inr ne ↦ others p.object ne ∙ h.apart p j
     ]
@@ -183,22 +168,11 @@ one_taken certificates os o left new h own others = record {
       | inr n ↦ absurd n
     ]
   ];
-  gone = λ c i q. elim (apart_or_same c.object o.object) [
-    | inl e ↦ (o, in_last o os, sym e)
-    | inr ne ↦ let g = h.gone c i (sym (others c.object ne) ∙ q) in (g.0, in_front g.0 os g.1, g.2)
+  gone = λ c i q. elim (cases_eq c.object o.object) [
+    | inl e ↦ (o, in_middle o os [], sym e)
+    | inr ne ↦ let g = h.gone c i (sym (others c.object ne) ∙ q) in (g.0, in_left g.0 os (o ∷ []) g.1, g.2)
   ];
 }
-  where
-    in_last : (o : ObjectCalls) (os : List ObjectCalls) → In o (os ++ o ∷ [])
-    in_last o [] = inl refl
-    in_last o (p ∷ os) = inr (in_last o os)
-
-    in_front : (q : ObjectCalls) (os : List ObjectCalls) → In q os → In q (os ++ o ∷ [])
-    in_front q [] i = absurd i
-    in_front q (p ∷ os) i = elim i [
-      | inl e ↦ inl e
-      | inr j ↦ inr (in_front q os j)
-    ]
 
 -- an object in the list stands among their numbers
 number_stands : (os : List ObjectCalls) (o : ObjectCalls) → In o os → Contains (map (λ o. o.object) os) o.object
@@ -212,7 +186,7 @@ none_besides : (certificates : List Certificate) (os : List ObjectCalls) (left :
 none_besides certificates os left h none =
     all_from_in (λ (c : Certificate). Contains (map (λ o. o.object) os) c.object) certificates (λ c i.
     let g = h.gone c i (all_at (λ (c : Certificate). value_of left c.object ≡ None) certificates none c i) in
-    subst (Contains (map (λ o. o.object) os)) g.2 (number_stands os g.0 g.1))
+    rw g.2 at (number_stands os g.0 g.1))
 
 -- what stands at a place
 pub element : {X : Type 0} (xs : List X) (k : ℕ) → k < length xs → (d : X) × (d ≡ get_or xs k d)
@@ -244,10 +218,10 @@ least_besides certificates os left x h is = record {
     below : (c : Certificate) → In c certificates → c.object < x → (o : Option ℕ) → value_of left c.object ≡ o
         → Contains (map (λ o. o.object) os) c.object
     below c i l None q =
-        let g = h.gone c i q in subst (Contains (map (λ o. o.object) os)) g.2 (number_stands os g.0 g.1)
+        let g = h.gone c i q in rw g.2 at (number_stands os g.0 g.1)
     below c i l (Some j) q =
         let least = all_at (λ (c : Certificate). IsSome (value_of left c.object) → x ≤ c.object) certificates is.1 c i
-        (subst IsSome (sym q) refl) in
+        (rw q refl) in
         absurd (omega (arith, l, least))
 
 pub strange : (certificates : List Certificate) (os : List ObjectCalls) (left : NumberMap ℕ) (r : Option ℕ)
@@ -257,8 +231,6 @@ pub strange : (certificates : List Certificate) (os : List ObjectCalls) (left : 
     × IfSome r (IsLeastBesides (map (λ o. o.object) os) certificates)
 strange certificates os left None h is = (none_besides certificates os left h is, tt)
 strange certificates os left (Some x) h is = (tt, least_besides certificates os left x h is)
-
--- ---- one certificate after the other
 
 -- ---- what has been checked
 
@@ -277,7 +249,7 @@ is_named es os h o i = (h.named o.object).0
 fine_at : (es : List Event) (certificates : List Certificate) (os : List ObjectCalls) → AreObjects es os
     → AreFine es certificates os → (x : ℕ) → IsNamed es x → IsFineAt es certificates x
 fine_at es certificates os objects h x named =
-    let o = object_named es os objects x named in subst (IsFineAt es certificates) (sym o.2) (h o.0 o.1)
+    let o = object_named es os objects x named in rw o.2 (h o.0 o.1)
 
 same_certificate : (certificates : List Certificate) → Pairs (λ a b. a.object ≢ b.object) certificates
     → (a b : Certificate) → In a certificates → In b certificates → a.object ≡ b.object → a ≡ b
@@ -305,11 +277,9 @@ no_refusal : (es : List Event) (certificates : List Certificate) → AllPairs (�
     → (x : ℕ)
     → IsFineAt es certificates x → (r : Refusal) → IsRefusalAt es certificates x r → ⊥
 no_refusal es certificates d x h (NoCertificate y) s = s.1 h.certificate
-no_refusal es certificates d x h (StrangeObject y) s = s
 no_refusal es certificates d x h (BadOrder y f) s =
-    h.faultless f (subst (λ (c : Certificate). IsFirstFault (kind_at es x) (calls_on x (denoted es)) c.order.items f)
-    (same_orders certificates d x s.1 h.certificate) s.2)
-no_refusal es certificates d x h NoMemory s = s
+    h.faultless f (rw (same_orders certificates d x s.1 h.certificate) at s.2)
+no_refusal es certificates d x h r s = s
 
 pub all_valid : (es : List Event) (certificates : List Certificate) (os : List ObjectCalls) → AreObjects es os
     → AreFine es certificates os
@@ -357,22 +327,16 @@ first_refusal : (es : List Event) (certificates : List Certificate) (all os : Li
 first_refusal es certificates all os o later r d objects split h refused = go r refused
   where
     up : Pairs (λ a b. a.object < b.object) (os ++ o ∷ later)
-    up = subst (Pairs (λ a b. a.object < b.object)) split
-        (pairs_from_all (λ a b. a.object < b.object) all objects.rising)
-
-    middle : (os : List ObjectCalls) → In o (os ++ o ∷ later)
-    middle [] = inl refl
-    middle (q ∷ os) = inr (middle os)
+    up = rw split at (pairs_from_all (λ a b. a.object < b.object) all objects.rising)
 
     named : IsNamed es o.object
-    named = is_named es all objects o (subst (In o) (sym split) (middle os))
+    named = is_named es all objects o (rw split (in_middle o os later))
 
     least : (y : ℕ) (s : Refusal) → y < o.object → IsNamed es y → IsRefusalAt es certificates y s → ⊥
     least y s l named stands =
         let p = object_named es all objects y named in
-        let l' : p.0.object < o.object = subst (λ z. z < o.object) p.2 l in
-        let i = already os o later up p.0 (subst (In p.0) split p.1) l' in
-        no_refusal es certificates d y (subst (IsFineAt es certificates) (sym p.2) (h p.0 i)) s stands
+        let i = already os o later up p.0 (subst (In p.0) split p.1) (rw p.2 at l) in
+        no_refusal es certificates d y (rw p.2 (h p.0 i)) s stands
 
     go : (r : Refusal) → IsRefused (kind_at es o.object) (calls_on o.object (denoted es)) certificates o.object r
         → IsFirstRefusal es certificates r
@@ -396,15 +360,14 @@ refused_are_not_valid es certificates all os o later r d objects split h refused
     go (NoCertificate y) f s = absurd (f.stands.1 (valid.each f.object f.named).0)
     go (StrangeObject y) f s = absurd s
     go (BadOrder y g) f s =
-        let each = valid.each o.object (subst (IsNamed es) (sym f.stands.0 ∙ s.0) f.named) in
-        absurd (s.3 (subst (λ (c : Certificate). IsValidOrder (kind_at es o.object)
-        (calls_on o.object (denoted es)) c.order.items) (same_orders certificates d o.object each.0 s.1) each.1))
+        let each = valid.each o.object (rw (sym f.stands.0 ∙ s.0) at f.named) in
+        absurd (s.3 (rw (same_orders certificates d o.object each.0 s.1) at each.1))
     go NoMemory f s = refl
 
 pub strange_is_not_valid : (es : List Event) (certificates : List Certificate) (x : ℕ)
     → IsLeastStrange es certificates x → AreValid es certificates → ⊥
 strange_is_not_valid es certificates x h valid =
-    h.not_named (subst (IsNamed es) h.certified.for_object
+    h.not_named (rw h.certified.for_object at
     (all_at (λ (c : Certificate). IsNamed es c.object) certificates valid.none_besides h.certified.certificate
     (in_from_contains certificates h.certified.certificate h.certified.stands)))
 
@@ -415,7 +378,7 @@ pub are_objects : (es : List Event) (fs os : List ObjectCalls) → fs ≡ os →
     → All (λ o. o.kind ≡ kind_at es o.object) os → All (λ o. calls_of o.ops ≡ calls_on o.object (denoted es)) os
     → AreObjects es fs
 are_objects es fs os is rising named kinds calls =
-    subst (AreObjects es) (sym is) (record { rising = rising; named = named; kinds = kinds; calls = calls })
+    rw is (record { rising = rising; named = named; kinds = kinds; calls = calls })
 
 next_parts : (fs : List ObjectCalls) (i : ℕ) (o : ObjectCalls) → i < length fs → o ≡ get_or fs i o
     → fs ≡ take i fs ++ o ∷ drop (suc i) fs
@@ -427,7 +390,7 @@ next_parts fs i o l is = parts fs i l ∙ ap (λ x. take i fs ++ x ∷ drop (suc
     parts (g ∷ gs) (suc j) m = ap (λ t. g ∷ t) (parts gs j (omega arith))
 
 in_objects : (fs : List ObjectCalls) (i : ℕ) (o : ObjectCalls) → i < length fs → o ≡ get_or fs i o → In o fs
-in_objects fs i o l is = subst (λ z. In z fs) (sym is) (in_from_get fs i o l)
+in_objects fs i o l is = rw is (in_from_get fs i o l)
 
 -- what holds of the kind and the calls of an object holds of those in the history
 pub next_is : (es : List Event) (fs : List ObjectCalls) (i : ℕ) (o : ObjectCalls) (P : Kind → List Call → Type 0)

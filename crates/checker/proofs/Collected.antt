@@ -1,7 +1,6 @@
 -- Certificates that were found for the objects of a history, one by one.
 use Rattle.std.proofs.Common.{◌≡◌, ◌≢◌, ℕ, ◌<◌, inl, inr, List, [], ◌∷◌, ◌++◌, Option, Some, None, IsSome, map, ◌+◌}
-use Rattle.std.proofs.Common.{◌≤◌, length, take, get_or, All}
-use Rattle.std.proofs.Common.{AllPairs, Contains, refl, ap, sym, ◌∙◌, subst, arith}
+use Rattle.std.proofs.Common.{◌≤◌, length, take, get_or, All, AllPairs, Contains, refl, ap, sym, ◌∙◌, subst, arith}
 use Rattle.std.specs.Prelude.{◌↔◌}
 use Rattle.std.specs.List.{cons_option, filter_map}
 use Rattle.std.proofs.lemmas.List.{map-append, take_more, take_all}
@@ -50,8 +49,7 @@ found_in_answers {A} certificate_of (b ∷ answers) a c i e = elim i [
 ]
   where
     here : (o : Option Certificate) → o ≡ Some c → In c (cons_option o (collected certificate_of answers))
-    here o q = subst (λ (x : Option Certificate). In c (cons_option x (collected certificate_of answers))) (sym q)
-        (inl refl)
+    here o q = rw q (inl refl)
 
     behind : (o : Option Certificate) → In c (collected certificate_of answers)
         → In c (cons_option o (collected certificate_of answers))
@@ -82,8 +80,7 @@ pub no_answers : {A : Type 0} (es : List Event) (Is : ℕ → Kind → List Call
     (answers : List (ℕ × A))
     → AreObjects es objects → answers ≡ [] → AreAnswers es Is objects 0 answers
 no_answers {A} es Is objects answers h none =
-    subst (AreAnswers es Is objects 0) (sym none)
-    (record { objects_are = h; numbers = refl; each = λ i d l. absurd (omega (arith, l)) })
+    rw none (record { objects_are = h; numbers = refl; each = λ i d l. absurd (omega (arith, l)) })
 
 -- one more answer, on the next object
 pub one_more_answer : {A : Type 0} (es : List Event) (Is : ℕ → Kind → List Call → A → Type 0)
@@ -98,7 +95,7 @@ one_more_answer {A} es Is objects k o old new n s l is en ex h are = record {
       ∙ ap (λ (x : ℕ). map number (take k objects) ++ x ∷ []) (en ∙ ap number is)
       ∙ sym (ap (map number) (take_more objects k o l) ∙ map-append number (take k objects) (get_or objects k o ∷ []));
   each = rw ex (All-push (λ (a : ℕ × A). Is a.0 (kind_at es a.0) (calls_on a.0 (denoted es)) a.1) old (n, s) are.each
-      (subst (λ (y : ℕ). Is y (kind_at es y) (calls_on y (denoted es)) s) (sym en) here));
+      (rw en here));
 }
   where
     number : ObjectCalls → ℕ
@@ -120,10 +117,9 @@ pub on_all : {A : Type 0} (es : List Event) (Is : ℕ → Kind → List Call →
 on_all {A} es Is objects k answers l h = record {
   rising = all_from_pairs (λ a b. a.0 < b.0) answers
       (pairs_from_map (λ m n. m < n) (λ a. a.0) answers
-      (subst (Pairs (λ m n. m < n)) (sym numbers)
-      (pairs_map (λ m n. m < n) (λ o. o.object) objects
+      (rw numbers (pairs_map (λ m n. m < n) (λ o. o.object) objects
       (pairs_from_all (λ a b. a.object < b.object) objects h.objects_are.rising))));
-  named = subst (λ (xs : List ℕ). (x : ℕ) → Contains xs x ↔ IsNamed es x) (sym numbers) h.objects_are.named;
+  named = rw numbers h.objects_are.named;
   each = h.each;
 }
   where
@@ -197,7 +193,6 @@ valid {A} certificate_of es Is answers certifies h all = record {
   none_besides = all_from_in (λ c. IsNamed es c.object) (collected certificate_of answers) (λ c i.
       let a = in_found certificate_of answers c i in
       let of_it = own certificate_of es Is answers certifies h a.0 c a.1 a.2 in
-      subst (IsNamed es) (sym of_it.0)
-      ((h.named a.0.0).0 (contains_from_in (map (λ a. a.0) answers) a.0.0
+      rw of_it.0 ((h.named a.0.0).0 (contains_from_in (map (λ a. a.0) answers) a.0.0
       (in_map_from (λ (a : ℕ × A). a.0) a.0 answers a.1))));
 }

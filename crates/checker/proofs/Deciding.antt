@@ -1,7 +1,7 @@
 -- What the walk answers: a valid order, made of the calls that it names, or its first fault. None is before the place,
 -- and each of a lesser rank at the place contradicts what the walk knows there.
 use Rattle.std.proofs.Common.{◌≡◌, ◌≢◌, ℕ, ℤ, pos, ◌≤ℤ◌, ◌<◌, ◌≤◌, inl, inr, List, [], ◌∷◌, map, take, Option, Some}
-use Rattle.std.proofs.Common.{None, IfSome, IsSome, Contains, slice_get, refl, ap, sym, ◌∙◌, subst, arith}
+use Rattle.std.proofs.Common.{None, IfSome, IsSome, Contains, slice_get, refl, ap, sym, ◌∙◌, arith}
 use Rattle.std.proofs.lemmas.Int.{ints}
 use Rattle.std.specs.List.{cons_option}
 use Rattle.std.proofs.lemmas.Option.{same_Some}
@@ -36,8 +36,7 @@ named_in : (calls : List Call) (o : List ℤ) (z : ℤ) (c : Call) → In z o �
     → In c (named calls o)
 named_in calls [] z c i q = absurd i
 named_in calls (y ∷ o) z c i q = elim i [
-  | inl e ↦ subst (λ (r : Option Call). In c (cons_option r (named calls o)))
-      (sym (ap (call_with_number calls) (sym e) ∙ q)) (inl refl)
+  | inl e ↦ rw (← e, q) (inl refl)
   | inr j ↦ behind (call_with_number calls y) (named_in calls o z c j q)
 ]
   where
@@ -53,8 +52,7 @@ numbers_named calls (z ∷ o) h =
     let c = h z (inl refl) in
     let rest = numbers_named calls o (λ y i. h y (inr i)) in
     let here : z ≡ pos c.0.number = found_number calls z c.0 c.1 in
-    subst (λ (r : Option Call). z ∷ o ≡ map (λ (c : Call). pos c.number) (cons_option r (named calls o))) (sym c.1)
-    (cc (here, rest))
+    rw c.1 (cc (here, rest))
 
 order_named : (calls : List Call) (o : List ℤ) → Pairs (InOrder calls) o
     → Pairs (λ (a b : Call). ReturnsBefore b a → ⊥) (named calls o)
@@ -81,7 +79,7 @@ replies_named calls c (z ∷ o) d h =
     let s = h.3 in
     let rest : RepliesAlong c (e ∷ named calls o) =
     (h.1, s.reply, s.possible, said e e.returned s.reply refl s.replied, replies_named calls h.1 o d h.4) in
-    subst (λ (r : Option Call). RepliesAlong c (cons_option r (named calls o))) (sym h.2) rest
+    rw h.2 rest
 
 -- an order without a faulty place, in which each call that returned stands, is valid
 pub valid_from : (kind : Kind) (calls : List Call) (o : List ℤ) (d : Content) → SoFar kind calls o d
@@ -136,7 +134,7 @@ no_repeat : (kind : Kind) (calls : List Call) (o : List ℤ) (i : ℕ) (z y : �
     → (In z (take i o) → ⊥) → IsFaultAt kind calls o i (Repeated y) → ⊥
 no_repeat kind calls o i z y at fresh h =
     let e : z ≡ y = same_Some z y (sym at ∙ h.0) in
-    fresh (subst (λ w. In w (take i o)) (sym e) (in_from_contains (take i o) y h.1))
+    fresh (rw e (in_from_contains (take i o) y h.1))
 
 same_call : (calls : List Call) (o : List ℤ) (i : ℕ) (z y : ℤ) (c e : Call) → slice_get o i ≡ Some z
     → call_with_number calls z ≡ Some c → slice_get o i ≡ Some y → call_with_number calls y ≡ Some e → c ≡ e

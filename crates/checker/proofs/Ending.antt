@@ -1,10 +1,8 @@
 -- The answers of the walk, from what it knows: each is a lemma of `Deciding` at the entry at hand, or at the end of the
 -- order, where the operations that were passed are marked.
-use Rattle.std.proofs.Common.{◌≡◌, ℕ, ℤ, pos, ◌+◌, ◌<◌, ◌≤◌, ◌↔◌, max, Bool, true, false, inl, inr, List, [], ◌∷◌}
-use Rattle.std.proofs.Common.{◌++◌, length, take, set, Option}
-use Rattle.std.proofs.Common.{Some, None, IsSome, is_some, AllPairs, Contains, IsTrue, slice_get, get_or, Result}
-use Rattle.std.proofs.Common.{Err, IfErr, refl, ap, sym, ◌∙◌}
-use Rattle.std.proofs.Common.{subst, arith}
+use Rattle.std.proofs.Common.{◌≡◌, ℕ, ℤ, pos, ◌+◌, ◌<◌, ◌≤◌, ◌↔◌, max, Bool, true, false, inl, inr, List}
+use Rattle.std.proofs.Common.{length, take, set, Option, Some, None, IsSome, is_some, AllPairs, Contains, IsTrue}
+use Rattle.std.proofs.Common.{slice_get, get_or, Result, Err, IfErr, refl, ap, sym, ◌∙◌, subst, arith}
 use Rattle.std.specs.Option.{option_map_or}
 use Rattle.std.proofs.lemmas.Option.{same_Some}
 use Rattle.std.proofs.lemmas.List.{get_or_default, take_all, take_more}
@@ -37,8 +35,7 @@ use Rattle.model.proofs.Orders.{same_pos}
 pub refused_by : (n : ℕ) (kind : Kind) (calls : List Call) (order : List ℤ) (fault : OrderFault)
     (r : Result (Unit {0}) Refusal)
     → r ≡ Err (BadOrder n fault) → IsFirstFault kind calls order fault → IfErr r (RefusesOrder n kind calls order)
-refused_by n kind calls order fault r e f =
-    subst (λ (x : Result (Unit {0}) Refusal). IfErr x (RefusesOrder n kind calls order)) (sym e) (refl, f)
+refused_by n kind calls order fault r e f = rw e (refl, f)
 
 -- what a read of `xs[k]` gives
 pub read_at : (xs : List Bool) (k : ℕ) (r b : Bool) → k < length xs → r ≡ get_or xs k r → r ≡ b → get_or xs k false ≡ b
@@ -79,8 +76,7 @@ pub repeated_at : (kind : Kind) (ops : List Invocation) (order : List ℤ) (i : 
     → slice_get order i ≡ Some z → AtHand ops z k c
     → get_or seen k false ≡ true → IsFirstAtPlace kind (calls_of ops) order (Repeated z)
 repeated_at kind ops order i seen content greatest z k c d w at h twice =
-    let stands : In z (take i order) =
-    subst (λ y. In y (take i order)) (sym (number_at ops z k c d h))
+    let stands : In z (take i order) = rw (number_at ops z k c d h)
     (stands_true (get_or ops k d).number (take i order) (sym (w.marks k d h.within) ∙ twice)) in
     repeated_first kind (calls_of ops) order i z c content w.so_far at h.found stands
 
@@ -154,10 +150,8 @@ next_at kind ops order i seen content after greatest z k c d op top gives up h l
       possible = ap (next content) (sym (is ∙ parts.1)) ∙ can;
       replied = λ r q. agrees r (parts.2 ∙ q);
     } in
-    subst (λ o. Walk kind ops o (set seen k true) after (Some top))
-    (ap (λ y. take i order ++ y ∷ []) at ∙ sym (take_more order i (pos 0) l))
-    (walk_more kind ops (take i order) seen content after greatest z k c d top up h.walk h.hand h.fresh early step
-    kept new_top)
+    rw (take_more order i (pos 0) l, ← at) (walk_more kind ops (take i order) seen content after greatest z k c d top
+    up h.walk h.hand h.fresh early step kept new_top)
 
 -- ---- at the end
 
@@ -165,8 +159,7 @@ next_at kind ops order i seen content after greatest z k c d op top gives up h l
 pub at_end : (kind : Kind) (ops : List Invocation) (order : List ℤ) (i : ℕ) (seen : List Bool) (content : Content)
     (greatest : Option ℕ)
     → Walk kind ops (take i order) seen content greatest → length order ≤ i → Walk kind ops order seen content greatest
-at_end kind ops order i seen content greatest w l =
-    subst (λ o. Walk kind ops o seen content greatest) (take_all i order l) w
+at_end kind ops order i seen content greatest w l = rw (take_all i order l) at w
 
 -- a call that returned and was passed is in the order
 stands_marked : (kind : Kind) (ops : List Invocation) (order : List ℤ) (seen : List Bool) (content : Content)
@@ -229,9 +222,7 @@ omitted_at kind ops order seen content greatest n d up w first =
           (λ e i r m.
           let p = place_of_call ops e i in
           let q = call_parts (get_or ops p.0 d) e (p.2 d) in
-          let before : p.0 < first.place =
-          earlier p.0 p.1 (subst (λ x. (get_or ops p.0 d).number < x) (first.is d)
-          (subst (λ x. x < n) (sym q.0) m)) in
+          let before : p.0 < first.place = earlier p.0 p.1 (omega (arith, first.is d, q.0, m)) in
           contains_from_in order (pos e.number)
           (stands_marked kind ops order seen content greatest p.0 d e w p.1 (p.2 d)
           (first.before p.0 d before (ap is_some q.2 ∙ r))));

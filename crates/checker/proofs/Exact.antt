@@ -79,10 +79,9 @@ valid_so_far kind calls order u v =
       record {
         known = λ z i. let f = named_entry calls v.entries own z (subst (In z) is i) in (f.0, f.2);
         once = pairs_from_all (λ a b. a ≢ b) order v.once;
-        in_order = subst (Pairs (InOrder calls)) (sym is)
-            (order_along calls v.entries own
+        in_order = rw is (order_along calls v.entries own
             (pairs_from_all (λ (a b : Call). ReturnsBefore b a → ⊥) v.entries v.in_order));
-        replies = subst (λ o. Along calls (empty kind) o along.0) (sym is) along.1;
+        replies = rw is along.1;
       },
     )
 
@@ -93,10 +92,8 @@ fault_refutes kind calls order (Omitted n) u h v =
     let stands = in_from_contains v.entries h.call
     (all_at (λ c. IsSome c.returned → Contains v.entries c) calls v.whole h.call
     (in_from_contains calls h.call h.known) h.returned) in
-    let there : In (pos n) order =
-    subst (λ k. In (pos k) order) h.number
-    (subst (In (pos h.call.number)) (sym v.numbers)
-    (in_map_from (λ (c : Call). pos c.number) h.call v.entries stands)) in
+    let there : In (pos n) order = rw (v.numbers, ← h.number)
+    (in_map_from (λ (c : Call). pos c.number) h.call v.entries stands) in
     h.left_out (contains_from_in order (pos n) there)
 fault_refutes kind calls order f u h v =
     let s = valid_so_far kind calls order u v in no_fault kind calls order s.0 s.1 h.place f h.stands

@@ -1,7 +1,7 @@
 -- Finding the operation with a number among operations whose numbers rise: these are sorted by the comparison with it,
 -- so what stands where the search ends names the call, or there is none.
 use Rattle.std.proofs.Common.{◌≡◌, ◌≢◌, ℕ, ℤ, pos, ◌<◌, ◌≤◌, ◌<ℤ◌, ◌⊎◌, inl, inr, List, [], ◌∷◌, length, Option}
-use Rattle.std.proofs.Common.{Some, None, AllPairs, get_or, refl, ap, sym, ◌∙◌, subst, arith}
+use Rattle.std.proofs.Common.{Some, None, AllPairs, get_or, refl, ap, sym, ◌∙◌, arith}
 use Rattle.std.proofs.lemmas.Int.{ints}
 use Rattle.std.specs.List.{cons_option}
 use Rattle.std.specs.List.Sorted.{IsNonDecreasingBy, IsPartitionPoint}
@@ -32,8 +32,7 @@ index_rises a b z l = grind (arith, ints)
 pub search_rises : (ops : List Invocation) (z : ℤ) → AllPairs (λ a b. a.number < b.number) ops
     → IsNonDecreasingBy (λ o. ordering_index (int_cmp (pos o.number) z)) ops
 search_rises ops z up i j d l m = elim (cases_order i j) [
-  | inl s ↦ subst (λ k. ordering_index (int_cmp (pos (get_or ops i d).number) z)
-      ≤ ordering_index (int_cmp (pos (get_or ops k d).number) z)) s (omega arith)
+  | inl s ↦ rw s (omega arith)
   | inr r ↦ elim r [
     | inl t ↦ let g = up i j d t m in index_rises (get_or ops i d).number (get_or ops j d).number z (omega arith)
     | inr t ↦ absurd (omega arith)

@@ -126,8 +126,7 @@ module _ (es : List Event) (certificates : List Certificate)
   same_refusal x (BadOrder y f) (NoCertificate z) a b = absurd (b.1 a.1)
   same_refusal x (BadOrder y f) (BadOrder z g) a b =
       let same = same_orders certificates d x b.1 a.1 in
-      let there = subst (λ (c : Certificate). IsFirstFault (kind_at es x) (calls_on x (denoted es)) c.order.items g)
-      same b.2 in
+      let there = rw same at b.2 in
       let fault = one_fault (kind_at es x) (calls_on x (denoted es)) a.1.certificate.order.items f g a.2 there in
       ap (λ y. BadOrder y f) (a.0 ∙ sym b.0) ∙ ap (BadOrder z) fault
   same_refusal x (NoCertificate y) s a b = absurd b
@@ -150,9 +149,8 @@ module _ (es : List Event) (certificates : List Certificate)
       let c = a.certified.certificate in
       let known = in_from_contains certificates c a.certified.stands in
       let on = a.certified.for_object in
-      a.not_named (subst (IsNamed es) on
-      (all_at (λ (c : Certificate). c.object < y → IsNamed es c.object) certificates b.least c known
-      (subst (λ k. k < y) (sym on) less)))
+      a.not_named (rw on at (all_at (λ (c : Certificate). c.object < y → IsNamed es c.object) certificates b.least c
+      known (rw on less)))
 
   same_strange : (x y : ℕ) → IsLeastStrange es certificates x → IsLeastStrange es certificates y → x ≡ y
   same_strange x y a b = elim (cases_lt x y) [

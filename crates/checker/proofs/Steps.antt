@@ -2,7 +2,7 @@
 -- whether an operation is that of the entry.
 use Rattle.std.proofs.Common.{◌≡◌, ◌≢◌, ℕ, ℤ, pos, negsuc, ◌≤ℤ◌, zero, suc, ◌<◌, ◌≤◌, ◌==◌, ◌||◌, max, Bool, true}
 use Rattle.std.proofs.Common.{false, inl, inr, List, [], ◌∷◌}
-use Rattle.std.proofs.Common.{◌++◌, length, set, Option, Some, None, AllPairs, get_or, refl, ap, sym, ◌∙◌, subst, arith}
+use Rattle.std.proofs.Common.{◌++◌, length, set, Option, Some, None, AllPairs, get_or, refl, ap, sym, ◌∙◌, arith}
 use Rattle.std.proofs.lemmas.Int.{ints}
 use Rattle.std.specs.Option.{option_map_or}
 use Rattle.std.specs.List.{list_any, cons_option}
@@ -15,7 +15,7 @@ use Rattle.model.specs.Orders.{Call, Return}
 use Rattle.model.proofs.Lists.{In, in_append, in_from_contains, contains_from_in, all_from_in, all_at, in_left}
 use Rattle.model.proofs.Lists.{in_right}
 use Rattle.events.specs.declared.operations.End.{End}
-use Rattle.events.specs.declared.operations.End.TheVariants.{Returned, Pending, Failed}
+use Rattle.events.specs.declared.operations.End.TheVariants.{Failed}
 use Rattle.events.specs.declared.operations.Invocation.{Invocation}
 use Rattle.events.specs.Operations.{call_with, call_of, calls_of, return_of}
 use Rattle.checker.specs.Faults.{call_with_number, IsGreatest}
@@ -101,16 +101,8 @@ pub call_from : (o : Invocation) → o.«end» ≢ Failed → (c : Call) × (cal
 call_from o ne = go o.«end» ne
   where
     go : (f : End) → f ≢ Failed → (c : Call) × (call_with o.number o.op f ≡ Some c)
-    go (Returned at r) h = (
-      record {
-        number = o.number;
-        op = o.op;
-        returned = Some (record { at = at; reply = r });
-      },
-      refl,
-    )
-    go Pending h = (record { number = o.number; op = o.op; returned = None }, refl)
     go Failed h = absurd (h refl)
+    go e h = (record { number = o.number; op = o.op; returned = return_of e }, refl)
 
 -- the operation of each call
 pub place_of_call : (ops : List Invocation) (c : Call) → In c (calls_of ops)
@@ -132,8 +124,7 @@ place_of_call (o ∷ ops) c i = go (call_of o) refl i (place_of_call ops c)
 pub call_at_place : (ops : List Invocation) (k : ℕ) (d : Invocation) (c : Call) → k < length ops
     → call_of (get_or ops k d) ≡ Some c → In c (calls_of ops)
 call_at_place [] k d c l e = absurd (omega arith)
-call_at_place (o ∷ ops) zero d c l e =
-    subst (λ (r : Option Call). In c (cons_option r (calls_of ops))) (sym e) (inl refl)
+call_at_place (o ∷ ops) zero d c l e = rw e (inl refl)
 call_at_place (o ∷ ops) (suc k) d c l e = behind (call_of o) (call_at_place ops k d c (omega arith) e)
   where
     behind : (r : Option Call) → In c (calls_of ops) → In c (cons_option r (calls_of ops))
@@ -159,7 +150,7 @@ one_call ops a b d up i j e =
 -- all entries are before a return that is early
 pub all_early : (greatest : Option ℕ) (o : List ℤ) (e : End) (r : Return) → TopIs greatest o → IsEarly e greatest
     → return_of e ≡ Some r → (y : ℤ) → In y o → y ≤ℤ pos r.at
-all_early None o e r t f q y i = absurd (subst (In y) t i)
+all_early None o e r t f q y i = absurd (rw t at i)
 all_early (Some g) o e r t f q y i =
     let l = f r g q refl in
     let a : y ≤ℤ pos g = all_at (λ z. z ≤ℤ pos g) o t.above y i in
@@ -169,16 +160,14 @@ all_early (Some g) o e r t f q y i =
 pub top_more : (greatest : Option ℕ) (o : List ℤ) (n top : ℕ) → TopIs greatest o
     → top ≡ option_map_or (λ by. max by n) greatest n → IsGreatest (pos top) (o ++ pos n ∷ [])
 top_more None o n top t e =
-    subst (λ o. IsGreatest (pos top) (o ++ pos n ∷ [])) (sym t)
-    (subst (λ k. IsGreatest (pos k) (pos n ∷ [])) (sym e) (record {
+    rw (t, e) (record {
       stands = contains_from_in (pos n ∷ []) (pos n) (inl refl);
       above = all_from_in (λ z. z ≤ℤ pos n) (pos n ∷ []) (λ z i. elim i [ inl q ↦ at_most n z q | inr j ↦ absurd j ]);
-    }))
+    })
 top_more (Some g) o n top t e = record {
   stands = contains_from_in (o ++ pos n ∷ []) (pos top) (elim (max_either g n) [
-    | inl q ↦ subst (λ k. In (pos k) (o ++ pos n ∷ [])) (sym (e ∙ q))
-        (in_left (pos g) o (pos n ∷ []) (in_from_contains o (pos g) t.stands))
-    | inr q ↦ subst (λ k. In (pos k) (o ++ pos n ∷ [])) (sym (e ∙ q)) (in_right (pos n) o (pos n ∷ []) (inl refl))
+    | inl q ↦ rw (e ∙ q) (in_left (pos g) o (pos n ∷ []) (in_from_contains o (pos g) t.stands))
+    | inr q ↦ rw (e ∙ q) (in_right (pos n) o (pos n ∷ []) (inl refl))
   ]);
   above = all_from_in (λ z. z ≤ℤ pos top) (o ++ pos n ∷ []) (λ z i. elim (in_append z o (pos n ∷ []) i) [
     | inl j ↦
@@ -204,8 +193,7 @@ pub away : (kind : Kind) (ops : List Invocation) (o : List ℤ) (seen : List Boo
     (d : Invocation) → Walk kind ops o seen content greatest → AtHand ops z k c → get_or seen k false ≡ false
     → In z o → ⊥
 away kind ops o seen content greatest z k c d w h fresh i =
-    stands_false (get_or ops k d).number o (sym (w.marks k d h.within) ∙ fresh)
-    (subst (λ y. In y o) (number_at ops z k c d h) i)
+    stands_false (get_or ops k d).number o (sym (w.marks k d h.within) ∙ fresh) (rw (number_at ops z k c d h) at i)
 
 -- one more entry
 pub walk_more : (kind : Kind) (ops : List Invocation) (o : List ℤ) (seen : List Bool) (content after : Content)
@@ -225,9 +213,8 @@ walk_more kind ops o seen content after greatest z k c d top up w h fresh early 
           (λ r q y i. all_early greatest o x.«end» r w.top early (parts.2 ∙ q) y i) step;
       of_kind = kept ∙ w.of_kind;
       long = length-set seen k true ∙ w.long;
-      marks = λ j e m. subst (λ y. get_or (set seen k true) j false ≡ stands_in (get_or ops j e).number (o ++ y ∷ []))
-          (sym is_z) (mark j e m);
-      top = subst (λ y. IsGreatest (pos top) (o ++ y ∷ [])) (sym is_z) (top_more greatest o x.number top w.top new_top);
+      marks = λ j e m. rw is_z (mark j e m);
+      top = rw is_z (top_more greatest o x.number top w.top new_top);
     }
   where
     nothing : (a b : Bool) → b ≡ false → (a || b) ≡ a
@@ -243,7 +230,7 @@ walk_more kind ops o seen content after greatest z k c d top up w h fresh early 
           let len = w.long in
           let l = h.within in
           let here : get_or (set seen k true) j false ≡ true =
-          ap (λ i. get_or (set seen k true) i false) q ∙ get_or-set_same seen k true false (omega arith) in
+          rw (q, get_or-set_same seen k true false (omega arith)) in
           here ∙ sym (stands_push (get_or ops j e).number (get_or ops k d).number o
           ∙ or_right (stands_in (get_or ops j e).number o) ((get_or ops k d).number == (get_or ops j e).number)
           (eq-eqb (get_or ops k d).number (get_or ops j e).number (sym same)))

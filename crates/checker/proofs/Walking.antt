@@ -1,7 +1,6 @@
 -- An order is right so far (`SoFar`) if its entries are known, stand once, are in order, and are steps along the order.
 -- One more entry keeps this, and each kind of fault contradicts one of its parts: so no place before it has a fault.
-use Rattle.std.proofs.Common.{◌≡◌, ◌≢◌, ℕ, ℤ, pos, negsuc, ◌≤ℤ◌, zero, suc, ◌<◌, inl}
-use Rattle.std.proofs.Common.{inr, List, [], ◌∷◌, ◌++◌, take}
+use Rattle.std.proofs.Common.{◌≡◌, ◌≢◌, ℕ, ℤ, pos, negsuc, ◌≤ℤ◌, zero, suc, ◌<◌, inl, inr, List, [], ◌∷◌, ◌++◌, take}
 use Rattle.std.proofs.Common.{Option, Some, option_map, Contains, slice_get, refl, ap, sym, ◌∙◌, subst, arith}
 use Rattle.std.proofs.lemmas.Int.{ints}
 use Rattle.std.specs.List.{filter_map}
@@ -102,7 +101,7 @@ pub along_at : (calls : List Call) (c : Content) (o : List ℤ) (d : Content) (j
 along_at calls c [] d j z e at h g f q = absurd (cc g)
 along_at calls c (y ∷ o) d zero z e at h g f q =
     let same : h.0 ≡ e = same_Some h.0 e (sym h.2 ∙ (ap (call_with_number calls) (same_Some y z g) ∙ f)) in
-    (h.1, subst (λ x. IsStep at x h.1) same (subst (λ x. IsStep x h.0 h.1) (same_Some c at q) h.3))
+    (h.1, rw (same, same_Some c at q) at h.3)
 along_at calls c (y ∷ o) d (suc j) z e at h g f q =
     along_at calls h.1 o d j z e at h.4 g f
     (sym (ap (λ (x : Option Content). content_after calls x (take j o)) (after_step calls c h.1 y h.0 h.2 h.3)) ∙ q)
