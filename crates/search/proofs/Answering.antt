@@ -7,9 +7,8 @@ use Rattle.model.specs.Orders.{Call, IsValidOrder}
 use Rattle.search.specs.declared.finding.Attempt.{Attempt}
 use Rattle.search.specs.declared.finding.Outcome.{Outcome}
 use Rattle.search.specs.declared.finding.Outcome.TheVariants as outcome
-use Rattle.search.specs.Outcomes.{max_operations}
+use Rattle.search.specs.Outcomes.{max_operations, IsNoneValid}
 use Rattle.search.specs.Outcomes as order
-use Rattle.search.specs.Outcomes.{IsNoneValid}
 use Rattle.search.specs.declared.found.SearchOutcome.TheVariants.{TooLarge}
 use Rattle.search.specs.Answers.{IsAnswer, IsSoundAnswer, search_for, outcome_for}
 
@@ -19,53 +18,20 @@ sound_from : (object : ℕ) (kind : Kind) (calls : List Call) (limit : ℕ) (o :
     → (o ≡ outcome.NoMemory → Any (λ call. IsSome call.returned) calls)
     → IsSoundAnswer object kind calls limit (search_for object (record { outcome = o; steps = steps }))
 sound_from object kind calls limit (outcome.Found order) steps f i s out memory =
-    record {
-      found = (refl, f);
-      impossible = λ e. absurd (cc e);
-      steps = s;
-      out_of_steps = λ e. absurd (cc e);
-      memory = λ e. absurd (cc e);
-    }
+    record { found = (refl, f); impossible = λ e. cc; steps = s; out_of_steps = λ e. cc; memory = λ e. cc }
 sound_from object kind calls limit outcome.Impossible steps f i s out memory =
-    record {
-      found = tt;
-      impossible = λ e. i refl;
-      steps = s;
-      out_of_steps = λ e. absurd (cc e);
-      memory = λ e. absurd (cc e);
-    }
+    record { found = tt; impossible = λ e. i refl; steps = s; out_of_steps = λ e. cc; memory = λ e. cc }
 sound_from object kind calls limit outcome.OutOfSteps steps f i s out memory =
-    record {
-      found = tt;
-      impossible = λ e. absurd (cc e);
-      steps = s;
-      out_of_steps = λ e. out refl;
-      memory = λ e. absurd (cc e);
-    }
+    record { found = tt; impossible = λ e. cc; steps = s; out_of_steps = λ e. out refl; memory = λ e. cc }
 sound_from object kind calls limit outcome.TooLarge steps f i s out memory =
-    record {
-      found = tt;
-      impossible = λ e. absurd (cc e);
-      steps = s;
-      out_of_steps = λ e. absurd (cc e);
-      memory = λ e. absurd (cc e);
-    }
+    record { found = tt; impossible = λ e. cc; steps = s; out_of_steps = λ e. cc; memory = λ e. cc }
 sound_from object kind calls limit outcome.NoMemory steps f i s out memory =
-    record {
-      found = tt;
-      impossible = λ e. absurd (cc e);
-      steps = s;
-      out_of_steps = λ e. absurd (cc e);
-      memory = λ e. memory refl;
-    }
+    record { found = tt; impossible = λ e. cc; steps = s; out_of_steps = λ e. cc; memory = λ e. memory refl }
 
 -- what is too large is so in both words
 large_in : (object : ℕ) (o : Outcome) → (outcome_for object o ≡ TooLarge) ↔ (o ≡ outcome.TooLarge)
-large_in object (outcome.Found order) = (λ e. absurd (cc e), λ e. absurd (cc e))
-large_in object outcome.Impossible = (λ e. absurd (cc e), λ e. absurd (cc e))
-large_in object outcome.OutOfSteps = (λ e. absurd (cc e), λ e. absurd (cc e))
 large_in object outcome.TooLarge = (λ e. refl, λ e. refl)
-large_in object outcome.NoMemory = (λ e. absurd (cc e), λ e. absurd (cc e))
+large_in object outcome = (λ e. cc, λ e. cc)
 
 pub answer_from : (object : ℕ) (kind : Kind) (calls : List Call) (limit : ℕ) (a : Attempt)
     → order.IfFound a.outcome (IsValidOrder kind calls)

@@ -1,9 +1,8 @@
 -- The operations that did not fail are the calls of the history, as many and in the same order (`calls-filter`); so
 -- how many of them returned is counted alike for both, in any order (`count-owed`).
-use Rattle.std.proofs.Common.{◌≡◌, ℕ, suc, zero, ◌+◌, ◌<◌, ◌≤◌, ◌≢◌, ◌&&◌, Bool, true, false, cond, List, [], ◌∷◌}
-use Rattle.std.proofs.Common.{Some, None, IsSome, is_some}
-use Rattle.std.proofs.Common.{length, map, filter, count_by, take, get_or, add-one, inl, All, Any, refl, ap, sym}
-use Rattle.std.proofs.Common.{◌∙◌, subst, arith}
+use Rattle.std.proofs.Common.{◌≡◌, ℕ, suc, zero, ◌+◌, ◌<◌, ◌≤◌, ◌≢◌, ◌&&◌, Bool, true, false, cond, List, [], ◌∷◌, Some}
+use Rattle.std.proofs.Common.{IsSome, is_some, length, map, filter, count_by, take, get_or, add-one, inl, All, Any}
+use Rattle.std.proofs.Common.{refl, ap, sym, ◌∙◌, subst, arith}
 use Rattle.std.specs.List.{cons_option}
 use Rattle.std.specs.List.Sorted.{IsPermutation}
 use Rattle.std.proofs.lemmas.Option.{same_Some}
@@ -17,7 +16,7 @@ use Rattle.model.specs.Orders.{Call, Return}
 use Rattle.model.proofs.Lists.{In, in_filter, in_filter_passes, in_filter_from, in_map, in_map_from}
 use Rattle.model.proofs.Lists.{contains_from_in, filter-filter, filter_same, all_from_in, all_at}
 use Rattle.events.specs.declared.operations.End.{End}
-use Rattle.events.specs.declared.operations.End.TheVariants.{Returned, Pending, Failed}
+use Rattle.events.specs.declared.operations.End.TheVariants.{Returned, Pending}
 use Rattle.events.specs.declared.operations.Invocation.{Invocation}
 use Rattle.events.specs.Operations.{call_with, call_of, calls_of, return_of, EndsAfter, IsObjectHistory, ObjectCalls}
 use Rattle.search.specs.Arranged.{as_call, call_at, owes, count_below, AreFloors, IsArranged}
@@ -35,14 +34,8 @@ calls-filter (o ∷ ops) = go o.«end» (calls-filter ops)
         → cons_option (call_with o.number o.op e) (calls_of ops)
         ≡ map as_call (cond (is_some (call_with o.number o.op e))
         (record { number = o.number; op = o.op; «end» = e } ∷ filter happens ops) (filter happens ops))
-    go (Returned at r) h = ap
-        (λ (cs : List Call). record {
-          number = o.number;
-          op = o.op;
-          returned = Some (record { at = at; reply = r });
-        } ∷ cs) h
-    go Pending h = ap (λ (cs : List Call). record { number = o.number; op = o.op; returned = None } ∷ cs) h
-    go Failed h = h
+    go (Returned at r) h = rw h
+    go e h = rw h
 
 pub length-calls : (ops : List Invocation) → length (filter happens ops) ≡ length (calls_of ops)
 length-calls ops = sym (ap length (calls-filter ops) ∙ length-map (filter happens ops) as_call)
@@ -54,8 +47,7 @@ returns_after : (number : ℕ) (ops : List Invocation) (e : End) (r : Return) �
     → return_of e ≡ Some r → number < r.at
 returns_after number ops (Returned at reply) r h q =
     subst (λ (x : Return). number < x.at) (same_Some (record { at = at; reply = reply }) r q) h.0
-returns_after number ops Pending r h q = absurd (cc q)
-returns_after number ops Failed r h q = absurd (cc q)
+returns_after number ops e r h q = absurd (cc q)
 
 -- what holds of each operation holds of those that may have happened, in any order
 all_items : (P : Invocation → Type 0) (ops items : List Invocation) → IsPermutation (filter happens ops) items
@@ -93,28 +85,18 @@ returns o = is_some (return_of o.«end»)
 abbrev pub none : Invocation
 none = record { number = 0; op = Dequeue; «end» = Pending }
 
-by_owed : (x b : Bool) → (x && true) ≡ b → x ≡ b
-by_owed true b e = e
-by_owed false b e = e
-
 count_first : (items : List Invocation) (k : ℕ) → k ≤ length items
     → count_below (owes (call_at items) []) k ≡ count_by returns (take k items)
 count_first items zero l = refl
-count_first items (suc k) l = go (owes (call_at items) [] k) refl (count_first items k (omega arith))
+count_first items (suc k) l =
+    rw (← add-one k) (go (returns (get_or items k none)) refl (count_first items k (omega arith)))
   where
-    more : count_by returns (take (k + 1) items) ≡ count_by returns (take (suc k) items)
-    more = ap (λ (x : ℕ). count_by returns (take x items)) (add-one k)
-
-    go : (b : Bool) → owes (call_at items) [] k ≡ b
+    go : (b : Bool) → returns (get_or items k none) ≡ b
         → count_below (owes (call_at items) []) k ≡ count_by returns (take k items)
-        → cond b (suc (count_below (owes (call_at items) []) k)) (count_below (owes (call_at items) []) k)
-        ≡ count_by returns (take (suc k) items)
-    go true e h =
-        let q = count_by_more_yes returns items k none (omega arith)
-        (by_owed (returns (get_or items k none)) true e) in let m = more in omega arith
-    go false e h =
-        let q = count_by_more_no returns items k none (omega arith)
-        (by_owed (returns (get_or items k none)) false e) in let m = more in omega arith
+        → cond (b && true) (suc (count_below (owes (call_at items) []) k)) (count_below (owes (call_at items) []) k)
+        ≡ count_by returns (take (k + 1) items)
+    go true e h = let q = count_by_more_yes returns items k none (omega arith) e in omega arith
+    go false e h = let q = count_by_more_no returns items k none (omega arith) e in omega arith
 
 count_kept : (ops : List Invocation) → count_by returns (filter happens ops) ≡ count_by returns ops
 count_kept ops = sym (length-filter returns (filter happens ops))
@@ -125,8 +107,7 @@ count_kept ops = sym (length-filter returns (filter happens ops))
     both : (number : ℕ) (op : AnyOp) (e : End)
         → (is_some (call_with number op e) && is_some (return_of e)) ≡ is_some (return_of e)
     both number op (Returned at r) = refl
-    both number op Pending = refl
-    both number op Failed = refl
+    both number op e = refl
 
 -- in whatever order they stand
 pub count-owed : (ops items : List Invocation) (left : ℕ) → IsPermutation (filter happens ops) items
@@ -143,27 +124,25 @@ some_returned ops ne = go (filter returns ops) refl
     happened : (number : ℕ) (op : AnyOp) (e : End) → is_some (return_of e) ≡ true
         → is_some (call_with number op e) ≡ true
     happened number op (Returned at r) q = refl
-    happened number op Pending q = refl
-    happened number op Failed q = absurd (cc q)
+    happened number op e q = absurd (cc q)
 
     found : (o : Invocation) → In o (filter returns ops) → Any (λ c. IsSome c.returned) (calls_of ops)
     found o i =
         let here = in_filter returns o ops i in
         let yes = in_filter_passes returns o ops i in
-        let call = subst (In (as_call o)) (sym (calls-filter ops))
-        (in_map_from as_call o (filter happens ops)
+        let call : In (as_call o) (calls_of ops) = rw (calls-filter ops) (in_map_from as_call o (filter happens ops)
         (in_filter_from happens o ops here (happened o.number o.op o.«end» yes))) in
         let k = contains_from_in (calls_of ops) (as_call o) call in
         (k.0, as_call o, k.1, k.2, yes)
 
     go : (os : List Invocation) → filter returns ops ≡ os → Any (λ c. IsSome c.returned) (calls_of ops)
     go [] e = absurd (ne (sym (length-filter returns ops) ∙ ap length e))
-    go (o ∷ os) e = found o (subst (In o) (sym e) (inl refl))
+    go (o ∷ os) e = found o (rw e (inl refl))
 
 pub none_returned : (ops : List Invocation) → count_by returns ops ≡ 0 → (c : Call) (r : Return) → In c (calls_of ops)
     → c.returned ≡ Some r → ⊥
 none_returned ops e c r i q =
-    let m = in_map as_call c (filter happens ops) (subst (In c) (calls-filter ops) i) in
+    let m = in_map as_call c (filter happens ops) (rw calls-filter at i) in
     let yes : returns m.0 ≡ true = ap (λ (x : Call). is_some x.returned) (sym m.2) ∙ ap is_some q in
     nothing m.0 (filter returns ops) (length-filter returns ops ∙ e)
     (in_filter_from returns m.0 ops (in_filter happens m.0 ops m.1) yes)

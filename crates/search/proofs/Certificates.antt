@@ -26,10 +26,7 @@ IsWithin limit object kind calls s = IsAnswer object kind calls limit s
 if_found : (f : SearchOutcome) (P : Certificate → Type 0) (c : Certificate) → IfFound f P
     → certificate_in f ≡ Some c → P c
 if_found (found.Found d) P c h e = subst P (same_Some d c e) h
-if_found Impossible P c h e = absurd (cc e)
-if_found OutOfSteps P c h e = absurd (cc e)
-if_found TooLarge P c h e = absurd (cc e)
-if_found NoMemory P c h e = absurd (cc e)
+if_found f P c h e = absurd (cc e)
 
 -- what is found is certified
 pub certifies : (Is : ℕ → Kind → List Call → Search → Type 0)

@@ -1,7 +1,6 @@
 -- An operation on a key of a map or set changes what the key has, and to undo it gives the key back what it had
 -- (`key_step`, `sets_back`). A lemma for each operation, by what the table has at one key and at the others.
-use Rattle.std.proofs.Common.{◌≡◌, ℤ, Bool, true, false, cond, Option, Some, None, Ordering, Less, Equal, Greater}
-use Rattle.std.proofs.Common.{refl, ap, sym, subst, ◌∙◌}
+use Rattle.std.proofs.Common.{◌≡◌, ℤ, Bool, true, false, cond, Option, Some, None, Ordering, Equal, refl, ap, sym, ◌∙◌}
 use Rattle.std.specs.Ordering.{int_cmp, is_eq, eq_by_cmp}
 use Rattle.std.specs.Cmp.{int_cmp_total}
 use Rattle.std.specs.FinMap.{get, insert, remove, get-insert, get-remove, same_map, int_cmp-IsAntisymmetric}
@@ -20,9 +19,8 @@ use Rattle.search.specs.Kinds.Map.{key_of, value_in}
 
 looked : (m : Table) (q k : ℤ) (x : Option ℤ) (r : Ordering) → r ≡ int_cmp q k
     → cond (is_eq r) (get m k) (cond (is_eq r) x (get m q)) ≡ get m q
-looked m q k x Less e = refl
 looked m q k x Equal e = ap (get m) (sym (int_cmp-IsAntisymmetric q k (sym e)))
-looked m q k x Greater e = refl
+looked m q k x r e = refl
 
 -- changed: the table after a change at k to x
 back : (m changed : Table) (k : ℤ) (x o : Option ℤ) → ((q : ℤ)
@@ -30,19 +28,14 @@ back : (m changed : Table) (k : ℤ) (x o : Option ℤ) → ((q : ℤ)
     → o ≡ get m k → undone (SetKey k o) (table changed) ≡ table m
 back m changed k x None at e =
     ap table (same_map int_cmp_total int_cmp-IsAntisymmetric _ _ (λ q.
-    get-remove int_cmp_total changed k q ∙ ap (cond (eq_by_cmp int_cmp q k) None) (at q)
-    ∙ ap (λ o. cond (eq_by_cmp int_cmp q k) o (cond (eq_by_cmp int_cmp q k) x (get m q))) e
-    ∙ looked m q k x (int_cmp q k) refl))
+    rw (get-remove int_cmp_total changed k q, at q, e) (looked m q k x (int_cmp q k) refl)))
 back m changed k x (Some v) at e =
     ap table (same_map int_cmp_total int_cmp-IsAntisymmetric _ _ (λ q.
-    get-insert int_cmp_total changed k v q ∙ ap (cond (eq_by_cmp int_cmp q k) (Some v)) (at q)
-    ∙ ap (λ o. cond (eq_by_cmp int_cmp q k) o (cond (eq_by_cmp int_cmp q k) x (get m q))) e
-    ∙ looked m q k x (int_cmp q k) refl))
+    rw (get-insert int_cmp_total changed k v q, at q, e) (looked m q k x (int_cmp q k) refl)))
 
 unchanged : (m : Table) (k q : ℤ) (r : Ordering) → r ≡ int_cmp q k → get m q ≡ cond (is_eq r) (get m k) (get m q)
-unchanged m k q Less e = refl
 unchanged m k q Equal e = ap (get m) (int_cmp-IsAntisymmetric q k (sym e))
-unchanged m k q Greater e = refl
+unchanged m k q r e = refl
 
 back_if : (so : Bool) (m : Table) (k v : ℤ) → undone (SetKey k (get m k)) (table (inserted_if so m k v)) ≡ table m
 back_if true m k v = back m (insert m k v) k (Some v) (get m k) (get-insert int_cmp_total m k v) refl
@@ -98,8 +91,7 @@ key_step : (m n : Table) (k : ℤ) (o : Option ℤ) (op : MapOp) (r : AnyReply) 
     → IsStep (table m) (map_op op) (table n) record { reply = r; undo = SetKey k o }
 key_step m n k o op r at had e = record {
   does = e;
-  back = ap (λ x. undone (SetKey k x) (table n)) had ∙ ap (λ j. undone (SetKey j (get m j)) (table n)) (sym at)
-      ∙ key_back m n op r e;
+  back = rw had (ap (λ j. undone (SetKey j (get m j)) (table n)) (sym at) ∙ key_back m n op r e);
 }
 
 -- the same, where the object was read first
@@ -136,7 +128,7 @@ del_step m n k o any r is e told = told_step m n (remove m k) k o any (Del k) r 
 -- what holds of a step holds of one that equals it
 pub same_step : (before after : Content) (op : AnyOp) (step other : Step) → step ≡ other
     → IsStep before op after other → IsStep before op after step
-same_step before after op step other is s = subst (IsStep before op after) (sym is) s
+same_step before after op step other is s = rw is s
 
 pub reply_step : (m n : Table) (op : AnyOp) (undo : Undo) (r t : AnyReply) → t ≡ r
     → IsStep (table m) op (table n) record { reply = r; undo = undo }

@@ -5,7 +5,6 @@ pub mod Owed
 pub mod Calls
 pub mod Stack
 pub mod Steps
-pub mod Levels
 pub mod Generations
 pub mod Measure
 pub mod Orders

@@ -1,5 +1,5 @@
 -- The measure of a search falls.
-use Rattle.std.proofs.Common.{◌≡◌, ℕ, ◌<◌, ◌≤◌, ◌+◌, ◌-◌, ◌*◌, subst, sym, arith}
+use Rattle.std.proofs.Common.{◌≡◌, ℕ, ◌<◌, ◌≤◌, ◌+◌, ◌-◌, ◌*◌, arith}
 use Rattle.std.proofs.Math.Nat.{mul-le-mul_left}
 
 one_step : (k n levels levels2 x x2 : ℕ) → levels2 ≤ levels + 1 → x2 ≤ n + 1
@@ -12,6 +12,4 @@ pub step_smaller : (limit steps n levels levels2 at at2 : ℕ) → steps < limit
     < (limit - steps) * (2 * (n + 2)) + levels * (n + 2) + (n + 1 - at)
 step_smaller limit steps n levels levels2 at at2 c l =
     let e : limit - steps ≡ limit - (steps + 1) + 1 = omega arith in
-    subst (λ (y : ℕ). (limit - (steps + 1)) * (2 * (n + 2)) + levels2 * (n + 2) + (n + 1 - at2)
-    < y * (2 * (n + 2)) + levels * (n + 2) + (n + 1 - at))
-    (sym e) (one_step (limit - (steps + 1)) n levels levels2 (n + 1 - at) (n + 1 - at2) l (omega arith))
+    rw e (one_step (limit - (steps + 1)) n levels levels2 (n + 1 - at) (n + 1 - at2) l (omega arith))

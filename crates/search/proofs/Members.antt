@@ -1,7 +1,6 @@
 -- An element that was added or removed is put back by the undo of its operation (`add_step`, `remove_step`). The two
 -- sets agree on each other element (`Alike`), and then on this one.
-use Rattle.std.proofs.Common.{◌≡◌, ℤ, Bool, true, false, not, ◌||◌, ◌&&◌, Ordering, Less, Equal, Greater}
-use Rattle.std.proofs.Common.{refl, ap, sym, ◌∙◌}
+use Rattle.std.proofs.Common.{◌≡◌, ℤ, Bool, true, false, not, ◌||◌, ◌&&◌, Ordering, Equal, refl, ap, sym, ◌∙◌, arith}
 use Rattle.std.specs.Ordering.{int_cmp, is_eq}
 use Rattle.std.specs.Cmp.{int_cmp_total}
 use Rattle.std.specs.FinSet.{contains, insert, remove, contains-insert, contains-remove, same_set}
@@ -20,15 +19,13 @@ Alike s t v = (q : ℤ) → is_eq (int_cmp q v) ≡ false → contains t q ≡ c
 
 added : (s t : Elements) (v q : ℤ) (r : Ordering) → r ≡ int_cmp q v → Alike s t v → true ≡ contains s v
     → (is_eq r || contains t q) ≡ contains s q
-added s t v q Less e alike at = alike q (ap is_eq (sym e))
 added s t v q Equal e alike at = at ∙ ap (contains s) (sym (int_cmp-IsAntisymmetric q v (sym e)))
-added s t v q Greater e alike at = alike q (ap is_eq (sym e))
+added s t v q r e alike at = alike q (ap is_eq (sym e))
 
 removed : (s t : Elements) (v q : ℤ) (r : Ordering) → r ≡ int_cmp q v → Alike s t v → false ≡ contains s v
     → (not (is_eq r) && contains t q) ≡ contains s q
-removed s t v q Less e alike at = alike q (ap is_eq (sym e))
 removed s t v q Equal e alike at = at ∙ ap (contains s) (sym (int_cmp-IsAntisymmetric q v (sym e)))
-removed s t v q Greater e alike at = alike q (ap is_eq (sym e))
+removed s t v q r e alike at = alike q (ap is_eq (sym e))
 
 back : (s t : Elements) (v : ℤ) (was : Bool) → Alike s t v → was ≡ contains s v
     → undone (SetElement v was) (elements t) ≡ elements s
@@ -46,10 +43,7 @@ alike_removed : (s : Elements) (v : ℤ) → Alike s (remove s v) v
 alike_removed s v q ne = contains-remove int_cmp_total s v q ∙ ap (λ b. not b && contains s q) ne
 
 not_not : (a b : Bool) → a ≡ not b → not a ≡ b
-not_not true true e = absurd (cc e)
-not_not true false e = refl
-not_not false true e = refl
-not_not false false e = absurd (cc e)
+not_not a b e = grind (arith, e)
 
 pub add_step : (s t : Elements) (v : ℤ) (so : Bool) (op : AnyOp) → op ≡ Add v
     → next (elements s) (Add v) ≡ answer (elements t) (Flag so)

@@ -1,11 +1,12 @@
 -- Valid orders of an object's calls, and orders of places that go on from nothing: each gives the other.
-use Rattle.std.proofs.Common.{◌≡◌, ◌≢◌, ℕ, ℤ, pos, ◌<◌, ◌==◌, Bool, inl, inr, List, [], ◌∷◌, Option, Some, None}
-use Rattle.std.proofs.Common.{IfSome, IsSome, length, map, filter}
-use Rattle.std.proofs.Common.{get_or, All, AllPairs, Contains, refl, ap, sym, ◌∙◌, subst, arith}
+use Rattle.std.proofs.Common.{◌≡◌, ◌≢◌, ℕ, ℤ, pos, ◌<◌, ◌==◌, Bool, inl, inr, List, [], ◌∷◌, Option, Some, None, IfSome}
+use Rattle.std.proofs.Common.{IsSome, length, map, filter, get_or, All, AllPairs, Contains, refl, ap, sym, ◌∙◌, arith}
 use Rattle.std.specs.List.Sorted.{IsPermutation}
 use Rattle.std.proofs.lemmas.Bool.{cases_eq, cases_order, eq-eqb, ne_eqb}
 use Rattle.std.proofs.lemmas.List.Sorted.{IsPermutation-sym, Contains-permutation}
 use Rattle.std.proofs.lemmas.Map.Keys.{IsDistinct-from_apart, IsDistinct-IsPermutation, apart_from_distinct}
+use Rattle.std.proofs.lemmas.Bool.Decides.{nat_tests}
+use Rattle.std.proofs.lemmas.Simd.{map-map}
 use Rattle.model.specs.declared.Kind.{Kind}
 use Rattle.model.specs.declared.AnyReply.{AnyReply}
 use Rattle.model.specs.Objects.{Content, empty}
@@ -17,7 +18,7 @@ use Rattle.events.specs.declared.operations.Invocation.{Invocation}
 use Rattle.events.specs.Operations.{calls_of}
 use Rattle.search.specs.Arranged.{as_call, call_at}
 use Rattle.search.specs.declared.finding.Outcome.{Outcome}
-use Rattle.search.specs.declared.finding.Outcome.TheVariants.{Found, Impossible, OutOfSteps, TooLarge, NoMemory}
+use Rattle.search.specs.declared.finding.Outcome.TheVariants.{Found}
 use Rattle.search.specs.declared.level.Level.{Level}
 use Rattle.search.specs.Outcomes.{IfFound}
 use Rattle.search.specs.declared.trials.Trials.{Trials}
@@ -52,10 +53,7 @@ numbers_differ ops items up p j k l m e =
     absurd (cc (t, u))
   where
     flip : (a b : ℕ) → (a == b) ≡ (b == a)
-    flip a b = elim (cases_eq a b) [
-      | inl e ↦ ap (λ (x : ℕ). x == b) e ∙ ap (λ (x : ℕ). b == x) (sym e)
-      | inr ne ↦ ne_eqb a b ne ∙ sym (ne_eqb b a (λ e. ne (sym e)))
-    ]
+    flip a b = grind (arith, nat_tests)
 
 pub listed_calls : (ops items : List Invocation) → AllPairs (λ a b. a.number < b.number) ops
     → IsPermutation (filter happens ops) items → AreListed (calls_of ops) (length items) (call_at items)
@@ -72,9 +70,9 @@ listed_calls ops items up p = record {
       let i = in_from_contains (filter happens ops) o
       (Contains-permutation items (filter happens ops) o (IsPermutation-sym (filter happens ops) items p)
       (contains_from_in items o (in_from_get items k none l))) in
-      subst (In (as_call o)) (sym (calls-filter ops)) (in_map_from as_call o (filter happens ops) i);
+      rw (calls-filter ops) (in_map_from as_call o (filter happens ops) i);
   cover = λ e i.
-      let m = in_map as_call e (filter happens ops) (subst (In e) (calls-filter ops) i) in
+      let m = in_map as_call e (filter happens ops) (rw calls-filter at i) in
       let k = Contains-permutation (filter happens ops) items m.0 p (contains_from_in (filter happens ops) m.0 m.1) in
       (k.0, k.1, sym (call_read items k.0 m.0 k.1) ∙ ap as_call k.2 ∙ sym m.2);
 }
@@ -103,7 +101,7 @@ ordered n call done c (k ∷ rest) h = onto (ordered n call (k ∷ done) h.2 res
     onto m =
         let kept : (j : ℕ) → In j rest → IsLeft n done j = λ j i. let l = m.left j i in (l.0, λ d. l.1 (inr d)) in
         record {
-          left = λ j i. elim i [ inl e ↦ subst (IsLeft n done) (sym e) h.0 | inr d ↦ kept j d ];
+          left = λ j i. elim i [ inl e ↦ rw e h.0 | inr d ↦ kept j d ];
           apart = (λ j i e. (m.left j i).1 (inl (sym e)), m.apart);
           in_time = (λ j i b. h.1 j (kept j i) (λ e. (m.left j i).1 (inl e)) b, m.in_time);
           replies = (h.2, h.3.reply, h.3.does, replied (call k).returned h.3.reply h.3.agrees, m.replies);
@@ -121,29 +119,22 @@ valid_from kind calls n call rest order a h eo =
     let m = ordered n call [] (empty kind) rest h in
     record {
       entries = map call rest;
-      numbers = eo ∙ twice rest;
-      known = all_from_in (Contains calls) (map call rest)
-          (λ e i. let k = in_map call e rest i in
-          contains_from_in calls e (subst (λ (x : Call). In x calls) (sym k.2) (a.known k.0 (m.left k.0 k.1).0)));
-      once = subst (AllPairs (λ x y. x ≢ y)) (sym eo)
-          (all_from_pairs (λ x y. x ≢ y) (map (λ k. pos (call k).number) rest)
+      numbers = eo ∙ sym (map-map (λ e. pos e.number) call rest);
+      known = all_from_in (Contains calls) (map call rest) (λ e i. let k = in_map call e rest i in
+          contains_from_in calls e (rw k.2 (a.known k.0 (m.left k.0 k.1).0)));
+      once = rw eo (all_from_pairs (λ x y. x ≢ y) (map (λ k. pos (call k).number) rest)
           (pairs_map (λ x y. x ≢ y) (λ k. pos (call k).number) rest
           (pairs_weaker (λ j k. j ≢ k) (λ j k. pos (call j).number ≢ pos (call k).number) rest
           (λ j k i l ne e. ne (a.apart j k (m.left j i).0 (m.left k l).0 (same_pos _ _ e))) m.apart)));
       whole = all_from_in (λ e. IsSome e.returned → Contains (map call rest) e) calls (λ e i some.
           let k = a.cover e i in
           let r = returned_some e.returned some in
-          contains_from_in (map call rest) e
-          (subst (λ (x : Call). In x (map call rest)) k.2
-          (in_map_from call k.0 rest (m.whole k.0 r.0 (k.1, λ z. z) (ap (λ (x : Call). x.returned) k.2 ∙ r.1)))));
+          contains_from_in (map call rest) e (rw k.2 at (in_map_from call k.0 rest
+          (m.whole k.0 r.0 (k.1, λ z. z) (ap (λ (x : Call). x.returned) k.2 ∙ r.1)))));
       in_order = all_from_pairs (λ x y. ReturnsBefore y x → ⊥) (map call rest)
           (pairs_map (λ x y. ReturnsBefore y x → ⊥) call rest m.in_time);
       replies = m.replies;
     }
-  where
-    twice : (ks : List ℕ) → map (λ k. pos (call k).number) ks ≡ map (λ e. pos e.number) (map call ks)
-    twice [] = refl
-    twice (k ∷ ks) = ap (λ (zs : List ℤ). pos (call k).number ∷ zs) (twice ks)
 
 -- ---- and back
 
@@ -152,14 +143,12 @@ pub none_valid : (kind : Kind) (calls : List Call) (n : ℕ) (call : ℕ → Cal
 none_valid kind calls n call a dead order v =
     let number : Call → ℤ = λ e. pos e.number in
     let apart = pairs_weaker (λ x y. number x ≢ number y) (λ x y. x ≢ y) v.entries (λ x y i j ne e. ne (ap number e))
-    (pairs_from_map (λ x y. x ≢ y) number v.entries
-    (subst (Pairs (λ x y. x ≢ y)) v.numbers (pairs_from_all (λ x y. x ≢ y) order v.once))) in
+    (pairs_from_map (λ x y. x ≢ y) number v.entries (rw v.numbers at (pairs_from_all (λ x y. x ≢ y) order v.once))) in
     let r = goes_on_from n call [] (empty kind) v.entries (λ j k l m e. a.apart j k l m (ap (λ (x : Call). x.number) e))
     (λ e i. a.cover e (in_from_contains calls e (all_at (Contains calls) v.entries v.known e i)))
     (λ k l i z. z)
     (λ k r l e. in_from_contains v.entries (call k)
-    (all_at (λ e. IsSome e.returned → Contains v.entries e) calls v.whole (call k) (a.known k l.0)
-    (subst IsSome (sym e) refl)))
+    (all_at (λ e. IsSome e.returned → Contains v.entries e) calls v.whole (call k) (a.known k l.0) (rw e refl)))
     apart (pairs_from_all (λ x y. ReturnsBefore y x → ⊥) v.entries v.in_order) v.replies in
     dead r.0 r.1
 
@@ -193,13 +182,11 @@ places_within t levels h = all_from_in (λ l. l.place < length t.items.items) le
 pub order_found : (t : Trials) (levels : List Level) (order : List ℤ)
     → Continues (length t.items.items) (call_at t.items.items) [] (empty t.kind) (places levels)
     → order ≡ map (λ l. pos (call_at t.items.items l.place).number) levels → IsOrderOf t order
-order_found t levels order h e = record { rest = places levels; goes_on = h; numbers = e ∙ twice levels }
-  where
-    twice : (ls : List Level)
-        → map (λ l. pos (call_at t.items.items l.place).number) ls
-        ≡ map (λ k. pos (call_at t.items.items k).number) (places ls)
-    twice [] = refl
-    twice (l ∷ ls) = ap (λ (zs : List ℤ). pos (call_at t.items.items l.place).number ∷ zs) (twice ls)
+order_found t levels order h e = record {
+  rest = places levels;
+  goes_on = h;
+  numbers = e ∙ sym (map-map (λ k. pos (call_at t.items.items k).number) (λ l. l.place) levels);
+}
 
 pub found_valid : (t : Trials) (calls : List Call) (order : List ℤ)
     → AreListed calls (length t.items.items) (call_at t.items.items) → IsOrderOf t order
@@ -210,7 +197,4 @@ found_valid t calls order a h =
 pub IfFound-weaker : (o : Outcome) (P Q : List ℤ → Type 0) → ((order : List ℤ) → P order → Q order) → IfFound o P
     → IfFound o Q
 IfFound-weaker (Found order) P Q f h = f order.items h
-IfFound-weaker Impossible P Q f h = tt
-IfFound-weaker OutOfSteps P Q f h = tt
-IfFound-weaker TooLarge P Q f h = tt
-IfFound-weaker NoMemory P Q f h = tt
+IfFound-weaker o P Q f h = tt

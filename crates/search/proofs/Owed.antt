@@ -1,6 +1,6 @@
 -- How many calls that returned are left: none exactly where each has been placed (`none_owed`), one less after such a
 -- call is placed (`owes_placed`), and as many after a pending one. By induction on the count below a bound.
-use Rattle.std.proofs.Common.{◌≡◌, ◌≢◌, ℕ, zero, suc, ◌<◌, ◌==◌, ◌&&◌, ◌||◌, not, Bool, true, false, cond, ◌⊎◌, inl}
+use Rattle.std.proofs.Common.{◌≡◌, ◌≢◌, ℕ, zero, suc, ◌<◌, ◌==◌, ◌&&◌, not, Bool, true, false, cond, ◌⊎◌, inl}
 use Rattle.std.proofs.Common.{inr, List, [], ◌∷◌, Option, Some, None, is_some, refl, ap, sym, ◌∙◌, arith}
 use Rattle.std.specs.List.{list_any}
 use Rattle.std.proofs.lemmas.Bool.{cases_eq, eqb-true, eq-eqb, ne_eqb, or_cases, or_left, or_right}
@@ -28,30 +28,24 @@ count_some f (suc n) l = go (f n) refl l (count_some f n)
     go true q h more = (n, omega arith, q)
     go false q h more = let r = more h in (r.0, (let l = r.1 in omega arith), r.2)
 
-pub count_same : (f g : ℕ → Bool) (n : ℕ) → ((k : ℕ) → k < n → f k ≡ g k) → count_below f n ≡ count_below g n
+count_same : (f g : ℕ → Bool) (n : ℕ) → ((k : ℕ) → k < n → f k ≡ g k) → count_below f n ≡ count_below g n
 count_same f g zero h = refl
-count_same f g (suc n) h =
-    ap (λ b. cond b (suc (count_below f n)) (count_below f n)) (h n (omega arith))
-    ∙ ap (λ (m : ℕ). cond (g n) (suc m) m) (count_same f g n (λ k l. h k (omega arith)))
+count_same f g (suc n) h = rw (h n (omega arith), count_same f g n (λ k l. h k (omega arith)))
 
-pub count_one_less : (f g : ℕ → Bool) (n at : ℕ) → at < n → f at ≡ true → g at ≡ false
-    → ((k : ℕ) → k ≢ at → f k ≡ g k) → count_below f n ≡ suc (count_below g n)
-count_one_less f g zero at l t u h = absurd (omega arith)
-count_one_less f g (suc n) at l t u h = elim (cases_eq n at) [
-  | inl e ↦
-      ap (λ b. cond b (suc (count_below f n)) (count_below f n)) (ap f e ∙ t)
-      ∙ ap suc (count_same f g n (λ k m. h k (λ q. let q' : k ≡ at = q in let e' : n ≡ at = e in omega arith)))
-      ∙ sym (ap (λ b. suc (cond b (suc (count_below g n)) (count_below g n))) (ap g e ∙ u))
-  | inr ne ↦
-      let ne' : n ≢ at = ne in
-      let r = count_one_less f g n at (omega arith) t u h in
-      ap (λ b. cond b (suc (count_below f n)) (count_below f n)) (h n ne) ∙ ap (λ (m : ℕ). cond (g n) (suc m) m) r
-      ∙ pushed (g n) (count_below g n)
+-- f and g agree except at one place, at which g fails
+count_moved : (f g : ℕ → Bool) (n at : ℕ) → at < n → g at ≡ false → ((k : ℕ) → k ≢ at → f k ≡ g k)
+    → count_below f n ≡ cond (f at) (suc (count_below g n)) (count_below g n)
+count_moved f g zero at l u h = absurd (omega arith)
+count_moved f g (suc n) at l u h = elim (cases_eq n at) [
+  | inl e ↦ rw (e, u, count_same f g at (λ k m. h k (λ q. omega (arith, q))))
+  | inr ne ↦ rw (h n ne, count_moved f g n at (omega (arith, ne)) u h) (swap (f at) (g n) (count_below g n))
 ]
   where
-    pushed : (b : Bool) (m : ℕ) → cond b (suc (suc m)) (suc m) ≡ suc (cond b (suc m) m)
-    pushed true m = refl
-    pushed false m = refl
+    swap : (a b : Bool) (m : ℕ) → cond b (suc (cond a (suc m) m)) (cond a (suc m) m)
+        ≡ cond a (suc (cond b (suc m) m)) (cond b (suc m) m)
+    swap true true m = refl
+    swap true false m = refl
+    swap false b m = refl
 
 -- ---- owing, by facts
 
@@ -95,33 +89,22 @@ none_owed n call done e j r l q =
     let u = count_zero (owes call done) n j e l.0 in
     absurd (cc (t, u))
 
-pub owes_placed : (n : ℕ) (call : ℕ → Call) (done : List ℕ) (at : ℕ) → IsLeft n done at
-    → is_some (call at).returned ≡ true
-    → count_below (owes call done) n ≡ suc (count_below (owes call (at ∷ done)) n)
-owes_placed n call done at l t = count_one_less (owes call done) (owes call (at ∷ done)) n at l.0 here gone others
+-- with one more place done there is one less if its call returned
+pub owes_more : (n : ℕ) (call : ℕ → Call) (done : List ℕ) (at : ℕ) → IsLeft n done at → count_below (owes call done) n
+    ≡ cond (is_some (call at).returned) (suc (count_below (owes call (at ∷ done)) n))
+    (count_below (owes call (at ∷ done)) n)
+owes_more n call done at l =
+    rw (← here (is_some (call at).returned) (list_any (λ j. j == at) done) refl) (
+    count_moved (owes call done) (owes call (at ∷ done)) n at l.0 gone others
+    )
   where
-    here : owes call done at ≡ true
-    here = go (list_any (λ j. j == at) done) refl
-      where
-        go : (b : Bool) → list_any (λ j. j == at) done ≡ b → (is_some (call at).returned && not b) ≡ true
-        go true q = absurd (l.1 (any_in at done q))
-        go false q = grind (arith, t)
+    here : (a b : Bool) → list_any (λ j. j == at) done ≡ b → (a && not b) ≡ a
+    here a true q = absurd (l.1 (any_in at done q))
+    here true false q = refl
+    here false false q = refl
 
     gone : owes call (at ∷ done) at ≡ false
     gone = let e = eq-eqb at at refl in grind (arith, e)
 
     others : (k : ℕ) → k ≢ at → owes call done k ≡ owes call (at ∷ done) k
-    others k ne =
-        let e = ne_eqb at k (λ q. ne (sym q)) in
-        ap (λ b. is_some (call k).returned && not (b || list_any (λ j. j == k) done)) (sym e)
-
-pub owes_pending : (n : ℕ) (call : ℕ → Call) (done : List ℕ) (at : ℕ) → is_some (call at).returned ≡ false
-    → count_below (owes call done) n ≡ count_below (owes call (at ∷ done)) n
-owes_pending n call done at t = count_same (owes call done) (owes call (at ∷ done)) n (λ k l. each k (cases_eq k at))
-  where
-    each : (k : ℕ) → ((k ≡ at) ⊎ (k ≢ at)) → owes call done k ≡ owes call (at ∷ done) k
-    each k (inl e) =
-        let u : is_some (call k).returned ≡ false = ap (λ (x : ℕ). is_some (call x).returned) e ∙ t in grind (arith, u)
-    each k (inr ne) =
-        let e = ne_eqb at k (λ q. ne (sym q)) in
-        ap (λ b. is_some (call k).returned && not (b || list_any (λ j. j == k) done)) (sym e)
+    others k ne = rw (ne_eqb at k (λ q. ne (sym q)))

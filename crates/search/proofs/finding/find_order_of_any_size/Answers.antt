@@ -14,7 +14,7 @@ returns-then-left-eq0-clause-found c =
     let h = c.args.history.now in
     let none = sym (c.return_count-left.ensures ∙ ap (count_by returns) c.ops-operations.ensures.ops)
     ∙ c.if-left-eq0.true in
-    subst (IsValidOrder h.kind (calls_of h.ops)) (sym c.new.ensures.items)
+    rw c.new.ensures.items
     (nothing_valid h.kind (calls_of h.ops) (none_returned h.ops none))
 
 pub search_operations-requires-clause-few : goal.search_operations-requires-clause-few

@@ -1,6 +1,6 @@
 -- `search_operations`: an order that is found is valid, and an impossible search means that none is. The trials
 -- list the calls of the history, so an order of the trials is one of the calls (`found_valid`, `none_valid`).
-use Rattle.std.proofs.Common.{◌≡◌, ℤ, List, [], length, subst}
+use Rattle.std.proofs.Common.{◌≡◌, ℤ, List, [], length}
 use Rattle.std.proofs.lemmas.Result.{IfOk-weaker}
 use Rattle.model.specs.Objects.{empty}
 use Rattle.model.specs.Orders.{IsValidOrder}
@@ -24,9 +24,8 @@ returns-clause-found c =
     let h = c.args.history.now in
     let t = c.in_ok-trials.trials in
     let listed = listed_calls h.ops t.items.items c.ops.ensures.kept.rising c.in_ok-trials.ensures.items in
-    let valid = λ (order : List ℤ) (p : IsOrderOf t order). subst
-    (λ kind. IsValidOrder kind (calls_of h.ops) order) c.in_ok-trials.ensures.kind
-    (found_valid t (calls_of h.ops) order listed p) in
+    let valid = λ (order : List ℤ) (p : IsOrderOf t order).
+    rw c.in_ok-trials.ensures.kind at (found_valid t (calls_of h.ops) order listed p) in
     IfOk-weaker c.search_from_start.result (λ o. IfFound o (IsOrderOf t))
     (λ o. IfFound o (IsValidOrder h.kind (calls_of h.ops)))
     (λ o p. IfFound-weaker o (IsOrderOf t) (IsValidOrder h.kind (calls_of h.ops)) valid p)
@@ -40,6 +39,7 @@ returns-clause-impossible c =
     IfOk-weaker c.search_from_start.result
     (λ o. o ≡ Impossible → IsDead (length t.items.items) (call_at t.items.items) [] (empty t.kind))
     (λ o. o ≡ Impossible → IsNoneValid h.kind (calls_of h.ops))
-    (λ o dead e. subst (λ kind. IsNoneValid kind (calls_of h.ops)) c.in_ok-trials.ensures.kind
-    (none_valid t.kind (calls_of h.ops) (length t.items.items) (call_at t.items.items) listed (dead e)))
+    (λ o dead e. rw c.in_ok-trials.ensures.kind at (
+    none_valid t.kind (calls_of h.ops) (length t.items.items) (call_at t.items.items) listed (dead e)
+    ))
     c.search_from_start.ensures.impossible

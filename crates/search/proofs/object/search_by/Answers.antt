@@ -10,6 +10,5 @@ returns c =
     let calls = calls_of h.ops in
     let r = c.find_order.result in
     let e = c.find_order.ensures in
-    subst (IsAnswer h.object h.kind calls c.args.limit)
-    (sym (c.answer_of.ensures ∙ ap (λ (x : ℕ). search_for x r) c.object.ensures))
+    rw (c.answer_of.ensures ∙ ap (λ (x : ℕ). search_for x r) c.object.ensures)
     (answer_from h.object h.kind calls c.args.limit r e.found e.impossible e.steps e.out_of_steps e.too_large e.memory)

@@ -8,20 +8,17 @@ use Rattle.search.proofs.walk.least_return.Goals as goal
 
 pub loop-at-init : goal.loop-at-init
 loop-at-init c = λ done link.
-    let nx = c.args.undone.now.next.items in
     let long = link.long_next in
-    least_first c.args.trials.now.items.items done nx c.args.undone.now.before.items c.index.result.now link
-    (c.index.ensures ∙ get_or_default nx 0 _ 0 (omega arith))
+    least_first c.args.trials.now.items.items link
+    (c.index.ensures ∙ get_or_default c.args.undone.now.next.items 0 _ 0 (omega arith))
 
 pub loop-at-smaller : goal.loop-at-smaller
 loop-at-smaller c =
     let nx = c.args.undone.now.next.items in
     let h = c.requires.linked in
-    let m = c.loop-at.invariant h.0 h.1 in
     let t = c.loop-at-test.true in
     let at = c.loop-at.at in
-    let s = next_stop (length c.args.trials.now.items.items) h.0 nx c.args.undone.now.before.items at h.1 m.1
-    (omega arith) in
+    let s = next_stop h.1 (c.loop-at.invariant h.0 h.1).1 (omega arith) in
     let up = s.0.rises in
     let e = c.index-in-loop-at-3.ensures ∙ get_or_default nx (at + 1) _ 0 s.1 ∙ ap (λ x. get_or nx x 0) (add-one at) in
     omega arith
@@ -29,17 +26,14 @@ loop-at-smaller c =
 pub loop-at-preserved : goal.loop-at-preserved
 loop-at-preserved c = λ done link.
     let nx = c.args.undone.now.next.items in
+    let items = c.args.trials.now.items.items in
     let m = c.loop-at.invariant done link in
     let t = c.loop-at-test.true in
     let at = c.loop-at.at in
-    let s = next_stop (length c.args.trials.now.items.items) done nx c.args.undone.now.before.items at link m.1
-    (omega arith) in
-    least_step c.args.trials.now.items.items c.index-in-loop-at-2.result.now done nx c.args.undone.now.before.items at
-    c.index-in-loop-at-3.result.now
-    c.loop-at.least c.earlier-least.result link m (omega arith)
-    (ap as_call c.index-in-loop-at-2.ensures ∙ call_read c.args.trials.now.items.items at _ (omega arith))
-    (c.index-in-loop-at-3.ensures ∙ get_or_default nx (at + 1) _ 0 s.1) c.earlier-least.ensures.below
-    c.earlier-least.ensures.own c.earlier-least.ensures.either
+    least_step items c.index-in-loop-at-2.result.now link m (omega arith)
+    (ap as_call c.index-in-loop-at-2.ensures ∙ call_read items at _ (omega arith))
+    (c.index-in-loop-at-3.ensures ∙ get_or_default nx (at + 1) _ 0 (next_stop link m.1 (omega arith)).1)
+    c.earlier-least.ensures.below c.earlier-least.ensures.own c.earlier-least.ensures.either
 
 pub returns-else-index-least : goal.returns-else-index-least
 returns-else-index-least c = λ done link.
@@ -51,13 +45,9 @@ returns-else-index-least c = λ done link.
     let inside : at < length floors = omega arith in
     let e = c.index-in-loop-at.ensures ∙ get_or_default floors at _ 0 inside in
     let f = c.if-index-least.false in
-    least_last c.args.trials.now.kind c.args.trials.now.items.items c.args.trials.now.floors.items floors done
-    c.args.trials.now.pending at c.loop-at.least t (c.loop-at.invariant done link).0 (inr (omega arith))
+    least_last t (c.loop-at.invariant done link).0 (inr (omega arith))
 
 pub returns-after-loop-at : goal.returns-after-loop-at
 returns-after-loop-at c = λ done link.
-    let t = c.requires.trials in
     let l = c.loop-at-test.false in
-    least_last c.args.trials.now.kind c.args.trials.now.items.items c.args.trials.now.floors.items
-    c.args.trials.now.return_floors.items done c.args.trials.now.pending c.loop-at.at c.loop-at.least t
-    (c.loop-at.invariant done link).0 (inl (omega arith))
+    least_last c.requires.trials (c.loop-at.invariant done link).0 (inl (omega arith))

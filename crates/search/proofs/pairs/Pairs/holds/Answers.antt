@@ -1,8 +1,5 @@
-use Rattle.std.proofs.Common.{◌≡◌, ◌<◌, ◌-◌, length, ◌∙◌, subst, arith}
+use Rattle.std.proofs.Common.{◌<◌, ◌-◌, length, ◌∙◌, arith}
 use Rattle.std.proofs.lemmas.List.{get_or_default}
-use Rattle.search.specs.Undoing.{content_of, content_kept}
-use Rattle.search.specs.declared.pairs.Pair.{Pair}
-use Rattle.search.specs.Links.{Lists}
 use Rattle.search.proofs.pairs.Pairs.holds.Goals as goal
 
 pub returns-then-is_pair : goal.returns-then-is_pair
@@ -14,8 +11,6 @@ returns-then-is_pair c = λ u.
     let yes = c.if-is_pair.true in (
       r - 1,
       l,
-      λ d. subst (λ (p : Pair). (p.high ≡ c.args.high) × Lists c.args.undone.now.next.items 0 p.undone.items c.args.high
-          × (content_kept p.content ≡ content_of c.args.object.now))
-          (c.index.ensures ∙ get_or_default c.args.self.now.pairs.items (r - 1) _ d l)
+      λ d. rw (← (c.index.ensures ∙ get_or_default c.args.self.now.pairs.items (r - 1) _ d l))
           (c.is_pair.ensures.high yes, c.is_pair.ensures.undone yes, c.is_pair.ensures.same yes),
     )

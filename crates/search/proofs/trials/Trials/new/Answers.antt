@@ -1,9 +1,6 @@
 -- `Trials::new`: the trials are the operations that did not fail, arranged. They are a permutation of these, so
 -- they are few (`items_few`), and the floors and `pending` are right of them (`arranged`).
-use Rattle.std.proofs.Common.{ℕ, ◌<◌, List, IsSome, filter, length, true, false, ap, sym, ◌∙◌, subst, arith}
-use Rattle.std.specs.List.Sorted.{IsPermutation}
-use Rattle.events.specs.declared.operations.Invocation.{Invocation}
-use Rattle.search.specs.Arranged.{AreFloors, IsArranged, call_at}
+use Rattle.std.proofs.Common.{filter, length, ap, ◌∙◌, arith}
 use Rattle.search.proofs.Calls.{happens, items_few, arranged}
 use Rattle.search.proofs.trials.Trials.new.Goals as goal
 
@@ -12,7 +9,7 @@ first_pending-pending-requires c =
     let h = c.args.history.now in
     let items = c.arrange.new.items.items in
     let e = c.in_ok-items.ensures ∙ ap (filter happens) c.ops.ensures.ops in
-    let same = items_few h.ops items (subst (λ (xs : List Invocation). IsPermutation xs items) e c.arrange.ensures) in
+    let same = items_few h.ops items (rw e at c.arrange.ensures) in
     let long = ap length c.deref-3.ensures.value in
     let few = c.requires.few in
     omega arith
@@ -25,12 +22,8 @@ returns-clause-arranged c =
     let return_floors = c.in_ok-return_floors.return_floors.items in
     let pending = c.first_pending-pending.result in
     let e = c.in_ok-items.ensures ∙ ap (filter happens) c.ops.ensures.ops in
-    subst (λ kind. IsArranged kind items floors return_floors pending) (sym c.kind-kind.ensures)
-    (arranged h items floors return_floors pending c.ops.ensures.kept c.requires.few
-    (subst (λ (xs : List Invocation). IsPermutation xs items) e c.arrange.ensures)
-    (subst (λ (xs : List Invocation). AreFloors true xs floors) c.deref.ensures.value c.in_ok-floors.ensures)
-    (subst (λ (xs : List Invocation). AreFloors false xs return_floors) c.deref-2.ensures.value
-    c.in_ok-return_floors.ensures)
+    rw c.kind-kind.ensures (arranged h items floors return_floors pending c.ops.ensures.kept c.requires.few
+    (rw e at c.arrange.ensures) (rw c.deref.ensures.value at c.in_ok-floors.ensures)
+    (rw c.deref-2.ensures.value at c.in_ok-return_floors.ensures)
     (let w = c.first_pending-pending.ensures.within in let d = ap length c.deref-3.ensures.value in omega arith)
-    (subst (λ (xs : List Invocation). (k : ℕ) → k < pending → IsSome (call_at xs k).returned) c.deref-3.ensures.value
-    c.first_pending-pending.ensures.returned))
+    (rw c.deref-3.ensures.value at c.first_pending-pending.ensures.returned))

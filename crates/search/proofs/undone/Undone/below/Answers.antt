@@ -12,7 +12,7 @@ returns-then-high-place c =
     let long = i.linked.long_next in
     let w = i.within in
     let l : c.loop-places.slot < length nx = omega arith in
-    listed_end nx c.loop-places.places.items c.loop-places.slot c.args.high c.index-place.result.now i.front l
+    listed_end _ _ _ _ _ i.front l
     (sym (c.index-place.ensures ∙ get_or_default nx c.loop-places.slot _ 0 l)) (inl c.if-high-place.true)
 
 pub returns-then-len-place : goal.returns-then-len-place
@@ -22,7 +22,7 @@ returns-then-len-place c =
     let long = i.linked.long_next in
     let w = i.within in
     let l : c.loop-places.slot < length nx = omega arith in
-    listed_end nx c.loop-places.places.items c.loop-places.slot c.args.high c.index-place.result.now i.front l
+    listed_end _ _ _ _ _ i.front l
     (sym (c.index-place.ensures ∙ get_or_default nx c.loop-places.slot _ 0 l)) (inr (omega arith))
 
 pub loop-places-preserved : goal.loop-places-preserved
@@ -32,8 +32,6 @@ loop-places-preserved c =
     let long = i.linked.long_next in
     let w = i.within in
     let l : c.loop-places.slot < length nx = omega arith in
-    let s = below_step i.n i.done nx c.args.self.now.before.items c.loop-places.places.items c.push.new.self.items
-    c.loop-places.slot
-    c.index-place.result.now c.args.high i.linked i.within i.slot i.front
+    let s = below_step _ _ _ _ _ _ _ _ _ i.linked i.within i.slot i.front
     (c.index-place.ensures ∙ get_or_default nx c.loop-places.slot _ 0 l) (omega arith) c.in_ok-push.ensures.items in
     record { n = i.n; done = i.done; linked = i.linked; within = s.0; slot = s.1; front = s.2 }

@@ -5,8 +5,7 @@ use Rattle.search.proofs.undone.Undone.is_below.Goals as goal
 
 pub returns-then-high-place : goal.returns-then-high-place
 returns-then-high-place c =
-    λ u. below_end c.args.self.now.next.items c.deref-2.result.now c.args.places.now c.loop-place.place-index
-    c.loop-place.slot c.args.high c.in-Some.place.now c.deref-2.ensures.value c.loop-place.invariant
+    λ u. below_end _ _ _ _ _ _ _ c.deref-2.ensures.value c.loop-place.invariant
     c.loop-place-test.false c.in-Some.ensures.lookup.3 (inl c.if-high-place.true)
 
 pub returns-else-high-place : goal.returns-else-high-place
@@ -14,7 +13,5 @@ returns-else-high-place c = λ u.
     let t = leb-true c.len.result (c.in-Some.place.now + 1) u in
     let q = ap length c.deref-2.ensures.value in
     let w = c.len.ensures in
-    below_end c.args.self.now.next.items c.deref-2.result.now c.args.places.now c.loop-place.place-index
-    c.loop-place.slot c.args.high
-    c.in-Some.place.now c.deref-2.ensures.value c.loop-place.invariant c.loop-place-test.false
+    below_end _ _ _ _ _ _ _ c.deref-2.ensures.value c.loop-place.invariant c.loop-place-test.false
     c.in-Some.ensures.lookup.3 (inr (omega arith))

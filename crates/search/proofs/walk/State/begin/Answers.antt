@@ -2,11 +2,10 @@
 -- because both sets of dead ones are new.
 use Rattle.std.proofs.Common.{◌≡◌, [], length, ◌∙◌, subst, arith}
 use Rattle.std.proofs.lemmas.List.{get_or_default}
-use Rattle.model.specs.Objects.{empty}
 use Rattle.search.specs.Arranged.{call_at}
 use Rattle.search.specs.Links.{Linked}
 use Rattle.search.specs.Searching.{IsWindow}
-use Rattle.search.proofs.Levels.{begun}
+use Rattle.search.proofs.Stack.{placed}
 use Rattle.search.proofs.Generations.{none_dead}
 use Rattle.search.proofs.walk.State.begin.Goals as goal
 
@@ -16,7 +15,7 @@ returns-clause-search c =
     let items = t.items.items in
     let u = c.in_ok-undone.undone in
     let len : c.len.result ≡ length items = omega (arith, c.len.ensures) in
-    let link = subst (λ n. Linked n [] u.next.items u.before.items) len c.in_ok-undone.ensures in
+    let link = rw len at c.in_ok-undone.ensures in
     let long = link.long_next in
     let window : IsWindow (length items) (call_at items) []
     (record { least = c.least_return-least.result; pending = t.pending }) = record {
@@ -25,12 +24,9 @@ returns-clause-search c =
       stop = record { within = c.requires.trials.within; left = λ m i. absurd i };
     } in
     record {
-      walk = begun (length items) (call_at items)
-          (empty t.kind) _ c.new-2.result.items u.next.items u.before.items c.index-at.result.now
-          (record { least = c.least_return-least.result; pending = t.pending }) c.args.left c.new-2.ensures.items
-          c.empty-object.ensures link
+      walk = rw c.new-2.ensures.items (placed (c.empty-object.ensures, link)
           (c.index-at.ensures ∙ get_or_default u.next.items 0 _ 0 (omega arith)) window c.requires.counts
-          c.requires.owed;
+          c.requires.owed);
       dead = record {
         older = none_dead t c.in_ok-dead.dead.older.pairs.items c.in_ok-dead.ensures.older;
         younger = none_dead t c.in_ok-dead.dead.younger.pairs.items c.in_ok-dead.ensures.younger;

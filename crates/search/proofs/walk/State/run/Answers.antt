@@ -1,11 +1,8 @@
 -- `run`: the walk ends with an order, with none possible, or out of steps. Each place that is passed is dead: it is
 -- invoked too late, or its operation is not possible. The measure falls at each turn.
-use Rattle.std.proofs.Common.{◌<◌, length, reverse, inl, inr, ap, ◌∙◌, arith}
+use Rattle.std.proofs.Common.{◌<◌, length, inl, inr, ap, ◌∙◌, arith}
 use Rattle.std.proofs.lemmas.List.{get_or_default}
-use Rattle.model.specs.Objects.{empty}
-use Rattle.search.specs.Undoing.{content_of}
 use Rattle.search.specs.Arranged.{as_call}
-use Rattle.search.specs.Searching.{places, befores}
 use Rattle.search.proofs.Measure.{step_smaller}
 use Rattle.search.proofs.Steps.{dead_here, dead_too_late, dead_impossible, call_read}
 use Rattle.search.proofs.walk.State.run.Goals.{then-at-len-via-then-at-len, then-at-len-via-else-at-len+then-index-self}
@@ -17,10 +14,7 @@ pub come_back-requires-clause-dead_here : goal.come_back-requires-clause-dead_he
 come_back-requires-clause-dead_here c =
     let s = c.loop-self.self in
     let t = c.args.trials.now in
-    dead_here t.kind t.items.items t.floors.items t.return_floors.items t.pending (empty t.kind)
-    (reverse s.levels.items) (befores (reverse s.levels.items) (content_of s.object))
-    (content_of s.object) s.undone.next.items s.undone.before.items s.high s.at s.window s.left c.requires.trials
-    c.loop-self.invariant.search.walk
+    dead_here c.requires.trials c.loop-self.invariant.search.walk
     (elim c.then-at-len.branch [
       | then-at-len-via-then-at-len w ↦ inl (omega (arith, w.if-at-len.true))
       | then-at-len-via-else-at-len+then-index-self w ↦
@@ -34,18 +28,13 @@ pub pass-requires-clause-dead_at : goal.pass-requires-clause-dead_at
 pass-requires-clause-dead_at c =
     let s = c.loop-self.self in
     let t = c.args.trials.now in
-    let l : s.at < length t.items.items = omega (arith, c.if-at-len.false) in
-    let here = ap as_call c.index-item.ensures ∙ call_read t.items.items s.at _ l in
+    let here = ap as_call c.index-item.ensures ∙ call_read t.items.items s.at _ (omega (arith, c.if-at-len.false)) in
     elim c.then-item-self.branch [
       | then-item-self-via-then-item-self w ↦
-          dead_too_late t.kind t.items.items t.floors.items t.return_floors.items t.pending c.index-item.result.now
-          (empty t.kind)
-          (reverse s.levels.items) (befores (reverse s.levels.items) (content_of s.object))
-          (content_of s.object) s.undone.next.items
-          s.undone.before.items s.high s.at s.window s.left c.requires.trials c.loop-self.invariant.search.walk l here
+          dead_too_late c.requires.trials c.loop-self.invariant.search.walk c.index-item.result.now here
           (omega (arith, w.if-item-self.true)) w.if-item-self.true
-      | then-item-self-via-else-item-self+then-not-is_possible w ↦ dead_impossible t.items.items c.index-item.result.now
-          (places (reverse s.levels.items)) (content_of s.object) s.at here
+      | then-item-self-via-else-item-self+then-not-is_possible w ↦
+          dead_impossible t.items.items c.index-item.result.now _ here
           (λ h. let p = w.is_possible.ensures.1 h in let f = w.if-not-is_possible.true in absurd (cc (p, f)))
     ]
 
