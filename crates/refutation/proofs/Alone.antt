@@ -1,8 +1,7 @@
 -- The calls of a part, alone, are a history, and its calls are these. It is linearizable exactly where they have a
 -- valid order. The same holds of the operations at the numbers of a part.
-use Rattle.std.proofs.Common.{◌≡◌, ◌≢◌, ◌⊎◌, inl, inr, ℕ, ◌<◌, ◌==◌, nat_lt, Bool, true, false, cond}
-use Rattle.std.proofs.Common.{List, [], ◌∷◌, Option, Some, None, map, filter, AllPairs, All}
-use Rattle.std.proofs.Common.{refl, ap, sym, ◌∙◌, subst, arith}
+use Rattle.std.proofs.Common.{◌≡◌, ◌≢◌, ◌⊎◌, inl, inr, ℕ, ◌<◌, ◌==◌, nat_lt, Bool, true, false, cond, List, [], ◌∷◌}
+use Rattle.std.proofs.Common.{Option, Some, None, map, filter, AllPairs, All, refl, ap, sym, ◌∙◌, arith}
 use Rattle.std.specs.Option.{option_or}
 use Rattle.std.proofs.lemmas.Option.{same_Some}
 use Rattle.std.proofs.lemmas.Bool.{eqb-true, eqb-false, eq-eqb, and_from}
@@ -12,7 +11,7 @@ use Rattle.model.specs.declared.AnyOp.{AnyOp}
 use Rattle.model.specs.Histories.{Event, Inv, Res, process_of, by_process, IsSequential}
 use Rattle.model.specs.Linearizable.{IsLinearizable}
 use Rattle.model.specs.Orders.{Numbered, events, Return, Call, ProcessCall, response_in, response_of, begins}
-use Rattle.model.specs.Orders.{calls_in, calls_on, IsHistory, IsValidOrder}
+use Rattle.model.specs.Orders.{calls_in, calls_on, IsHistory}
 use Rattle.model.proofs.Lists.{In, Pairs, in_filter, in_filter_from, in_map, pairs_filter, pairs_map, pairs_weaker}
 use Rattle.model.proofs.Lists.{all_from_in, all_from_pairs, pairs_from_all}
 use Rattle.locality.specs.Locality.{HasValidOrder}
@@ -63,18 +62,10 @@ placed_rise m [] up ne = (λ y i. absurd i, tt)
 placed_rise m (n ∷ later) up ne = go (nat_lt n.number m.number) refl (placed_rise m later up.1 (λ k i. ne k (inr i)))
   where
     first : n.number < m.number → (y : Numbered) → In y (placed m later) → n.number < y.number
-    first l y i = elim (in_placed m y later i) [
-      | inl q ↦ subst (λ (k : Numbered). n.number < k.number)
-          (sym q) l
-      | inr j ↦ up.0 y j
-    ]
+    first l y i = elim (in_placed m y later i) [ inl q ↦ rw q l | inr j ↦ up.0 y j ]
 
     front : m.number < n.number → (y : Numbered) → In y (n ∷ later) → m.number < y.number
-    front l y i = elim i [
-      | inl q ↦ subst (λ (k : Numbered). m.number < k.number)
-          (sym q) l
-      | inr j ↦ let g = up.0 y j in omega arith
-    ]
+    front l y i = elim i [ inl q ↦ rw q l | inr j ↦ (let g = up.0 y j in omega arith) ]
 
     go : (b : Bool) → nat_lt n.number m.number ≡ b → Rise (placed m later)
         → Rise (cond b (n ∷ placed m later) (m ∷ n ∷ later))
@@ -150,9 +141,7 @@ calls_placed p x r later f = place later f
   where
     same : (number : ℕ) (v : Event) (later : List Numbered) (others : List ProcessCall) → process_of v ≢ p
         → begins number v (placed (response p x r) later) others ≡ begins number v later others
-    same number (Inv q y op) later others ne = ap
-        (λ (o : Option Return). made q y number op o ∷ others)
-        (response_placed_other q y (response p x r) later (λ e. ne (sym e)))
+    same number (Inv q y op) later others ne = rw (response_placed_other q y (response p x r) later (λ e. ne (sym e)))
     same number (Res q y s) later others ne = refl
 
     place : (later : List Numbered) → IsFree p later → calls_in (placed (response p x r) later) ≡ calls_in later
@@ -183,21 +172,9 @@ in_return p x (Some r) y later i = grind (arith, in_placed)
 in_alone : (x : ℕ) (calls : List Call) (m : Numbered) → In m (alone x calls) → IsOf x calls m
 in_alone x [] m i = absurd i
 in_alone x (e ∷ es) m i = elim i [
-  | inl q ↦ record {
-    call = e;
-    known = inl refl;
-    process = ap (λ (k : Numbered). process_of k.event) q;
-    either = inl
-        (ap (λ (k : Numbered). k.number) q);
-  }
+  | inl q ↦ record { call = e; known = inl refl; process = rw q; either = inl (rw q) }
   | inr j ↦ elim (in_return e.number x e.returned m (alone x es) j) [
-    | inl q ↦ record {
-      call = e;
-      known = inl refl;
-      process = ap
-          (λ (k : Numbered). process_of k.event) q.2;
-      either = inr (q.0, q.1, ap (λ (k : Numbered). k.number) q.2);
-    }
+    | inl q ↦ record { call = e; known = inl refl; process = rw q.2; either = inr (q.0, q.1, rw q.2) }
     | inr k ↦ let o = in_alone x es m k in
         record { call = o.call; known = inr o.known; process = o.process; either = o.either }
   ]
@@ -215,19 +192,15 @@ alone_rise : (x : ℕ) (calls : List Call) → AreApart calls → Rise (alone x 
 alone_rise x [] h = tt
 alone_rise x (e ∷ es) h = (first, rest e.returned refl (alone_rise x es (later_apart e es h)))
   where
-    number_after : (y : Call) (r : Return) (n : ℕ) → In y es → y.returned ≡ Some r → n ≡ r.at → e.number < n
-    number_after y r n i q s = let g = (h.pairs.0 y i).0 in let t = h.ends y r (inr i) q in omega arith
-
     first : (y : Numbered) → In y (with_return e.number x e.returned (alone x es)) → e.number < y.number
     first y i = elim (in_return e.number x e.returned y (alone x es) i) [
-      | inl q ↦ let t = h.ends e q.0 (inl refl) q.1 in let s = ap (λ (k : Numbered). k.number) q.2 in subst
-          (λ n. e.number < n) (sym s) t
+      | inl q ↦ rw q.2 (h.ends e q.0 (inl refl) q.1)
       | inr j ↦
           let o = in_alone x es y j in
+          let g = (h.pairs.0 o.call o.known).0 in
           elim o.either [
-            | inl s ↦ subst (λ n. e.number < n) (sym s)
-                (h.pairs.0 o.call o.known).0
-            | inr s ↦ number_after o.call s.0 y.number o.known s.1 s.2
+            | inl s ↦ rw s g
+            | inr s ↦ rw s.2 (let u = h.ends o.call s.0 (inr o.known) s.1 in omega arith)
           ]
     ]
 
@@ -245,9 +218,7 @@ alone_calls_in x [] h = refl
 alone_calls_in x (e ∷ es) h =
     let free = free_later x e es h in
     let rest = alone_calls_in x es (later_apart e es h) in
-    ap (λ (o : Option Return). made e.number x e.number e.op o
-    ∷ calls_in (with_return e.number x e.returned (alone x es))) (back e.returned free)
-    ∙ ap (λ os. own_call x e ∷ os) (others e.returned free ∙ rest)
+    rw (back e.returned free, others e.returned free, rest)
   where
     back : (o : Option Return) → IsFree e.number (alone x es)
         → response_of e.number x (with_return e.number x o (alone x es)) ≡ o
@@ -267,8 +238,7 @@ of_object x [] = refl
 of_object x (e ∷ es) = grind (arith, nat_tests, of_object x es)
 
 pub alone_calls : (x : ℕ) (calls : List Call) → AreApart calls → calls_on x (alone x calls) ≡ calls
-alone_calls x calls h = ap (λ os. map (λ (o : ProcessCall). o.call) (filter (λ (o : ProcessCall). o.object == x) os))
-    (alone_calls_in x calls h) ∙ of_object x calls
+alone_calls x calls h = rw (alone_calls_in x calls h) (of_object x calls)
 
 alone_formed : (x : ℕ) (calls : List Call) → AreApart calls → (p : ℕ)
     → IsSequential (by_process p (events (alone x calls)))
@@ -277,10 +247,9 @@ alone_formed x (e ∷ es) h p = go (e.number == p) refl (alone_formed x es (late
   where
     own : (o : Option Return) → IsFree p (alone x es) → e.number ≡ p
         → IsSequential (Inv e.number x e.op ∷ by_process p (events (with_return e.number x o (alone x es))))
-    own None free q = subst (λ (vs : List Event). IsSequential (Inv e.number x e.op ∷ vs))
-        (sym (by_free p (alone x es) free)) refl
-    own (Some r) free q = subst (λ (vs : List Event). IsSequential (Inv e.number x e.op ∷ vs))
-        (sym (by_placed_own p (record { number = r.at; event = Res e.number x r.reply }) (alone x es) q free))
+    own None free q = rw (by_free p (alone x es) free) refl
+    own (Some r) free q =
+        rw (by_placed_own p (record { number = r.at; event = Res e.number x r.reply }) (alone x es) q free)
         (and_from (e.number == e.number) (x == x) (eq-eqb e.number e.number refl) (eq-eqb x x refl), tt)
 
     other : (o : Option Return) → e.number ≢ p
@@ -294,8 +263,8 @@ alone_formed x (e ∷ es) h p = go (e.number == p) refl (alone_formed x es (late
         (by_process p (events (with_return e.number x e.returned (alone x es)))))
     go true q below =
         let same = eqb-true e.number p q in
-        own e.returned (subst (λ k. IsFree k (alone x es)) same (free_later x e es h)) same
-    go false q below = subst IsSequential (sym (other e.returned (eqb-false e.number p q))) below
+        own e.returned (rw same at (free_later x e es h)) same
+    go false q below = rw (other e.returned (eqb-false e.number p q)) below
 
 pub alone_history : (x : ℕ) (calls : List Call) → AreApart calls → IsHistory (alone x calls)
 alone_history x calls h = record {
@@ -345,19 +314,12 @@ call_events (m ∷ h) e up i = go m.event refl i (call_events h e up.1)
 
     here : (p x : ℕ) (op : AnyOp) → m.event ≡ Inv p x op
         → e ≡ made p x m.number op (response_of p x h) → HasEvents (m ∷ h) e
-    here p x op q s = subst (HasEvents (m ∷ h)) (sym s) (record {
+    here p x op q s = rw s (record {
       invocation = m;
       invoked = inl refl;
       number = refl;
       op = q;
-      response = λ r t. let n = response_event p x h r t in (
-        n.0,
-        inr n.1,
-        n.2,
-        n.3,
-        subst (λ k. m.number < k) n.2
-            (up.0 n.0 n.1),
-      );
+      response = λ r t. let n = response_event p x h r t in (n.0, inr n.1, n.2, n.3, rw n.2 at (up.0 n.0 n.1));
     })
 
     go : (v : Event) → m.event ≡ v → In e (begins m.number v h (calls_in h)) → (In e (calls_in h) → HasEvents h e)
@@ -401,26 +363,17 @@ calls_apart h a b hist i j l = (l, λ r q. (other r q, both r q))
         let process : a.process ≡ b.process = ap process_of (sym m.3 ∙ event ∙ n.3) in
         let p : ℕ = a.process in
         let in_part : (e : ProcessCall) → In e (calls_in h) → e.process ≡ p → In e (calls_in (part p h)) = λ e k f.
-        subst (In e) (sym (calls_in-part p h))
+        rw (calls_in-part p h)
         (in_filter_from (λ (o : ProcessCall). o.process == p) e (calls_in h) k (eq-eqb e.process p f)) in
         elim (either_way Before (calls_in (part p h)) a b
         (one_after_another p (part p h) (turn_view h hist p) (part_up h hist p)) (in_part a i refl)
         (in_part b j (sym process))) [
-          | inl e ↦ unequal (number_of a) (number_of b) l (ap number_of e)
+          | inl e ↦ omega (arith, ap number_of e)
           | inr w ↦ elim w [
-            | inl f ↦ first f.0 r s (same_Some f.0 r (sym f.1 ∙ q)) f.2 n.4 same
-            | inr f ↦ second f.0 s (same_Some f.0 s (sym f.1 ∙ t)) f.2 n.4
+            | inl f ↦ omega (arith, ap (λ (z : Return). z.at) (same_Some f.0 r (sym f.1 ∙ q)), f.2, n.4)
+            | inr f ↦ omega (arith, ap (λ (z : Return). z.at) (same_Some f.0 s (sym f.1 ∙ t)), f.2, n.4)
           ]
         ]
-      where
-        unequal : (x y : ℕ) → x < y → x ≡ y → ⊥
-        unequal x y l e = omega arith
-
-        first : (f r s : Return) → f ≡ r → f.at < number_of b → number_of b < s.at → r.at ≡ s.at → ⊥
-        first f r s e g k same = let o = ap (λ (z : Return). z.at) e in omega arith
-
-        second : (f s : Return) → f ≡ s → f.at < number_of a → number_of b < s.at → ⊥
-        second f s e g k = let o = ap (λ (z : Return). z.at) e in omega arith
 
 pub history_apart : (x : ℕ) (h : List Numbered) → IsHistory h → AreApart (calls_on x h)
 history_apart x h hist = record {
@@ -433,39 +386,34 @@ history_apart x h hist = record {
       let own = call_events h e.0 (pairs_from_all (λ a b. a.number < b.number) h hist.rising)
       (in_filter (λ (e : ProcessCall). e.object == x) e.0 (calls_in h) e.1) in
       let m = own.response r (sym (ap (λ (z : Call). z.returned) e.2) ∙ q) in
-      subst (λ (z : Call). z.number < r.at) (sym e.2) m.4;
+      rw e.2 m.4;
 }
 
 -- ---- calls of a part
 
 timed_apart : (calls part : List Call) → AreTimed calls part → AreApart calls → AreApart part
-timed_apart calls part t h = subst AreApart (sym t.named) (record {
+timed_apart calls part t h = rw t.named (record {
   pairs = pairs_filter_map Apart Apart t.becomes calls
       (λ x y a b i j d e f. kept x y a b d (t.timed x a i e) (t.timed y b j f)) h.pairs;
   ends = λ c r i q.
       let y = in_filter_map t.becomes c calls i in
       let w = t.timed y.0 c y.1 y.2 in
       let u = w.returned r q in
-      later y.0.number c.number u.0.at r.at (h.ends y.0 u.0 y.1 u.1) w.number u.2;
+      let l = h.ends y.0 u.0 y.1 u.1 in
+      omega (arith, w.number, u.2);
 })
   where
-    later : (n m a b : ℕ) → n < a → m ≡ n → a ≡ b → m < b
-    later n m a b l e f = omega arith
-
     kept : (x y a b : Call) → Apart x y → IsTimed a x → IsTimed b y → Apart a b
     kept x y a b d v w = (
-      less x.number y.number a.number b.number d.0 v.number w.number,
+      omega (arith, d.0, v.number, w.number),
       λ r q.
           let u = v.returned r q in
           let o = d.1 u.0 u.1 in
           (λ e. o.0 (u.2 ∙ e ∙ w.number), λ s t e. let z = w.returned s t in o.1 z.0 z.1 (u.2 ∙ e ∙ sym z.2)),
     )
-      where
-        less : (a b c d : ℕ) → a < b → c ≡ a → d ≡ b → c < d
-        less a b c d l e f = omega arith
 
 named_apart : (cuts : List Cut) (calls part : List Call) → AreApart calls → NamesPart cuts calls part → AreApart part
-named_apart [] calls part h k = subst AreApart (sym k) h
+named_apart [] calls part h k = rw k h
 named_apart (cut ∷ cuts) calls part h k =
     let rising = pairs_weaker Apart (λ x y. x.number < y.number) calls (λ x y i j d. d.0) h.pairs in
     named_apart cuts k.0 part (timed_apart calls k.0 (timed_named cut calls k.0 rising k.1) h) k.2
@@ -482,7 +430,7 @@ pub alone_refuted : (kind : Kind) (x : ℕ) (calls : List Call) → AreApart cal
     → IsNoneValid kind calls → IsLinearizable (λ y. kind) (events (alone x calls)) → ⊥
 alone_refuted kind x calls apart orders none lin =
     let order = orders (λ y. kind) (alone x calls) (alone_history x calls apart) lin x in
-    none order.0 (subst (λ cs. IsValidOrder kind cs order.0) (alone_calls x calls apart) order.1)
+    none order.0 (rw (alone_calls x calls apart) at order.1)
 
 pub alone_possible : (kind : Kind) (x : ℕ) (calls : List Call) → AreApart calls
     → ((kinds : ℕ → Kind) (h : List Numbered) → IsHistory h → All (λ e. HasValidOrder kinds h e.object) (calls_in h)
@@ -492,10 +440,8 @@ alone_possible kind x calls apart named not order v =
     not (named (λ y. kind) (alone x calls) (alone_history x calls apart)
     (all_from_in (λ (e : ProcessCall). HasValidOrder (λ y. kind) (alone x calls) e.object)
     (calls_in (alone x calls)) (λ e i.
-    let o = in_map (own_call x) e calls
-    (subst (In e) (alone_calls_in x calls apart) i) in
-    subst (HasValidOrder (λ y. kind) (alone x calls)) (sym (ap (λ (z : ProcessCall). z.object) o.2))
-    (order, subst (λ cs. IsValidOrder kind cs order) (sym (alone_calls x calls apart)) v))))
+    let o = in_map (own_call x) e calls (rw (alone_calls_in x calls apart) at i) in
+    rw o.2 (order, rw (alone_calls x calls apart) v))))
 
 -- ---- the operations of a part, as the history says them
 

@@ -1,14 +1,14 @@
 -- A reason that refutes one object of a history refutes the history (`refutes`, by locality): the answer is on the
 -- object whose number the reason has, or there is no such object (`answered`, `answer_is`).
 use Rattle.std.proofs.Common.{◌≡◌, ◌≢◌, ◌↔◌, ℕ, ◌<◌, ◌+◌, take, List, [], ◌∷◌, ◌++◌, length, get_or, map, true}
-use Rattle.std.proofs.Common.{All, Any, Contains, inl, inr, refl, ap, sym, ◌∙◌, subst}
+use Rattle.std.proofs.Common.{All, Any, Contains, inl, inr, refl, ap, sym, ◌∙◌}
 use Rattle.std.specs.Prelude.{Result, Ok, Err, IfOk}
 use Rattle.std.specs.List.{AllZip}
 use Rattle.std.proofs.lemmas.List.{take_more}
 use Rattle.std.specs.declared.alloc.AllocError.{AllocError}
 use Rattle.model.specs.Linearizable.{IsLinearizable}
 use Rattle.model.specs.declared.Kind.{Kind}
-use Rattle.model.specs.Orders.{Numbered, Call, IsHistory, IsValidOrder, events, calls_on}
+use Rattle.model.specs.Orders.{Numbered, Call, IsHistory, events, calls_on}
 use Rattle.model.proofs.Lists.{In, in_append, in_map, in_map_from, in_from_contains, contains_from_in, all_at}
 use Rattle.locality.specs.Locality.{HasValidOrder}
 use Rattle.events.specs.declared.event.Event.{Event}
@@ -18,7 +18,7 @@ use Rattle.search.specs.Outcomes.{IsNoneValid}
 use Rattle.projection.specs.Cuts.{NamesPart}
 use Rattle.refutation.specs.declared.reason.Reason.{Reason}
 use Rattle.refutation.specs.declared.refuting.Refutation.{Refutation}
-use Rattle.refutation.specs.declared.refuting.Refutation.TheVariants.{Impossible, NotShown, NoPart, OtherObject}
+use Rattle.refutation.specs.declared.refuting.Refutation.TheVariants.{NoPart, OtherObject}
 use Rattle.refutation.specs.Refutations.{is_impossible, IfPart, IfImpossible, IfNotShown, IsDoubt, IsNamedPart}
 use Rattle.refutation.specs.Refutations.{HasNoValidOrder, IsShownBy, IsAnswerOn, IsAnswer}
 
@@ -34,8 +34,7 @@ none_among es objects kinds calls orders h some lin =
     let k = all_at (λ (o : ObjectCalls). o.kind ≡ kind_at es o.object) objects kinds o i in
     let cs = all_at (λ (o : ObjectCalls). calls_of o.ops ≡ calls_on o.object (denoted es)) objects calls o i in
     let order = orders (kind_at es) (denoted es) h lin o.object in
-    some.4 order.0 (subst (λ (z : Kind). IsValidOrder z (calls_of o.ops) order.0) (sym k)
-    (subst (λ (z : List Call). IsValidOrder (kind_at es o.object) z order.0) (sym cs) order.1))
+    some.4 order.0 (rw (k, cs) order.1)
 
 -- each answer so far that is impossible refutes the history
 abbrev pub AreRefutations : Type 0 → List Refutation → Type 0
@@ -43,7 +42,7 @@ AreRefutations Not answers = (r : Refutation) → In r answers → is_impossible
 
 pub one_more : (Not : Type 0) (answers more : List Refutation) (r : Refutation) → more ≡ answers ++ r ∷ []
     → (is_impossible r ≡ true → Not) → AreRefutations Not answers → AreRefutations Not more
-one_more Not answers more r e one all x i p = elim (in_append x answers (r ∷ []) (subst (In x) e i)) [
+one_more Not answers more r e one all x i p = elim (in_append x answers (r ∷ []) (rw e at i)) [
   | inl j ↦ all x j p
   | inr j ↦ elim j [ inl q ↦ one (ap is_impossible (sym q) ∙ p) | inr k ↦ absurd k ]
 ]
@@ -51,16 +50,13 @@ one_more Not answers more r e one all x i p = elim (in_append x answers (r ∷ [
 zip_push : {X Y : Type 0} (R : X → Y → Type 0) (xs : List X) (ys : List Y) (x : X) (y : Y) → AllZip R xs ys → R x y
     → AllZip R (xs ++ x ∷ []) (ys ++ y ∷ [])
 zip_push R [] [] x y h r = (r, tt)
-zip_push R [] (w ∷ ys) x y h r = absurd h
-zip_push R (z ∷ xs) [] x y h r = absurd h
 zip_push R (z ∷ xs) (w ∷ ys) x y h r = (h.0, zip_push R xs ys x y h.1 r)
+zip_push R xs ys x y h r = absurd h
 
 pub zip_more : {X Y : Type 0} (R : X → Y → Type 0) (xs : List X) (ys : List Y) (i : ℕ) (x : X) (y : Y) → i < length xs
     → x ≡ get_or xs i x
     → AllZip R (take i xs) ys → R x y → AllZip R (take (i + 1) xs) (ys ++ y ∷ [])
-zip_more R xs ys i x y lt is h r =
-    subst (λ l. AllZip R l (ys ++ y ∷ [])) (ap (λ z. take i xs ++ z ∷ []) is ∙ sym (take_more xs i x lt))
-    (zip_push R (take i xs) ys x y h r)
+zip_more R xs ys i x y lt is h r = rw (take_more xs i x lt, ← is) (zip_push R (take i xs) ys x y h r)
 
 pub refutes : (Not : Type 0) (answers : List Refutation) → AreRefutations Not answers
     → Any (λ r. is_impossible r ≡ true) answers → Not
@@ -86,7 +82,7 @@ answered objects i o reason (Ok r) lt is e none part shown doubt refused = λ ow
   e,
   record {
     impossible = none;
-    part = subst (λ x. IfPart r (IsNamedPart reason.cuts.items x o.kind (calls_of o.ops))) e part;
+    part = rw e at part;
     shown = shown;
     not_shown = doubt;
     no_part = refused;
@@ -117,19 +113,18 @@ answer_is es objects reason r kinds calls named on other = go r refl
         let a = on q in
         let o : ObjectCalls = a.0 in
         let i = in_from_contains objects o a.1 in
-        let k = all_at (λ (o : ObjectCalls). o.kind ≡ kind_at es o.object) objects kinds o i ∙ ap (kind_at es) a.2 in
-        let cs = all_at (λ (o : ObjectCalls). calls_of o.ops ≡ calls_on o.object (denoted es)) objects calls o i
-        ∙ ap (λ x. calls_on x (denoted es)) a.2 in
-        subst (λ (z : Kind). IsAnswerOn z (calls_on reason.object (denoted es)) reason r) k
-        (subst (λ (z : List Call). IsAnswerOn o.kind z reason r) cs a.3)
+        let k = rw a.2 at (all_at (λ (o : ObjectCalls). o.kind ≡ kind_at es o.object) objects kinds o i) in
+        let cs = rw a.2 at (all_at (λ (o : ObjectCalls). calls_of o.ops ≡ calls_on o.object (denoted es)) objects calls
+        o i) in
+        rw (k, cs) at a.3
 
     known : r ≢ OtherObject → IsNamed es reason.object
     known q =
         let a = on q in
         let o : ObjectCalls = a.0 in
         (named reason.object).0 (contains_from_in (map (λ o. o.object) objects) reason.object
-        (subst (λ x. In x (map (λ o. o.object) objects)) a.2
-        (in_map_from (λ (o : ObjectCalls). o.object) o objects (in_from_contains objects o a.1))))
+        (rw a.2 at (
+        in_map_from (λ (o : ObjectCalls). o.object) o objects (in_from_contains objects o a.1))))
 
     unknown : r ≡ OtherObject → IsNamed es reason.object → ⊥
     unknown q n =
@@ -141,21 +136,12 @@ answer_is es objects reason r kinds calls named on other = go r refl
     whole q = record { on = own q; other_object = unknown; own_object = known }
 
     go : (z : Refutation) → r ≡ z → IsAnswer es reason r
-    go (Impossible part) e = whole (λ q. absurd (cc (e, q)))
-    go (NotShown part doubt) e = whole (λ q. absurd (cc (e, q)))
-    go NoPart e = whole (λ q. absurd (cc (e, q)))
     go OtherObject e = record {
-      on = subst (IsAnswerOn (kind_at es reason.object) (calls_on reason.object (denoted es)) reason) (sym e)
-          (record {
-            impossible = λ q. absurd (cc q);
-            part = tt;
-            shown = tt;
-            not_shown = tt;
-            no_part = λ q. absurd (cc q);
-          });
+      on = rw e (record { impossible = λ q. absurd (cc q); part = tt; shown = tt; not_shown = tt; no_part = λ q. cc });
       other_object = unknown;
       own_object = known;
     }
+    go z e = whole (λ q. absurd (cc (e, q)))
 
 -- no order is valid of the object that was answered
 pub refuted_among : (objects : List ObjectCalls) (reason : Reason) (r : Refutation)

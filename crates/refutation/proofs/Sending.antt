@@ -1,6 +1,6 @@
 -- What goes out one after the other: elements, cuts and lines.
 use Rattle.std.proofs.Common.{◌≡◌, ℕ, ◌+◌, ◌<◌, Bool, true, false, List, [], ◌∷◌, ◌++◌, length}
-use Rattle.std.proofs.Common.{take, drop, get_or, Result, Ok, Err, refl, ap, sym, ◌∙◌, subst}
+use Rattle.std.proofs.Common.{take, drop, get_or, Result, Ok, Err, refl, ap, sym, ◌∙◌}
 use Rattle.std.specs.Prelude.{codes, OnOk}
 use Rattle.std.specs.List.{AllByRecursion}
 use Rattle.std.specs.List.Sorted.{IsStrictlySortedBy}
@@ -8,8 +8,7 @@ use Rattle.std.proofs.lemmas.List.{drop_more, take_more}
 use Rattle.edn_reader.specs.Text.{between}
 use Rattle.projection.specs.declared.cutting.Cut.{Cut}
 use Rattle.refutation.specs.declared.reason.Reason.{Reason}
-use Rattle.refutation.specs.Lines.{naturals_text, numbers_text, cut_text, cuts_text, line_of}
-use Rattle.refutation.specs.Lines.{lines_of}
+use Rattle.refutation.specs.Lines.{naturals_text, numbers_text, cut_text, cuts_text, line_of, lines_of}
 use Rattle.refutation.specs.Written.{AreNumberKeys}
 
 -- what follows from an `Ok`
@@ -43,8 +42,7 @@ pub all_taken_item : {X : Type 0} (P : X → Type 0) (xs : List X) (i : ℕ) (x 
     ≡ get_or xs i x
     → AllByRecursion P (take i xs) → P x → AllByRecursion P (take (i + 1) xs)
 all_taken_item {X} P xs i x lt e h p =
-    subst (AllByRecursion P) (sym (take_more xs i x lt))
-    (all_with P (take i xs) (get_or xs i x) h (subst P e p))
+    rw (take_more xs i x lt) (all_with P (take i xs) (get_or xs i x) h (rw e at p))
 
 pub cuts_left : (cs : List Cut) (i : ℕ) (c : Cut) (first : Bool) → i < length cs → c ≡ get_or cs i c
     → cuts_text first (drop i cs) ≡ (between first (codes " ") ++ cut_text c) ++ cuts_text false

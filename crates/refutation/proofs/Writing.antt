@@ -1,23 +1,19 @@
 -- The lines that are written for reasons spell forms that denote them: the text of each form is the line, the form is
 -- well-formed and can be read back, and what it denotes is the reason. Each by cases of what a reason is made of.
-use Rattle.std.proofs.Common.{◌≡◌, ℕ, ◌≤◌, ◌==◌, Bool, true, false, suc, List, [], ◌∷◌, ◌++◌, map}
-use Rattle.std.proofs.Common.{Option, Some, None, lit<, refl, ap, sym, ◌∙◌, subst, append_assoc}
-use Rattle.std.proofs.Common.{arith, get_or}
-use Rattle.std.specs.Prelude.{ℤ, pos, codes, decimal, if◌then◌else◌, option_map, option_and_then}
+use Rattle.std.proofs.Common.{◌≡◌, ℕ, ◌≤◌, ◌==◌, Bool, true, false, suc, List, [], ◌∷◌, ◌++◌, map, Option, Some, None}
+use Rattle.std.proofs.Common.{lit<, refl, ap, sym, ◌∙◌, append_assoc, arith, get_or}
+use Rattle.std.specs.Prelude.{ℤ, pos, codes, decimal, if◌then◌else◌}
 use Rattle.std.specs.Fmt.{signed_decimal}
 use Rattle.std.specs.List.{AllByRecursion}
 use Rattle.std.specs.List.Sorted.{IsStrictlySortedBy}
 use Rattle.std.specs.Ordering.{nat_cmp, int_cmp}
-use Rattle.std.specs.BTreeSet.{insert_key}
 use Rattle.std.proofs.lemmas.List.{append-nil}
 use Rattle.std.proofs.lemmas.Bool.{le-leb}
 use Rattle.std.proofs.lemmas.Bool.Decides.{nat_tests}
 use Rattle.std.proofs.lemmas.Cmp.{nat_cmp_total, int_cmp_total}
 use Rattle.edn_reader.specs.Bytes.{is_name}
-use Rattle.edn_reader.specs.Datum.{Datum, integer, keyword, boolean, atom, vector, dictionary}
-use Rattle.edn_reader.specs.Datum.{Entries, no_entries, entry, items_of, Fits, ItemsFit}
-use Rattle.edn_reader.specs.Datum.{EntriesFit, Lacks, max_open}
-use Rattle.edn_reader.specs.Spells.{Spells}
+use Rattle.edn_reader.specs.Datum.{Datum, integer, keyword, boolean, atom, vector, dictionary, Entries, no_entries}
+use Rattle.edn_reader.specs.Datum.{entry, items_of, Fits, ItemsFit, EntriesFit, Lacks, max_open}
 use Rattle.edn_reader.specs.Text.{between, IsInt64, InProfile, ItemsInProfile, EntriesInProfile}
 use Rattle.edn_reader.specs.Text.{text_of, items_text, entries_text}
 use Rattle.edn_reader.specs.Text as edn
@@ -27,8 +23,7 @@ use Rattle.edn_fields.specs.Fields.{same_bytes, value_at}
 use Rattle.projection.specs.declared.keeping.Values.{Values}
 use Rattle.projection.specs.declared.keeping.Values.TheVariants.{All, Only}
 use Rattle.projection.specs.declared.cutting.Cut.{Cut}
-use Rattle.projection.specs.declared.cutting.Cut.TheVariants.{From, Until, Without, Keep, Cell}
-use Rattle.projection.specs.declared.cutting.Cut.TheVariants.{Entry}
+use Rattle.projection.specs.declared.cutting.Cut.TheVariants.{From, Until, Without, Keep, Cell, Entry}
 use Rattle.projection.specs.declared.counting.Counted.{Counted}
 use Rattle.projection.specs.declared.counting.Counted.TheVariants as counted
 use Rattle.search.specs.declared.trials.TryFirst.{TryFirst}
@@ -37,13 +32,10 @@ use Rattle.refutation.specs.declared.reason.Basis.{Basis}
 use Rattle.refutation.specs.declared.reason.Basis.TheVariants.{Search, Counting, Ahead}
 use Rattle.refutation.specs.declared.reason.Reason.{Reason}
 use Rattle.refutation.specs.Denotes as spec
-use Rattle.refutation.specs.Denotes.{max_number, integers_with, numbers_with, values_in}
-use Rattle.refutation.specs.Denotes.{numbers_in, cut_in, cuts_with, basis_in, reason_in}
-use Rattle.refutation.specs.Denotes.{reason_with, CutSeen, seen_values, seen_cut, seen}
-use Rattle.refutation.specs.Lines.{integers_text, naturals_text, values_text, numbers_text}
-use Rattle.refutation.specs.Lines.{cut_text, cuts_text, counted_text}
-use Rattle.refutation.specs.Lines.{basis_text, search_text, line_of, lines_of, AreInRange}
-use Rattle.refutation.specs.Lines.{SpellsReasons}
+use Rattle.refutation.specs.Denotes.{max_number, integers_with, numbers_with, values_in, numbers_in, cut_in, cuts_with}
+use Rattle.refutation.specs.Denotes.{basis_in, reason_in, reason_with, CutSeen, seen_values, seen_cut, seen}
+use Rattle.refutation.specs.Lines.{integers_text, naturals_text, values_text, numbers_text, cut_text, cuts_text}
+use Rattle.refutation.specs.Lines.{counted_text, basis_text, search_text, line_of, lines_of, AreInRange, SpellsReasons}
 use Rattle.refutation.specs.Written.{AreNumberKeys, AreTypedValues, IsTypedCut}
 use Rattle.refutation.specs.Written.{AreTypedSteps, IsTypedCounted, IsTypedBasis, IsTypedReason}
 use Rattle.refutation.proofs.Rising.{put_next}
@@ -137,25 +129,20 @@ data_of rs = map datum_of rs
 integers_are_items : (first : Bool) (zs : List ℤ) → integers_text first zs
     ≡ items_text first (items_of (integers_data zs))
 integers_are_items first [] = refl
-integers_are_items first (z ∷ zs) = ap (λ t. (between first (codes " ") ++ signed_decimal z) ++ t)
-    (integers_are_items false zs)
+integers_are_items first (z ∷ zs) = rw (integers_are_items false zs)
 
 naturals_are_items : (first : Bool) (ns : List ℕ) → naturals_text first ns
     ≡ items_text first (items_of (numbers_data ns))
 naturals_are_items first [] = refl
-naturals_are_items first (n ∷ ns) = ap (λ t. (between first (codes " ") ++ decimal n) ++ t)
-    (naturals_are_items false ns)
+naturals_are_items first (n ∷ ns) = rw (naturals_are_items false ns)
 
 values_are_text : (vs : Values) → values_text vs ≡ text_of (values_datum vs)
 values_are_text All = refl
-values_are_text (Only s) = ap (λ t. codes "[" ++ (t ++ codes "]")) (integers_are_items true s.keys)
+values_are_text (Only s) = rw (integers_are_items true s.keys)
 
 numbers_are_text : (ns : List ℕ) → numbers_text ns ≡ entries_text false (numbers_entries ns)
 numbers_are_text [] = refl
-numbers_are_text (n ∷ ns) =
-    ap (λ t. codes ", :numbers [" ++ (t ++ codes "]")) (naturals_are_items true (n ∷ ns))
-    ∙ sym (ap (λ t. codes ", :numbers [" ++ t)
-    (append-nil (items_text true (items_of (numbers_data (n ∷ ns))) ++ codes "]")))
+numbers_are_text (n ∷ ns) = rw (naturals_are_items true (n ∷ ns), append-nil)
 
 cut_is_text : (c : Cut) → cut_text c ≡ text_of (cut_datum c)
 cut_is_text (From n) = ap (λ t. codes "{:from " ++ (t ++ codes "}")) (sym (append-nil (decimal n)))
@@ -164,31 +151,14 @@ cut_is_text (Until n) = ap (λ t. codes "{:until " ++ (t ++ codes "}"))
 cut_is_text (Without v n) =
     ap (λ t. codes "{:without " ++ ((signed_decimal v ++ (codes ", :before " ++ t)) ++ codes "}"))
     (sym (append-nil (decimal n)))
-cut_is_text (Keep vs ns) =
-    ap (λ t. codes "{:keep " ++ ((t ++ numbers_text ns.keys) ++ codes "}")) (values_are_text vs)
-    ∙ ap (λ t. codes "{:keep " ++ ((text_of (values_datum vs) ++ t) ++ codes "}"))
-    (numbers_are_text ns.keys)
-cut_is_text (Cell vs other ns) =
-    let pairs = λ (t : List ℕ). codes ", :other " ++ (signed_decimal other ++ t) in
-    ap (λ t. codes "{:cell " ++ ((t ++ pairs (numbers_text ns.keys)) ++ codes "}"))
-    (values_are_text vs)
-    ∙ ap (λ t. codes "{:cell " ++ ((text_of (values_datum vs) ++ pairs t) ++ codes "}"))
-    (numbers_are_text ns.keys)
-cut_is_text (Entry key vs other ns) =
-    let k = signed_decimal key in
-    let z = signed_decimal other in
-    let pairs = λ (t : List ℕ). codes ", :key " ++ (k ++ (codes ", :other " ++ (z ++ t))) in
-    ap (λ t. codes "{:cell " ++ ((t ++ pairs (numbers_text ns.keys)) ++ codes "}"))
-    (values_are_text vs)
-    ∙ ap (λ t. codes "{:cell " ++ ((text_of (values_datum vs) ++ pairs t) ++ codes "}"))
-    (numbers_are_text ns.keys)
+cut_is_text (Keep vs ns) = rw (values_are_text vs, numbers_are_text ns.keys)
+cut_is_text (Cell vs other ns) = rw (values_are_text vs, numbers_are_text ns.keys)
+cut_is_text (Entry key vs other ns) = rw (values_are_text vs, numbers_are_text ns.keys)
 
 cuts_are_items : (first : Bool) (cs : List Cut) → cuts_text first cs
     ≡ items_text first (items_of (cuts_data cs))
 cuts_are_items first [] = refl
-cuts_are_items first (c ∷ cs) =
-    ap (λ t. (between first (codes " ") ++ t) ++ cuts_text false cs) (cut_is_text c)
-    ∙ ap (λ t. (between first (codes " ") ++ text_of (cut_datum c)) ++ t) (cuts_are_items false cs)
+cuts_are_items first (c ∷ cs) = rw (cut_is_text c, cuts_are_items false cs)
 
 -- the start of a count, and the closing bracket
 closed : (counted start : List ℕ)
@@ -238,24 +208,16 @@ ahead_is_text false number n =
 
 basis_is_text : (e : Basis) → basis_text e ≡ entries_text false (basis_entries e)
 basis_is_text (Search trial) = search_is_text trial.first trial.steps
-basis_is_text (Counting c) =
-    ap (λ t. codes ", :count {" ++ t) (counted_is_text c.counted c.from)
-    ∙ sym (ap (λ t. codes ", :count {" ++ t) (append-nil
-    (entries_text true (counted_entries c.counted c.from) ++ codes "}")))
+basis_is_text (Counting c) = rw (counted_is_text c.counted c.from, append-nil)
 basis_is_text (Ahead number from) = ahead_is_text (from == 0) number from
 
 line_is_text : (r : Reason) → line_of r ≡ text_of (datum_of r) ++ 10 ∷ []
 line_is_text r =
-    let x = decimal r.object in
     let pairs = λ (c : List ℕ). λ (e : List ℕ). codes ", :cuts [" ++ ((c ++ codes "]") ++ e) in
     let cuts = items_text true (items_of (cuts_data r.cuts.items)) in
     let basis = entries_text false (basis_entries r.basis) in
-    ap (λ t. codes "{:object " ++ ((x ++ pairs t (basis_text r.basis)) ++ codes "}\n"))
-    (cuts_are_items true r.cuts.items)
-    ∙ (ap (λ t. codes "{:object " ++ ((x ++ pairs cuts t) ++ codes "}\n"))
-    (basis_is_text r.basis)
-    ∙ sym (ap (λ t. codes "{:object " ++ t)
-    (append_assoc (x ++ pairs cuts basis) (codes "}") (codes "\n"))))
+    rw (cuts_are_items true r.cuts.items, basis_is_text r.basis) (sym (ap (λ t. codes "{:object " ++ t)
+    (append_assoc (decimal r.object ++ pairs cuts basis) (codes "}") (codes "\n"))))
 
 lines_are_texts : (rs : List Reason) → lines_of rs ≡ edn.lines_of (data_of rs)
 lines_are_texts [] = refl
@@ -265,17 +227,13 @@ lines_are_texts (r ∷ rs) = ap (λ t. t ++ lines_of rs) (line_is_text r)
 
 -- ---- they are well-formed
 
-integers_fit : (n : ℕ) (zs : List ℤ) → ItemsFit n (items_of (integers_data zs))
-integers_fit n [] = tt
-integers_fit n (z ∷ zs) = (tt, integers_fit n zs)
-
-numbers_fit : (n : ℕ) (ns : List ℕ) → ItemsFit n (items_of (numbers_data ns))
-numbers_fit n [] = tt
-numbers_fit n (x ∷ ns) = (tt, numbers_fit n ns)
+atoms_fit : {X : Type 0} (n : ℕ) (f : X → ℤ) (xs : List X) → ItemsFit n (items_of (map (λ x. atom (integer (f x))) xs))
+atoms_fit n f [] = tt
+atoms_fit n f (x ∷ xs) = (tt, atoms_fit n f xs)
 
 values_fit : (vs : Values) → Fits 13 (values_datum vs)
 values_fit All = tt
-values_fit (Only s) = (lit< tt, integers_fit 12 s.keys)
+values_fit (Only s) = (lit< tt, atoms_fit 12 (λ z. z) s.keys)
 
 lacks_numbers : (k : List ℕ) (ns : List ℕ) → (k ≡ codes "numbers" → ⊥)
     → Lacks k (numbers_entries ns)
@@ -284,7 +242,7 @@ lacks_numbers k (n ∷ ns) other = (other, tt)
 
 numbers_entries_fit : (ns : List ℕ) → EntriesFit 13 (numbers_entries ns)
 numbers_entries_fit [] = tt
-numbers_entries_fit (n ∷ ns) = (tt, (lit< tt, numbers_fit 12 (n ∷ ns)), tt)
+numbers_entries_fit (n ∷ ns) = (tt, (lit< tt, atoms_fit 12 pos (n ∷ ns)), tt)
 
 other_fits : (other : ℤ) (ns : List ℕ) → EntriesFit 13 (other_entries other ns)
 other_fits other ns = (lacks_numbers (codes "other") ns (λ h. cc), tt, numbers_entries_fit ns)
@@ -293,23 +251,10 @@ cut_fits : (c : Cut) → Fits 14 (cut_datum c)
 cut_fits (From n) = (lit< tt, (tt, tt, tt))
 cut_fits (Until n) = (lit< tt, (tt, tt, tt))
 cut_fits (Without v n) = (lit< tt, ((λ h. cc, tt), tt, (tt, tt, tt)))
-cut_fits (Keep vs ns) = (
-  lit< tt,
-  (
-    lacks_numbers (codes "keep") ns.keys (λ h. cc),
-    values_fit vs,
-    numbers_entries_fit ns.keys,
-  ),
-)
-cut_fits (Cell vs other ns) = (
-  lit< tt,
-  (
-    (λ h. cc, lacks_numbers (codes "cell") ns.keys (λ h. cc)),
-    values_fit vs,
-    other_fits
-        other ns.keys,
-  ),
-)
+cut_fits (Keep vs ns) =
+    (lit< tt, (lacks_numbers (codes "keep") ns.keys (λ h. cc), values_fit vs, numbers_entries_fit ns.keys))
+cut_fits (Cell vs other ns) =
+    (lit< tt, ((λ h. cc, lacks_numbers (codes "cell") ns.keys (λ h. cc)), values_fit vs, other_fits other ns.keys))
 cut_fits (Entry key vs other ns) = (
   lit< tt,
   (
@@ -328,22 +273,10 @@ apart k l other own e = let t : true ≡ false = sym own ∙ (ap (same_bytes k) 
 
 counted_fits : (c : Counted) (n : ℕ) → EntriesFit 14 (counted_entries c n)
 counted_fits (counted.Value v) n = ((λ h. cc, tt), tt, (tt, tt, tt))
-counted_fits (counted.Entry k v) n = (
-  (λ h. cc, (λ h. cc, tt)),
-  tt,
-  ((λ h. cc, tt), tt, (tt, tt, tt)),
-)
+counted_fits (counted.Entry k v) n = ((λ h. cc, (λ h. cc, tt)), tt, ((λ h. cc, tt), tt, (tt, tt, tt)))
 counted_fits (counted.NoEntry k) n = ((λ h. cc, tt), tt, (tt, tt, tt))
-counted_fits counted.Held n = (
-  (apart (codes "held") (codes "from") refl refl, tt),
-  tt,
-  (tt, tt, tt),
-)
-counted_fits counted.Free n = (
-  (apart (codes "free") (codes "from") refl refl, tt),
-  tt,
-  (tt, tt, tt),
-)
+counted_fits counted.Held n = ((apart (codes "held") (codes "from") refl refl, tt), tt, (tt, tt, tt))
+counted_fits counted.Free n = ((apart (codes "free") (codes "from") refl refl, tt), tt, (tt, tt, tt))
 
 lacks_search : (k : List ℕ) (first : TryFirst) (steps : Option ℕ) → (k ≡ codes "search" → ⊥)
     → Lacks k (search_entries first steps)
@@ -422,26 +355,11 @@ unfolding is_name
 cut_in_profile (From n) h = (refl, number_in_profile n h, tt)
 cut_in_profile (Until n) h = (refl, number_in_profile n h, tt)
 cut_in_profile (Without v n) h = (refl, h.0, (refl, number_in_profile n h.1, tt))
-cut_in_profile (Keep vs ns) h = (
-  refl,
-  values_in_profile vs h.0,
-  numbers_entries_in_profile ns.keys
-      h.1,
-)
-cut_in_profile (Cell vs other ns) h = (
-  refl,
-  values_in_profile vs h.0,
-  (refl, h.1, numbers_entries_in_profile ns.keys h.2),
-)
-cut_in_profile (Entry key vs other ns) h = (
-  refl,
-  values_in_profile vs h.0,
-  (
-    refl,
-    h.1,
-    (refl, h.2, numbers_entries_in_profile ns.keys h.3),
-  ),
-)
+cut_in_profile (Keep vs ns) h = (refl, values_in_profile vs h.0, numbers_entries_in_profile ns.keys h.1)
+cut_in_profile (Cell vs other ns) h =
+    (refl, values_in_profile vs h.0, (refl, h.1, numbers_entries_in_profile ns.keys h.2))
+cut_in_profile (Entry key vs other ns) h =
+    (refl, values_in_profile vs h.0, (refl, h.1, (refl, h.2, numbers_entries_in_profile ns.keys h.3)))
 
 cuts_in_profile : (cs : List Cut) → AllByRecursion IsTypedCut cs
     → ItemsInProfile (items_of (cuts_data cs))
@@ -458,8 +376,7 @@ unfolding is_name
 counted_in_profile (counted.Value v) n t h = (refl, t, from_in_profile n h)
 counted_in_profile (counted.Entry k v) n t h = (refl, t.0, (refl, t.1, from_in_profile n h))
 counted_in_profile (counted.NoEntry k) n t h = (refl, t, from_in_profile n h)
-counted_in_profile counted.Held n t h = (refl, tt, from_in_profile n h)
-counted_in_profile counted.Free n t h = (refl, tt, from_in_profile n h)
+counted_in_profile c n t h = (refl, tt, from_in_profile n h)
 
 search_in_profile : (first : TryFirst) (steps : Option ℕ) → AreTypedSteps steps
     → EntriesInProfile (search_entries first steps)
@@ -486,49 +403,34 @@ basis_in_profile (Ahead number from) t =
 
 datum_in_profile : (r : Reason) → r.object ≤ 65535 → IsTypedReason r → InProfile (datum_of r)
 unfolding is_name
-datum_in_profile r small t = (
-  refl,
-  omega arith,
-  (
-    refl,
-    cuts_in_profile r.cuts.items t.0,
-    basis_in_profile r.basis
-        t.1,
-  ),
-)
+datum_in_profile r small t = (refl, omega arith, (refl, cuts_in_profile r.cuts.items t.0, basis_in_profile r.basis t.1))
 
 -- ---- they denote the reasons
 
 number_read : (n : ℕ) → n ≤ max_number → spec.number_in (Some (atom (integer (pos n)))) ≡ Some n
-number_read n h = ap (λ b. if b then Some n else None) (le-leb n max_number h)
+number_read n h = rw (le-leb n max_number h)
 
 integers_read : (xs zs : List ℤ) → IsStrictlySortedBy int_cmp (xs ++ zs)
     → integers_with xs (items_of (integers_data zs)) ≡ Some (xs ++ zs)
-integers_read xs [] h = ap Some (sym (append-nil xs))
+integers_read xs [] h = rw append-nil
 integers_read xs (z ∷ zs) h =
-    let same : (xs ++ z ∷ []) ++ zs ≡ xs ++ z ∷ zs = append_assoc xs (z ∷ []) zs in
-    ap (λ (keys : List ℤ). integers_with keys (items_of (integers_data zs)))
-    (put_next int_cmp int_cmp_total xs z zs h)
-    ∙ (integers_read (xs ++ z ∷ []) zs (subst (IsStrictlySortedBy int_cmp) (sym same) h)
-    ∙ ap Some same)
+    rw (put_next int_cmp int_cmp_total xs z zs h) (
+    rw append_assoc at (integers_read (xs ++ z ∷ []) zs (rw append_assoc h))
+    )
 
 numbers_read : (xs ns : List ℕ) → AllByRecursion (λ n. n ≤ max_number) ns
     → IsStrictlySortedBy nat_cmp (xs ++ ns)
     → numbers_with xs (items_of (numbers_data ns)) ≡ Some (xs ++ ns)
-numbers_read xs [] small h = ap Some (sym (append-nil xs))
+numbers_read xs [] small h = rw append-nil
 numbers_read xs (n ∷ ns) small h =
-    let same : (xs ++ n ∷ []) ++ ns ≡ xs ++ n ∷ ns = append_assoc xs (n ∷ []) ns in
-    ap (option_and_then (λ m. numbers_with (insert_key nat_cmp xs m) (items_of (numbers_data ns))))
-    (number_read n small.0)
-    ∙ (ap (λ (keys : List ℕ). numbers_with keys (items_of (numbers_data ns)))
-    (put_next nat_cmp nat_cmp_total xs n ns h)
-    ∙ (numbers_read (xs ++ n ∷ []) ns small.1 (subst (IsStrictlySortedBy nat_cmp) (sym same) h)
-    ∙ ap Some same))
+    rw (number_read n small.0, put_next nat_cmp nat_cmp_total xs n ns h) (
+    rw append_assoc at (numbers_read (xs ++ n ∷ []) ns small.1 (rw append_assoc h))
+    )
 
 values_read : (vs : Values) → AreTypedValues vs → values_in (Some (values_datum vs))
     ≡ Some (seen_values vs)
 values_read All t = refl
-values_read (Only s) t = ap (option_map spec.only) (integers_read [] s.keys t.rising)
+values_read (Only s) t = rw (integers_read [] s.keys t.rising)
 
 numbers_at : List ℕ → Option (List ℕ)
 numbers_at ns = numbers_in (value_at (codes "numbers") (numbers_entries ns))
@@ -562,43 +464,24 @@ entry_read d key other [] = refl
 entry_read d key other (n ∷ ns) = refl
 
 cut_read : (c : Cut) → IsTypedCut c → cut_in (cut_datum c) ≡ Some (seen_cut c)
-cut_read (From n) t = ap (option_map spec.from) (number_read n t)
-cut_read (Until n) t = ap (option_map spec.until) (number_read n t)
-cut_read (Without v n) t = ap (spec.without_with (Some v)) (number_read n t.1)
-cut_read (Keep vs ns) t =
-    keep_read (values_datum vs) ns.keys
-    ∙ (ap (λ v. spec.keep_with v (numbers_at ns.keys)) (values_read vs t.0)
-    ∙ ap (spec.keep_with (Some (seen_values vs))) (numbers_at_read ns.keys t.1))
+cut_read (From n) t = rw (number_read n t)
+cut_read (Until n) t = rw (number_read n t)
+cut_read (Without v n) t = rw (number_read n t.1)
+cut_read (Keep vs ns) t = rw (keep_read (values_datum vs) ns.keys, values_read vs t.0, numbers_at_read ns.keys t.1)
 cut_read (Cell vs other ns) t =
-    cell_read (values_datum vs) other ns.keys
-    ∙ (ap (λ v. spec.cell_with v (Some None) (Some other) (numbers_at ns.keys)) (values_read vs t.0)
-    ∙ ap (spec.cell_with (Some (seen_values vs)) (Some None) (Some other))
-    (numbers_at_read ns.keys t.2))
+    rw (cell_read (values_datum vs) other ns.keys, values_read vs t.0, numbers_at_read ns.keys t.2)
 cut_read (Entry key vs other ns) t =
-    entry_read (values_datum vs) key other ns.keys
-    ∙ (ap (λ v. spec.cell_with v (Some (Some key)) (Some other) (numbers_at ns.keys))
-    (values_read vs t.0)
-    ∙ ap (spec.cell_with (Some (seen_values vs)) (Some (Some key)) (Some other))
-    (numbers_at_read ns.keys t.3))
+    rw (entry_read (values_datum vs) key other ns.keys, values_read vs t.0, numbers_at_read ns.keys t.3)
 
 cuts_read : (before : List CutSeen) (cs : List Cut) → AllByRecursion IsTypedCut cs
     → cuts_with before (items_of (cuts_data cs)) ≡ Some (before ++ map seen_cut cs)
-cuts_read before [] t = ap Some (sym (append-nil before))
-cuts_read before (c ∷ cs) t =
-    ap (option_and_then (λ x. cuts_with (before ++ x ∷ []) (items_of (cuts_data cs))))
-    (cut_read c t.0)
-    ∙ (cuts_read (before ++ seen_cut c ∷ []) cs t.1
-    ∙ ap Some (append_assoc before (seen_cut c ∷ []) (map seen_cut cs)))
+cuts_read before [] t = rw append-nil
+cuts_read before (c ∷ cs) t = rw (cut_read c t.0, cuts_read (before ++ seen_cut c ∷ []) cs t.1, append_assoc)
 
 counted_read : (c : Counted) (n : ℕ) → n ≤ max_number
     → spec.basis_of (counted_entries c n) ≡ Some (Counting (record { counted = c; from = n }))
-counted_read (counted.Value v) n h = ap (spec.count_with (Some (counted.Value v))) (number_read n h)
-counted_read (counted.Entry k v) n h = ap (spec.count_with (Some (counted.Entry k v)))
-    (number_read n h)
-counted_read (counted.NoEntry k) n h = ap (spec.count_with (Some (counted.NoEntry k)))
-    (number_read n h)
-counted_read counted.Held n h = ap (spec.count_with (Some counted.Held)) (number_read n h)
-counted_read counted.Free n h = ap (spec.count_with (Some counted.Free)) (number_read n h)
+counted_read (counted.Value v) n h = rw (number_read n h)
+counted_read c n h = rw (number_read n h)
 
 search_read : (first : TryFirst) (steps : Option ℕ) → AreTypedSteps steps
     → basis_in (value_at (codes "count") (search_entries first steps))
@@ -606,22 +489,16 @@ search_read : (first : TryFirst) (steps : Option ℕ) → AreTypedSteps steps
     ≡ Some (Search (record { first = first; steps = steps }))
 search_read LeastNumber None t = refl
 search_read LeastReturn None t = refl
-search_read LeastNumber (Some n) t =
-    ap (λ v. spec.search_with (Some LeastNumber) (option_map (λ m. Some m) v)) (number_read n t)
-search_read LeastReturn (Some n) t =
-    ap (λ v. spec.search_with (Some LeastReturn) (option_map (λ m. Some m) v)) (number_read n t)
+search_read LeastNumber (Some n) t = rw (number_read n t)
+search_read LeastReturn (Some n) t = rw (number_read n t)
 
 ahead_read : (at_first : Bool) (number n : ℕ) → (n == 0) ≡ at_first → number ≤ max_number
     → n ≤ max_number → spec.basis_of (ahead_entries at_first number n) ≡ Some (Ahead number n)
-ahead_read true number n is h k =
-    ap (λ v. spec.ahead_with v (Some 0)) (number_read number h)
-    ∙ ap (λ m. Some (Ahead number m)) (zero_is n is)
+ahead_read true number n is h k = rw (number_read number h, zero_is n is)
   where
-    zero_is : (n : ℕ) → (n == 0) ≡ true → 0 ≡ n
+    zero_is : (n : ℕ) → (n == 0) ≡ true → n ≡ 0
     zero_is n e = grind (arith, nat_tests)
-ahead_read false number n is h k =
-    ap (λ v. spec.ahead_with v (spec.number_in (Some (atom (integer (pos n))))))
-    (number_read number h) ∙ ap (spec.ahead_with (Some number)) (number_read n k)
+ahead_read false number n is h k = rw (number_read number h, number_read n k)
 
 basis_read : (e : Basis) → IsTypedBasis e
     → basis_in (value_at (codes "count") (basis_entries e))
@@ -632,15 +509,7 @@ basis_read (Ahead number from) t = ahead_read (from == 0) number from refl t.0 t
 
 datum_denotes : (r : Reason) → r.object ≤ 65535 → IsTypedReason r → reason_in (datum_of r)
     ≡ Some (seen r)
-datum_denotes r small t =
-    let cuts = cuts_with [] (items_of (cuts_data r.cuts.items)) in
-    let basis = basis_in (value_at (codes "count") (basis_entries r.basis))
-    (value_at (codes "search") (basis_entries r.basis)) in
-    ap (λ b. reason_with (if b then Some r.object else None) cuts basis)
-    (le-leb r.object 65535 small)
-    ∙ (ap (λ v. reason_with (Some r.object) v basis) (cuts_read [] r.cuts.items t.0)
-    ∙ ap (λ v. reason_with (Some r.object) (Some (map seen_cut r.cuts.items)) v)
-    (basis_read r.basis t.1))
+datum_denotes r small t = rw (le-leb r.object 65535 small, cuts_read [] r.cuts.items t.0, basis_read r.basis t.1)
 
 -- ---- the lines
 
@@ -655,15 +524,15 @@ each_spelled (r ∷ rs) small t = (
 each_denoted : (rs : List Reason) → AreInRange rs → AllByRecursion IsTypedReason rs
     → map reason_in (data_of rs) ≡ map (λ r. Some (seen r)) rs
 each_denoted [] small t = refl
-each_denoted (r ∷ rs) small t =
-    ap (λ v. v ∷ map reason_in (data_of rs)) (datum_denotes r (small 0 r (omega arith)) t.0)
-    ∙ ap (λ vs. Some (seen r) ∷ vs) (each_denoted rs (λ k d lt. small (suc k) d (omega arith)) t.1)
+each_denoted (r ∷ rs) small t = rw (
+  datum_denotes r (small 0 r (omega arith)) t.0,
+  each_denoted rs (λ k d lt. small (suc k) d (omega arith)) t.1,
+)
 
 pub lines_spell : (rs : List Reason) → AllByRecursion IsTypedReason rs → AreInRange rs
     → SpellsReasons rs (lines_of rs)
 lines_spell rs t small = record {
   forms = data_of rs;
-  spelled = subst (Spells (data_of rs)) (sym (lines_are_texts rs))
-      (lines_spell_them (data_of rs) (each_spelled rs small t));
+  spelled = rw (lines_are_texts rs) (lines_spell_them (data_of rs) (each_spelled rs small t));
   denoted = each_denoted rs small t;
 }

@@ -1,24 +1,21 @@
 -- `refute_all`: each answer is that to its reason, and an impossible one refutes the history. The loop keeps both
 -- of the answers so far. A linearizable history has a valid order for each object, which such an answer rules out.
-use Rattle.std.proofs.Common.{◌≡◌, ◌≢◌, ◌+◌, List, All, Contains, take, sym, subst}
-use Rattle.std.specs.List.{AllZip}
+use Rattle.std.proofs.Common.{List}
 use Rattle.model.specs.Linearizable.{IsLinearizable}
 use Rattle.model.specs.Orders.{events}
 use Rattle.events.specs.Events.{kind_at, denoted}
-use Rattle.events.specs.Operations.{ObjectCalls, calls_of}
+use Rattle.events.specs.Operations.{ObjectCalls}
 use Rattle.refutation.specs.declared.refuting.Refutation.{Refutation}
-use Rattle.refutation.specs.declared.refuting.Refutation.TheVariants.{OtherObject}
-use Rattle.refutation.specs.Refutations.{IsAnswerOn, IsAnswer}
-use Rattle.refutation.proofs.Objects.{AreRefutations, none_among, one_more, refutes, answer_is, refuted_among, zip_more}
+use Rattle.refutation.specs.Refutations.{IsAnswer}
+use Rattle.refutation.proofs.Objects.{none_among, one_more, refutes, answer_is, refuted_among, zip_more}
 use Rattle.refutation.proofs.all.refute_all.Goals as goal
 
 pub loop-reason-init : goal.loop-reason-init
 loop-reason-init c =
     let es = c.args.history.now in
     record {
-      each = subst (AllZip (IsAnswer es) (take 0 c.args.reasons.now)) (sym c.new-answers.ensures.items) tt;
-      refutations = subst (AreRefutations (IsLinearizable (kind_at es) (events (denoted es)) → ⊥))
-          (sym c.new-answers.ensures.items) (λ r i p. absurd i);
+      each = rw c.new-answers.ensures.items tt;
+      refutations = rw c.new-answers.ensures.items (λ r i p. absurd i);
     }
 
 pub loop-reason-preserved : goal.loop-reason-preserved
@@ -27,16 +24,12 @@ loop-reason-preserved c =
     let objects : List ObjectCalls = c.in_ok-objects.objects.items in
     let reason = c.reason-item.result in
     let r : Refutation = c.in_ok-answer.answer in
-    let on = subst (λ (os : List ObjectCalls). r ≢ OtherObject
-    → (o : ObjectCalls) × Contains os o × (o.object ≡ reason.object)
-    × IsAnswerOn o.kind (calls_of o.ops) reason r) c.deref.ensures.value c.in_ok-answer.ensures.on in
-    let other = subst (λ (os : List ObjectCalls). r ≡ OtherObject → All (λ o. o.object ≢ reason.object) os)
-    c.deref.ensures.value c.in_ok-answer.ensures.other_object in
+    let on = rw c.deref.ensures.value at c.in_ok-answer.ensures.on in
+    let other = rw c.deref.ensures.value at c.in_ok-answer.ensures.other_object in
     let answer = answer_is es objects reason r c.in_ok-objects.ensures.kinds c.in_ok-objects.ensures.calls
     c.in_ok-objects.ensures.named on other in
     record {
-      each = subst (AllZip (IsAnswer es) (take (c.loop-reason.reason-index + 1) c.args.reasons.now))
-          (sym c.in_ok-push.ensures.items)
+      each = rw c.in_ok-push.ensures.items
           (zip_more (IsAnswer es) c.args.reasons.now c.loop-reason.answers.items c.loop-reason.reason-index reason r
           c.loop-reason-test.true c.reason-item.is c.loop-reason.invariant.each answer);
       refutations = one_more (IsLinearizable (kind_at es) (events (denoted es)) → ⊥) _ _ _ c.in_ok-push.ensures.items

@@ -1,6 +1,4 @@
-use Rattle.std.proofs.Common.{sym, subst}
-use Rattle.model.specs.declared.Kind.{Kind}
-use Rattle.model.specs.Orders.{IsValidOrder, calls_on}
+use Rattle.model.specs.Orders.{calls_on}
 use Rattle.events.specs.Operations.{calls_of}
 use Rattle.projection.specs.Listed.{listed}
 use Rattle.refutation.proofs.Alone.{of_history, listed_apart, alone_refuted}
@@ -11,7 +9,7 @@ returns-clause-no_order c cuts x kind h part hist kinds is none order v =
     let are = of_history x h hist in
     let o = c.listed_is_valid.ensures cuts kind (calls_on x h)
     (calls_of part.ops) order kinds are.rising are.ends is.named v in
-    none o.0 (subst (λ (k : Kind). IsValidOrder k (calls_of part.ops) o.0) (sym is.kind) o.1)
+    none o.0 (rw is.kind o.1)
 
 pub returns-clause-not_linearizable : goal.returns-clause-not_linearizable
 returns-clause-not_linearizable c cuts x kind h part hist kinds is none =

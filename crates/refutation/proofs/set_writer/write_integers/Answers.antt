@@ -1,15 +1,13 @@
 -- `write_integers`: what is sent is the text of the integers, or a prefix of it where the sink failed. What was
 -- sent, then the text of the keys that are left, is always the whole text.
-use Rattle.std.proofs.Common.{◌≡◌, ◌++◌, [], List, true, false, ap, sym, ◌∙◌, subst, rules}
-use Rattle.std.specs.Prelude.{codes}
-use Rattle.std.specs.List.{AllByRecursion}
+use Rattle.std.proofs.Common.{◌≡◌, ◌++◌, [], List, true, false, ap, sym, ◌∙◌, rules}
+use Rattle.std.specs.Prelude.{codes, ℤ}
 use Rattle.std.specs.Fmt.{signed_decimal}
 use Rattle.std.specs.Io.KnownBytes.{Appends}
 use Rattle.edn.specs.Sent.{WritesPrefix}
 use Rattle.edn_reader.specs.Text.{between, IsInt64}
 use Rattle.edn.proofs.Fronts.{within, further, fails}
 use Rattle.refutation.specs.Lines.{integers_text}
-use Rattle.std.specs.Prelude.{ℤ}
 use Rattle.std.specs.Map.Iter.{deref}
 use Rattle.std.proofs.lemmas.List.{append-nil}
 use Rattle.std.proofs.lemmas.Map.Iter.{rest_more, rest_all}
@@ -23,7 +21,7 @@ loop-n-init g c =
       done = [];
       parts = ap (integers_text true) (sym all);
       sent = search rules;
-      in_range = λ h. subst (AllByRecursion IsInt64) all h;
+      in_range = λ h. rw all at h;
     }
 
 pub returns-in_err-write_next_integer-clause-sent
@@ -58,7 +56,7 @@ loop-n-preserved g c =
       done = f.0;
       parts = f.1;
       sent = f.2;
-      in_range = λ k. l.invariant.in_range (subst (AllByRecursion IsInt64) (sym rest) (small, k));
+      in_range = λ k. l.invariant.in_range (rw rest (small, k));
     }
 
 pub returns-clause-sent : goal.returns-clause-sent
@@ -76,6 +74,6 @@ returns-clause-keys g c =
     let none = rest_all deref c.loop-n.n-iterator c.next.new.self c.next.result c.in-None.is
     c.next.ensures.steps in
     record {
-      in_range = c.loop-n.invariant.in_range (subst (AllByRecursion IsInt64) (sym none) tt);
+      in_range = c.loop-n.invariant.in_range (rw none tt);
       rising = c.into_iter-n-iterator.ensures.into_iter_gives.4;
     }

@@ -1,8 +1,7 @@
 -- `write_naturals`: the numbers go out with spaces between them, or a front of that if the sink fails, and are in
 -- range. The loop keeps that what was sent and the text of the numbers left are the whole text.
-use Rattle.std.proofs.Common.{◌≡◌, ◌≤◌, ◌++◌, [], List, ℕ, true, false, ap, sym, ◌∙◌, subst, rules}
+use Rattle.std.proofs.Common.{◌≡◌, ◌≤◌, ◌++◌, [], List, ℕ, true, false, ap, sym, ◌∙◌, rules}
 use Rattle.std.specs.Prelude.{codes, decimal}
-use Rattle.std.specs.List.{AllByRecursion}
 use Rattle.std.specs.Io.KnownBytes.{Appends}
 use Rattle.edn.specs.Sent.{WritesPrefix}
 use Rattle.edn_reader.specs.Text.{between}
@@ -22,7 +21,7 @@ loop-n-init g c =
       done = [];
       parts = ap (naturals_text true) (sym all);
       sent = search rules;
-      in_range = λ h. subst (AllByRecursion (λ (n : ℕ). n ≤ max_number)) all h;
+      in_range = λ h. rw all at h;
     }
 
 pub returns-in_err-write_next_number-clause-sent : goal.returns-in_err-write_next_number-clause-sent
@@ -56,8 +55,7 @@ loop-n-preserved g c =
       done = f.0;
       parts = f.1;
       sent = f.2;
-      in_range = λ k. l.invariant.in_range (subst (AllByRecursion (λ (n : ℕ). n ≤ max_number))
-          (sym rest) (small, k));
+      in_range = λ k. l.invariant.in_range (rw rest (small, k));
     }
 
 pub returns-clause-sent : goal.returns-clause-sent
@@ -75,7 +73,6 @@ returns-clause-keys g c =
     let none = rest_all deref c.loop-n.n-iterator c.next.new.self c.next.result c.in-None.is
     c.next.ensures.steps in
     record {
-      in_range = c.loop-n.invariant.in_range (subst (AllByRecursion (λ (n : ℕ). n ≤ max_number))
-          (sym none) tt);
+      in_range = c.loop-n.invariant.in_range (rw none tt);
       rising = c.into_iter-n-iterator.ensures.into_iter_gives.4;
     }

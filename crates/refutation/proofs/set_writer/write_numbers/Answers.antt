@@ -1,7 +1,6 @@
-use Rattle.std.proofs.Common.{◌≡◌, [], length, ap, sym, subst, rules}
+use Rattle.std.proofs.Common.{◌≡◌, [], length, ap, rules}
 use Rattle.edn.proofs.Fronts.{sends_as}
 use Rattle.refutation.specs.Lines.{numbers_text}
-use Rattle.refutation.specs.Written.{AreNumberKeys}
 use Rattle.refutation.proofs.Sending.{no_keys, no_numbers, some_numbers}
 use Rattle.refutation.proofs.set_writer.write_numbers.Goals as goal
 
@@ -15,7 +14,7 @@ returns-then-is_empty-clause-sent g c =
 pub returns-then-is_empty-clause-keys : goal.returns-then-is_empty-clause-keys
 returns-then-is_empty-clause-keys g c =
     let e : length c.args.numbers.now.keys ≡ 0 = search rules in
-    subst AreNumberKeys (sym (no_keys c.args.numbers.now.keys e)) no_numbers
+    rw (no_keys c.args.numbers.now.keys e) no_numbers
 
 pub returns-clause-sent : goal.returns-clause-sent
 returns-clause-sent g c =

@@ -1,7 +1,6 @@
 -- `write_reasons`: the lines go out, or a front of them if the sink fails, and read back as the reasons. The loop
 -- keeps that what was sent and the lines left are all lines, and that each reason so far is typed.
-use Rattle.std.proofs.Common.{subst, rules, arith}
-use Rattle.std.specs.List.{AllByRecursion}
+use Rattle.std.proofs.Common.{rules, arith}
 use Rattle.edn.proofs.Fronts.{within, further, fails}
 use Rattle.refutation.specs.Lines.{lines_of}
 use Rattle.refutation.specs.Written.{IsTypedReason}
@@ -42,4 +41,4 @@ pub returns-clause-spelled : goal.returns-clause-spelled
 returns-clause-spelled g c =
     let rs = c.args.reasons.now in
     let all = take_all c.loop-reason.reason-index rs (omega arith) in
-    lines_spell rs (subst (AllByRecursion IsTypedReason) all c.loop-reason.invariant.typed)
+    lines_spell rs (rw all at c.loop-reason.invariant.typed)
