@@ -28,7 +28,7 @@ IsDecided claims limit object kind calls d = IsDecision claims limit object kind
 
 -- what is found is certified
 pub certifies : (claims : List Claim) (limit : ℕ) → Certifies certificate_in (IsDecided claims limit)
-certifies claims limit x kind calls (Order d) c h e = subst (IsCertificateOf x kind calls) (same_Some d c e) h.order.0
+certifies claims limit x kind calls (Order d) c h e = rw (same_Some d c e) at h.order.0
 certifies claims limit x kind calls d c h e = absurd (cc e)
 
 none_valid : (x : ℕ) (kind : Kind) (calls : List Call) (d : Decision)

@@ -65,11 +65,8 @@ module _ (cs : List Claim) (e : Claim) (limit x : ℕ) (kind : Kind) (calls : Li
 
   pub open_stays : (d next : Decision) → is_open next ≡ true → IsAnswer x kind calls limit e next
       → IsDecision cs limit x kind calls d → IsDecision (cs ++ e ∷ []) limit x kind calls d
-  open_stays d (Order c) is a h = absurd (cc is)
-  open_stays d (Impossible r) is a h = absurd (cc is)
-  open_stays d (OutOfSteps n) is a h = absurd (cc is)
-  open_stays d NoMemory is a h = absurd (cc is)
   open_stays d Open is a h = keeps d (λ none own. a.unshown refl) (λ same own. a.refused refl) h
+  open_stays d next is a h = absurd (cc is)
 
   -- where nothing was shown, and the claim is not refused, its answer is the decision
   pub next_decides : (d next : Decision) → is_shown d ≡ false → is_open next ≡ false → object_of e ≡ x
@@ -77,14 +74,14 @@ module _ (cs : List Claim) (e : Claim) (limit x : ℕ) (kind : Kind) (calls : Li
       → IsDecision cs limit x kind calls d → IsDecision (cs ++ e ∷ []) limit x kind calls next
   next_decides d next none is own a h = record {
     order = if_order next _ _ (λ c p. (p.0, any_last _ cs e (own, p.1))) a.order;
-    impossible = if_impossible next _ _ (λ r p. (p.0, subst_claim r p.1)) a.impossible;
+    impossible = if_impossible next _ _ (λ r p. (
+      p.0,
+      subst (λ (k : Claim). Contains (cs ++ e ∷ []) k) p.1
+          (Contains-push cs e),
+    )) a.impossible;
     out_of_steps = if_out_of_steps next _ _ (λ n p. any_last _ cs e (own, p)) a.out_of_steps;
     memory = λ same. any_last _ cs e (own, a.memory same);
     unshown = λ not. All-push (λ e. object_of e ≡ x → IsUntrue kind calls e ⊎ Searches e) cs e (h.unshown none)
         (λ o. a.unshown not);
     refused = λ same. absurd (cc (sym is ∙ ap is_open same));
   }
-    where
-      subst_claim : (r : ShownReason) → e ≡ claim.Reason r.reason r.note
-          → Contains (cs ++ e ∷ []) (claim.Reason r.reason r.note)
-      subst_claim r same = subst (λ (k : Claim). Contains (cs ++ e ∷ []) k) same (Contains-push cs e)

@@ -24,28 +24,22 @@ is_read (e ∷ es) later d (r ∷ rs) h none =
     let more : map claim_in (es ++ d ∷ later) ≡ map (λ r. Some (seen r)) rs = cc in is_read es later d rs more none
 
 pub no_fault : (ds : List Datum) (rs : List Claim) → Denotes ds rs → AreFaultless IsFault ds
-no_fault ds rs h earlier later d NotACertificate split fault =
-    is_read earlier later d rs (ap (map claim_in) (sym split) ∙ h) fault.1
-no_fault ds rs h earlier later d NotAReason split fault =
-    is_read earlier later d rs (ap (map claim_in) (sym split) ∙ h) fault.1
 no_fault ds rs h earlier later d NoMemory split fault = fault
+no_fault ds rs h earlier later d kind split fault =
+    is_read earlier later d rs (ap (map claim_in) (sym split) ∙ h) fault.1
 
 only_fault : (earlier : List Datum) (d : Datum) (kind other : ClaimFaultKind) → IsFault earlier d kind
     → IsFault earlier d other
     → rank_of kind ≤ rank_of other
-only_fault earlier d NotACertificate NotACertificate h k = omega arith
-only_fault earlier d NotACertificate NotAReason h k = omega arith
-only_fault earlier d NotACertificate NoMemory h k = omega arith
 only_fault earlier d NotAReason NotACertificate h k = absurd (let e : true ≡ false = sym k.0 ∙ h.0 in cc)
-only_fault earlier d NotAReason NotAReason h k = omega arith
-only_fault earlier d NotAReason NoMemory h k = omega arith
 only_fault earlier d NoMemory other h k = absurd h
+only_fault earlier d NotACertificate NotACertificate h k = omega arith
+only_fault earlier d kind other h k = omega arith
 
 -- what is wrong with a form is wrong with it after any others
 after_any : (earlier : List Datum) (d : Datum) (kind : ClaimFaultKind) → IsFault [] d kind → IsFault earlier d kind
-after_any earlier d NotACertificate h = h
-after_any earlier d NotAReason h = h
 after_any earlier d NoMemory h = h
+after_any earlier d kind h = h
 
 pub first_fault : (fs : List Form) (i : ℕ) (f : Form) (rs : List Claim) (kind : ClaimFaultKind) → i < length fs
     → f ≡ get_or fs i f → Denotes (views (take i fs)) rs → IsFault [] (view f) kind

@@ -3,9 +3,9 @@ use Rattle.std.proofs.Common.{◌≡◌, ◌≢◌, ◌∙◌, ◌<◌, ◌≤�
 use Rattle.std.proofs.Common.{get_or, inl, inr, refl, ap, sym, subst, arith}
 use Rattle.std.proofs.Math.ListN.{set}
 use Rattle.std.proofs.Math.Seq.{map-set_same}
-use Rattle.std.proofs.lemmas.Bool.{cases_order}
+use Rattle.std.proofs.lemmas.Bool.{cases_eq, cases_order}
 use Rattle.std.proofs.lemmas.List.{get_or_default, get_or-map, get_or-set_same, get_or-set_other}
-use Rattle.std.proofs.lemmas.List.{length-map, take_all}
+use Rattle.std.proofs.lemmas.List.{length-map, length-set, take_all}
 use Rattle.std.specs.List.Sorted.{IsNonDecreasingBy, IsPartitionPoint}
 use Rattle.std.specs.Ordering.{nat_cmp, ordering_index, MatchOrdering}
 use Rattle.std.specs.Cmp.{ranked}
@@ -34,9 +34,7 @@ index_rises a b n l = grind arith
 pub search_rises : (os : List ObjectCalls) (n : ℕ) → AllPairs (λ a b. a.object < b.object) os
     → IsNonDecreasingBy (λ o. ordering_index (nat_cmp o.object n)) os
 search_rises os n up i j d l m = elim (cases_order i j) [
-  | inl s ↦ subst
-      (λ k. ordering_index (nat_cmp (get_or os i d).object n) ≤ ordering_index (nat_cmp (get_or os k d).object n)) s
-      (omega arith)
+  | inl s ↦ rw s (omega arith)
   | inr r ↦ elim r [
     | inl t ↦ let g = up i j d t m in index_rises (get_or os i d).object (get_or os j d).object n (omega (arith, g))
     | inr t ↦ absurd (omega arith)
@@ -87,7 +85,7 @@ module _ (objects : List ObjectCalls) (limit : ℕ) (e : Claim) (old : List (ℕ
   taken at own n m between next rising l lengths is here first second further = record {
     numbers = map-set_same (λ (a : ℕ × Decision). a.0) middle at (m, next) no_answer second
         ∙ map-set_same (λ (a : ℕ × Decision). a.0) old at (n, between) no_answer first;
-    each = λ k o less same. go k o less same (cases_order k at);
+    each = λ k o less same. go k o less same (cases_eq k at);
   }
     where
       middle : List (ℕ × Decision)
@@ -100,53 +98,46 @@ module _ (objects : List ObjectCalls) (limit : ℕ) (e : Claim) (old : List (ℕ
       in_old = omega (arith, l, lengths)
 
       in_middle : at < length middle
-      in_middle = subst (λ k. at < k) (sym kept) in_old
-        where
-          kept : length middle ≡ length old
-          kept = sym (length-map middle (λ (a : ℕ × Decision). a.0))
-              ∙ ap length (map-set_same (λ (a : ℕ × Decision). a.0) old at (n, between) no_answer first)
-              ∙ length-map old (λ (a : ℕ × Decision). a.0)
+      in_middle = rw length-set in_old
 
       stays : (k : ℕ) → k ≢ at → get_or new k no_answer ≡ get_or old k no_answer
       stays k other = get_or-set_other middle at k (m, next) no_answer other
           ∙ get_or-set_other old at k (n, between) no_answer other
 
-      other_object : (k : ℕ) (o : ObjectCalls) → k < length objects → o ≡ get_or objects k o → (k < at) ⊎ (at < k)
+      other_object : (k : ℕ) (o : ObjectCalls) → k < length objects → o ≡ get_or objects k o → k ≢ at
           → object_of e ≢ o.object
-      other_object k o less same (inl before) q =
-          let up = rising k at o before l in
-          let there : (get_or objects at o).object ≡ own.object = ap (λ (p : ObjectCalls). p.object)
-          (get_or_default objects at o own l ∙ sym is) in
+      other_object k o less same other q =
+          let there : (get_or objects at o).object ≡ own.object = rw (get_or_default objects at o own l) (rw (← is)) in
           let it : o.object ≡ (get_or objects k o).object = ap (λ (p : ObjectCalls). p.object) same in
-          omega (arith, up, there, it, here, q)
-      other_object k o less same (inr after) q =
-          let up = rising at k o after less in
-          let there : (get_or objects at o).object ≡ own.object = ap (λ (p : ObjectCalls). p.object)
-          (get_or_default objects at o own l ∙ sym is) in
-          let it : o.object ≡ (get_or objects k o).object = ap (λ (p : ObjectCalls). p.object) same in
-          omega (arith, up, there, it, here, q)
+          elim (cases_order k at) [
+            | inl s ↦ other s
+            | inr side ↦ elim side [
+              | inl before ↦ let up = rising k at o before l in omega (arith, there, it, here, q)
+              | inr after ↦ let up = rising at k o after less in omega (arith, there, it, here, q)
+            ]
+          ]
 
-      elsewhere : (k : ℕ) (o : ObjectCalls) → k < length objects → o ≡ get_or objects k o → (k < at) ⊎ (at < k)
-          → IsNext limit e o (get_or old k no_answer).1 (get_or new k no_answer).1
-      elsewhere k o less same side cs h =
-          let other : k ≢ at = λ q. elim side [ inl b ↦ omega (arith, b, q) | inr a ↦ omega (arith, a, q) ] in
-          subst (λ (a : ℕ × Decision). IsDecidedAt (cs ++ e ∷ []) limit o a.1) (sym (stays k other))
-          (other_stays cs e limit o.object o.kind (calls_of o.ops) (get_or old k no_answer).1
-          (other_object k o less same side) h)
-
-      go : (k : ℕ) (o : ObjectCalls) → k < length objects → o ≡ get_or objects k o → (k ≡ at) ⊎ ((k < at) ⊎ (at < k))
+      go : (k : ℕ) (o : ObjectCalls) → k < length objects → o ≡ get_or objects k o → (k ≡ at) ⊎ (k ≢ at)
           → IsNext limit e o (get_or old k no_answer).1 (get_or new k no_answer).1
       go k o less same (inl q) =
           let it : o ≡ own = same ∙ ap (λ i. get_or objects i o) q ∙ get_or_default objects at o own l ∙ sym is in
-          let there : get_or new k no_answer ≡ (m, next) = ap (λ i. get_or new i no_answer) q
-          ∙ get_or-set_same middle at (m, next) no_answer in_middle in
-          let before : get_or old at no_answer ≡ get_or old k no_answer = ap (λ i. get_or old i no_answer) (sym q) in
-          subst (λ (a : ℕ × Decision). IsNext limit e o (get_or old k no_answer).1 a.1) (sym there)
-          (subst (λ (a : ℕ × Decision). IsNext limit e o a.1 next) before
-          (subst (λ (p : ObjectCalls). IsNext limit e p (get_or old at no_answer).1 next) (sym it) further))
-      go k o less same (inr side) = elsewhere k o less same side
+          rw (q, get_or-set_same middle at (m, next) no_answer in_middle, it) further
+      go k o less same (inr other) = λ cs h.
+          rw (stays k other) (other_stays cs e limit o.object o.kind (calls_of o.ops) (get_or old k no_answer).1
+          (other_object k o less same other) h)
 
 -- ---- all claims
+
+as_many : (objects : List ObjectCalls) (answers : List (ℕ × Decision))
+    → map (λ a. a.0) answers ≡ map (λ o. o.object) objects → length answers ≡ length objects
+as_many objects answers e =
+    sym (length-map answers (λ (a : ℕ × Decision). a.0)) ∙ ap length e
+    ∙ length-map objects (λ (o : ObjectCalls). o.object)
+
+-- as many answers as objects
+pub same_length : (objects : List ObjectCalls) (claims : List Claim) (limit : ℕ) (answers : List (ℕ × Decision))
+    → AreDecided objects claims limit answers → length answers ≡ length objects
+same_length objects claims limit answers h = as_many objects answers h.numbers
 
 -- nothing is claimed yet
 pub none_claimed : (objects : List ObjectCalls) (limit : ℕ) (answers : List (ℕ × Decision)) → AreAllOpen objects answers
@@ -154,7 +145,7 @@ pub none_claimed : (objects : List ObjectCalls) (limit : ℕ) (answers : List (�
 none_claimed objects limit answers h = record {
   numbers = h.numbers;
   each = λ i o l is.
-      subst (λ (d : Decision). IsDecidedAt [] limit o d) (sym (h.undecided i no_answer (in_answers i l))) (record {
+      rw (h.undecided i no_answer (omega (arith, as_many objects answers h.numbers))) (record {
         order = tt;
         impossible = tt;
         out_of_steps = tt;
@@ -163,21 +154,6 @@ none_claimed objects limit answers h = record {
         refused = λ e j d less. absurd (omega (arith, less));
       });
 }
-  where
-    in_answers : (i : ℕ) → i < length objects → i < length answers
-    in_answers i l =
-        let same : length answers ≡ length objects =
-        sym (length-map answers (λ (a : ℕ × Decision). a.0)) ∙ ap length h.numbers
-        ∙ length-map objects (λ (o : ObjectCalls). o.object) in
-        omega (arith, l, same)
-
--- as many answers as objects
-pub same_length : (objects : List ObjectCalls) (claims : List Claim) (limit : ℕ) (answers : List (ℕ × Decision))
-    → AreDecided objects claims limit answers
-    → length answers ≡ length objects
-same_length objects claims limit answers h =
-    sym (length-map answers (λ (a : ℕ × Decision). a.0)) ∙ ap length h.numbers
-    ∙ length-map objects (λ (o : ObjectCalls). o.object)
 
 pub one_more : (objects : List ObjectCalls) (claims : List Claim) (limit : ℕ) (e : Claim)
     (old new : List (ℕ × Decision))
@@ -221,10 +197,4 @@ decided_on_all es objects claims limit answers are h =
         (λ kind calls. IsDecision claims limit o.object kind calls (get_or answers i no_answer).1) are in_objects is
         (h.each i o in_objects is) in
         let answer : get_or answers i no_answer ≡ get_or answers i d = get_or_default answers i no_answer d l in
-        subst (λ (x : ℕ). IsDecision claims limit x (kind_at es x) (calls_on x (denoted es)) (get_or answers i d).1)
-        (sym (number_at i d o l in_objects is))
-        (subst (λ (a : ℕ × Decision). IsDecision claims limit o.object (kind_at es o.object)
-        (calls_on o.object (denoted es)) a.1)
-        answer placed)
-
--- ---- each object is open at first
+        rw (number_at i d o l in_objects is) (rw answer at placed)

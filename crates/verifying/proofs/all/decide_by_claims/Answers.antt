@@ -1,8 +1,7 @@
 -- `decide_by_claims`: the answers are the decisions on the objects by all claims. After each claim, the answers are
 -- those by the claims so far; at the start all objects are open.
 use Rattle.std.proofs.Common.{rules, arith, ◌≡◌, ◌∙◌, ◌∷◌, ◌++◌, [], List, append_assoc, length, refl, ap, sym, subst}
-use Rattle.std.proofs.lemmas.List.{append-nil}
-use Rattle.std.proofs.lemmas.List.{nil_from_length}
+use Rattle.std.proofs.lemmas.List.{append-nil, nil_from_length}
 use Rattle.events.specs.Operations.{ObjectCalls}
 use Rattle.checker.proofs.Certificates.{are_objects}
 use Rattle.checker.proofs.Collected.{distinct, valid}
@@ -16,8 +15,7 @@ use Rattle.verifying.proofs.all.decide_by_claims.Goals as goal
 pub loop-claim-init : goal.loop-claim-init
 loop-claim-init c =
     let objects = c.in_ok-objects.objects.items in
-    let all_open = subst (λ (os : List ObjectCalls). AreAllOpen os c.in_ok-answers.answers.items) c.deref.ensures.value
-    c.in_ok-answers.ensures in
+    let all_open = rw c.deref.ensures.value at c.in_ok-answers.ensures in
     record {
       taken = [];
       parts = refl;
@@ -62,7 +60,7 @@ returns c =
     let left : c.loop-claim.claim-iterator.rest.items ≡ [] = nil_from_length _ (omega (arith, ok, ended)) in
     let given : c.into_iter-claim-iterator.result.rest.items ≡ claims = search rules in
     let all = sym (append-nil h.taken) ∙ ap (λ xs. h.taken ++ xs) (sym left) ∙ h.parts ∙ given in
-    let decided = subst (λ (cs : List Claim). AreDecided objects cs limit answers) all h.decided in
+    let decided = rw all at h.decided in
     let on_all = decided_on_all es objects claims limit answers
     (are_objects _ _ _ refl s.rising s.named s.kinds s.calls) decided in
     record {

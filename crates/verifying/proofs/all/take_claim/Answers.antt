@@ -19,9 +19,7 @@ returns-in_default c =
     (answers_always _ _ _ (λ f a r g called. search rules)) in
     let point = by_number (search_rises objects c.object-number.result c.requires.rising) in
     not_there objects c.args.limit c.args.claim c.args.answers.now.items c.in_default.field-0
-    (subst (λ (n : ℕ). IsPartitionPoint (λ o. nat_cmp o.object n ≡ Less) (λ o. nat_cmp o.object n ≡ Greater) objects
-    c.in_default.field-0)
-    c.object-number.ensures point)
+    (rw c.object-number.ensures at point)
 
 pub decide_further-requires : goal.decide_further-requires
 decide_further-requires c =
@@ -46,8 +44,7 @@ returns c =
     ∙ get_or_default old at first no_answer in_old in
     let middle = set old at (first.0, c.replace-earlier.new.dest) in
     let second = c.index_mut-2.result.now in
-    let in_middle : at < length middle = subst (λ k. at < k)
-    (sym (length-set old at (first.0, c.replace-earlier.new.dest))) in_old in
+    let in_middle : at < length middle = rw (length-set old at (first.0, c.replace-earlier.new.dest)) in_old in
     let is : second ≡ get_or middle at no_answer = c.index_mut-2.ensures.value
     ∙ get_or_default middle at second no_answer in_middle in
     let earlier : c.replace-earlier.result ≡ (get_or old at no_answer).1 = c.replace-earlier.ensures.value
@@ -55,5 +52,4 @@ returns c =
     taken objects c.args.limit c.args.claim old at c.index-objects-at.result first.0 second.0 c.replace-earlier.new.dest
     c.in_ok-answers.field-0 c.requires.rising inside
     c.requires.each c.index-objects-at.is own (ap (λ (a : ℕ × Decision). a.0) was) (ap (λ (a : ℕ × Decision). a.0) is)
-    (subst (λ (d : Decision). IsNext c.args.limit c.args.claim c.index-objects-at.result d c.in_ok-answers.field-0)
-    earlier c.in_ok-answers.ensures)
+    (rw earlier at c.in_ok-answers.ensures)

@@ -1,10 +1,7 @@
-use Rattle.std.proofs.Common.{subst}
-use Rattle.refutation.specs.declared.refuting.Doubt.{Doubt}
-use Rattle.refutation.specs.Refutations.{IsDoubt}
 use Rattle.verifying.proofs.Answered.{has_an_order}
 use Rattle.verifying.proofs.object.decide_by_doubt.Goals as goal
 
 pub returns-in-Possible-2 : goal.returns-in-Possible-2
 returns-in-Possible-2 c = λ kind calls note part named doubt.
     has_an_order kind calls c.args.limit c.args.reason.now note part c.in-Possible-2.field-0 named
-    (subst (λ (d : Doubt). IsDoubt c.args.reason.now.basis part d) c.in-Possible-2.is doubt)
+    (rw c.in-Possible-2.is at doubt)
