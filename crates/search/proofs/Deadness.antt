@@ -83,9 +83,9 @@ goes_on_from n call done c (e ∷ es) inj known new whole apart order replies =
     agree None r reply q h = absurd (cc q)
 
 -- two beginnings that are described alike
-pub dead_again : {n : ℕ} {call : ℕ → Call} {high : ℕ} {undone done : List ℕ} {c : Content}
-    → IsDeadPair n call high undone c → Describes n high undone done → IsDead n call done c
-dead_again {n} {call} {high} {undone} {done} {c} h e rest g =
+pub dead_again : {n : ℕ} {call : ℕ → Call} {high : ℕ} {not_done done : List ℕ} {c : Content}
+    → IsDeadPair n call high not_done c → Describes n high not_done done → IsDead n call done c
+dead_again {n} {call} {high} {not_done} {done} {c} h e rest g =
     let d = h.describes in
     h.dead rest (continues_same n call done h.done c rest (record {
       forth = λ k l i. d.cover k l (e.bound k i) (λ u. e.apart k u i);

@@ -46,15 +46,15 @@ IsDeadAt n call done c k = (rest : List ℕ) → Continues n call done c (k ∷ 
 abbrev pub IsTried : (n : ℕ) (call : ℕ → Call) → List ℕ → Content → ℕ → Type 0
 IsTried n call done c at = (k : ℕ) → k < at → IsDeadAt n call done c k
 
--- the places done are those below `high` that are not among the undone ones
-pub record Describes (n : ℕ) (high : ℕ) (undone : List ℕ) (done : List ℕ) : Type 0 where
+-- the places done are those below `high` that are not among the not_done ones
+pub record Describes (n : ℕ) (high : ℕ) (not_done : List ℕ) (done : List ℕ) : Type 0 where
   pub bound : (k : ℕ) → In k done → k < high
-  pub apart : (k : ℕ) → In k undone → In k done → ⊥
-  pub cover : (k : ℕ) → k < n → k < high → (In k undone → ⊥) → In k done
+  pub apart : (k : ℕ) → In k not_done → In k done → ⊥
+  pub cover : (k : ℕ) → k < n → k < high → (In k not_done → ⊥) → In k done
 
 -- a pair of calls done and content from which nothing goes on
-pub record IsDeadPair (n : ℕ) (call : ℕ → Call) (high : ℕ) (undone : List ℕ) (c : Content) : Type 0
+pub record IsDeadPair (n : ℕ) (call : ℕ → Call) (high : ℕ) (not_done : List ℕ) (c : Content) : Type 0
   where
     pub done : List ℕ
-    pub describes : Describes n high undone done
+    pub describes : Describes n high not_done done
     pub dead : IsDead n call done c

@@ -12,7 +12,7 @@ use Rattle.search.specs.Links.{Lists}
 abbrev pub HasPair : List Pair → List ℕ → ℕ → Content → Type 0
 HasPair pairs next high c =
     (k : ℕ) × (k < length pairs)
-    × HoldsAt (λ p. (p.high ≡ high) × Lists next 0 p.undone.items high
+    × HoldsAt (λ p. (p.high ≡ high) × Lists next 0 p.not_done.items high
     × (content_kept p.content ≡ c)) pairs k
 
 -- the younger pairs have become the older ones

@@ -129,7 +129,7 @@ AreOwed t left = left ≡ count_below (owes (call_at t.items.items) []) (length 
 -- each remembered pair is dead
 abbrev pub IsPairDead : Trials → Pair → Type 0
 IsPairDead t p =
-    IsDeadPair (length t.items.items) (call_at t.items.items) p.high p.undone.items
+    IsDeadPair (length t.items.items) (call_at t.items.items) p.high p.not_done.items
     (content_kept p.content)
 
 abbrev pub AreDead : Trials → List Pair → Type 0
@@ -143,8 +143,8 @@ pub record AreAllDead (t : Trials) (d : Dead) : Type 0 where
 abbrev pub position_at : State → Content → Position
 position_at s c = record {
   content = c;
-  next = s.undone.next.items;
-  back = s.undone.before.items;
+  next = s.not_done.next.items;
+  back = s.not_done.before.items;
   high = s.high;
 }
 

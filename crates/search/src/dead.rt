@@ -7,8 +7,8 @@ ghost use Rattle.search.specs.Remembered.{HasPair, IsKept, IsRemembered};
 ghost use Rattle.search.specs.Remembered.{IsRememberedIfSome};
 
 use crate::Reversible;
+use crate::not_done::NotDone;
 use crate::pairs::{Pair, Pairs};
-use crate::undone::Undone;
 use events::Invocation;
 use std::alloc::{AllocError, Global};
 use std::collections::BTreeSet;
@@ -61,14 +61,14 @@ impl Dead {
     }
 
     /// Whether a pair is remembered.
-    pub fn holds(&self, hash: u64, high: u32, undone: &Undone, object: &Reversible) -> bool
+    pub fn holds(&self, hash: u64, high: u32, not_done: &NotDone, object: &Reversible) -> bool
         ensures { IsTrue result →
-            HasPair self.now.older.pairs.items undone.now.next.items high (content_of object.now)
-            ⊎ HasPair self.now.younger.pairs.items undone.now.next.items high
+            HasPair self.now.older.pairs.items not_done.now.next.items high (content_of object.now)
+            ⊎ HasPair self.now.younger.pairs.items not_done.now.next.items high
             (content_of object.now) }
     {
-        self.younger.holds(hash, high, undone, object)
-            || self.older.holds(hash, high, undone, object)
+        self.younger.holds(hash, high, not_done, object)
+            || self.older.holds(hash, high, not_done, object)
     }
 
     /// Makes room for a pair that takes this much: forgets the older ones, if it must.
@@ -84,7 +84,7 @@ impl Dead {
     pub fn remember(&mut self, alloc: Global, pair: Pair) -> Result<(), AllocError>
         ensures { OnOk result (IsRemembered self.old pair self.new) }
     {
-        let places = pair.undone.len().saturating_mul(BYTES_OF_A_PLACE);
+        let places = pair.not_done.len().saturating_mul(BYTES_OF_A_PLACE);
         let bytes = BYTES_OF_A_PAIR
             .saturating_add(places)
             .saturating_add(pair.content.bytes(self.keys));

@@ -14,12 +14,12 @@ mod found;
 mod kept;
 mod kinds;
 mod level;
+mod not_done;
 mod object;
 mod pairs;
 mod reversible;
 mod step;
 mod trials;
-mod undone;
 mod walk;
 
 pub use all::{search_all, search_all_by};

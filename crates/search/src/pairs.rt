@@ -5,7 +5,7 @@ ghost use Rattle.search.specs.Undoing.{content_of, content_kept};
 ghost use Rattle.search.specs.Links.{Lists};
 ghost use Rattle.search.specs.Remembered.{HasPair};
 
-use crate::undone::Undone;
+use crate::not_done::NotDone;
 use crate::{Kept, Reversible};
 use std::alloc::{AllocError, Global};
 
@@ -14,7 +14,7 @@ use std::alloc::{AllocError, Global};
 pub(crate) struct Pair {
     pub hash: u64,
     pub high: u32,
-    pub undone: Vec<u32>,
+    pub not_done: Vec<u32>,
     pub content: Kept,
 }
 
@@ -41,15 +41,15 @@ fn number_at(numbers: &[u32], k: usize) -> u32 {
 }
 
 /// Whether this is the pair.
-fn is_pair(pair: &Pair, hash: u64, high: u32, undone: &Undone, object: &Reversible) -> bool
+fn is_pair(pair: &Pair, hash: u64, high: u32, not_done: &NotDone, object: &Reversible) -> bool
     ensures high { IsTrue result → pair.now.high ≡ high }
-    ensures undone { IsTrue result → Lists undone.now.next.items 0 pair.now.undone.items high }
+    ensures not_done { IsTrue result → Lists not_done.now.next.items 0 pair.now.not_done.items high }
     ensures same { IsTrue result → content_kept pair.now.content ≡ content_of object.now }
 {
     if pair.hash != hash || pair.high != high {
         return false;
     }
-    if !undone.is_below(high, &pair.undone) {
+    if !not_done.is_below(high, &pair.not_done) {
         return false;
     }
     pair.content.is_in(object)
@@ -68,14 +68,14 @@ impl Pairs {
     }
 
     /// Whether a pair is remembered.
-    pub fn holds(&self, hash: u64, high: u32, undone: &Undone, object: &Reversible) -> bool
+    pub fn holds(&self, hash: u64, high: u32, not_done: &NotDone, object: &Reversible) -> bool
         ensures { IsTrue result →
-            HasPair self.now.pairs.items undone.now.next.items high (content_of object.now) }
+            HasPair self.now.pairs.items not_done.now.next.items high (content_of object.now) }
     {
         let first = number_at(&self.heads, slot_of(&self.heads, hash));
         let mut rest = (first as usize).min(self.pairs.len());
         while rest > 0 {
-            if is_pair(&self.pairs[rest - 1], hash, high, undone, object) {
+            if is_pair(&self.pairs[rest - 1], hash, high, not_done, object) {
                 return true;
             }
             rest = (number_at(&self.links, rest - 1) as usize).min(rest - 1);

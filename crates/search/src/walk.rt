@@ -18,9 +18,9 @@ ghost use Rattle.search.specs.Searching.{IsSearching, IsSearchingAt};
 use crate::dead::Dead;
 use crate::digest::Digest;
 use crate::level::{Level, Window};
+use crate::not_done::NotDone;
 use crate::pairs::Pair;
 use crate::trials::Trials;
-use crate::undone::Undone;
 use crate::{Kept, Reversible, Step};
 use events::{End, Invocation};
 use std::alloc::{AllocError, Global};
@@ -48,20 +48,20 @@ fn earlier(end: &End, least: u32) -> u32
 }
 
 /// The least return of the operations that are not in the order.
-fn least_return(trials: &Trials, undone: &Undone) -> u32
+fn least_return(trials: &Trials, not_done: &NotDone) -> u32
     requires trials { AreTrials trials.now }
     requires linked { (done : List ℕ)
-        × Linked (length trials.now.items.items) done undone.now.next.items
-        undone.now.before.items }
+        × Linked (length trials.now.items.items) done not_done.now.next.items
+        not_done.now.before.items }
     ensures { (done : List ℕ) →
-        Linked (length trials.now.items.items) done undone.now.next.items undone.now.before.items →
+        Linked (length trials.now.items.items) done not_done.now.next.items not_done.now.before.items →
         IsLeast (length trials.now.items.items) (call_at trials.now.items.items) done result }
 {
     let mut least = u32::MAX;
-    let mut at = undone.next[0] as usize;
+    let mut at = not_done.next[0] as usize;
     while at < trials.items.len() && trials.return_floors[at] <= least {
         least = earlier(&trials.items[at].end, least);
-        at = undone.next[at + 1] as usize;
+        at = not_done.next[at + 1] as usize;
     }
     least
 }
@@ -90,7 +90,7 @@ const MOST_LISTED: usize = 4096;
 pub(crate) struct State {
     pub levels: Vec<Level>,
     pub object: Reversible,
-    pub undone: Undone,
+    pub not_done: NotDone,
     pub dead: Dead,
     pub digest: Digest,
     /// It is above all places in the order.
@@ -111,16 +111,16 @@ impl State {
         ensures search { IfOk result (λ s. IsSearching trials.now s) }
         ensures levels { IfOk result (λ s. s.levels.items ≡ []) }
     {
-        let undone = Undone::all(alloc, trials.items.len() as u32)?;
-        let least = least_return(trials, &undone);
+        let not_done = NotDone::all(alloc, trials.items.len() as u32)?;
+        let least = least_return(trials, &not_done);
         let pending = trials.pending;
-        let at = undone.next[0];
+        let at = not_done.next[0];
         let object = Reversible::empty(alloc, trials.kind);
         let dead = Dead::new(alloc, &object, &trials.items)?;
         Ok(State {
             levels: Vec::new(alloc),
             object,
-            undone,
+            not_done,
             dead,
             digest: Digest::new(),
             high: 0,
@@ -142,7 +142,7 @@ impl State {
     {
         // The trials are there for the contract alone.
         let _ = trials;
-        self.at = self.undone.next[self.at as usize + 1];
+        self.at = self.not_done.next[self.at as usize + 1];
     }
 
     /// Goes on to the first pending place, if all others that come before it were invoked too
@@ -183,13 +183,13 @@ impl State {
         let done = self.digest.with_done(place);
         let digest = self.object.digest(done, &item.op, &step);
         let high = self.high.max(place + 1);
-        let pending = self.undone.pending_after(self.window.pending, place);
-        self.undone.take_out(place);
+        let pending = self.not_done.pending_after(self.window.pending, place);
+        self.not_done.take_out(place);
         if self
             .dead
-            .holds(digest.hash(), high, &self.undone, &self.object)
+            .holds(digest.hash(), high, &self.not_done, &self.object)
         {
-            self.undone.put_back(place);
+            self.not_done.put_back(place);
             self.object.undo(step.undo)?;
             self.pass(trials);
             return Ok(false);
@@ -207,9 +207,9 @@ impl State {
         }
         self.digest = digest;
         self.high = high;
-        let least = least_return(trials, &self.undone);
+        let least = least_return(trials, &self.not_done);
         self.window = Window { least, pending };
-        self.at = self.undone.next[0];
+        self.at = self.not_done.next[0];
         Ok(false)
     }
 
@@ -250,7 +250,7 @@ impl State {
         Ok(Some(Pair {
             hash: self.digest.hash(),
             high: self.high,
-            undone: self.undone.below(alloc, self.high)?,
+            not_done: self.not_done.below(alloc, self.high)?,
             content: Kept::of(alloc, &self.object)?,
         }))
     }
@@ -272,12 +272,12 @@ impl State {
         };
         self.dead.remember_if_some(alloc, pair)?;
         self.object.undo(level.undo)?;
-        self.undone.put_back(level.place);
+        self.not_done.put_back(level.place);
         self.left = owed_before(self.left, &trials.items[level.place as usize].end);
         self.digest = level.digest;
         self.high = level.high;
         self.window = level.window;
-        self.at = self.undone.next[level.place as usize + 1];
+        self.at = self.not_done.next[level.place as usize + 1];
         Ok(true)
     }
 

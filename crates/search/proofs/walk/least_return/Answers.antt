@@ -10,11 +10,11 @@ pub loop-at-init : goal.loop-at-init
 loop-at-init c = λ done link.
     let long = link.long_next in
     least_first c.args.trials.now.items.items link
-    (c.index.ensures ∙ get_or_default c.args.undone.now.next.items 0 _ 0 (omega arith))
+    (c.index.ensures ∙ get_or_default c.args.not_done.now.next.items 0 _ 0 (omega arith))
 
 pub loop-at-smaller : goal.loop-at-smaller
 loop-at-smaller c =
-    let nx = c.args.undone.now.next.items in
+    let nx = c.args.not_done.now.next.items in
     let h = c.requires.linked in
     let t = c.loop-at-test.true in
     let at = c.loop-at.at in
@@ -25,7 +25,7 @@ loop-at-smaller c =
 
 pub loop-at-preserved : goal.loop-at-preserved
 loop-at-preserved c = λ done link.
-    let nx = c.args.undone.now.next.items in
+    let nx = c.args.not_done.now.next.items in
     let items = c.args.trials.now.items.items in
     let m = c.loop-at.invariant done link in
     let t = c.loop-at-test.true in

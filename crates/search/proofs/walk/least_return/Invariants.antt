@@ -6,7 +6,7 @@ use Rattle.search.proofs.walk.least_return.Given as goal
 
 abbrev pub invariant-loop-at : goal.invariant-loop-at
 invariant-loop-at l = (done : List ℕ)
-    → Linked (length l.trials.items.items) done l.undone.next.items l.undone.before.items
+    → Linked (length l.trials.items.items) done l.not_done.next.items l.not_done.before.items
     → IsLeastBelow (length l.trials.items.items) (call_at l.trials.items.items) done l.at l.least
     × IsStop (length l.trials.items.items) done l.at
 

@@ -12,5 +12,5 @@ returns-then-is_pair c = λ u.
       r - 1,
       l,
       λ d. rw (← (c.index.ensures ∙ get_or_default c.args.self.now.pairs.items (r - 1) _ d l))
-          (c.is_pair.ensures.high yes, c.is_pair.ensures.undone yes, c.is_pair.ensures.same yes),
+          (c.is_pair.ensures.high yes, c.is_pair.ensures.not_done yes, c.is_pair.ensures.same yes),
     )

@@ -13,9 +13,9 @@ pub returns-clause-search : goal.returns-clause-search
 returns-clause-search c =
     let t = c.args.trials.now in
     let items = t.items.items in
-    let u = c.in_ok-undone.undone in
+    let u = c.in_ok-not_done.not_done in
     let len : c.len.result ≡ length items = omega (arith, c.len.ensures) in
-    let link = rw len at c.in_ok-undone.ensures in
+    let link = rw len at c.in_ok-not_done.ensures in
     let long = link.long_next in
     let window : IsWindow (length items) (call_at items) []
     (record { least = c.least_return-least.result; pending = t.pending }) = record {

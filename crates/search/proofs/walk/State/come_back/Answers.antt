@@ -1,4 +1,4 @@
--- `come_back`: with a level popped and its operation undone, the search is as sound as before that operation. The
+-- `come_back`: with a level popped and its operation not_done, the search is as sound as before that operation. The
 -- stack without its top is a walk again (`back_walk`), and the pair that is remembered is dead (`remembered_some`).
 use Rattle.std.proofs.Common.{◌<◌, ◌+◌, length, reverse, ap, ◌∙◌, arith}
 use Rattle.std.proofs.lemmas.List.{get_or_default, length-set}
@@ -20,7 +20,7 @@ pub index-requires-2 : goal.index-requires-2
 index-requires-2 c =
     let w = rw (pushed c.pop.new.self.items c.in-Some.ensures.items) at c.requires.search.walk in
     let here = w.stack.3.here_next in
-    let e = ap length c.put_back.ensures.next ∙ length-set c.args.self.now.undone.next.items _ _ in
+    let e = ap length c.put_back.ensures.next ∙ length-set c.args.self.now.not_done.next.items _ _ in
     omega arith
 
 pub returns-clause-search : goal.returns-clause-search
@@ -31,7 +31,7 @@ returns-clause-search c = λ u.
     let one = pushed c.pop.new.self.items c.in-Some.ensures.items in
     let w = rw one at c.requires.search.walk in
     let here = w.stack.3.here_next in
-    let e = ap length c.put_back.ensures.next ∙ length-set c.args.self.now.undone.next.items _ _ in
+    let e = ap length c.put_back.ensures.next ∙ length-set c.args.self.now.not_done.next.items _ _ in
     let inside : level.place + 1 < length nx = omega arith in
     let eo = ap as_call c.index.ensures ∙ call_read t.items.items level.place _ w.stack.0.left.0 in
     record {

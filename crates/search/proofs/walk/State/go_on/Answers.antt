@@ -1,5 +1,5 @@
 -- `go_on`: one operation more leaves a search that goes on, or a whole order. The walk's stack grows by it
--- (`stepped`), and with no return owed it is an order (`over_now`). At a dead pair it is undone (`hit_any`).
+-- (`stepped`), and with no return owed it is an order (`over_now`). At a dead pair it is not_done (`hit_any`).
 use Rattle.std.proofs.Common.{length, reverse, ap, ◌∙◌, arith}
 use Rattle.std.proofs.lemmas.List.{get_or_default}
 use Rattle.model.specs.Objects.{empty}
@@ -53,7 +53,7 @@ pass-requires-clause-search c =
 pub pass-requires-clause-dead_at : goal.pass-requires-clause-dead_at
 pass-requires-clause-dead_at c =
     let a = c.args.self.now in
-    let d : Pair = record { hash = 0; high = 0; undone = a.undone.next; content = Whole a.object } in
+    let d : Pair = record { hash = 0; high = 0; not_done = a.not_done.next; content = Whole a.object } in
     let high = c.max-high.ensures in
     rw c.in_ok-undo.ensures (hit_any c.args.trials.now c.requires.search.walk a.dead c.requires.at c.requires.does
     c.take_out.ensures.next (omega arith) (omega arith) c.requires.search.dead (c.holds.ensures c.if-holds.true) d)

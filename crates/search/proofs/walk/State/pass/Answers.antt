@@ -15,7 +15,7 @@ returns-clause-search c =
     let w = c.requires.search.walk in
     record {
       walk = passed w c.requires.at c.requires.dead_at
-          (c.index.ensures ∙ get_or_default a.undone.next.items (a.at + 1) _ 0 (pass_rises w c.requires.at).1);
+          (c.index.ensures ∙ get_or_default a.not_done.next.items (a.at + 1) _ 0 (pass_rises w c.requires.at).1);
       dead = c.requires.search.dead;
     }
 
@@ -23,6 +23,6 @@ pub returns-clause-rises : goal.returns-clause-rises
 returns-clause-rises c =
     let a = c.args.self.now in
     let r = pass_rises c.requires.search.walk c.requires.at in
-    let t = c.index.ensures ∙ get_or_default a.undone.next.items (a.at + 1) _ 0 r.1 in
+    let t = c.index.ensures ∙ get_or_default a.not_done.next.items (a.at + 1) _ 0 r.1 in
     let u = r.0 in
     omega arith

@@ -1,6 +1,6 @@
 use Rattle.std.proofs.Common.{ℕ, ◌++◌, List, take}
 use Rattle.search.specs.Links.{Lists}
-use Rattle.search.proofs.undone.Undone.is_below.Given as goal
+use Rattle.search.proofs.not_done.NotDone.is_below.Given as goal
 
 abbrev pub invariant-loop-place : goal.invariant-loop-place
 invariant-loop-place l =

@@ -15,7 +15,7 @@ use std::alloc::{AllocError, Global};
 /// A place that was taken out keeps what it knows of its neighbours, so that it can be put back:
 /// Knuth, "Dancing Links", 2000.
 #[derive(Drop)]
-pub(crate) struct Undone {
+pub(crate) struct NotDone {
     pub next: Vec<u32>,
     pub before: Vec<u32>,
 }
@@ -33,12 +33,12 @@ fn numbers(alloc: Global, n: u32) -> Result<Vec<u32>, AllocError>
     Ok(v)
 }
 
-impl Undone {
+impl NotDone {
     /// All places below `n`.
-    pub fn all(alloc: Global, n: u32) -> Result<Undone, AllocError>
+    pub fn all(alloc: Global, n: u32) -> Result<NotDone, AllocError>
         ensures { IfOk result (λ u. Linked n [] u.next.items u.before.items) }
     {
-        Ok(Undone {
+        Ok(NotDone {
             next: numbers(alloc, n)?,
             before: numbers(alloc, n)?,
         })

@@ -1,7 +1,7 @@
 use Rattle.std.proofs.Common.{◌+◌, length, ap, inl, inr, arith}
 use Rattle.std.proofs.lemmas.Bool.{leb-true}
 use Rattle.search.proofs.Steps.{below_end}
-use Rattle.search.proofs.undone.Undone.is_below.Goals as goal
+use Rattle.search.proofs.not_done.NotDone.is_below.Goals as goal
 
 pub returns-then-high-place : goal.returns-then-high-place
 returns-then-high-place c =

@@ -3,7 +3,7 @@
 use Rattle.std.proofs.Common.{◌<◌, length, inl, inr, sym, ◌∙◌, arith}
 use Rattle.std.proofs.lemmas.List.{get_or_default}
 use Rattle.search.proofs.Steps.{listed_end, below_step}
-use Rattle.search.proofs.undone.Undone.below.Goals as goal
+use Rattle.search.proofs.not_done.NotDone.below.Goals as goal
 
 pub returns-then-high-place : goal.returns-then-high-place
 returns-then-high-place c =

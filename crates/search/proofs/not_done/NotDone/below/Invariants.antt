@@ -1,6 +1,6 @@
 use Rattle.std.proofs.Common.{ℕ, ◌-◌, ◌≤◌, ◌++◌, List, length}
 use Rattle.search.specs.Links.{Linked, IsSlot, Lists}
-use Rattle.search.proofs.undone.Undone.below.Given as goal
+use Rattle.search.proofs.not_done.NotDone.below.Given as goal
 
 -- the places so far are in front of any that the list has from the slot on
 abbrev pub invariant-loop-places : goal.invariant-loop-places
