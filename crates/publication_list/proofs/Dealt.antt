@@ -4,6 +4,7 @@ use Rattle.std.proofs.Common.{rules, ◌≡◌, ℕ, zero, suc, ◌+◌, ◌<◌
 use Rattle.std.proofs.Common.{vec_capacity, length-append}
 use Rattle.std.proofs.Common.{length-set, get_or-set_same, get_or-set_other, refl, sym, ap, ◌∙◌, subst, arith}
 use Rattle.std.specs.declared.vec.Vec.{Vec}
+use Rattle.std.proofs.lemmas.List.{get_or_default}
 use mathlib.Core.Logic.{dite}
 use native.Mathlib.Decide.{ℕ_discrete}
 use mathlib.Core.Option.{some, some-injective}
@@ -21,11 +22,6 @@ at_first : {A : Type 0} (l : List A) (a b : A) (j : ℕ) → j < length l → ge
 at_first [] a b j h e = absurd (omega arith)
 at_first (x ∷ xs) a b zero h e = e
 at_first (x ∷ xs) a b (suc j) h e = at_first xs a b j (omega arith) e
-
-any_default : {A : Type 0} (l : List A) (k : ℕ) (d e : A) → k < length l → get_or l k d ≡ get_or l k e
-any_default [] k d e h = absurd (omega arith)
-any_default (x ∷ xs) zero d e h = refl
-any_default (x ∷ xs) (suc k) d e h = any_default xs k d e (omega arith)
 
 pub popped : (id : TableId) (n : ℕ) (old new : List PlaceSeen) (p : PlaceSeen) → ArePlaces id n old
     → old ≡ new ++ p ∷ []
@@ -71,26 +67,10 @@ module _ {Z : Type 0} where
       subst (AreGrownFrom k id old) (sym changed) (
         length-set ms k m' ∙ wide,
         (λ c d h. get_or-set_other ms k c m' d (λ e. omega arith) ∙ g.1 c d (omega arith)),
-        λ c d h l. dite (ℕ_discrete c k)
-            (λ (e : c ≡ k). subst (λ z.
-            ((get_or (set ms k m') z d).items ≡ (get_or old z d).items ++ record { roster = id; row = z; tries = [] }
-            ∷ []) × (vec_capacity (get_or (set ms k m') z d) ≡ vec_capacity (get_or old z d))
-            × (vec_len (get_or (set ms k m') z d) ≡ vec_len (get_or old z d) + 1)) (sym e)
-            (let here : get_or (set ms k m') k d ≡ m' = get_or-set_same ms k m' d (omega arith) in
-            let there : get_or old k d ≡ m = any_default old k d m inside ∙ sym was in (
-              ap (λ (z : Vec PlaceSeen Z). z.items) here
-                  ∙ (items ∙ ((λ i. m.items ++ place i ∷ [])
-                  ∙ ap (λ (z : Vec PlaceSeen Z). z.items ++ record { roster = id; row = k; tries = [] } ∷ [])
-                  (sym there))),
-              ap (λ (z : Vec PlaceSeen Z). vec_capacity z) here
-                  ∙ (capacity ∙ ap (λ (z : Vec PlaceSeen Z). vec_capacity z) (sym there)),
-              ap (λ (z : Vec PlaceSeen Z). vec_len z) here
-                  ∙ (len ∙ ap (λ (z : Vec PlaceSeen Z). vec_len z + 1) (sym there)),
-            )))
-            (λ ne. let same : get_or (set ms k m') c d ≡ get_or ms c d = get_or-set_other ms k c m' d ne in
-            let a = g.2 c d (omega arith) l in (
-              ap (λ (z : Vec PlaceSeen Z). z.items) same ∙ a.0,
-              ap (λ (z : Vec PlaceSeen Z). vec_capacity z) same ∙ a.1,
-              ap (λ (z : Vec PlaceSeen Z). vec_len z) same ∙ a.2,
-            )),
+        λ c d h l. dite (ℕ_discrete c k) (λ (e : c ≡ k). rw (
+          e,
+          get_or-set_same ms k m' d (omega arith),
+          get_or_default old k d m inside ∙ sym was,
+        ) (items ∙ (λ i. m.items ++ place i ∷ []), capacity, len))
+            (λ ne. rw (get_or-set_other ms k c m' d ne) (g.2 c d (omega arith) l)),
       )

@@ -1,7 +1,7 @@
 -- Each step of the owner of a row keeps the rule of the list: it looks, wakes, links and enlists (`.._keeps_rule`),
 -- may do so (`.._allowed`), and knows afterwards what its try has left (`.._leaves_..`).
 use Rattle.std.proofs.Common.{◌≡◌, ◌≢◌, ℕ, true, false, ◌+◌, ◌<◌, eqb, List, [], ◌∷◌, ◌++◌, get_or, refl, sym, ap, ◌∙◌}
-use Rattle.std.proofs.Common.{subst, inl, inr, eq-eqb, ne_eqb, arith}
+use Rattle.std.proofs.Common.{inl, inr, eq-eqb, ne_eqb, arith}
 use mathlib.Core.Logic.{dite}
 use mathlib.Mathlib.Logic.Function.Basic.{update_self}
 use native.Mathlib.Decide.{ℕ_discrete}
@@ -9,7 +9,7 @@ use mathlib.Core.Option as maybe
 use mathlib.Core.Option.{some}
 use lib.ListN.{get_elem?}
 use prog.Atomic.{either}
-use Rattle.atomic_table.specs.Table.{Me, step, keeps, stepped, Allows}
+use Rattle.atomic_table.specs.Table.{Me, step, keeps, Allows}
 use Rattle.publication_list.specs.Inside.{IsPlace, tries_of}
 use Rattle.publication_list.specs.declared.board.Enlist.{Enlist}
 use Rattle.publication_list.specs.declared.board.Enlist.TheVariants.{Already, Listed, Missed}
@@ -45,13 +45,7 @@ over e v = v
 
 -- a row that is not known to be woken, and whose mark is 0, is asleep
 unmarked : (o : RowKnowledge) (t : Stage) → o ≡ own.Unknown → OwnOk o t → mark_of t ≡ 0 → t ≡ asleep
-unmarked o t is ok e = elim (subst (λ z. OwnOk z t) is ok) [
-  | inl a ↦ a
-  | inr b ↦ elim b [
-    | inl c ↦ let f = ap mark_of c in absurd (omega arith)
-    | inr c ↦ let f = ap mark_of c in absurd (omega arith)
-  ]
-]
+unmarked o t is ok e = grind arith
 
 pub see_keeps_rule : (slots id i c : ℕ) (o : RowKnowledge) (t : List Enlist) (cs : List (ℕ × ℕ))
     → Allows Holds slots id (view.Place c o t, cs) i (λ f. f)
@@ -165,18 +159,16 @@ enlist_keeps_rule slots id c m t cs s k deep at small =
       view.Place c own.Unknown (t ++ Listed ∷ []),
       keeps,
       tt,
-      subst (λ z. Kept (stepped s 0 (either z (1 + c) found) id cs
-          (view.Place c own.Unknown (t ++ Listed ∷ [])) keeps)) (sym (eq-eqb found m hit))
-          (kept_after s k id (view.Place c own.Unknown (t ++ Listed ∷ [])) record {
-            list = with_stage w c listed (c ∷ w.rows);
-            same = refl;
-            sound = enlist_keeps_sound w c m low was k.sound;
-            tied = enlist_keeps_tied w c m s.words (omega arith) was hit k.sound k.tied;
-            unmade = unmade_stay_asleep w c listed low k.unmade;
-            others = λ j u other. place_step_keeps_others w c listed (c ∷ w.rows) (c ∷ []) not_unlinked
-                (λ e. absurd (cc)) refl j u (λ e. other (e ∙ sym ok.0));
-            own = (ok.0, ok.1, inr (inl (update_self ℕ_discrete c listed w.stage)));
-          }),
+      rw (eq-eqb found m hit) (kept_after s k id (view.Place c own.Unknown (t ++ Listed ∷ [])) record {
+        list = with_stage w c listed (c ∷ w.rows);
+        same = refl;
+        sound = enlist_keeps_sound w c m low was k.sound;
+        tied = enlist_keeps_tied w c m s.words (omega arith) was hit k.sound k.tied;
+        unmade = unmade_stay_asleep w c listed low k.unmade;
+        others = λ j u other. place_step_keeps_others w c listed (c ∷ w.rows) (c ∷ []) not_unlinked
+            (λ e. absurd (cc)) refl j u (λ e. other (e ∙ sym ok.0));
+        own = (ok.0, ok.1, inr (inl (update_self ℕ_discrete c listed w.stage)));
+      }),
       λ d p ts is _. (
         (λ _. ap
             (λ (z : ListView). (view.Place (number_of z) own.Unknown (tries_of z ++ Listed ∷ []), cs)) is),
@@ -187,8 +179,7 @@ enlist_keeps_rule slots id c m t cs s k deep at small =
       over Missed me,
       keeps,
       tt,
-      subst (λ z. Kept (stepped s 0 (either z (1 + c) found) id cs (over Missed me) keeps))
-          (sym (ne_eqb found m miss)) (same_words_keep_rule s k 0 id (over Missed me) cs ok),
+      rw (ne_eqb found m miss) (same_words_keep_rule s k 0 id (over Missed me) cs ok),
       λ d p ts is _. ((λ e. absurd (miss e)), λ _. ap (λ (z : ListView). (over Missed z, cs)) is),
     ))
 
@@ -205,9 +196,7 @@ trying row t m p = (p.1.2.0, p.1.1 ∙ ap (λ o. on row o t) p.1.2.1)
 
 pub look_allowed : (slots id c : ℕ) (t : List Enlist) (m : Hands) → IsPlace c false t m
     → Allows Holds slots id m (33 + c) (λ f. f) (play.looks (step slots (33 + c) 0 0 maybe.none) m)
-look_allowed slots id c t m p =
-    subst (λ z. Allows Holds slots id z (33 + c) (λ f. f) (play.looks (step slots (33 + c) 0 0 maybe.none) z))
-    (sym (at_rest c t m p)) (look_keeps_rule slots id c t [])
+look_allowed slots id c t m p = rw (at_rest c t m p) (look_keeps_rule slots id c t [])
 
 -- the mark was not set
 pub look_found_asleep : (c found : ℕ) (t : List Enlist) (m m' : Hands) → IsPlace c false t m
@@ -218,9 +207,7 @@ look_found_asleep c found t m m' p h e =
 
 pub wake_allowed : (slots id c : ℕ) (t : List Enlist) (m : Hands) → m ≡ on c own.Asleep t
     → Allows Holds slots id m (33 + c) (λ _. 1) (λ _. play.wakes (step slots (33 + c) 1 0 maybe.none) m 1)
-wake_allowed slots id c t m e =
-    subst (λ z. Allows Holds slots id z (33 + c) (λ _. 1) (λ _. play.wakes (step slots (33 + c) 1 0 maybe.none) z 1))
-    (sym e) (wake_keeps_rule slots id c t [])
+wake_allowed slots id c t m e = rw e (wake_keeps_rule slots id c t [])
 
 pub wake_leaves_awake : (c : ℕ) (t : List Enlist) (m m' : Hands) → c < 32 → m ≡ on c own.Asleep t
     → play.wakes (step 0 (33 + c) 1 0 maybe.none) m 1 m' → IsPlace c true t m'
@@ -230,15 +217,11 @@ wake_leaves_awake c t m m' low is h =
 
 pub see_allowed : (slots id c : ℕ) (t : List Enlist) (m : Hands) → IsPlace c true t m
     → Allows Holds slots id m 0 (λ f. f) (play.sees (step slots 0 0 0 maybe.none) m)
-see_allowed slots id c t m p = let a = trying c t m p in
-    subst (λ z. Allows Holds slots id z 0 (λ f. f) (play.sees (step slots 0 0 0 maybe.none) z)) (sym a.1)
-    (see_keeps_rule slots id 0 c (own.Awake a.0) t [])
+see_allowed slots id c t m p = let a = trying c t m p in rw a.1 (see_keeps_rule slots id 0 c (own.Awake a.0) t [])
 
 pub link_allowed : (slots id c n : ℕ) (t : List Enlist) (m : Hands) → IsPlace c true t m
     → Allows Holds slots id m (1 + c) (λ _. n) (λ _. play.links (step slots (1 + c) n 0 maybe.none) m n)
-link_allowed slots id c n t m p = let a = trying c t m p in
-    subst (λ z. Allows Holds slots id z (1 + c) (λ _. n) (λ _. play.links (step slots (1 + c) n 0 maybe.none) z n))
-    (sym a.1) (link_keeps_rule slots id c a.0 n t [])
+link_allowed slots id c n t m p = let a = trying c t m p in rw a.1 (link_keeps_rule slots id c a.0 n t [])
 
 pub link_leaves_linked : (c n : ℕ) (t : List Enlist) (m m' : Hands) → IsPlace c true t m
     → play.links (step 0 (1 + c) n 0 maybe.none) m n m' → m' ≡ on c (own.Awake n) t
@@ -248,9 +231,7 @@ link_leaves_linked c n t m m' p h =
 
 pub enlist_allowed : (slots id c n : ℕ) (t : List Enlist) (m : Hands) → m ≡ on c (own.Awake n) t
     → Allows Holds slots id m 0 (λ f. either (eqb f n) (1 + c) f) (play.enlists (step slots 0 n (1 + c) maybe.none) m)
-enlist_allowed slots id c n t m e =
-    subst (λ z. Allows Holds slots id z 0 (λ f. either (eqb f n) (1 + c) f)
-    (play.enlists (step slots 0 n (1 + c) maybe.none) z)) (sym e) (enlist_keeps_rule slots id c n t [])
+enlist_allowed slots id c n t m e = rw e (enlist_keeps_rule slots id c n t [])
 
 pub enlist_leaves_missed : (c n found : ℕ) (t : List Enlist) (m m' : Hands) → c < 32 → m ≡ on c (own.Awake n) t
     → play.enlists (step 0 0 n (1 + c) maybe.none) m found m' → found ≢ n → IsPlace c true (t ++ Missed ∷ []) m'

@@ -1,7 +1,7 @@
 -- A new roster keeps the rule: all words are 0, and no row is listed (`opening_keeps_rule`). To make one more place
 -- keeps it too, since what is known of other rows stays true (`split_keeps_rule`).
-use Rattle.std.proofs.Common.{◌≡◌, ◌≢◌, ◌⊎◌, ℕ, zero, suc, ◌+◌, ◌<◌, List, [], ◌∷◌, ◌++◌, length, get_or, set}
-use Rattle.std.proofs.Common.{replicate, Option, Some, None, length-append, length-set, refl, sym, ap, ◌∙◌, subst, inl}
+use Rattle.std.proofs.Common.{◌≡◌, ◌≢◌, ◌⊎◌, ℕ, zero, suc, ◌+◌, ◌<◌, ◌≤◌, List, [], ◌∷◌, ◌++◌, length, get_or, set}
+use Rattle.std.proofs.Common.{replicate, Option, None, length-append, length-set, refl, sym, ap, ◌∙◌, subst, inl}
 use Rattle.std.proofs.Common.{inr, arith}
 use mathlib.Core.Option.{some, some-injective, some-ne-none}
 use lib.ListN.{get_elem?}
@@ -40,20 +40,8 @@ pub opening_keeps_rule : (words : List ℕ) → length words ≡ 65 → ((i : �
     → Holds (opening words [] first_walker)
 opening_keeps_rule words wide zeros = record {
   list = empty_list;
-  sound = record {
-    few = omega arith;
-    low = λ k l. absurd (omega arith);
-    distinct = λ i j l m e. absurd (omega arith);
-    listed = λ k l. absurd (omega arith);
-    stands = λ r e. absurd (cc);
-  };
-  tied = record {
-    wide = wide;
-    head = zeros 0;
-    nexts = λ k l. absurd (omega arith);
-    links = λ r n l e. absurd (cc);
-    marks = λ r l. zeros (33 + r);
-  };
+  sound = grind arith;
+  tied = grind arith;
   count = refl;
   unmade = λ r l. refl;
   seats = λ j v e. elim (at_end [] first_walker v j e) [
@@ -63,14 +51,12 @@ opening_keeps_rule words wide zeros = record {
 }
 
 out_later : (w : PublicationList) (o : Option ℕ) → TakenOutOk w o → TakenOutOk (record w { made = w.made + 1 }) o
-out_later w None ok = ok
-out_later w (Some r) ok = let low = ok.0 in (omega arith, ok.1, ok.2)
+out_later w o ok = grind arith
 
 -- what is known stays true where a place more was made
 later : (w : PublicationList) (j : ℕ) (u : ListView) → j ≢ 0 → ViewOk w j u
     → ViewOk (record w { made = w.made + 1 }) j u
-later w j (view.Walker made left out walks) other ok = absurd (other ok.0)
-later w j (view.Place d o ts) other ok = let low = ok.1 in (ok.0, omega arith, ok.2)
+later w j u other ok = grind arith
 
 pub split_keeps_rule : (id made : ℕ) (left : List ℕ) (out : Option ℕ) (walks : List (List ℕ)) → made < 32
     → Splits Holds id (view.Walker made left out walks) (view.Walker (made + 1) left out walks)
@@ -85,14 +71,9 @@ split_keeps_rule id made left out walks low s k at =
     let count = k.count in
     let long = length-set s.views id l in record {
       list = w';
-      sound = record {
-        few = omega arith;
-        low = λ i h. let z = k.sound.low i h in
-            omega arith;
-        distinct = k.sound.distinct;
-        listed = k.sound.listed;
-        stands = k.sound.stands;
-      };
+      sound = let few : w'.made ≤ 32 = omega arith in
+          let low' : (i : ℕ) → i < length w.rows → get_or w.rows i 0 < w'.made =
+          λ i h. let z = k.sound.low i h in omega arith in assumption k.sound;
       tied = assumption;
       count = let both = length-append (set s.views id l) (new ∷ []) in omega arith;
       unmade = λ r h. k.unmade r (omega arith);
@@ -114,9 +95,7 @@ zeros (suc n) (suc i) = zeros n i
 
 pub split_allowed : (id row : ℕ) (m : Hands) → row < 32 → m ≡ (view.Walker row [] None [], [])
     → Splits Holds id m.0 (play.after_making m.0) (play.new_place m.0)
-split_allowed id row m low is =
-    subst (λ (z : Hands). Splits Holds id z.0 (play.after_making z.0) (play.new_place z.0)) (sym is)
-    (split_keeps_rule id row [] None [] low)
+split_allowed id row m low is = rw is (split_keeps_rule id row [] None [] low)
 
 pub ArePlaces-more : (id : TableId) (n : ℕ) (xs ys : List PlaceSeen) (p : PlaceSeen) → ArePlaces id n xs
     → ys ≡ xs ++ p ∷ [] → p ≡ record { roster = id; row = n; tries = [] } → ArePlaces id (n + 1) ys

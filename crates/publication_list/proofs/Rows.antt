@@ -54,18 +54,13 @@ is_at l i j inside low other = let long = length-remove l i inside in dite (dec_
     (λ n. let below = lt_of_not-le n in (j, omega arith, get_or-remove_below l i 0 j below inside))
 
 pub word_at-remove_below : (l : List ℕ) (i k : ℕ) → i < length l → k < i → word_at (remove l i) k ≡ word_at l k
-word_at-remove_below l i k inside low = let long = length-remove l i inside in
-    word_at_in (remove l i) k (omega arith)
-    ∙ (ap (λ z. 1 + z) (get_or-remove_below l i 0 k low inside) ∙ sym (word_at_in l k (omega arith)))
+word_at-remove_below l i k inside low =
+    grind (arith, word_at_in, get_or-remove_below l i 0 k low inside, length-remove l i inside)
 
 pub word_at-remove_above : (l : List ℕ) (i k : ℕ) → i < length l → i ≤ k → word_at (remove l i) k ≡ word_at l (suc k)
 word_at-remove_above l i k inside above =
     let next : k + 1 ≡ suc k = omega arith in
-    let long = length-remove l i inside in dite (dec_le (length (remove l i)) k)
-    (λ past. word_at_past (remove l i) k past ∙ sym (word_at_past l (suc k) (omega arith)))
-    (λ n. let low = lt_of_not-le n in word_at_in (remove l i) k low
-    ∙ (ap (λ z. 1 + z) (get_or-remove_above l i 0 k above inside ∙ ap (λ z. get_or l z 0) next)
-    ∙ sym (word_at_in l (suc k) (omega arith))))
+    grind (arith, word_at_past, word_at_in, get_or-remove_above l i 0 k above inside, length-remove l i inside)
 
 pub distinct_right : (xs ys : List ℕ) → IsDistinct (xs ++ ys) → IsDistinct ys
 distinct_right xs ys d i j li lj e = let long = length-append xs ys in
@@ -90,10 +85,7 @@ gone l p k inside d low e =
 
 pub distinct_more : (x : ℕ) (xs : List ℕ) → ((k : ℕ) → k < length xs → get_or xs k 0 ≢ x) → IsDistinct xs
     → IsDistinct (x ∷ xs)
-distinct_more x xs fresh d zero zero li lj e = refl
-distinct_more x xs fresh d zero (suc j) li lj e = absurd (fresh j (omega arith) (sym e))
-distinct_more x xs fresh d (suc i) zero li lj e = absurd (fresh i (omega arith) e)
-distinct_more x xs fresh d (suc i) (suc j) li lj e = ap suc (d i j (omega arith) (omega arith) e)
+distinct_more x xs fresh d i j li lj e = grind (arith, fresh, d)
 
 found : (n : ℕ) (l : List ℕ)
     → ((i : ℕ) × (i < length l) × (get_or l i 0 ≡ n)) ⊎ ((i : ℕ) → i < length l → get_or l i 0 ≢ n)
@@ -102,13 +94,11 @@ found n (x ∷ xs) = dite (ℕ_discrete x n) (λ e. inl (0, omega arith, e))
     (λ ne. elim (found n xs) [
       | inl t ↦ let l = t.1 in
           inl (suc t.0, omega arith, t.2)
-      | inr t ↦ inr (not_first n x xs ne t)
+      | inr t ↦ inr (λ i. elim i as (λ i. i < length (x ∷ xs) → get_or (x ∷ xs) i 0 ≢ n) [
+        | zero ↦ λ h. ne
+        | suc j ↦ λ h. t j (omega arith)
+      ])
     ])
-  where
-    not_first : (n x : ℕ) (xs : List ℕ) → x ≢ n → ((i : ℕ) → i < length xs → get_or xs i 0 ≢ n) → (i : ℕ)
-        → i < length (x ∷ xs) → get_or (x ∷ xs) i 0 ≢ n
-    not_first n x xs ne t zero h = ne
-    not_first n x xs ne t (suc i) h = t i (omega arith)
 
 -- distinct numbers below n are at most n
 pub few_below : (n : ℕ) (l : List ℕ) → IsDistinct l → ((k : ℕ) → k < length l → get_or l k 0 < n) → length l ≤ n

@@ -2,7 +2,6 @@
 use Rattle.std.proofs.Common.{inr, inl, ◌≡◌, ◌≢◌, ◌⊎◌, ℕ, zero, suc, ◌+◌, ◌<◌, ◌≤◌, List, ◌∷◌, ◌++◌, length, get_or}
 use Rattle.std.proofs.Common.{set, remove, Option, Some, None, length-set, get_or-set_other, get_or-set_same, refl, sym}
 use Rattle.std.proofs.Common.{ap, ◌∙◌, subst, append_assoc, arith}
-use mathlib.Core.Logic.{dite}
 use mathlib.Mathlib.Logic.Function.Basic.{update, update_self, update_of_ne}
 use native.Mathlib.Decide.{ℕ_discrete}
 use mathlib.Core.Option.{some}
@@ -18,6 +17,8 @@ use Rattle.publication_list.specs.PublicationList.{mark_of}
 use Rattle.publication_list.specs.Rule.{OwnOk, TakenOutOk, ViewOk, Sound, Tied, Kept}
 use Rattle.publication_list.proofs.Rows.{updated_all, was_at, is_at, word_at-remove_below, word_at-remove_above}
 use Rattle.publication_list.proofs.Rows.{distinct_remove, distinct_more, gone}
+
+-- ---- what the other seats know
 
 -- the row r is in the list
 abbrev Stands : List ℕ → ℕ → Type 0
@@ -58,16 +59,16 @@ walker_step_keeps_others w r t rows follows j (view.Walker made left out walks) 
 walker_step_keeps_others w r t rows follows j (view.Place d o ts) other ok =
     (ok.0, ok.1, updated_all (λ q s. OwnOk o (w.stage q) → OwnOk o s) w.stage r t (follows o) (λ q _ k. k) d ok.2)
 
+-- ---- steps of a row that is not listed
+
 -- a row that is not listed goes to another such stage
 pub stage_keeps_sound : (w : PublicationList) (r : ℕ) (t : Stage) → w.stage r ≢ listed → t ≢ listed → Sound w
     → Sound (with_stage w r t w.rows)
-stage_keeps_sound w r t not new k = record {
-  few = k.few;
-  low = k.low;
-  distinct = k.distinct;
-  listed = λ i l. update_of_ne ℕ_discrete (λ e. not (ap w.stage (sym e) ∙ k.listed i l)) t w.stage ∙ k.listed i l;
-  stands = updated_all (λ q z. z ≡ listed → Stands w.rows q) w.stage r t (λ e. absurd (new e)) (λ q _. k.stands q);
-}
+stage_keeps_sound w r t not new k = assumption (
+  updated_all (λ q z. z ≡ listed → Stands w.rows q) w.stage r t (λ e. absurd (new e)) (λ q _. k.stands q),
+  λ (i : ℕ) (l : i < length w.rows).
+      update_of_ne ℕ_discrete (λ e. not (ap w.stage (sym e) ∙ k.listed i l)) t w.stage ∙ k.listed i l,
+)
 
 -- the mark of a row that is not listed changes
 pub mark_keeps_tied : (w : PublicationList) (r n : ℕ) (t : Stage) (words : List ℕ) → r < 32 → n ≡ mark_of t
@@ -109,12 +110,14 @@ link_keeps_tied w r n m words low was s k =
           (λ q other l. get_or-set_other words (1 + r) (33 + q) n 0 (λ e. omega arith) ∙ k.marks q l);
     }
 
+-- ---- a row is put in front
+
 -- a row that is awake is put in front
 pub enlist_keeps_sound : (w : PublicationList) (r n : ℕ) → r < w.made → w.stage r ≡ awake n → Sound w
     → Sound (with_stage w r listed (r ∷ w.rows))
 enlist_keeps_sound w r n low was k = record {
   few = k.few;
-  low = λ i l. low_there i l;
+  low = λ i l. grind (arith, low, k.low);
   distinct = distinct_more r w.rows apart k.distinct;
   listed = λ i l. listed_there i l;
   stands = updated_all (λ q z. z ≡ listed → Stands (r ∷ w.rows) q) w.stage r listed
@@ -123,10 +126,6 @@ enlist_keeps_sound w r n low was k = record {
   where
     apart : (i : ℕ) → i < length w.rows → get_or w.rows i 0 ≢ r
     apart i l same = let g = sym was ∙ (ap w.stage (sym same) ∙ k.listed i l) in absurd (cc)
-
-    low_there : (i : ℕ) → i < length (r ∷ w.rows) → get_or (r ∷ w.rows) i 0 < w.made
-    low_there zero l = low
-    low_there (suc i) l = k.low i (omega arith)
 
     listed_there : (i : ℕ) → i < length (r ∷ w.rows)
         → update ℕ_discrete w.stage r listed (get_or (r ∷ w.rows) i 0) ≡ listed
@@ -152,10 +151,9 @@ enlist_keeps_tied w r n words low was at s k = let wide = k.wide in record {
   where
     next_there : (i : ℕ) → i < length (r ∷ w.rows)
         → get_or (set words 0 (1 + r)) (1 + get_or (r ∷ w.rows) i 0) 0 ≡ word_at (r ∷ w.rows) (suc i)
-    next_there zero l = get_or-set_other words 0 (1 + r) (1 + r) 0 (λ e. omega arith)
-        ∙ (k.links r n low was ∙ (sym at ∙ k.head))
-    next_there (suc i) l = get_or-set_other words 0 (1 + get_or w.rows i 0) (1 + r) 0 (λ e. omega arith)
-        ∙ k.nexts i (omega arith)
+    next_there i l = grind (arith, k.nexts, k.links r n low was, k.head, get_or-set_other words 0)
+
+-- ---- a row is taken out
 
 -- the row after the place p is taken out
 pub unlink_keeps_sound : (w : PublicationList) (p : ℕ) → p < length w.rows → Sound w
@@ -185,6 +183,7 @@ unlink_keeps_tied w p n words inside word s k =
       head = get_or-set_other words (1 + get_or w.rows p 0) 0 n 0 (λ e. omega arith)
           ∙ (k.head ∙ sym (word_at-remove_below w.rows (suc p) 0 inside (omega arith)));
       nexts = λ i l. next_there i l (was_at w.rows (suc p) i inside l);
+      -- the next words of the rows that are awake stay
       links = λ q m l. updated_all
           (λ q z. q < 32 → z ≡ awake m → get_or (set words (1 + get_or w.rows p 0) n) (1 + q) 0 ≡ m) w.stage
           (get_or w.rows (suc p) 0) unlinked
@@ -192,6 +191,7 @@ unlink_keeps_tied w p n words inside word s k =
           get_or-set_other words (1 + get_or w.rows p 0) (1 + q) n 0 (λ f. let same : q ≡ get_or w.rows p 0 =
           omega arith in let g = sym e ∙ (ap w.stage same ∙ s.listed p (omega arith)) in absurd (cc))
           ∙ k.links q m lq e) q l;
+      -- the marks stay, and the row taken out has that of a listed one
       marks = updated_all (λ q z. q < 32 → get_or (set words (1 + get_or w.rows p 0) n) (33 + q) 0 ≡ mark_of z)
           w.stage (get_or w.rows (suc p) 0) unlinked
           (λ l. get_or-set_other words (1 + get_or w.rows p 0) (33 + get_or w.rows (suc p) 0) n 0 (λ e. omega arith)
@@ -210,23 +210,17 @@ unlink_keeps_tied w p n words inside word s k =
         × (((i < suc p) × (j ≡ i)) ⊎ ((suc p ≤ i) × (j ≡ i + 1))))
         → get_or (set words (1 + get_or w.rows p 0) n) (1 + get_or (remove w.rows (suc p)) i 0) 0
         ≡ word_at (remove w.rows (suc p)) (suc i)
-    next_there i l a =
-        let F : ℕ → Type 0 = λ z. get_or (set words (1 + get_or w.rows p 0) n) (1 + z) 0
-        ≡ word_at (remove w.rows (suc p)) (suc i) in subst F (sym a.2) (elim a.3 [
-          | inl b ↦ let same = b.1 in let under = b.0 in
-              subst (λ z. F (get_or w.rows z 0)) (sym same) (dite (ℕ_discrete i p)
-              (λ (e : i ≡ p). subst (λ z. get_or (set words (1 + get_or w.rows p 0) n) (1 + get_or w.rows z 0) 0
-              ≡ word_at (remove w.rows (suc p)) (suc z)) (sym e)
-              (let few = s.few in let low = s.low p (omega arith) in let wide = k.wide in
-              get_or-set_same words (1 + get_or w.rows p 0) n 0 (omega arith)
-              ∙ (word ∙ sym (word_at-remove_above w.rows (suc p) (suc p) inside (omega arith)))))
-              (λ ne. next_else i (omega arith) ne
-              ∙ sym (word_at-remove_below w.rows (suc p) (suc i) inside (omega arith))))
-          | inr b ↦ let above = b.0 in let same : a.0 ≡ suc i = b.1 ∙ omega arith in
-              subst (λ z. F (get_or w.rows z 0)) (sym same)
-              (next_else (suc i) (subst (λ z. z < length w.rows) same a.1) (λ e. omega arith)
-              ∙ sym (word_at-remove_above w.rows (suc p) (suc i) inside (omega arith)))
-        ])
+    next_there i l a = let few = s.few in let low = s.low p (omega arith) in let wide = k.wide in
+        let here = get_or-set_same words (1 + get_or w.rows p 0) n 0 (omega arith) in grind (
+          arith,
+          a,
+          here,
+          next_else,
+          word_at-remove_above w.rows (suc p) (suc i) inside,
+          word_at-remove_below w.rows (suc p) (suc i) inside,
+        )
+
+-- ---- the rule, after a step of one seat
 
 abbrev pub St : Type 0
 St = State ℕ ListView
@@ -266,18 +260,15 @@ kept_after s k id v' a = record {
 -- a step that changes no word
 pub same_words_keep_rule : (s : St) (k : Kept s) (i id : ℕ) (v' : ListView) (cs : List (ℕ × ℕ)) → ViewOk k.list id v'
     → Kept (stepped s i (get_or s.words i 0) id cs v' keeps)
-same_words_keep_rule s k i id v' cs ok =
-    subst (λ (ws : List ℕ). Kept {S = ℕ} record { words = ws; homes = s.homes; views = set s.views id v' })
-    (sym (set-get_or s.words i 0))
-    (kept_after s k id v' record {
-      list = k.list;
-      same = refl;
-      sound = k.sound;
-      tied = k.tied;
-      unmade = k.unmade;
-      others = λ j u _ b. b;
-      own = ok;
-    })
+same_words_keep_rule s k i id v' cs ok = rw (set-get_or s.words i 0) (kept_after s k id v' record {
+  list = k.list;
+  same = refl;
+  sound = k.sound;
+  tied = k.tied;
+  unmade = k.unmade;
+  others = λ j u _ b. b;
+  own = ok;
+})
 
 -- a row that has been made is not asleep for want of a place
 pub unmade_stay_asleep : (w : PublicationList) (r : ℕ) (t : Stage) → r < w.made

@@ -4,7 +4,7 @@ use Rattle.std.proofs.lemmas.List.{take_all, get_or-append-add}
 use Rattle.std.proofs.Math.Seq.{take-suc}
 use Rattle.std.proofs.Common.{◌≡◌, ◌≢◌, ℕ, zero, suc, ◌+◌, ◌-◌, ◌<◌, ◌≤◌, List, [], ◌∷◌, ◌++◌, take, lt_of_not-le}
 use Rattle.std.proofs.Common.{length, get_or, set, remove, Option, Some, None, length-append, refl, sym, ap, ◌∙◌, subst}
-use Rattle.std.proofs.Common.{inl, inr, arith}
+use Rattle.std.proofs.Common.{arith}
 use mathlib.Core.Option as maybe
 use mathlib.Core.Option.{some}
 use lib.ListN.{get_elem?}
@@ -14,11 +14,10 @@ use mathlib.Mathlib.Logic.Function.Basic.{update_self}
 use native.Mathlib.Decide.{dec_le, ℕ_discrete}
 use Rattle.atomic_table.specs.Table.{Me, step, keeps, Allows}
 use Rattle.publication_list.specs.declared.board.RowKnowledge.{RowKnowledge}
-use Rattle.publication_list.specs.declared.board.RowKnowledge.TheVariants as own
 use Rattle.publication_list.specs.declared.board.ListView.{ListView}
 use Rattle.publication_list.specs.declared.board.ListView.TheVariants as view
 use Rattle.publication_list.specs.PublicationList.{Stage, asleep, listed, unlinked, PublicationList, IsDistinct}
-use Rattle.publication_list.specs.PublicationList.{word_at, WalkMeets}
+use Rattle.publication_list.specs.PublicationList.{word_at}
 use Rattle.publication_list.specs.Rule.{OwnOk, TakenOutOk, Tied, Kept}
 use Rattle.publication_list.specs.Inside.{left_of, made_of, walks_of, HasMet, Meeting}
 use Rattle.publication_list.specs.Plays as play
@@ -106,14 +105,10 @@ follow_keeps_rule slots id i made left out walks cs s k deep at small =
 
 -- a row that was listed may be taken out, for all that its owner knows
 taken_out : (t : Stage) → t ≡ listed → (o : RowKnowledge) → OwnOk o t → OwnOk o unlinked
-taken_out t is own.Unknown ok = inr (inr refl)
-taken_out t is own.Asleep ok = absurd cc
-taken_out t is (own.Awake n) ok = absurd cc
+taken_out t is o ok = grind arith
 
 put_to_sleep : (t : Stage) → t ≡ unlinked → (o : RowKnowledge) → OwnOk o t → OwnOk o asleep
-put_to_sleep t is own.Unknown ok = inl refl
-put_to_sleep t is own.Asleep ok = refl
-put_to_sleep t is (own.Awake n) ok = absurd cc
+put_to_sleep t is o ok = grind arith
 
 pub unlink_keeps_rule : (slots id i n p made : ℕ) (left : List ℕ) (walks : List (List ℕ)) (cs : List (ℕ × ℕ))
     → suc p < length left → i ≡ 1 + get_or left p 0 → n ≡ word_at left (suc (suc p))
@@ -229,20 +224,7 @@ walk_begins found left walks m m' p t =
     let a = t (made_of m.0) left None walks (ap (λ z. z.0) p) refl in
     let is : m' ≡ (view.Walker (made_of m.0) a.0 None (walks ++ a.0 ∷ []), []) =
     a.1 ∙ ap (λ z. (view.Walker (made_of m.0) a.0 None (walks ++ a.0 ∷ []), z.1)) p in
-    let rows : left_of m'.0 ≡ a.0 = ap (λ z. left_of z.0) is in record {
-      met = is ∙ (λ i. (
-        view.Walker (made_of (sym is i).0) (left_of (sym is i).0) None
-            (walks ++ left_of (sym is i).0 ∷ []),
-        [],
-      ));
-      made = ap (λ z. made_of z.0) is;
-      walk = subst (WalkMeets left) (sym rows) a.3;
-      low = subst (λ z. (k : ℕ) → k < length z → get_or z k 0 < made_of m.0) (sym rows) a.4;
-      few = subst (λ z. length z ≤ made_of m.0) (sym rows) a.5;
-      so_far = refl;
-      within = omega arith;
-      at_is = a.2 ∙ ap (λ z. word_at z 0) (sym rows);
-    }
+    let within : 0 ≤ length a.0 = omega arith in rw is (assumption (a.2, a.3, a.4, a.5))
 
 module _ (left : List ℕ) (walks : List (List ℕ)) (made : ℕ) (rows : List ℕ) (at : ℕ) (m : Hands)
     (k : Meeting left walks made rows at m) where
@@ -280,17 +262,11 @@ module _ (left : List ℕ) (walks : List (List ℕ)) (made : ℕ) (rows : List �
         let all : List ℕ = left_of m.0 in
         let row : at - 1 ≡ get_or all n 0 = omega arith in
         let long = longer in
-        subst (λ z. Meeting left walks made rows' found z) (sym told.0) record {
-          met = k.met;
-          made = k.made;
-          walk = k.walk;
-          low = k.low;
-          few = k.few;
-          so_far = more ∙ ((λ j. k.so_far j ++ row j ∷ [])
-              ∙ (sym (take-suc all n 0 low) ∙ ap (λ z. take z all) (sym long)));
-          within = omega arith;
-          at_is = told.1 ∙ ap (word_at all) (sym long);
-        }
+        let within : length rows' ≤ length all = omega arith in rw told.0 (assumption (
+          k,
+          told.1 ∙ ap (word_at all) (sym long),
+          more ∙ ((λ j. k.so_far j ++ row j ∷ []) ∙ (sym (take-suc all n 0 low) ∙ ap (λ z. take z all) (sym long))),
+        ))
 
     pub walk_gets_shorter : length (left_of m'.0) - length rows' < length (left_of m.0) - length rows
     walk_gets_shorter =
@@ -315,8 +291,7 @@ module _ (i n at made : ℕ) (left : List ℕ) (walks : List (List ℕ)) (m : Ha
       let e = b.1 in
       let e' : at - 1 ≡ p = omega arith in
       let e'' : at + 1 ≡ suc (suc p) = omega arith in
-      subst (λ z. Allows Holds slots id z i (λ _. n) (λ _. play.unlinks (step slots i n 0 maybe.none) z n)) (sym is)
-      (unlink_keeps_rule slots id i n p made left walks [] (omega arith) (word ∙ ap (λ z. 1 + get_or left z 0) e')
+      rw is (unlink_keeps_rule slots id i n p made left walks [] (omega arith) (word ∙ ap (λ z. 1 + get_or left z 0) e')
       (next ∙ ap (word_at left) e''))
 
   pub unlink_leaves : (m' : Hands) → play.unlinks (step 0 i n 0 maybe.none) m n m'
@@ -335,10 +310,7 @@ module _ (r made : ℕ) (left : List ℕ) (walks : List (List ℕ)) (m : Hands)
     (is : m ≡ (view.Walker made left (Some r) walks, [])) where
   pub sleep_allowed : (slots id : ℕ)
       → Allows Holds slots id m (33 + r) (λ _. 0) (λ _. play.sleeps (step slots (33 + r) 0 0 maybe.none) m 0)
-  sleep_allowed slots id =
-      subst (λ z. Allows Holds slots id z (33 + r) (λ _. 0)
-      (λ _. play.sleeps (step slots (33 + r) 0 0 maybe.none) z 0)) (sym is)
-      (sleep_keeps_rule slots id r made left walks [])
+  sleep_allowed slots id = rw is (sleep_keeps_rule slots id r made left walks [])
 
   pub sleep_leaves : (m' : Hands) → play.sleeps (step 0 (33 + r) 0 0 maybe.none) m 0 m'
       → m' ≡ (view.Walker made left None walks, [])
