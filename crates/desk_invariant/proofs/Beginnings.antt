@@ -3,12 +3,12 @@
 use Rattle.std.proofs.Common.{◌≡◌, ◌≢◌, ℕ, zero, suc, ◌+◌, ◌<◌, ◌≤◌, true, false, List, [], ◌∷◌, ◌++◌, length}
 use Rattle.std.proofs.Common.{replicate, get_or, set, Some, refl, sym, ap, ◌∙◌, subst, ◌⊎◌, inl, inr, arith}
 use mathlib.Core.Option as maybe
-use mathlib.Core.Option.{some, some-ne-none}
+use mathlib.Core.Option.{some, some-ne-none, some-injective}
 use lib.ListN.{get_elem?, length-map}
 use Rattle.std.proofs.lemmas.List.Elements.{All-nil}
 use Rattle.atomic_table.specs.Table.{State, Me, step, takes, chain, opening, Allows, Splits}
 use Rattle.atomic_table.specs.Seated.{TableId}
-use Rattle.atomic_table.proofs.Lists.{at_set, at_map, at_snoc, set_else}
+use Rattle.atomic_table.proofs.Lists.{at_set, at_map, set_else}
 use Rattle.model.specs.declared.Kind.{Kind}
 use Rattle.model.specs.declared.AnyOp.{AnyOp}
 use Rattle.model.specs.declared.AnyReply.{AnyReply}
@@ -22,13 +22,13 @@ use Rattle.desk_invariant.specs.declared.board.PutBack.{PutBack}
 use Rattle.desk_invariant.specs.declared.board.Role.TheVariants as role
 use Rattle.desk_invariant.specs.declared.board.DeskView.{DeskView}
 use Rattle.desk_model.specs.World.{AnyRequest, absent, idle, posted, picked, World, initial_world, kind_at, entries_of}
-use Rattle.desk_model.specs.World.{request_of}
+use Rattle.desk_model.specs.World.{StartsWith, request_of}
 use Rattle.desk_model.specs.Transitions.{changed, staged}
 use Rattle.desk_model.proofs.Changed.{changed_here, changed_else}
 use Rattle.desk_model.proofs.Initial.{sound_initial, sound_coming}
 use Rattle.desk_invariant.specs.Views.{row_place, end_place, clock_place, new_client, first_maker, after_making}
-use Rattle.desk_invariant.specs.Views.{seen_of, with_own}
-use Rattle.desk_invariant.specs.Rule.{row_word, OwnOk, SeatOk, HasLeft, ViewOk, Fits, CallAt}
+use Rattle.desk_invariant.specs.Views.{seen_of, received_of, with_own}
+use Rattle.desk_invariant.specs.Rule.{row_word, OwnOk, SeatOk, HasLeft, ViewOk, Makers, Fits, CallAt}
 use Rattle.desk_invariant.specs.Plays as play
 use Rattle.desk_invariant.proofs.Seats.{row_leaves, alike, kept_after, come_after, mine, Rule}
 use Rattle.desk_invariant.proofs.Ties.{tied_coming}
@@ -43,10 +43,35 @@ get_or-replicate_same a (suc n) (suc i) = get_or-replicate_same a n i
 unseen : (kinds : List Kind) (lists : List TableId) (c x : ℕ) → seen_of (new_client kinds lists c) x ≡ []
 unseen kinds lists c x = get_or-replicate_same [] 16 x
 
+only : {A : Type 0} (a b : A) (j : ℕ) → get_elem? (a ∷ []) j ≡ some b → (j ≡ 0) × (a ≡ b)
+only a b zero e = (refl, some-injective a b e)
+only a b (suc j) e = absurd (some-ne-none b (sym e))
+
+-- ---- the maker, and the client that it made
+
+-- the maker, after it has made a client
+one_made : (kinds : List Kind) (lists : List TableId) (w : World) (so so' : ℕ → ℕ) (i j : ℕ) (v : DeskView)
+    → v.role ≡ role.Maker → ViewOk kinds lists w so i v → ViewOk kinds lists w so' j (after_making v)
+one_made kinds lists w so so' i j v is ok = let none_held : (c : ℕ) → v.made + 1 ≤ c → (x : ℕ)
+    → w.holder x ≢ Some c = λ c l. (ok.unmade is c (omega arith)).3 in grind arith
+
+-- the maker at id has become l, and new has come
+makers_made : (clients : ℕ) (vs us : List DeskView) (id : ℕ) (v l new : DeskView) → v.role ≡ role.Maker
+    → get_elem? vs id ≡ some v → l.role ≡ v.role → l.made ≡ v.made + 1 → new.role ≡ role.Client → new.number ≡ v.made
+    → v.made < clients → ((a : ℕ) (z : DeskView) → get_elem? us a ≡ some z
+    → ((a ≡ id) × (l ≡ z)) ⊎ (((a ≢ id) × (get_elem? vs a ≡ some z)) ⊎ (new ≡ z)))
+    → Makers clients vs → Makers clients us
+makers_made clients vs us id v l new is at role made new_role number low known k = record {
+  made = λ j u e f i y g. grind (arith, known j u e, known i y g, k.made id v at is j u, k.made id v at is i y);
+  numbers = λ j u e f. grind (arith, known j u e, k.numbers j u);
+}
+
 module _ {S O R : Type 0} (content : S → Content) (op_in : O → AnyOp) (reply_in : R → AnyReply) (kinds : List Kind)
     (clients quota : ℕ) where
   abbrev K : State (Slot S O R) DeskView → Type 0
   K = Rule content op_in reply_in kinds clients quota
+
+  -- ---- the first state
 
   pub opening_keeps_rule : (lists : List TableId) (words : List ℕ) (slots : List (Slot S O R)) → length kinds < 17
       → clients < 33 → quota < 10001
@@ -65,6 +90,7 @@ module _ {S O R : Type 0} (content : S → Content) (op_in : O → AnyOp) (reply
     holders = λ x c e. absurd (cc);
     come = λ c came. absurd (came refl);
     sound = sound_initial kinds quota;
+    -- all words are zero, and the slots have the cores and nothing else
     tied = record {
       wide = wide;
       deep = length-map slots (λ (x : Slot S O R). some x) ∙ deep;
@@ -81,39 +107,21 @@ module _ {S O R : Type 0} (content : S → Content) (op_in : O → AnyOp) (reply
         at_last = λ e. absurd (cc);
       };
     };
-    seats = λ j v e. elim (at_snoc [] (first_maker kinds lists) v j e) [
-      | inl t ↦ absurd (some-ne-none v (sym t))
-      | inr t ↦ subst (λ z. ViewOk kinds lists initial_world (λ _. 0) j z) t record {
-        seen = λ x. ([], ap (λ z. z ++ []) (sym (get_or-replicate_same [] 16 x)));
-        received = λ x. ([], refl);
-        left = All-nil (HasLeft initial_world);
-        client = λ is. absurd (cc);
-        unmade = λ is c l. (refl, refl, refl, λ x f. cc);
-        maker_kinds = λ is. refl;
-        lists_are = λ is. refl;
-        maker_lists = λ is. refl;
-      }
-    ];
+    -- the only view is the maker's
+    seats = λ j v e. let a = only (first_maker kinds lists) v j e in
+        let seen : (x : ℕ) → StartsWith [] (seen_of (first_maker kinds lists) x) =
+        λ x. ([], ap (λ z. z ++ []) (sym (get_or-replicate_same [] 16 x))) in
+        let received : (x : ℕ) → StartsWith [] (received_of (first_maker kinds lists) x) = λ x. ([], refl) in
+        let left = All-nil (HasLeft initial_world) in
+        subst (λ z. ViewOk kinds lists initial_world (λ _. 0) j z) a.1 (grind arith);
     makers = record {
-      made = λ j v e is i u f. (
-        (λ tc. elim (at_snoc [] (first_maker kinds lists) u i f) [
-          | inl t ↦ absurd (some-ne-none u (sym t))
-          | inr t ↦ absurd cc
-        ]),
-        λ tm. elim (at_end [] (first_maker kinds lists) u i f) [
-          | inl t ↦ absurd (some-ne-none u (sym t))
-          | inr t ↦ elim (at_end [] (first_maker kinds lists) v j e) [
-            | inl h ↦ absurd (some-ne-none v (sym h))
-            | inr h ↦ t.0 ∙ sym h.0
-          ]
-        ],
-      );
-      numbers = λ j v e is. elim (at_snoc [] (first_maker kinds lists) v j e) [
-        | inl t ↦ absurd (some-ne-none v (sym t))
-        | inr t ↦ absurd cc
-      ];
+      made = λ j v e is i u f. let a = only (first_maker kinds lists) v j e in
+          let b = only (first_maker kinds lists) u i f in ((λ tc. absurd cc), λ tm. b.0 ∙ sym a.0);
+      numbers = λ j v e is. let a = only (first_maker kinds lists) v j e in absurd cc;
     };
   }
+
+  -- ---- making a client
 
   pub making_keeps_rule : (id : ℕ) (v : DeskView) → v.role ≡ role.Maker → v.made < clients
       → Splits K id v (after_making v) (new_client v.kinds v.lists v.made)
@@ -131,30 +139,17 @@ module _ {S O R : Type 0} (content : S → Content) (op_in : O → AnyOp) (reply
         come = k.come;
         sound = k.sound;
         tied = k.tied;
+        -- the views of the maker, of the other clients, and of the new one
         seats = λ j u e. elim (at_end (set s.views id l) new u j e) [
           | inl t ↦ elim (at_set s.views id j l u t) [
-            | inl h ↦ subst (λ z. ViewOk kinds k.lists w so' j z) h.1 record {
-              seen = old.seen;
-              received = old.received;
-              left = old.left;
-              client = λ f. absurd (cc);
-              unmade = λ _ d g. old.unmade is d (omega arith);
-              maker_kinds = λ _. old.maker_kinds is;
-              lists_are = λ _. old.maker_lists is;
-              maker_lists = λ _. old.maker_lists is;
-            }
-            | inr h ↦ let b = k.seats j u h.1 in record {
-              seen = b.seen;
-              received = b.received;
-              left = b.left;
-              client = λ f. let low' = (k.makers.made id v at is j u h.1).0 f in let g = b.client f in
-                  (changed_else k.seat_of c here u.number (λ x. omega arith) ∙ g.0, g.1);
-              unmade = b.unmade;
-              maker_kinds = b.maker_kinds;
-              lists_are = b.lists_are;
-              maker_lists = b.maker_lists;
-            }
+            | inl h ↦ subst (λ z. ViewOk kinds k.lists w so' j z) h.1
+                (one_made kinds k.lists w k.seat_of so' id j v is old)
+            | inr h ↦ let b = k.seats j u h.1 in
+                let client : u.role ≡ role.Client → (so' u.number ≡ j) × SeatOk kinds w u.number u = λ f.
+                let low' = (k.makers.made id v at is j u h.1).0 f in let g = b.client f in
+                (changed_else k.seat_of c here u.number (λ x. omega arith) ∙ g.0, g.1) in assumption client
           ]
+          -- the new client, which knows nothing yet
           | inr t ↦ subst (λ z. ViewOk kinds k.lists w so' j z) t.1 record {
             seen = λ x. (w.log x, ap (λ z. z ++ w.log x) (sym (unseen v.kinds v.lists c x)));
             received = λ x. (w.log x, refl);
@@ -184,40 +179,15 @@ module _ {S O R : Type 0} (content : S → Content) (op_in : O → AnyOp) (reply
             maker_lists = λ f. absurd (cc);
           }
         ];
-        makers = record {
-          made = λ j u e f i y g.
-              let known : (a : ℕ) (z : DeskView) → get_elem? (set s.views id l ++ new ∷ []) a ≡ some z
-              → ((a ≡ id) × (l ≡ z))
-              ⊎ (((a ≢ id) × (get_elem? s.views a ≡ some z)) ⊎ (new ≡ z)) =
-              λ a z q. elim (at_end (set s.views id l) new z a q) [
-                | inl t ↦ elim (at_set s.views id a l z t) [ inl h ↦ inl h | inr h ↦ inr (inl h) ]
-                | inr t ↦ inr (inr t.1)
-              ] in
-              let at_id : (a : ℕ) (z : DeskView) → get_elem? (set s.views id l ++ new ∷ []) a ≡ some z
-              → z.role ≡ role.Maker → (a ≡ id)
-              × (z.made ≡ c + 1) = λ a z q tm. elim (known a z q) [
-                | inl h ↦ (h.0, ap (λ p. p.made) (sym h.1))
-                | inr h ↦ elim h [
-                  | inl r ↦ absurd (r.0 ((k.makers.made id v at is a z r.1).1 tm))
-                  | inr r ↦ absurd cc
-                ]
-              ] in
-              let a = at_id j u e f in (
-                (λ tc. elim (known i y g) [
-                  | inl h ↦ absurd cc
-                  | inr h ↦ elim h [
-                    | inl r ↦ let o = (k.makers.made id v at is i y r.1).0 tc in let b = a.1 in omega arith
-                    | inr r ↦ let o = ap (λ p. p.number) r in let b = a.1 in omega arith
-                  ]
-                ]),
-                λ tm. (at_id i y g tm).0 ∙ sym a.0,
-              );
-          numbers = λ j u e is'. elim (at_end (set s.views id l) new u j e) [
-            | inl t ↦ elim (at_set s.views id j l u t) [ inl h ↦ absurd cc | inr h ↦ k.makers.numbers j u h.1 is' ]
-            | inr t ↦ let o = ap (λ p. p.number) t.1 in omega arith
-          ];
-        };
+        -- the numbers of the clients
+        makers = makers_made clients s.views (set s.views id l ++ new ∷ []) id v l new is at refl refl refl refl low
+            (λ a z q. elim (at_end (set s.views id l) new z a q) [
+              | inl t ↦ elim (at_set s.views id a l z t) [ inl h ↦ inl h | inr h ↦ inr (inl h) ]
+              | inr t ↦ inr (inr t.1)
+            ]) k.makers;
       }
+
+  -- ---- a client's first step
 
   pub begin_keeps_rule : (slots id c : ℕ) (m : Me (Slot S O R) DeskView) → m.0.role ≡ role.Client → m.0.number ≡ c
       → c < 32 → m.0.own ≡ own.Absent → m.0.held ≡ held.Free → m.0.ended ≡ false
@@ -225,8 +195,7 @@ module _ {S O R : Type 0} (content : S → Content) (op_in : O → AnyOp) (reply
       (play.begins content op_in reply_in (step slots (row_place c) 0 0 maybe.none) m)
   begin_keeps_rule slots id c m cl number low is free going s k deep at small =
       let w : World = k.world in
-      let ok = subst (λ z. SeatOk kinds w z m.0) number
-      (mine content op_in reply_in kinds clients quota s k id m.0 cl at) in
+      let ok = subst (λ z. SeatOk kinds w z m.0) number (mine k id cl at) in
       let v' : DeskView = with_own own.Idle m.0 in
       let was : w.stage c ≡ absent = subst (λ o. OwnOk o (w.stage c)) is ok.own in let word = k.tied.rows c low in
       let before : (p : AnyRequest) → w.stage c ≢ picked p = λ p e. absurd cc in
@@ -236,17 +205,19 @@ module _ {S O R : Type 0} (content : S → Content) (op_in : O → AnyOp) (reply
         v',
         chain (takes (48 + c) slot.Nothing) (takes (16 + c) slot.Nothing),
         (journal, set_else s.homes (48 + c) (16 + c) maybe.none (λ e. omega arith) ∙ message),
-        kept_after content op_in reply_in kinds clients quota s k id m.0 v' at cl alike record {
+        kept_after k id v' at cl alike record {
           world = staged w c idle;
           holders = k.holders;
           come = come_after clients w c idle (subst (λ z. z < clients) number (k.makers.numbers id m.0 at cl)) k.come;
           sound = sound_coming kinds quota w c was k.sound;
-          tied = tied_coming content op_in reply_in kinds k.lists w c
-              (get_or s.words (row_place c) 0) idle s.words s.homes low (λ e. absurd (cc))
+          -- the words and the slots agree with the new world
+          tied = tied_coming c (get_or s.words (row_place c) 0) idle low (λ e. absurd (cc))
               (ok.ended ∙ going) (word ∙ ap row_word was) (λ home. tt) k.tied;
           leave = row_leaves w c idle (ap request_of was);
+          -- the other clients keep what they know
           others = λ d other. later_gone w w.clock c d idle w.done before
               (λ p e. absurd cc) refl (λ e. other (e ∙ sym number));
+          -- the client has come, and has no call yet
           own = subst (λ z. SeatOk kinds (staged w c idle) z v') (sym number)
               (seat_unanswered kinds w w.clock c idle w.done m.0 own.Idle m.0.done
               (λ p e. absurd cc) (λ p e. absurd cc) (λ p a e. absurd cc) refl ok.done

@@ -15,7 +15,7 @@ use Rattle.desk_model.specs.World.{AnyEntry, World, kind_at, entries_of, IsLegal
 use Rattle.desk_model.proofs.Entries.{legal_front, starts_same, starts_longer}
 use Rattle.desk_invariant.specs.Views.{seen_of, received_of, after_meet, seen_message, after_message, empty_message}
 use Rattle.desk_invariant.specs.Views.{IsAtRest}
-use Rattle.desk_invariant.specs.Rule.{HasLeft}
+use Rattle.desk_invariant.specs.Rule.{HasLeft, SeatOk}
 use Rattle.desk_invariant.specs.Plays as play
 use Rattle.desk_invariant.proofs.Seats.{alike, seat_knowing, mine, unmoved, Rule}
 use Rattle.desk_invariant.proofs.Seeing.{all_covered, entries_start, saw, accounts}
@@ -36,29 +36,21 @@ module _ {S O R : Type 0} (content : S → Content) (op_in : O → AnyOp) (reply
       → Joins K id v other t (after_message v t) empty_message
   message_keeps_rule id v other t =
       receiving_keeps_rule content op_in reply_in kinds clients quota id v (after_message v t) other t refl refl refl
-      (λ s k at there. let old = k.seats id v at in record {
-        seen = old.seen;
-        received = (k.seats other t there).seen;
-        left = old.left;
-        client = λ f. let c = old.client f in let ok = c.1 in (c.0, seat_knowing ok.ready ok.retired ok);
-        unmade = old.unmade;
-        maker_kinds = old.maker_kinds;
-        lists_are = old.lists_are;
-        maker_lists = old.maker_lists;
-      })
+      (λ s k at there. let old = k.seats id v at in let client : v.role ≡ role.Client
+      → (k.seat_of v.number ≡ id) × SeatOk kinds k.world v.number (after_message v t) = λ f. let c = old.client f in
+      (c.0, seat_knowing c.1.ready c.1.retired c.1) in assumption (client, (k.seats other t there).seen))
 
   pub learn_keeps_rule : (slots id x : ℕ) (m : Me (Slot S O R) DeskView) → m.0.role ≡ role.Client → x < 16
       → IsAtRest m.0.own
       → Allows K slots id m x (λ f. f) (play.learns content op_in reply_in (step slots x 0 0 maybe.none) m)
   learn_keeps_rule slots id x m cl low calm s k deep at small =
       let w : World = k.world in let c : ℕ = m.0.number in
-      let ok = mine content op_in reply_in kinds clients quota s k id m.0 cl at in let l : List AnyEntry = w.log x in
+      let ok = mine k id cl at in let l : List AnyEntry = w.log x in
       let covers = all_covered kinds quota w c x m.0.done m.0.own ok.done ok.own k.sound in (
         after_meet x l m.0,
         keeps,
         tt,
-        unmoved content op_in reply_in kinds clients quota s k x id m.0 (after_meet x l m.0) m.1 at cl alike
-            (saw kinds w c x m.0 l low (starts_same l) covers ok),
+        unmoved k x id (after_meet x l m.0) m.1 at cl alike (saw kinds w c x m.0 l low (starts_same l) covers ok),
         (
           l,
           refl,
@@ -74,15 +66,14 @@ module _ {S O R : Type 0} (content : S → Content) (op_in : O → AnyOp) (reply
       → StartsWith (received_of m.0 x) (seen_of m.0 x) → IsAtRest m.0.own
       → Allows K slots id m x (λ f. f) (play.adopts content op_in reply_in (step slots x 0 0 maybe.none) m)
   adopt_keeps_rule slots id x m cl low later calm s k deep at small =
-      let w : World = k.world in let c : ℕ = m.0.number in
-      let ok = mine content op_in reply_in kinds clients quota s k id m.0 cl at in
+      let w : World = k.world in let c : ℕ = m.0.number in let ok = mine k id cl at in
       let l : List AnyEntry = received_of m.0 x in
       let covers = starts_longer (entries_of c l) (entries_of c (seen_of m.0 x)) _
       (entries_start c l (seen_of m.0 x) later) (ok.covers x) in (
         after_meet x l m.0,
         keeps,
         tt,
-        unmoved content op_in reply_in kinds clients quota s k x id m.0 (after_meet x l m.0) m.1 at cl alike
+        unmoved k x id (after_meet x l m.0) m.1 at cl alike
             (saw kinds w c x m.0 l low ((k.seats id m.0 at).received x) covers ok),
         (
           refl,

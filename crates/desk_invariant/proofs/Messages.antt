@@ -1,6 +1,6 @@
 -- A view that only carries what one client tells another owes the truth of that, and nothing more. So the rule stays
 -- where such a view comes and where a client takes it in: the views alone change (`kept_views`).
-use Rattle.std.proofs.Common.{◌≡◌, ℕ, List, [], ◌∷◌, ◌++◌, set, All, refl, sym, ap, ◌∙◌, subst, ◌⊎◌, inl, inr}
+use Rattle.std.proofs.Common.{arith, ◌≡◌, ℕ, List, [], ◌∷◌, ◌++◌, set, All, refl, sym, ap, ◌∙◌, subst, ◌⊎◌, inl, inr}
 use mathlib.Core.Option.{some}
 use lib.ListN.{get_elem?}
 use Rattle.std.proofs.lemmas.List.Elements.{All-nil}
@@ -26,15 +26,8 @@ makers_with : (clients : ℕ) (vs us : List DeskView) (b : DeskView) → b.role 
     → ((a : ℕ) (z : DeskView) → get_elem? us a ≡ some z → (get_elem? vs a ≡ some z) ⊎ (b ≡ z)) → Makers clients vs
     → Makers clients us
 makers_with clients vs us b idle old k = record {
-  made = λ j v e is i u f.
-      elim (old j v e) [
-        | inl p ↦ elim (old i u f) [
-          | inl q ↦ k.made j v p is i u q
-          | inr q ↦ (λ tc. absurd cc, λ tm. absurd cc)
-        ]
-        | inr p ↦ absurd cc
-      ];
-  numbers = λ j v e is. elim (old j v e) [ inl p ↦ k.numbers j v p is | inr p ↦ absurd cc ];
+  made = λ j v e is i u f. grind (arith, old j v e, old i u f, k.made j v, k.made i u);
+  numbers = λ j v e is. grind (arith, old j v e, k.numbers j v);
 }
 
 pub makers_more : (clients : ℕ) (vs : List DeskView) (b : DeskView) → b.role ≡ role.Message → Makers clients vs
@@ -52,16 +45,7 @@ pub message_ok : (kinds : List Kind) (lists : List TableId) (w : World) (so : �
     → v.role ≡ role.Message
     → ((x : ℕ) → StartsWith (w.log x) (seen_of v x)) → ((x : ℕ) → StartsWith (w.log x) (received_of v x))
     → All (HasLeft w) v.left → ViewOk kinds lists w so j v
-message_ok kinds lists w so j v none seen received left = record {
-  seen = seen;
-  received = received;
-  left = left;
-  client = λ f. absurd cc;
-  unmade = λ f. absurd cc;
-  maker_kinds = λ f. absurd cc;
-  lists_are = λ f. absurd cc;
-  maker_lists = λ f. absurd cc;
-}
+message_ok kinds lists w so j v none seen received left = grind arith
 
 -- nothing was seen, which each log begins with
 pub nothing_seen : (w : World) (x : ℕ) → StartsWith (w.log x) (seen_of empty_message x)

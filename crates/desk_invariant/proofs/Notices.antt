@@ -12,7 +12,7 @@ use Rattle.desk_invariant.specs.declared.board.Role.TheVariants as role
 use Rattle.desk_invariant.specs.declared.board.DeskView.{DeskView}
 use Rattle.desk_model.specs.World.{journal_of}
 use Rattle.desk_invariant.specs.Views.{end_notice, after_notice, empty_message, end_message}
-use Rattle.desk_invariant.specs.Rule.{HasLeft}
+use Rattle.desk_invariant.specs.Rule.{HasLeft, SeatOk}
 use Rattle.desk_invariant.proofs.Seats.{seat_knowing, mine, Rule}
 use Rattle.desk_invariant.proofs.Ends.{own_is}
 use Rattle.desk_invariant.proofs.Messages.{message_ok, nothing_seen, sending_keeps_rule, receiving_keeps_rule}
@@ -26,7 +26,7 @@ module _ {S O R : Type 0} (content : S → Content) (op_in : O → AnyOp) (reply
       → Splits K id v v (end_message v)
   end_message_keeps_rule id v cl over =
       sending_keeps_rule content op_in reply_in kinds clients quota id v (end_message v) refl
-      (λ s k at j. let ok = mine content op_in reply_in kinds clients quota s k id v cl at in
+      (λ s k at j. let ok = mine k id cl at in
       message_ok kinds k.lists k.world k.seat_of j (end_message v) refl (nothing_seen k.world)
       (λ x. (k.world.log x, refl))
       (All-cons (HasLeft k.world) (end_notice v) []
@@ -37,13 +37,8 @@ module _ {S O R : Type 0} (content : S → Content) (op_in : O → AnyOp) (reply
       → Joins K id v other t (after_notice t.left v) empty_message
   notice_keeps_rule id v other t =
       receiving_keeps_rule content op_in reply_in kinds clients quota id v
-      (after_notice t.left v) other t refl refl refl (λ s k at there. let old = k.seats id v at in record {
-        seen = old.seen;
-        received = old.received;
-        left = All-append (HasLeft k.world) v.left t.left old.left (k.seats other t there).left;
-        client = λ f. let c = old.client f in let ok = c.1 in (c.0, seat_knowing ok.ready ok.retired ok);
-        unmade = old.unmade;
-        maker_kinds = old.maker_kinds;
-        lists_are = old.lists_are;
-        maker_lists = old.maker_lists;
-      })
+      (after_notice t.left v) other t refl refl refl (λ s k at there. let old = k.seats id v at in
+      let client : v.role ≡ role.Client
+      → (k.seat_of v.number ≡ id) × SeatOk kinds k.world v.number (after_notice t.left v) = λ f. let c = old.client f in
+      (c.0, seat_knowing c.1.ready c.1.retired c.1) in
+      assumption (client, All-append (HasLeft k.world) v.left t.left old.left (k.seats other t there).left))

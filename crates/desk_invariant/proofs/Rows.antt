@@ -1,7 +1,7 @@
 -- Picking a request up, putting it back and answering it keep the rule. The holder writes the stage of one row: its
 -- own client knows only that its call waits (`own_waits`), and every other row and view stays (`later_row`).
 use Rattle.std.proofs.Common.{◌≡◌, ◌≢◌, ℕ, ◌+◌, ◌<◌, eqb, Bool, true, ◌&&◌, ◌||◌, List, [], ◌∷◌, ◌++◌, length, get_or}
-use Rattle.std.proofs.Common.{set, filter, not, cond, Option, Some, None, All, refl, sym, ap, subst, ◌∙◌, ⊎_elim, inl}
+use Rattle.std.proofs.Common.{filter, not, Option, Some, None, All, refl, sym, ap, subst, ◌∙◌, ⊎_elim, inl}
 use Rattle.std.proofs.Common.{inr, arith, eq-eqb, ne_eqb}
 use mathlib.Core.Logic.{dite}
 use mathlib.Core.Option as maybe
@@ -12,7 +12,7 @@ use prog.Atomic.{either}
 use Rattle.std.proofs.lemmas.Bool.{eqb-true, and_parts, or_cases}
 use Rattle.std.proofs.lemmas.List.Elements.{All-nil, All-cons, All-head, All-tail, All-push}
 use Rattle.std.proofs.lemmas.Option.{same_Some}
-use Rattle.atomic_table.specs.Table.{State, Me, step, keeps, takes, gives, put_back, rest, stepped, Allows}
+use Rattle.atomic_table.specs.Table.{State, Me, step, keeps, takes, gives, rest, Allows}
 use Rattle.model.specs.declared.Kind.{Kind}
 use Rattle.model.specs.declared.AnyOp.{AnyOp}
 use Rattle.model.specs.declared.AnyReply.{AnyReply}
@@ -28,8 +28,8 @@ use Rattle.desk_invariant.specs.declared.board.Role.TheVariants as role
 use Rattle.desk_invariant.specs.declared.board.DeskView.{DeskView}
 use Rattle.desk_model.specs.declared.Request.{Request}
 use Rattle.desk_model.specs.declared.Answer.{Answer}
-use Rattle.desk_model.specs.World.{AnyEntry, AnyRequest, AnyAnswer, Stage, absent, idle, drawn, posted, picked}
-use Rattle.desk_model.specs.World.{answered, taken, World, kind_at, logged, request_of, IsLegal, StartsWith}
+use Rattle.desk_model.specs.World.{AnyEntry, AnyRequest, AnyAnswer, Stage, posted, picked}
+use Rattle.desk_model.specs.World.{answered, World, kind_at, logged, request_of, IsLegal, StartsWith}
 use Rattle.desk_model.specs.Transitions.{changed, handed, served_by}
 use Rattle.desk_model.specs.Sound.{Sound}
 use Rattle.desk_model.specs.Images.{request_in, answer_in}
@@ -52,34 +52,15 @@ is_posted t x h e = grind arith
 abbrev Waits : AnyRequest → Stage → Type 0
 Waits q t = OwnOk (own.Waiting q) t
 
-waits_request : (q : AnyRequest) (t : Stage) → Waits q t → request_of t ≡ Some q
-waits_request q t e = elim e [
-  | inl a ↦ ap request_of a
-  | inr b ↦ elim b [ inl c ↦ ap request_of c | inr c ↦ ap request_of c.1 ]
-]
-
 -- the own call that is posted is the one that waits
 own_posted : (p q : AnyRequest) (o : Own) (t : Stage) → OwnOk o t → o ≡ own.Waiting p → t ≡ posted q → q ≡ p
-own_posted p q o t ok mine at =
-    let e : Some q ≡ Some p = sym (ap request_of at) ∙ waits_request p t (subst (λ z. OwnOk z t) mine ok) in cc
-
--- what no waiting call's stage is
-not_waiting : (q : AnyRequest) (t u : Stage) → Waits q t → t ≡ u → u ≢ posted q → u ≢ picked q
-    → ((a : AnyAnswer) → u ≢ answered q a) → ⊥
-not_waiting q t u e is a b c = elim e [
-  | inl f ↦ a (sym is ∙ f)
-  | inr g ↦ elim g [ inl f ↦ b (sym is ∙ f) | inr f ↦ c f.0 (sym is ∙ f.1) ]
-]
+own_posted p q o t ok mine at = grind arith
 
 -- what a client knows of its own call stays true while the call goes on waiting
 own_waits : (o : Own) (q : AnyRequest) (t u : Stage) → Waits q t → Waits q u → OwnOk o t → OwnOk o u
-own_waits own.Absent q t u from to e = absurd (not_waiting q t absent from e (λ f. cc) (λ f. cc) (λ a f. cc))
-own_waits own.Idle q t u from to e = absurd (not_waiting q t idle from e (λ f. cc) (λ f. cc) (λ a f. cc))
-own_waits (own.Drawn p) q t u from to e = absurd (not_waiting q t (drawn p) from e (λ f. cc) (λ f. cc) (λ a f. cc))
-own_waits (own.Waiting p) q t u from to e =
-    let f : Some q ≡ Some p = sym (waits_request q t from) ∙ waits_request p t e in let same : q ≡ p = cc in
-    subst (λ z. Waits z u) same to
-own_waits (own.Taken p a) q t u from to e = absurd (not_waiting q t (taken p a) from e (λ f. cc) (λ f. cc) (λ a f. cc))
+own_waits o q t u from to e = grind arith
+
+-- ---- the other clients, when one row goes to another stage
 
 -- the row r, whose call waits, goes to the stage t, at a step of the holder of x
 abbrev rowed : World → (ℕ → Option ℕ) → (ℕ → List AnyEntry) → ℕ → Stage → World
@@ -104,19 +85,21 @@ later_row : (w : World) (x r c d : ℕ) (q : AnyRequest) (t : Stage) (h : Option
     → ((y : ℕ) (p : AnyRequest) → w.holder y ≡ Some d → w.hand y ≡ Some r → w.stage r ≢ picked p)
     → ((p : AnyRequest) → w.holder p.object ≡ Some d → w.stage r ≢ posted p) → w.holder x ≡ Some c → d ≢ c
     → Later w (rowed w (changed w.hand x h) logs r t) d
-later_row w x r c d q t h logs from to never grow keep apart unposted holds other = record {
-  own = own_after w r d q t from to;
-  ready = ready_after w r d t never;
-  done = refl;
-  logs = grow;
-  held = λ y g. let away : y ≢ x = λ same. other (sym (same_Some c d (sym holds ∙ (ap w.holder (sym same) ∙ g)))) in
-      (refl, changed_else w.hand x h y away, keep y away);
-  holds = λ y g. g;
-  picked = λ y j p g e f.
-      changed_else w.stage r t j (λ same. apart y p g (e ∙ ap Some same) (ap w.stage (sym same) ∙ f)) ∙ f;
-  posted = λ j p g e. changed_else w.stage r t j (λ same. unposted p g (ap w.stage (sym same) ∙ e)) ∙ e;
-  ended = refl;
-}
+later_row w x r c d q t h logs from to never grow keep apart unposted holds other =
+    let held : (y : ℕ) → w.holder y ≡ Some d
+    → (w.holder y ≡ w.holder y) × (changed w.hand x h y ≡ w.hand y) × (logs y ≡ w.log y) =
+    λ y g. let away : y ≢ x = λ same. other (sym (same_Some c d (sym holds ∙ (ap w.holder (sym same) ∙ g)))) in
+    (refl, changed_else w.hand x h y away, keep y away) in assumption (
+      held,
+      own_after w r d q t from to,
+      ready_after w r d t never,
+      λ (y j : ℕ) (p : AnyRequest) (g : w.holder y ≡ Some d) (e : w.hand y ≡ Some j) (f : w.stage j ≡ picked p).
+          changed_else w.stage r t j (λ same. apart y p g (e ∙ ap Some same) (ap w.stage (sym same) ∙ f)) ∙ f,
+      λ (j : ℕ) (p : AnyRequest) (g : w.holder p.object ≡ Some d) (e : w.stage j ≡ posted p).
+          changed_else w.stage r t j (λ same. unposted p g (ap w.stage (sym same) ∙ e)) ∙ e,
+    )
+
+-- ---- the client that looks at the row or changes it
 
 -- the request that was put back is in its row, and its object is held
 abbrev InRow : (ℕ → Stage) → (ℕ → Option ℕ) → ℕ → PutBack → Type 0
@@ -137,12 +120,8 @@ other_rows w c r t (b ∷ bs) h =
     let rest = other_rows w c r t bs (All-tail (InRow w.stage w.holder c) b bs h) in
     let first = All-head (InRow w.stage w.holder c) b bs h in
     dite (ℕ_discrete b.row r)
-    (λ same. subst (λ z. All (InRow (changed w.stage r t) w.holder c)
-    (cond (not z) (b ∷ filter (λ b. not (eqb b.row r)) bs) (filter (λ b. not (eqb b.row r)) bs)))
-    (sym (eq-eqb b.row r same)) rest)
-    (λ other. subst (λ z. All (InRow (changed w.stage r t) w.holder c)
-    (cond (not z) (b ∷ filter (λ b. not (eqb b.row r)) bs) (filter (λ b. not (eqb b.row r)) bs)))
-    (sym (ne_eqb b.row r other))
+    (λ same. rw (eq-eqb b.row r same) rest)
+    (λ other. rw (ne_eqb b.row r other)
     (All-cons (InRow (changed w.stage r t) w.holder c) b (filter (λ b. not (eqb b.row r)) bs)
     (changed_else w.stage r t b.row other ∙ first.0, first.1) rest))
 
@@ -153,35 +132,19 @@ seat_row : (kinds : List Kind) (w : World) (c r : ℕ) (q : AnyRequest) (t : Sta
     → ((q : AnyRequest) (a : AnyAnswer) → w.stage r ≢ answered q a) → ((y : ℕ) → StartsWith (logs y) (w.log y))
     → SeatOk kinds w c v → HeldOk (length kinds) (rowed w hands logs r t) c o
     → SeatOk kinds (rowed w hands logs r t) c (record v { held = o; back = bs })
-seat_row kinds w c r q t hands logs v o bs in_rows from to never grow ok now = record {
-  number = ok.number;
-  small = ok.small;
-  kinds_are = ok.kinds_are;
-  done = ok.done;
-  own = own_after w r c q t from to v.own ok.own;
-  ready = λ is. let a = ok.ready is in (a.0, a.1, ready_after w r c t never a.0 a.1 a.2);
-  wide_seen = ok.wide_seen;
-  seen = λ y. starts_longer (logs y) (w.log y) (seen_of v y) (grow y) (ok.seen y);
-  covers = ok.covers;
-  held = now;
-  ended = ok.ended;
-  retired = ok.retired;
-  back = in_rows;
-}
+seat_row kinds w c r q t hands logs v o bs in_rows from to never grow ok now =
+    let ready : v.ready ≡ true → (q : AnyRequest) × (a : AnyAnswer) × (changed w.stage r t c ≡ answered q a) =
+    λ is. let a = ok.ready is in (a.0, a.1, ready_after w r c t never a.0 a.1 a.2) in assumption (
+      ready,
+      own_after w r c q t from to v.own ok.own,
+      λ (y : ℕ). starts_longer (logs y) (w.log y) (seen_of v y) (grow y) (ok.seen y),
+    )
 
 -- the own row was not posted for x, while x is held with nothing in hand
 noted : (kinds : List Kind) (quota c x : ℕ) (w : World) (o : Own) → Sound kinds quota w → w.hand x ≡ None
     → row_word (w.stage c) ≢ 1 + x → waits_on x o ≡ true → OwnOk o (w.stage c)
     → (q : AnyRequest) × (a : AnyAnswer) × (w.stage c ≡ answered q a)
-noted kinds quota c x w (own.Waiting q) k free miss e ok = let at : q.object ≡ x = eqb-true q.object x e in
-    elim ok [
-      | inl b ↦ absurd (miss (ap row_word b ∙ ap (λ z. 1 + z) at))
-      | inr b ↦ elim b [
-        | inl d ↦ let f = sym free ∙ (ap w.hand (sym at) ∙ k.picked_up c q d) in absurd (cc)
-        | inr d ↦ (q, d.0, d.1)
-      ]
-    ]
-noted kinds quota c x w o k h e g q = absurd cc
+noted kinds quota c x w o k free miss e ok = grind (arith, k.picked_up c, eqb-true)
 
 noting_ok : (kinds : List Kind) (quota c x r : ℕ) (w : World) (v : DeskView) (l : List AnyEntry)
     → v.held ≡ held.Pass x l → Sound kinds quota w
@@ -209,6 +172,8 @@ module _ {S O R : Type 0} (content : S → Content) (op_in : O → AnyOp) (reply
   held_request d (held.Hand x l r q) = q
   held_request d o = d
 
+  -- ---- looking at a row, and picking its request up
+
   -- what a miss at the row r tells
   row_missed : (c x x' r r' : ℕ) (w : World) (m : Me (Slot S O R) DeskView) (l l' : List AnyEntry)
       → m.0.held ≡ held.Pass x l
@@ -227,15 +192,14 @@ module _ {S O R : Type 0} (content : S → Content) (op_in : O → AnyOp) (reply
       → Allows K slots id m (row_place r) (λ f. f)
       (play.looks_at_row content op_in reply_in (step slots (row_place r) 0 0 maybe.none) m)
   look_at_row_keeps_rule slots id x r m l cl inside pass s k deep at small =
-      let w : World = k.world in let c : ℕ = m.0.number in
-      let ok = mine content op_in reply_in kinds clients quota s k id m.0 cl at in
+      let w : World = k.world in let c : ℕ = m.0.number in let ok = mine k id cl at in
       let word : get_or s.words (row_place r) 0 ≡ row_word (w.stage r) = k.tied.rows r inside in
       dite (ℕ_discrete (get_or s.words (row_place r) 0) (1 + x))
       (λ hit. (
         m.0,
         keeps,
         tt,
-        looks content op_in reply_in kinds clients quota s k (row_place r) id m.0 m.1 cl at,
+        looks k (row_place r) id m.1 cl at,
         λ x' r' l' pass' e. let ex = ap held_object (sym pass ∙ pass') in
             ((λ _. refl), λ miss. absurd (miss (hit ∙ ap (λ z. 1 + z) ex))),
       ))
@@ -243,8 +207,7 @@ module _ {S O R : Type 0} (content : S → Content) (op_in : O → AnyOp) (reply
         after_row_miss (row_place r) x m.0,
         keeps,
         tt,
-        unmoved content op_in reply_in kinds clients quota s k (row_place r) id m.0
-            (after_row_miss (row_place r) x m.0) m.1 at cl alike
+        unmoved k (row_place r) id (after_row_miss (row_place r) x m.0) m.1 at cl alike
             (noting_ok kinds quota c x r w m.0 l pass k.sound (λ e. miss (word ∙ e)) ok),
         λ x' r' l' pass' e. let ex = ap held_object (sym pass ∙ pass') in let er : r ≡ r' = omega arith in (
           (λ hit. absurd (miss (hit ∙ ap (λ z. 1 + z) (sym ex)))),
@@ -257,12 +220,12 @@ module _ {S O R : Type 0} (content : S → Content) (op_in : O → AnyOp) (reply
       → Allows K slots id m (row_place r) (λ f. either (eqb f (1 + x)) (17 + x) f)
       (play.picks content op_in reply_in (step slots (row_place r) (1 + x) (17 + x) maybe.none) m)
   pick_keeps_rule slots id x r m l cl inside pass s k deep at small =
-      let w : World = k.world in let c : ℕ = m.0.number in
-      let ok = mine content op_in reply_in kinds clients quota s k id m.0 cl at in
+      let w : World = k.world in let c : ℕ = m.0.number in let ok = mine k id cl at in
       let h = subst (HeldOk (length kinds) w c) pass ok.held in
       let few = k.tied.objects in let low : x < 16 = (let l₀ : x < length kinds = h.0 in omega arith) in
       let word : get_or s.words (row_place r) 0 ≡ row_word (w.stage r) = k.tied.rows r inside in
       dite (ℕ_discrete (get_or s.words (row_place r) 0) (1 + x))
+      -- the word is that of a request for x: the client picks it up
       (λ hit.
       let b = is_posted (w.stage r) x low (sym word ∙ hit) in let q : AnyRequest = b.0 in let t : Stage = picked q in
       let from : Waits q (w.stage r) = inl b.1 in let to : Waits q t = inr (inl refl) in
@@ -274,27 +237,27 @@ module _ {S O R : Type 0} (content : S → Content) (op_in : O → AnyOp) (reply
         v',
         takes (16 + r) (slot.Request home.0),
         home.1,
-        subst (λ z. K (stepped s (row_place r) (either z (17 + x) (get_or s.words (row_place r) 0)) id m.1 v'
-            (takes (16 + r) (slot.Request home.0))))
-            (sym (eq-eqb (get_or s.words (row_place r) 0) (1 + x) hit))
-            (kept_after content op_in reply_in kinds clients quota s k id m.0 v' at cl alike record {
-              world = handed w x (Some r) r t;
-              holders = k.holders;
-              come = come_after clients w r t (k.come r (λ e. absurd cc)) k.come;
-              sound = sound_picked kinds quota w x r c q b.1 b.2 h.1 h.2 k.sound;
-              tied = tied_row content op_in reply_in kinds k.lists w r (17 + x) t
-                  (changed w.hand x (Some r)) w.log s.words s.homes maybe.none inside
-                  (λ y _. refl) (λ e. absurd (cc)) (ap request_of (sym b.1)) (ap (λ z. 17 + z) (sym b.2)) tt k.tied;
-              leave = row_leaves w r t (ap request_of b.1);
-              others = λ d other. later_row w x r c d q t (Some r) w.log from to never (λ y. starts_same (w.log y))
-                  (λ y _. refl) (λ y p _ _ e. absurd cc)
-                  (λ p e f. let g : posted q ≡ posted p = sym b.1 ∙ f in let same : q ≡ p = cc in
-                  other (sym (same_Some c d (sym h.1 ∙ (ap w.holder (sym b.2 ∙ ap (λ z. z.object) same) ∙ e)))))
-                  h.1 other;
-              own = seat_row kinds w c r q t (changed w.hand x (Some r)) w.log m.0 (held.Hand x l r q) bs
-                  (other_rows w c r t m.0.back ok.back) from to never (λ y. starts_same (w.log y)) ok
-                  (h.0, h.1, changed_here w.hand x (Some r), h.3, h.4, inside, changed_here w.stage r t);
-            }),
+        rw (eq-eqb (get_or s.words (row_place r) 0) (1 + x) hit) (kept_after k id v' at cl alike record {
+          world = handed w x (Some r) r t;
+          holders = k.holders;
+          come = come_after clients w r t (k.come r (λ e. absurd cc)) k.come;
+          sound = sound_picked kinds quota w x r c q b.1 b.2 h.1 h.2 k.sound;
+          -- the words and the slots agree with the new world
+          tied = tied_row r (17 + x) t (changed w.hand x (Some r)) w.log maybe.none inside
+              (λ y _. refl) (λ e. absurd (cc)) (ap request_of (sym b.1)) (ap (λ z. 17 + z) (sym b.2)) tt k.tied;
+          leave = row_leaves w r t (ap request_of b.1);
+          -- the other clients keep what they know
+          others = λ d other. later_row w x r c d q t (Some r) w.log from to never (λ y. starts_same (w.log y))
+              (λ y _. refl) (λ y p _ _ e. absurd cc)
+              (λ p e f. let g : posted q ≡ posted p = sym b.1 ∙ f in let same : q ≡ p = cc in
+              other (sym (same_Some c d (sym h.1 ∙ (ap w.holder (sym b.2 ∙ ap (λ z. z.object) same) ∙ e)))))
+              h.1 other;
+          -- the client has the request in hand
+          own = seat_row kinds w c r q t (changed w.hand x (Some r)) w.log m.0 (held.Hand x l r q) bs
+              (other_rows w c r t m.0.back ok.back) from to never (λ y. starts_same (w.log y)) ok
+              (h.0, h.1, changed_here w.hand x (Some r), h.3, h.4, inside, changed_here w.stage r t);
+        }),
+        -- what a hit tells of the request, and that it is no miss
         λ x' r' l' pass' e. let ex = ap held_object (sym pass ∙ pass') in let el = ap held_log (sym pass ∙ pass') in
             let er : r ≡ r' = omega arith in (
               (λ _. (
@@ -311,15 +274,13 @@ module _ {S O R : Type 0} (content : S → Content) (op_in : O → AnyOp) (reply
               λ miss. absurd (miss (hit ∙ ap (λ z. 1 + z) ex)),
             ),
       ))
+      -- another word: the client notes a miss
       (λ miss. (
         after_row_miss (row_place r) x m.0,
         keeps,
         tt,
-        subst (λ z. K (stepped s (row_place r) (either z (17 + x) (get_or s.words (row_place r) 0)) id m.1
-            (after_row_miss (row_place r) x m.0)
-            keeps)) (sym (ne_eqb (get_or s.words (row_place r) 0) (1 + x) miss))
-            (unmoved content op_in reply_in kinds clients quota s k (row_place r) id m.0
-            (after_row_miss (row_place r) x m.0) m.1 at cl alike
+        rw (ne_eqb (get_or s.words (row_place r) 0) (1 + x) miss)
+            (unmoved k (row_place r) id (after_row_miss (row_place r) x m.0) m.1 at cl alike
             (noting_ok kinds quota c x r w m.0 l pass k.sound (λ e. miss (word ∙ e)) ok)),
         λ x' r' l' pass' e. let ex = ap held_object (sym pass ∙ pass') in let er : r ≡ r' = omega arith in (
           (λ hit. absurd (miss (hit ∙ ap (λ z. 1 + z) (sym ex)))),
@@ -327,14 +288,13 @@ module _ {S O R : Type 0} (content : S → Content) (op_in : O → AnyOp) (reply
         ),
       ))
 
+  -- ---- putting the request back
+
   -- no row that another client d has in hand is r, which c has in hand
   apart : (w : World) (x r c d : ℕ) (q : AnyRequest) → w.stage r ≡ picked q → q.object ≡ x → w.holder x ≡ Some c
       → d ≢ c → Sound kinds quota w
       → (y : ℕ) (p : AnyRequest) → w.holder y ≡ Some d → w.hand y ≡ Some r → w.stage r ≢ picked p
-  apart w x r c d q is on holds other k y p g e f =
-      let b = k.in_hand y r e in let z : picked q ≡ picked b.0 = sym is ∙ b.1 in let same : q ≡ b.0 = cc in
-      let here : y ≡ x = sym b.2 ∙ (ap (λ u. u.object) (sym same) ∙ on) in
-      other (sym (same_Some c d (sym holds ∙ (ap w.holder (sym here) ∙ g))))
+  apart w x r c d q is on holds other k y p g e f = grind (arith, k.in_hand y r e)
 
   pub put_back_keeps_rule : (slots id x r n : ℕ) (m : Me (Slot S O R) DeskView) (l : List AnyEntry) (q : AnyRequest)
       (p : Request O)
@@ -343,8 +303,7 @@ module _ {S O R : Type 0} (content : S → Content) (op_in : O → AnyOp) (reply
       → Allows K slots id m (row_place r) (λ _. n)
       (λ _. play.puts_back content op_in reply_in (step slots (row_place r) n 0 maybe.none) m n)
   put_back_keeps_rule slots id x r n m l q p tl cl hand carried is on word s k deep at small =
-      let w : World = k.world in let c : ℕ = m.0.number in
-      let ok = mine content op_in reply_in kinds clients quota s k id m.0 cl at in let h =
+      let w : World = k.world in let c : ℕ = m.0.number in let ok = mine k id cl at in let h =
       subst (HeldOk (length kinds) w c) hand ok.held in let t : Stage = posted q in
       let from : Waits q (w.stage r) = inr (inl h.6) in let to : Waits q t = inl refl in
       let never : (p : AnyRequest) (a : AnyAnswer)
@@ -354,35 +313,34 @@ module _ {S O R : Type 0} (content : S → Content) (op_in : O → AnyOp) (reply
         v',
         gives,
         tt,
-        subst (λ cs. K record {
-          words = set s.words (row_place r) n;
-          homes = put_back s.homes cs;
-          views = set s.views id v';
-        }) (sym carried)
-            (kept_after content op_in reply_in kinds clients quota s k id m.0 v' at cl alike record {
-              world = handed w x None r t;
-              holders = k.holders;
-              come = come_after clients w r t (k.come r (λ e. absurd cc)) k.come;
-              sound = sound_put_back kinds quota w x r c q h.6 on h.1 h.2 k.sound;
-              tied = tied_row content op_in reply_in kinds k.lists w r n t
-                  (changed w.hand x None) w.log s.words s.homes (some (slot.Request p)) h.5
-                  (λ y _. refl) (λ e. absurd (cc)) (ap request_of (sym h.6)) (word ∙ ap (λ z. 1 + z) (sym on))
-                  (p, refl, is) k.tied;
-              leave = row_leaves w r t (ap request_of h.6);
-              others = λ d other. later_row w x r c d q t None w.log from to never (λ y. starts_same (w.log y))
-                  (λ y _. refl) (apart w x r c d q h.6 on h.1 other k.sound) (λ p _. unposted p) h.1 other;
-              own = seat_row kinds w c r q t (changed w.hand x None) w.log m.0 (held.Pass x l) bs
-                  (All-push (InRow (changed w.stage r t) w.holder c) m.0.back (record { row = r; request = q })
-                  (rows_stay w c r t m.0.back unposted ok.back) (changed_here w.stage r t, ap w.holder on ∙ h.1)) from
-                  to never
-                  (λ y. starts_same (w.log y)) ok (h.0, h.1, changed_here w.hand x None, h.3, h.4);
-            }),
+        rw carried (kept_after k id v' at cl alike record {
+          world = handed w x None r t;
+          holders = k.holders;
+          come = come_after clients w r t (k.come r (λ e. absurd cc)) k.come;
+          sound = sound_put_back kinds quota w x r c q h.6 on h.1 h.2 k.sound;
+          -- the words and the slots agree with the new world
+          tied = tied_row r n t (changed w.hand x None) w.log (some (slot.Request p)) h.5
+              (λ y _. refl) (λ e. absurd (cc)) (ap request_of (sym h.6)) (word ∙ ap (λ z. 1 + z) (sym on))
+              (p, refl, is) k.tied;
+          leave = row_leaves w r t (ap request_of h.6);
+          -- the other clients keep what they know
+          others = λ d other. later_row w x r c d q t None w.log from to never (λ y. starts_same (w.log y))
+              (λ y _. refl) (apart w x r c d q h.6 on h.1 other k.sound) (λ p _. unposted p) h.1 other;
+          -- the client holds the object, with nothing in hand
+          own = seat_row kinds w c r q t (changed w.hand x None) w.log m.0 (held.Pass x l) bs
+              (All-push (InRow (changed w.stage r t) w.holder c) m.0.back (record { row = r; request = q })
+              (rows_stay w c r t m.0.back unposted ok.back) (changed_here w.stage r t, ap w.holder on ∙ h.1)) from
+              to never
+              (λ y. starts_same (w.log y)) ok (h.0, h.1, changed_here w.hand x None, h.3, h.4);
+        }),
         λ x' r' l' q' hand'. let e = sym hand ∙ hand' in
             λ i. (
               after_put_back (ap held_object e i) (ap held_log e i) (ap held_row e i) (ap (held_request q) e i) m.0,
               rest m.1,
             ),
       )
+
+  -- ---- answering the request
 
   grows : (w : World) (x : ℕ) (more : List AnyEntry) (y : ℕ)
       → StartsWith (changed w.log x (w.log x ++ more) y) (w.log y)
@@ -425,49 +383,46 @@ module _ {S O R : Type 0} (content : S → Content) (op_in : O → AnyOp) (reply
       → Allows K slots id m (row_place r) (λ _. 33)
       (λ _. play.answers content op_in reply_in (step slots (row_place r) 33 0 maybe.none) m 33)
   answer_keeps_rule slots id x r m l q b tl cl hand carried on legal s k deep at small =
-      let w : World = k.world in let c : ℕ = m.0.number in
-      let ok = mine content op_in reply_in kinds clients quota s k id m.0 cl at in
+      let w : World = k.world in let c : ℕ = m.0.number in let ok = mine k id cl at in
       let h = subst (HeldOk (length kinds) w c) hand ok.held in
       let a : AnyAnswer = answer_in reply_in b in let t : Stage = answered q a in
       let more : List AnyEntry = logged r q a in
       let from : Waits q (w.stage r) = inr (inl h.6) in let to : Waits q t = inr (inr (a, refl)) in
       let never : (p : AnyRequest) (a : AnyAnswer)
       → w.stage r ≢ answered p a = λ p a e. absurd cc in
+      -- the log with the answer is legal
       let legal' : IsLegal (kind_at kinds x) (w.log x ++ more) =
       subst (λ (z : List Kind × List AnyEntry). IsLegal (kind_at z.0 x) (z.1 ++ more))
       (λ i. (ok.kinds_are i, sym h.3 i)) legal in (
         after_answer r x (l ++ more) m.0,
         gives,
         tt,
-        subst (λ cs. K record {
-          words = set s.words (row_place r) 33;
-          homes = put_back s.homes cs;
-          views =
-              set s.views id (after_answer r x (l ++ more) m.0);
-        }) (sym carried) (kept_after content op_in reply_in kinds clients quota s k id m.0
-            (after_answer r x (l ++ more) m.0) at cl alike record {
-              world = served_by w x r q a;
-              holders = k.holders;
-              come = come_after clients w r t (k.come r (λ e. absurd cc)) k.come;
-              sound = sound_served kinds quota w x r c q a h.6 on h.1 h.2 legal' k.sound;
-              tied = tied_row content op_in reply_in kinds k.lists w r 33 t (changed w.hand x None)
-                  (changed w.log x (w.log x ++ more)) s.words s.homes (some (slot.Answer b)) h.5
-                  (λ y e. changed_else w.log x (w.log x ++ more) y
-                  (λ same. absurd cc))
-                  (λ e. absurd (cc)) (ap request_of (sym h.6)) refl (b, refl, refl) k.tied;
-              leave = row_leaves w r t (ap request_of h.6);
-              others = λ d other. later_row w x r c d q t None (changed w.log x (w.log x ++ more)) from to never
-                  (grows w x more)
-                  (λ y away. changed_else w.log x (w.log x ++ more) y away) (apart w x r c d q h.6 on h.1 other k.sound)
-                  (λ p _ e. absurd cc) h.1 other;
-              own = seat_answered w c x r q a m.0 (held.Pass x (l ++ more)) h.6 ok (
-                h.0,
-                h.1,
-                changed_here w.hand x None,
-                changed_here w.log x (w.log x ++ more) ∙ ap (λ z. z ++ more) h.3,
-                h.4,
-              );
-            }),
+        rw carried (kept_after k id (after_answer r x (l ++ more) m.0) at cl alike record {
+          world = served_by w x r q a;
+          holders = k.holders;
+          come = come_after clients w r t (k.come r (λ e. absurd cc)) k.come;
+          sound = sound_served kinds quota w x r c q a h.6 on h.1 h.2 legal' k.sound;
+          -- the words and the slots agree with the new world
+          tied = tied_row r 33 t (changed w.hand x None) (changed w.log x (w.log x ++ more)) (some (slot.Answer b)) h.5
+              (λ y e. changed_else w.log x (w.log x ++ more) y
+              (λ same. absurd cc))
+              (λ e. absurd (cc)) (ap request_of (sym h.6)) refl (b, refl, refl) k.tied;
+          leave = row_leaves w r t (ap request_of h.6);
+          -- the other clients keep what they know
+          others = λ d other. later_row w x r c d q t None (changed w.log x (w.log x ++ more)) from to never
+              (grows w x more)
+              (λ y away. changed_else w.log x (w.log x ++ more) y away) (apart w x r c d q h.6 on h.1 other k.sound)
+              (λ p _ e. absurd cc) h.1 other;
+          -- the client holds the object, with nothing in hand
+          own = seat_answered w c x r q a m.0 (held.Pass x (l ++ more)) h.6 ok (
+            h.0,
+            h.1,
+            changed_here w.hand x None,
+            changed_here w.log x (w.log x ++ more) ∙ ap (λ z. z ++ more) h.3,
+            h.4,
+          );
+        }),
+        -- the view and the slots in hand after the step
         λ x' r' i l' q' b' tl' hand' carried'. let e = sym hand ∙ hand' in let f = sym carried ∙ carried' in λ j. (
           after_answer (ap held_row e j) (ap held_object e j)
               (ap held_log e j ++ logged (ap held_row e j) (ap (held_request q) e j)

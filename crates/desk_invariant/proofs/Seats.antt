@@ -17,7 +17,6 @@ use Rattle.desk_invariant.specs.declared.board.Slot.{Slot}
 use Rattle.desk_invariant.specs.declared.board.Own.{Own}
 use Rattle.desk_invariant.specs.declared.board.Own.TheVariants as own
 use Rattle.desk_invariant.specs.declared.board.Held.{Held}
-use Rattle.desk_invariant.specs.declared.board.Held.TheVariants as held
 use Rattle.desk_invariant.specs.declared.board.Leaving.{Leaving}
 use Rattle.desk_invariant.specs.declared.board.PutBack.{PutBack}
 use Rattle.desk_invariant.specs.declared.board.Role.TheVariants as role
@@ -30,6 +29,8 @@ use Rattle.desk_model.proofs.Changed.{changed_all}
 use Rattle.desk_model.proofs.Entries.{starts_longer, starts_same}
 use Rattle.desk_invariant.specs.Views.{seen_of, received_of, after_miss}
 use Rattle.desk_invariant.specs.Rule.{OwnOk, HeldOk, SeatOk, HasLeft, ViewOk, Makers, Tied, Kept}
+
+-- ---- what a step leaves to the other clients
 
 -- what the client c, which knows what it knows in w, needs of a step of another to w'
 pub record Later (w w' : World) (c : ℕ) : Type 0 where
@@ -62,44 +63,30 @@ row_leaves w r t same d e = (
 )
 
 same_later : (w : World) (c : ℕ) → Later w w c
-same_later w c = record {
-  own = λ o e. e;
-  ready = λ q a e. e;
-  done = refl;
-  logs = λ x. starts_same (w.log x);
-  held = λ x e. (refl, refl, refl);
-  holds = λ x e. e;
-  picked = λ x r q e f g. g;
-  posted = λ r q e g. g;
-  ended = refl;
-}
+same_later w c = let logs : (x : ℕ) → StartsWith (w.log x) (w.log x) = λ x. starts_same (w.log x) in assumption
 
 held_stays : (n : ℕ) (w w' : World) (c : ℕ) → Later w w' c → (h : Held) → HeldOk n w c h → HeldOk n w' c h
-held_stays n w w' c t held.Free k = λ x e. k x (t.holds x e)
-held_stays n w w' c t (held.Pass x l) k =
-    let e = t.held x k.1 in (k.0, e.0 ∙ k.1, e.1 ∙ k.2, e.2 ∙ k.3, λ y f. k.4 y (t.holds y f))
-held_stays n w w' c t (held.Hand x l r q) k =
-    let e = t.held x k.1 in
-    (k.0, e.0 ∙ k.1, e.1 ∙ k.2, e.2 ∙ k.3, (λ y f. k.4 y (t.holds y f)), k.5, t.picked x r q k.1 k.2 k.6)
+held_stays n w w' c t h k = grind (arith, t.holds, t.held, t.picked)
 
 seat_stays : (kinds : List Kind) (w w' : World) (c : ℕ) (v : DeskView) → Leaves w w' → Later w w' c
     → SeatOk kinds w c v → SeatOk kinds w' c v
-seat_stays kinds w w' c v leave t k = record {
-  number = k.number;
-  small = k.small;
-  kinds_are = k.kinds_are;
-  done = k.done ∙ sym t.done;
-  own = t.own v.own k.own;
-  ready = λ is. let a = k.ready is in (a.0, a.1, t.ready a.0 a.1 a.2);
-  wide_seen = k.wide_seen;
-  seen = λ x. starts_longer (w'.log x) (w.log x) (seen_of v x) (t.logs x) (k.seen x);
-  covers = k.covers;
-  held = held_stays (length kinds) w w' c t v.held k.held;
-  ended = t.ended ∙ k.ended;
-  retired = λ i d l. (leave (get_or v.retired i d) (k.retired i d l)).0;
-  back = λ i d l. let b = k.back i d l in let p = get_or v.back i d in
-      (t.posted p.row p.request b.1 b.0, (t.held p.request.object b.1).0 ∙ b.1);
-}
+seat_stays kinds w w' c v leave t k =
+    let ready : v.ready ≡ true → (q : AnyRequest) × (a : AnyAnswer) × (w'.stage c ≡ answered q a) =
+    λ is. let a = k.ready is in (a.0, a.1, t.ready a.0 a.1 a.2) in
+    let retired : All (λ d. w'.ended d ≡ true) v.retired =
+    λ i d l. (leave (get_or v.retired i d) (k.retired i d l)).0 in
+    let back : All (λ b. (w'.stage b.row ≡ posted b.request) × (w'.holder b.request.object ≡ Some c)) v.back =
+    λ i d l. let b = k.back i d l in let p = get_or v.back i d in
+    (t.posted p.row p.request b.1 b.0, (t.held p.request.object b.1).0 ∙ b.1) in assumption (
+      ready,
+      k.done ∙ sym t.done,
+      t.own v.own k.own,
+      held_stays (length kinds) w w' c t v.held k.held,
+      t.ended ∙ k.ended,
+      λ (x : ℕ). starts_longer (w'.log x) (w.log x) (seen_of v x) (t.logs x) (k.seen x),
+    )
+
+-- ---- what a client's own step may change in its view
 
 -- what no step of a client's own changes in its view
 pub record Alike (v v' : DeskView) : Type 0 where
@@ -129,7 +116,7 @@ pub alike : {v : DeskView} {kinds : List Kind} {done : List AnyDone} {own : Own}
       retired = retired;
       still_there = still_there;
     })
-alike = record { role = refl; number = refl; made = refl; received = refl; left = refl; lists = refl }
+alike = assumption
 
 -- A client that was told more, missed more, and knows more of its row and of the ends of others. What it was told, has
 -- missed and has found there does not matter.
@@ -148,6 +135,8 @@ pub seat_knowing : {kinds : List Kind} {w : World} {c : ℕ} {v : DeskView} {rea
     })
 seat_knowing ready retired ok = assumption
 
+-- ---- all views, after a step of one client
+
 -- after a step to w', in which the client's view v becomes v', each view is true
 seats_after : (kinds : List Kind) (lists : List TableId) (clients : ℕ) (w w' : World) (so : ℕ → ℕ)
     (vs : List DeskView) (id : ℕ) (v v' : DeskView)
@@ -158,15 +147,18 @@ seats_after : (kinds : List Kind) (lists : List TableId) (clients : ℕ) (w w' :
 seats_after kinds lists clients w w' so vs id v v' at cl alike makers before leave others ok j u e =
     let here = (before id v at).client cl in let next : 1 + v.number ≢ v.number = λ h. omega arith in
     let logs = (others (1 + v.number) next).logs in
+    -- a client that is not made yet is not the one of the step
     let is_made : (c : ℕ) (z : DeskView) (i : ℕ) → get_elem? vs i ≡ some z → z.role ≡ role.Maker → z.made ≤ c
     → c ≢ v.number =
     λ c z i g is l same. let low = (makers.made i z g is id v at).0 cl in omega arith in
+    -- such a client stays as it was
     let unmade : (c : ℕ) → c ≢ v.number
     → (w.stage c ≡ absent) × (w.done c ≡ []) × (w.ended c ≡ false) × ((x : ℕ) → w.holder x ≢ Some c)
     → (w'.stage c ≡ absent) × (w'.done c ≡ []) × (w'.ended c ≡ false) × ((x : ℕ) → w'.holder x ≢ Some c) =
     λ c apart b. let o = others c apart in
     (o.own own.Absent b.0, o.done ∙ b.1, o.ended ∙ b.2, λ x f. b.3 x (o.holds x f)) in
     elim (at_set vs id j v' u e) [
+      -- the view of the client of the step
       | inl t ↦ subst (λ (z : ℕ × DeskView). ViewOk kinds lists w' so z.0 z.1)
           (λ i. (sym t.0 i, t.1 i)) record {
             seen = ok.seen;
@@ -181,6 +173,7 @@ seats_after kinds lists clients w w' so vs id v v' at cl alike makers before lea
             lists_are = λ is. alike.lists ∙ (before id v at).lists_are cl;
             maker_lists = λ is. alike.lists ∙ (before id v at).lists_are cl;
           }
+      -- any other view
       | inr t ↦ let b = before j u t.1 in record {
         seen = λ x. starts_longer (w'.log x) (w.log x) (seen_of u x) (logs x) (b.seen x);
         received = λ x. starts_longer (w'.log x) (w.log x) (received_of u x) (logs x) (b.received x);
@@ -228,6 +221,8 @@ makers_after : (clients : ℕ) (vs : List DeskView) (id : ℕ) (v v' : DeskView)
     → Makers clients vs → Makers clients (set vs id v')
 makers_after clients vs id v v' at alike = makers_stay clients vs id v v' at alike.role alike.number alike.made
 
+-- ---- the rule, after a step of one client
+
 module _ {S O R : Type 0} (content : S → Content) (op_in : O → AnyOp) (reply_in : R → AnyReply) (kinds : List Kind)
     (clients quota : ℕ) where
   abbrev pub St : Type 0
@@ -236,12 +231,16 @@ module _ {S O R : Type 0} (content : S → Content) (op_in : O → AnyOp) (reply
   abbrev pub Rule : St → Type 0
   Rule = Kept content op_in reply_in kinds clients quota
 
-  pub mine : (s : St) (k : Rule s) (id : ℕ) (v : DeskView) → v.role ≡ role.Client → get_elem? s.views id ≡ some v
-      → SeatOk kinds k.world v.number v
-  mine s k id v cl at = ((k.seats id v at).client cl).1
+module _ {S O R : Type 0} {content : S → Content} {op_in : O → AnyOp} {reply_in : R → AnyReply} {kinds : List Kind}
+    {clients quota : ℕ} where
+  pub mine : {s : State (Slot S O R) DeskView} {v : DeskView} (k : Rule content op_in reply_in kinds clients quota s)
+      (id : ℕ) → v.role ≡ role.Client
+      → get_elem? s.views id ≡ some v → SeatOk kinds k.world v.number v
+  mine k id cl at = ((k.seats id _ at).client cl).1
 
   -- the world after a step of the client whose view v becomes v', with what the rule asks of it
-  pub record After (s : St) (k : Rule s) (v v' : DeskView) (words : List ℕ)
+  pub record After {s : State (Slot S O R) DeskView} (k : Rule content op_in reply_in kinds clients quota s)
+      (v v' : DeskView) (words : List ℕ)
       (homes : List (maybe.Option (Slot S O R))) : Type 0 where
     pub world : World
     pub holders : (x d : ℕ) → world.holder x ≡ Some d → (d < clients) × (world.ended d ≡ false)
@@ -252,11 +251,13 @@ module _ {S O R : Type 0} (content : S → Content) (op_in : O → AnyOp) (reply
     pub others : (d : ℕ) → d ≢ v.number → Later k.world world d
     pub own : SeatOk kinds world v.number v'
 
-  pub kept_after : {words : List ℕ} {homes : List (maybe.Option (Slot S O R))} (s : St) (k : Rule s) (id : ℕ)
-      (v v' : DeskView)
-      → get_elem? s.views id ≡ some v → v.role ≡ role.Client → Alike v v' → After s k v v' words homes
-      → Rule record { words = words; homes = homes; views = set s.views id v' }
-  kept_after s k id v v' at cl alike a = record {
+  pub kept_after : {s : State (Slot S O R) DeskView} {v : DeskView} {words : List ℕ}
+      {homes : List (maybe.Option (Slot S O R))} (k : Rule content op_in reply_in kinds clients quota s) (id : ℕ)
+      (v' : DeskView) → get_elem? s.views id ≡ some v
+      → v.role ≡ role.Client → Alike v v' → After k v v' words homes
+      → Rule content op_in reply_in kinds clients quota record
+      { words = words; homes = homes; views = set s.views id v' }
+  kept_after {s = s} {v = v} k id v' at cl alike a = record {
     world = a.world;
     seat_of = k.seat_of;
     lists = k.lists;
@@ -271,14 +272,16 @@ module _ {S O R : Type 0} (content : S → Content) (op_in : O → AnyOp) (reply
     come = a.come;
   }
 
+  -- ---- misses, looks, and other steps that leave the words
+
   -- a step that changes no word
-  pub unmoved : (s : St) (k : Rule s) (i id : ℕ) (v v' : DeskView) (cs : List (ℕ × Slot S O R))
-      → get_elem? s.views id ≡ some v → v.role ≡ role.Client → Alike v v' → SeatOk kinds k.world v.number v'
-      → Rule (stepped s i (get_or s.words i 0) id cs v' keeps)
-  unmoved s k i id v v' cs at cl alike ok =
-      subst (λ (ws : List ℕ). Rule record { words = ws; homes = s.homes; views = set s.views id v' })
-      (sym (set-get_or s.words i 0))
-      (kept_after s k id v v' at cl alike record {
+  pub unmoved : {s : State (Slot S O R) DeskView} {v : DeskView} (k : Rule content op_in reply_in kinds clients quota s)
+      (i id : ℕ) (v' : DeskView) (cs : List (ℕ × Slot S O R)) → get_elem? s.views id ≡ some v → v.role ≡ role.Client
+      → Alike v v'
+      → SeatOk kinds k.world v.number v'
+      → Rule content op_in reply_in kinds clients quota (stepped s i (get_or s.words i 0) id cs v' keeps)
+  unmoved {s = s} {v = v} k i id v' cs at cl alike ok =
+      rw (set-get_or s.words i 0) (kept_after k id v' at cl alike record {
         world = k.world;
         holders = k.holders;
         come = k.come;
@@ -290,15 +293,16 @@ module _ {S O R : Type 0} (content : S → Content) (op_in : O → AnyOp) (reply
         own = ok;
       })
 
-  pub misses : (s : St) (k : Rule s) (i id : ℕ) (v : DeskView) (cs : List (ℕ × Slot S O R)) → v.role ≡ role.Client
-      → get_elem? s.views id ≡ some v
-      → Rule (stepped s i (get_or s.words i 0) id cs (after_miss i v) keeps)
-  misses s k i id v cs cl at =
-      let ok = mine s k id v cl at in
-      unmoved s k i id v (after_miss i v) cs at cl alike (seat_knowing ok.ready ok.retired ok)
+  pub misses : {s : State (Slot S O R) DeskView} {v : DeskView} (k : Rule content op_in reply_in kinds clients quota s)
+      (i id : ℕ) (cs : List (ℕ × Slot S O R))
+      → v.role ≡ role.Client → get_elem? s.views id ≡ some v
+      → Rule content op_in reply_in kinds clients quota (stepped s i (get_or s.words i 0) id cs (after_miss i v) keeps)
+  misses {v = v} k i id cs cl at = let ok = mine k id cl at in
+      unmoved k i id (after_miss i v) cs at cl alike (seat_knowing ok.ready ok.retired ok)
 
   -- a look that tells nothing
-  pub looks : (s : St) (k : Rule s) (i id : ℕ) (v : DeskView) (cs : List (ℕ × Slot S O R)) → v.role ≡ role.Client
-      → get_elem? s.views id ≡ some v
-      → Rule (stepped s i (get_or s.words i 0) id cs v keeps)
-  looks s k i id v cs cl at = unmoved s k i id v v cs at cl alike (mine s k id v cl at)
+  pub looks : {s : State (Slot S O R) DeskView} {v : DeskView} (k : Rule content op_in reply_in kinds clients quota s)
+      (i id : ℕ) (cs : List (ℕ × Slot S O R))
+      → v.role ≡ role.Client → get_elem? s.views id ≡ some v
+      → Rule content op_in reply_in kinds clients quota (stepped s i (get_or s.words i 0) id cs v keeps)
+  looks {v = v} k i id cs cl at = unmoved k i id v cs at cl alike (mine k id cl at)

@@ -1,6 +1,6 @@
 -- A client sees more of a log: what it sees begins the log, so it has the entries of the client's own calls in their
 -- order.
-use Rattle.std.proofs.Common.{◌≡◌, ◌≢◌, ℕ, ◌<◌, true, false, cond, eqb, ◌⊎◌, inl, inr, length-append, List, [], ◌∷◌}
+use Rattle.std.proofs.Common.{◌≡◌, ◌≢◌, ℕ, ◌<◌, ◌⊎◌, inl, inr, length-append, List, [], ◌∷◌}
 use Rattle.std.proofs.Common.{◌++◌, length, get_or, set, refl, sym, ap, subst, ◌∙◌, arith, append_assoc, append-nil}
 use Rattle.std.proofs.Common.{length-set, get_or-set_other, get_or-set_same}
 use mathlib.Core.Logic.{dite}
@@ -10,8 +10,7 @@ use Rattle.desk_invariant.specs.declared.board.Own.{Own}
 use Rattle.desk_invariant.specs.declared.board.Own.TheVariants as own
 use Rattle.desk_invariant.specs.declared.board.DeskView.{DeskView}
 use Rattle.std.proofs.lemmas.List.{append_cancel_left, nil_from_length}
-use Rattle.desk_model.specs.declared.Answer.TheVariants.{Reply, Refused}
-use Rattle.desk_model.specs.World.{AnyEntry, AnyRequest, AnyAnswer, AnyDone, Stage, World, logged, logged_on}
+use Rattle.desk_model.specs.World.{AnyEntry, AnyRequest, AnyAnswer, AnyDone, Stage, World, logged_on}
 use Rattle.desk_model.specs.World.{entries_of, served, served_now, StartsWith}
 use Rattle.desk_model.specs.Sound.{Sound}
 use Rattle.desk_model.proofs.Entries.{entries-append}
@@ -20,11 +19,8 @@ use Rattle.desk_invariant.specs.Rule.{OwnOk, SeatOk}
 
 -- what is owed to a client is in the log
 owed_served : (x c : ℕ) (o : Own) (t : Stage) → OwnOk o t → StartsWith (served_now x c t) (owed x c o)
-owed_served x c own.Absent t e = (served_now x c t, refl)
-owed_served x c own.Idle t e = (served_now x c t, refl)
-owed_served x c (own.Drawn q) t e = (served_now x c t, refl)
-owed_served x c (own.Waiting q) t e = (served_now x c t, refl)
 owed_served x c (own.Taken q a) t e = ([], ap (served_now x c) e ∙ sym (append-nil (logged_on x c q a)))
+owed_served x c o t e = (served_now x c t, refl)
 
 -- the whole log has what the client is to find in it
 pub all_covered : (kinds : List Kind) (quota : ℕ) (w : World) (c x : ℕ) (ds : List AnyDone) (o : Own) → ds ≡ w.done c
@@ -68,34 +64,13 @@ one_front l (z ∷ zs) ys short e =
     inr (sym (e ∙ (ap (λ w. z ∷ zs ++ w) (nil_from_length ys none) ∙ append-nil (z ∷ zs))))
 
 short_logged : (x c : ℕ) (q : AnyRequest) (a : AnyAnswer) → length (logged_on x c q a) < 2
-short_logged x c q (Reply r) = elim (eqb q.object x) as (λ b. length (cond b (logged c q (Reply r)) []) < 2) [
-  | true ↦ omega arith
-  | false ↦ omega arith
-]
-short_logged x c q Refused = elim (eqb q.object x) as (λ b. length (cond b (logged c q Refused) []) < 2) [
-  | true ↦ omega arith
-  | false ↦ omega arith
-]
+short_logged x c q a = grind arith
 
 held_now : (x c : ℕ) (o : Own) (t : Stage) (now more : List AnyEntry) → IsAtRest o → OwnOk o t
     → served_now x c t ≡ now ++ more → MayHold x c o now
-held_now x c own.Idle t now more rest ok e =
-    elim (one_front [] now more (omega arith) (ap (served_now x c) (sym ok) ∙ e)) [ inl f ↦ f | inr f ↦ f ]
+held_now x c own.Idle t now more rest ok e = grind (arith, one_front [] now more)
 held_now x c (own.Waiting q) t now more rest ok e =
-    elim ok [
-      | inl f ↦ inl
-          (elim (one_front [] now more (omega arith) (ap (served_now x c) (sym f) ∙ e)) [ inl g ↦ g | inr g ↦ g ])
-      | inr g ↦ elim g [
-        | inl f ↦ inl
-            (elim (one_front [] now more (omega arith) (ap (served_now x c) (sym f) ∙ e)) [ inl g ↦ g | inr g ↦ g ])
-        | inr f ↦
-            let short = short_logged x c q f.0 in
-            elim (one_front (logged_on x c q f.0) now more short (ap (served_now x c) (sym f.1) ∙ e)) [
-              | inl h ↦ inl h
-              | inr h ↦ inr (f.0, h)
-            ]
-      ]
-    ]
+    grind (arith, one_front [] now more, short_logged x c q, λ (a : AnyAnswer). one_front (logged_on x c q a) now more)
 held_now x c o t now more rest h e = absurd rest
 
 -- a list that the client has seen has of its own calls what it is to have
