@@ -30,26 +30,25 @@ tried (x ∷ xs) zero p q e low is more =
 tried (x ∷ xs) (suc i) p q e low is more = ap (λ z. x ∷ z) (tried xs i p q e (omega arith) is more)
 
 -- it changes neither rows nor rosters
-same_rows : (i : ℕ) (e : Enlist) (ps : List PlaceSeen) → rows (trying i e ps) ≡ rows ps
-same_rows zero e [] = refl
-same_rows (suc i) e [] = refl
-same_rows zero e (p ∷ ps) = refl
-same_rows (suc i) e (p ∷ ps) = ap (λ z. p.row ∷ z) (same_rows i e ps)
+same_map : {A : Type 0} (f : PlaceSeen → A) → ((p : PlaceSeen) (ts : List Enlist) → f (record p { tries = ts }) ≡ f p)
+    → (i : ℕ) (e : Enlist) (ps : List PlaceSeen) → map f (trying i e ps) ≡ map f ps
+same_map f same zero e [] = refl
+same_map f same (suc i) e [] = refl
+same_map f same zero e (p ∷ ps) = ap (λ z. z ∷ map f ps) (same p (p.tries ++ e ∷ []))
+same_map f same (suc i) e (p ∷ ps) = ap (λ z. f p ∷ z) (same_map f same i e ps)
 
 pub same_rosters : (i : ℕ) (e : Enlist) (ps : List PlaceSeen) → rosters (trying i e ps) ≡ rosters ps
-same_rosters zero e [] = refl
-same_rosters (suc i) e [] = refl
-same_rosters zero e (p ∷ ps) = refl
-same_rosters (suc i) e (p ∷ ps) = ap (λ z. p.roster ∷ z) (same_rosters i e ps)
+same_rosters i e ps = same_map (λ p. p.roster) (λ p ts. refl) i e ps
 
 pub still_own : (c i : ℕ) (e : Enlist) (lists : List TableId) (ps : List PlaceSeen) → ArePlacesOf c lists ps
     → ArePlacesOf c lists (trying i e ps)
-still_own c i e lists ps k = record { rows = same_rows i e ps ∙ k.rows; lists_are = same_rosters i e ps ∙ k.lists_are }
+still_own c i e lists ps k = record
+    { rows = same_map (λ p. p.row) (λ p ts. refl) i e ps ∙ k.rows; lists_are = same_rosters i e ps ∙ k.lists_are }
 
 -- the same lists under another name
 pub own_still : (c : ℕ) (ls ls' : List TableId) (ps : List PlaceSeen) → ls' ≡ ls → ArePlacesOf c ls ps
     → ArePlacesOf c ls' ps
-own_still c ls ls' ps e k = subst (λ z. ArePlacesOf c z ps) (sym e) k
+own_still c ls ls' ps e k = rw e k
 
 -- the place in the list of x
 row_there : (n x c r : ℕ) → get_elem? (replicate n c) x ≡ some r → r ≡ c
@@ -80,15 +79,8 @@ fresh_rosters c (l ∷ ls) = ap (λ z. l ∷ z) (fresh_rosters c ls)
 
 pub fresh_own : (c : ℕ) (lists : List TableId) (ps : List PlaceSeen) → length lists ≡ 16 → ps ≡ fresh_places c lists
     → ArePlacesOf c lists ps
-fresh_own c lists ps long is =
-    subst (ArePlacesOf c lists)
-    (sym is) record { rows = fresh_rows c lists ∙ ap (λ n. replicate n c) long; lists_are = fresh_rosters c lists }
-
-or_last : {A : Type 0} (l : List A) (a : A) (i : ℕ) (d : A) → i ≡ length l → get_or (l ++ a ∷ []) i d ≡ a
-or_last [] a zero d h = refl
-or_last [] a (suc i) d h = absurd (omega arith)
-or_last (x ∷ xs) a zero d h = absurd (omega arith)
-or_last (x ∷ xs) a (suc i) d h = or_last xs a i d (omega arith)
+fresh_own c lists ps long is = rw is record
+    { rows = fresh_rows c lists ∙ ap (λ n. replicate n c) long; lists_are = fresh_rosters c lists }
 
 -- of all walkers, the first n went: the next one walks the next list
 pub walker_there : (all ws : List WalkerSeen) (n m : ℕ) (w : WalkerSeen) → 0 < length ws → w ≡ get_or ws 0 w → m ≡ n

@@ -1,6 +1,6 @@
 -- Two clients after they have met: each has seen the same log of the object (`met`), which goes on from what each had
 -- seen before. By what the messages in both directions add.
-use Rattle.std.proofs.Common.{◌≡◌, ℕ, ◌<◌, Bool, List, [], length, sym, ap, subst, ◌∙◌}
+use Rattle.std.proofs.Common.{◌≡◌, ℕ, ◌<◌, Bool, List, [], length, sym, ap, ◌∙◌}
 use Rattle.std.proofs.lemmas.List.{get_or-set_same}
 use Rattle.atomic_table.specs.Table.{Me}
 use Rattle.model.specs.declared.AnyOp.{AnyOp}
@@ -26,7 +26,7 @@ module _ {S O R : Type 0} (op_in : O → AnyOp) (reply_in : R → AnyReply) (num
       → IsLegal (kind_at m.0.kinds x) l → IsAccount x (record m.0 { received = h }) l
       → d ≡ (after_meet x l (record m.0 { received = h }), m.1) → TheClient d
   met_ok x l h m d k low legal account e =
-      subst TheClient (sym e) record {
+      rw e record {
         agrees = agrees_seeing x l low legal account (agrees_light k.agrees);
         free = k.free;
         in_hand = k.in_hand;
@@ -47,7 +47,7 @@ met x one other d e s t a b a' b' l h i kinds p q f g there there' legal first s
   no_pass = (ap (λ z. z.won) f ∙ ap (λ z. z.won) (sym p), ap (λ z. z.won) g ∙ ap (λ z. z.won) (sym q));
   seen_first = ap (λ z. seen_of z x) f ∙ get_or-set_same a.seen x l [] there;
   seen_second = ap (λ z. seen_of z x) g ∙ get_or-set_same b.seen x l [] there';
-  legal = subst (λ z. IsLegal (kind_at z x) l) (sym kinds) legal;
-  begins_first = subst (λ z. StartsWith l (seen_of z x)) (sym p) first;
-  begins_second = subst (λ z. StartsWith l (seen_of z x)) (sym q) second;
+  legal = rw kinds legal;
+  begins_first = rw p first;
+  begins_second = rw q second;
 }

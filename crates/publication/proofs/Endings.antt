@@ -1,6 +1,6 @@
 -- The end of a client, and the sight of another's: one more client is known to have ended (`one_ended`), or is still
 -- there (`there_still`). By whether the word that was read is 1.
-use Rattle.std.proofs.Common.{◌≡◌, ◌≢◌, ℕ, ◌+◌, ◌<◌, Bool, List, [], ◌∷◌, ◌++◌, Contains, All, eqb, eq-eqb, ne_eqb}
+use Rattle.std.proofs.Common.{◌≡◌, ◌≢◌, ℕ, ◌+◌, ◌<◌, Bool, List, [], ◌∷◌, Contains, All, eqb, eq-eqb, ne_eqb}
 use Rattle.std.proofs.Common.{if◌then◌else◌, sym, ap, subst, ◌∙◌, arith}
 use mathlib.Core.Logic.{dite}
 use native.Mathlib.Decide.{ℕ_discrete}
@@ -9,7 +9,6 @@ use Rattle.atomic_table.specs.Table.{Me}
 use Rattle.model.specs.declared.AnyOp.{AnyOp}
 use Rattle.model.specs.declared.AnyReply.{AnyReply}
 use Rattle.desk_invariant.specs.declared.board.Journal.{Journal}
-use Rattle.desk_invariant.specs.declared.board.Leaving.{Leaving}
 use Rattle.desk_invariant.specs.declared.board.Slot.{Slot}
 use Rattle.desk_invariant.specs.declared.board.DeskView.{DeskView}
 use Rattle.desk_invariant.specs.Views.{after_end_seen, after_end_unset}
@@ -22,11 +21,8 @@ use Rattle.publication.proofs.Holds.{agrees_light}
 pub either_view : (found d : ℕ) (v v' w : DeskView) → v ≡ v' → (found ≡ 1 → w ≡ after_end_seen d v)
     → (found ≢ 1 → w ≡ after_end_unset d v)
     → w ≡ (if eqb found 1 then after_end_seen d v' else after_end_unset d v')
-either_view found d v v' w same hit miss = dite (ℕ_discrete found 1)
-    (λ e. hit e ∙ (ap (after_end_seen d) same
-    ∙ ap (λ (b : Bool). if b then after_end_seen d v' else after_end_unset d v') (sym (eq-eqb found 1 e))))
-    (λ n. miss n ∙ (ap (after_end_unset d) same
-    ∙ ap (λ (b : Bool). if b then after_end_seen d v' else after_end_unset d v') (sym (ne_eqb found 1 n))))
+either_view found d v v' w same hit miss = rw (← same) (dite (ℕ_discrete found 1) (λ e. rw (eq-eqb found 1 e) (hit e))
+    (λ n. rw (ne_eqb found 1 n) (miss n)))
 
 -- the client is the last one itself
 pub own_number : (n : ℕ) (b : Known) → n ≡ b.knows.number → HaveEnded n b → HaveEnded (n + 1) b
@@ -39,8 +35,7 @@ pub one_ended : (n : ℕ) (a b b' : Known) → b'.desk ≡ b.desk → b'.places 
 one_ended n a b b' e t f before is =
     subst (λ z. HaveEnded (n + 1) z × HasLearntEnds a z)
     (λ i. record { desk = sym e i; knows = sym f i; places = sym t i }) (
-      (λ c l other. dite (ℕ_discrete c n)
-          (λ same. subst (Contains (b.knows.retired ++ n ∷ [])) (sym same) (Contains-push b.knows.retired n))
+      (λ c l other. dite (ℕ_discrete c n) (λ same. rw same (Contains-push b.knows.retired n))
           (λ apart. Contains-append_left b.knows.retired (n ∷ []) c (before c (omega arith) other))),
       ap (λ (z : Known). record z { knows = after_end_seen n z.knows }) is,
     )
@@ -52,7 +47,7 @@ pub there_still : (d : DeskSeen) (n : ℕ) (a b b' : Known) → n < d.clients �
 there_still d n a b b' low other e before is untold = let same = ap (λ z. z.knows.number) is in record {
   client_low = low;
   other = λ f. other (f ∙ sym same);
-  untold = subst (All (λ (l : Leaving). l.client ≢ n)) (ap (λ z. z.knows.left) is) untold;
+  untold = rw is at untold;
   least = λ c l apart. subst (λ z. Contains z c) (sym (ap (λ v. v.retired) e)) (before c l (λ f. apart (f ∙ same)));
   looked = (b.knows, e, ap (λ z. z.knows) is);
 }
@@ -65,8 +60,7 @@ module _ {S O R : Type 0} (op_in : O → AnyOp) (reply_in : R → AnyReply) wher
       → m' ≡ (record m.0 { retired = retired; still_there = still_there }, m.1)
       → IsClient op_in reply_in number calls quota outstanding j m'
   watching number calls quota outstanding j m m' retired still_there k e =
-      subst (IsClient op_in reply_in number calls quota outstanding j)
-      (sym e) record { agrees = agrees_light k.agrees; free = k.free; in_hand = k.in_hand }
+      rw e record { agrees = agrees_light k.agrees; free = k.free; in_hand = k.in_hand }
 
   pub watching_ok : (number calls quota : ℕ) (outstanding : Bool) (j : Journal O R) (found d : ℕ)
       (m m' : Me (Slot S O R) DeskView) → IsClient op_in reply_in number calls quota outstanding j m

@@ -1,7 +1,6 @@
 -- The logs and journals that a record is made of, taken row by row: what is gathered so far is that of the rows so
 -- far. By what one more row adds at the end (`grown`).
-use Rattle.std.proofs.Common.{◌≡◌, ℕ, ◌+◌, ◌<◌, ◌≤◌, List, [], ◌∷◌, ◌++◌, length, get_or, length-append, sym, ap}
-use Rattle.std.proofs.Common.{subst, ◌∙◌, arith}
+use Rattle.std.proofs.Common.{◌≡◌, ℕ, ◌+◌, ◌<◌, ◌≤◌, List, [], ◌∷◌, ◌++◌, length, get_or, length-append, ap, ◌∙◌, arith}
 use mathlib.Core.Logic.{dite}
 use native.Mathlib.Decide.{ℕ_discrete}
 use Rattle.std.specs.declared.vec.Vec.{Vec}
@@ -23,9 +22,7 @@ module _ {X : Type 0} where
 
   pub row_here : (rows rows' : List (List X)) (row : List X) (n : ℕ) → rows' ≡ rows ++ row ∷ [] → length rows ≡ n
       → get_or rows' n [] ≡ row
-  row_here rows rows' row n e long =
-      ap (λ z. get_or z n []) e
-      ∙ subst (λ z. get_or (rows ++ row ∷ []) z [] ≡ row) long (get_or-append_seam rows row [] [])
+  row_here rows rows' row n e long = rw (e, ← long) (get_or-append_seam rows row [] [])
 
   pub row_there : (rows rows' : List (List X)) (row : List X) (k : ℕ) → rows' ≡ rows ++ row ∷ [] → k < length rows
       → get_or rows' k [] ≡ get_or rows k []
@@ -36,9 +33,8 @@ module _ {X : Type 0} where
       → ((k : ℕ) → from ≤ k → k < n → P k (get_or rows k [])) → P n row
       → (k : ℕ) → from ≤ k → k < n + 1 → P k (get_or rows' k [])
   rows_more P from n rows rows' row e long before here k g h = dite (ℕ_discrete k n)
-      (λ same. subst (λ z. P z (get_or rows' z [])) (sym same)
-      (subst (P n) (sym (row_here rows rows' row n e long)) here))
-      (λ other. subst (P k) (sym (row_there rows rows' row k e (omega arith))) (before k g (omega arith)))
+      (λ same. rw (same, row_here rows rows' row n e long) here)
+      (λ other. rw (row_there rows rows' row k e (omega arith)) (before k g (omega arith)))
 
   pub same_more : (from : ℕ) (first rows rows' : List (List X)) (row : List X) → rows' ≡ rows ++ row ∷ []
       → from ≤ length rows → IsSameBelow from first rows → IsSameBelow from first rows'

@@ -3,7 +3,7 @@ use mathlib.Core.Option as maybe
 use mathlib.Core.Option.{some}
 use lib.ListN.{get_elem?, length-map}
 use Rattle.std.proofs.Common.{◌≡◌, ℕ, ◌+◌, ◌-◌, ◌<◌, ◌≤◌, Bool, List, [], ◌∷◌, ◌++◌, length, length-append, get_or}
-use Rattle.std.proofs.Common.{vec_len, vec_capacity, refl, sym, ap, subst, ◌∙◌, arith, length-set}
+use Rattle.std.proofs.Common.{vec_len, vec_capacity, refl, sym, ap, ◌∙◌, arith, length-set}
 use Rattle.atomic_table.specs.Table.{rest, Me}
 use Rattle.atomic_table.specs.Seated.{TableId}
 use Rattle.publication_list.specs.Calls.{WalkerSeen}
@@ -13,7 +13,7 @@ use Rattle.model.specs.declared.AnyReply.{AnyReply}
 use Rattle.model.specs.Objects.{Content, empty, kind_of}
 use Rattle.desk_model.specs.declared.Request.{Request}
 use Rattle.desk_model.specs.declared.Answer.{Answer}
-use Rattle.desk_model.specs.World.{AnyEntry, AnyRequest, kind_at, logged, Replays, IsLegal, Serves}
+use Rattle.desk_model.specs.World.{AnyEntry, kind_at, logged, IsLegal, Serves}
 use Rattle.desk_model.specs.Images.{request_in, answer_in, entry_in}
 use Rattle.desk_model.proofs.Entries.{replays_more}
 use Rattle.desk_invariant.specs.declared.board.Core.{Core}
@@ -31,6 +31,8 @@ use Rattle.desk_invariant.specs.Views.{after_answer, after_release, after_meet, 
 use Rattle.desk_invariant.specs.Rule.{Fits}
 use Rattle.desk_invariant.proofs.Seeing.{seen_all}
 use Rattle.publication.specs.Handles.{Agrees, log_of, IsClient, IsPass, IsHand}
+
+-- ---- what may change in a view with which the fields agree
 
 module _ {O R : Type 0} {op_in : O → AnyOp} {reply_in : R → AnyReply} {number calls quota : ℕ} {outstanding : Bool}
     {j : Journal O R} {v : DeskView} where
@@ -52,22 +54,7 @@ module _ {O R : Type 0} {op_in : O → AnyOp} {reply_in : R → AnyReply} {numbe
         still_there = still_there;
         ready = ready;
       })
-  agrees_seen wide legal accounts k = record {
-    client_is = k.client_is;
-    number_is = k.number_is;
-    number_low = k.number_low;
-    at_rest = k.at_rest;
-    going = k.going;
-    calls_is = k.calls_is;
-    within = k.within;
-    few = k.few;
-    outstanding_is = k.outstanding_is;
-    journal_is = k.journal_is;
-    room = k.room;
-    wide = wide;
-    legal = legal;
-    accounts = accounts;
-  }
+  agrees_seen wide legal accounts k = assumption (wide, legal, accounts, k)
 
   -- what a client was told, holds, has put back, has missed, how often it won, and what it knows of ends and of its
   -- row does not matter
@@ -97,6 +84,8 @@ module _ {O R : Type 0} {op_in : O → AnyOp} {reply_in : R → AnyReply} {numbe
       (seen_all (λ y z. IsLegal (kind_at v.kinds y) z) v.seen x l (omega arith) legal (λ y _. k.legal y))
       (seen_all (λ y z. IsAccount y v z) v.seen x l (omega arith) account (λ y _. k.accounts y)) k
 
+-- ---- the core after one more request
+
 module _ {S O R : Type 0} (op_in : O → AnyOp) (reply_in : R → AnyReply) where
   -- what an entry leaves of the room for entries
   pub room_taken : (k k' : Core S O R) (more : List AnyEntry)
@@ -125,8 +114,7 @@ module _ {S O R : Type 0} (content : S → Content) (op_in : O → AnyOp) (reply
       → Fits content op_in reply_in kind list k' (log_of op_in reply_in k')
   core_grows kind list r k k' q a same fits log did = (
     refl,
-    subst (λ z. Replays (empty kind) z (content k'.object)) (sym log)
-        (replays_more (empty kind) (content k.object) (content k'.object) (log_of op_in reply_in k) r
+    rw log (replays_more (empty kind) (content k.object) (content k'.object) (log_of op_in reply_in k) r
         (request_in op_in q) (answer_in reply_in a)
         fits.1 did),
     fits.2 ∙ ap (λ (l : WalkerSeen). some l.roster) (sym same),
@@ -146,45 +134,33 @@ module _ {S O R : Type 0} (content : S → Content) (op_in : O → AnyOp) (reply
   abbrev TheHand : ℕ → Core S O R → ℕ → Request O → M → Type 0
   TheHand = IsHand content op_in reply_in number calls quota outstanding j
 
+  -- ---- a miss, a win and a release
+
   pub missed_ok : (i : ℕ) (m d : M) → TheClient m → d ≡ (after_miss i m.0, m.1) → TheClient d
-  missed_ok i m d k e = subst TheClient
-      (sym e) record { agrees = agrees_light k.agrees; free = k.free; in_hand = k.in_hand }
+  missed_ok i m d k e = rw e record { agrees = agrees_light k.agrees; free = k.free; in_hand = k.in_hand }
 
   -- the core is out of its slot: m before, a after the win, b with nothing in the slot
   pub pass_ok : (x : ℕ) (k core : Core S O R) (l : List AnyEntry) (m a b : M) → TheClient m
       → a ≡ (after_win x l m.0, (x, slot.Core k) ∷ m.1) → b ≡ (a.0, (x, slot.Nothing) ∷ rest a.1) → core ≡ k
       → Fits content op_in reply_in (kind_at m.0.kinds x) (get_elem? m.0.lists x) k l → x < 16 → ThePass x core b
-  pass_ok x k core l m a b c e f same fits low =
-      let log : log_of op_in reply_in core ≡ l = ap (log_of op_in reply_in) same ∙ fits.0 in
-      let is : b ≡ (after_win x (log_of op_in reply_in core) m.0, (x, slot.Nothing) ∷ m.1) =
-      f ∙ (ap (λ z. (z.0, (x, slot.Nothing) ∷ rest z.1)) e
-      ∙ ap (λ z. (after_win x z m.0, (x, slot.Nothing) ∷ m.1)) (sym log)) in
-      subst (ThePass x core) (sym is) record {
-        agrees = agrees_light c.agrees;
-        holds = refl;
-        in_hand = ap (λ z. (x, slot.Nothing) ∷ z) c.in_hand;
-        fits = (
-          refl,
-          subst (λ z. Replays (empty (kind_at m.0.kinds x)) (log_of op_in reply_in z) (content z.object)) (sym same)
-              (subst (λ z. Replays (empty (kind_at m.0.kinds x)) z (content k.object)) (sym fits.0) fits.1),
-          fits.2 ∙ ap (λ (z : Core S O R). some z.list.roster) (sym same),
-        );
-        low = low;
-      }
+  pass_ok x k core l m a b c e f same fits low = rw (f, e, same) record {
+    agrees = agrees_light c.agrees;
+    holds = ap (held.Pass x) (sym fits.0);
+    in_hand = ap (λ z. (x, slot.Nothing) ∷ z) c.in_hand;
+    fits = (refl, rw fits.0 fits.1, fits.2);
+    low = low;
+  }
 
   -- the client after its pass was put back: m before, a with the core in hand, b after the step
   pub released_ok : (x : ℕ) (core : Core S O R) (m a b : M) → ThePass x core m
       → a ≡ (m.0, (x, slot.Core core) ∷ rest m.1) → b ≡ (after_release x (log_of op_in reply_in core) a.0, rest a.1)
       → IsAccount x a.0 (log_of op_in reply_in core) → TheClient b
-  released_ok x core m a b p e f account =
-      let l : List AnyEntry = log_of op_in reply_in core in
-      let is : b ≡ (after_release x l m.0, rest m.1) = f ∙ ap (λ z. (after_release x l z.0, rest z.1)) e in
-      let account' : IsAccount x m.0 l = subst (λ (z : M). IsAccount x z.0 l) e account in
-      subst TheClient (sym is) record {
-        agrees = agrees_light (agrees_seeing x l p.low (content core.object, p.fits.1) account' p.agrees);
-        free = refl;
-        in_hand = ap rest p.in_hand;
-      }
+  released_ok x core m a b p e f account = rw (f, e) record {
+    agrees = agrees_light
+        (agrees_seeing x (log_of op_in reply_in core) p.low (content core.object, p.fits.1) (rw e at account) p.agrees);
+    free = refl;
+    in_hand = ap rest p.in_hand;
+  }
 
   -- with the core in hand, the client may release
   pub release_ready : (x : ℕ) (core : Core S O R) (m a : M) → ThePass x core m
@@ -193,22 +169,16 @@ module _ {S O R : Type 0} (content : S → Content) (op_in : O → AnyOp) (reply
       × (a.1 ≡ (x, slot.Core core) ∷ rest m.1)
       × Fits content op_in reply_in (kind_at a.0.kinds x) (get_elem? a.0.lists x) core (log_of op_in reply_in core)
       × IsAtRest a.0.own
-  release_ready x core m a p e =
-      subst (λ (z : M). (z.0.role ≡ role.Client) × (z.0.held ≡ held.Pass x (log_of op_in reply_in core))
-      × (z.1 ≡ (x, slot.Core core) ∷ rest m.1)
-      × Fits content op_in reply_in (kind_at z.0.kinds x) (get_elem? z.0.lists x) core (log_of op_in reply_in core)
-      × IsAtRest z.0.own)
-      (sym e) (p.agrees.client_is, p.holds, refl, p.fits, p.agrees.at_rest)
+  release_ready x core m a p e = rw e (p.agrees.client_is, p.holds, refl, p.fits, p.agrees.at_rest)
+
+  -- ---- misses at rows, and requests in hand
 
   -- with the request in hand again, the client may put it back
   pub back_ready : (x : ℕ) (core : Core S O R) (r : ℕ) (p : Request O) (m b : M) → TheHand x core r p m
       → b ≡ (m.0, (16 + r, slot.Request p) ∷ rest m.1)
       → (b.0.role ≡ role.Client) × (b.0.held ≡ held.Hand x (log_of op_in reply_in core) r (request_in op_in p))
       × (b.1 ≡ (16 + r, slot.Request p) ∷ rest m.1)
-  back_ready x core r p m b h e =
-      subst (λ (z : M). (z.0.role ≡ role.Client)
-      × (z.0.held ≡ held.Hand x (log_of op_in reply_in core) r (request_in op_in p))
-      × (z.1 ≡ (16 + r, slot.Request p) ∷ rest m.1)) (sym e) (h.agrees.client_is, h.holds, refl)
+  back_ready x core r p m b h e = rw e (h.agrees.client_is, h.holds, refl)
 
   -- with the answer in hand, the client may answer
   pub answer_ready : (x : ℕ) (k k' : Core S O R) (r : ℕ) (q : Request O) (a : Answer R) (m b : M) → TheHand x k r q m
@@ -218,26 +188,21 @@ module _ {S O R : Type 0} (content : S → Content) (op_in : O → AnyOp) (reply
       → (b.0.role ≡ role.Client) × (b.0.held ≡ held.Hand x (log_of op_in reply_in k) r (request_in op_in q))
       × (b.1 ≡ (16 + r, slot.Answer a) ∷ rest m.1)
       × IsLegal (kind_at b.0.kinds x) (log_of op_in reply_in k ++ logged r (request_in op_in q) (answer_in reply_in a))
-  answer_ready x k k' r q a m b h e log did =
-      subst (λ (z : M). (z.0.role ≡ role.Client)
-      × (z.0.held ≡ held.Hand x (log_of op_in reply_in k) r (request_in op_in q))
-      × (z.1 ≡ (16 + r, slot.Answer a) ∷ rest m.1)
-      × IsLegal (kind_at z.0.kinds x)
-      (log_of op_in reply_in k ++ logged r (request_in op_in q) (answer_in reply_in a))) (sym e) (
-        h.agrees.client_is,
-        h.holds,
-        refl,
-        (
-          content k'.object,
-          replays_more (empty (kind_at m.0.kinds x)) (content k.object) (content k'.object)
-              (log_of op_in reply_in k) r (request_in op_in q) (answer_in reply_in a) h.fits.1 did,
-        ),
-      )
+  answer_ready x k k' r q a m b h e log did = rw e (
+    h.agrees.client_is,
+    h.holds,
+    refl,
+    (
+      content k'.object,
+      replays_more (empty (kind_at m.0.kinds x)) (content k.object) (content k'.object) (log_of op_in reply_in k) r
+          (request_in op_in q) (answer_in reply_in a) h.fits.1 did,
+    ),
+  )
 
   -- a pass after a miss at a row
   pub noted_ok : (x : ℕ) (core : Core S O R) (i : ℕ) (m b : M) → ThePass x core m → b ≡ (after_row_miss i x m.0, m.1)
       → ThePass x core b
-  noted_ok x core i m b p f = subst (ThePass x core) (sym f) record {
+  noted_ok x core i m b p f = rw f record {
     agrees = agrees_light p.agrees;
     holds = p.holds;
     in_hand = p.in_hand;
@@ -250,36 +215,28 @@ module _ {S O R : Type 0} (content : S → Content) (op_in : O → AnyOp) (reply
       → a ≡ (after_pick x (log_of op_in reply_in core) r (request_in op_in q) m.0, (16 + r, slot.Request q) ∷ m.1)
       → b ≡ (a.0, (16 + r, slot.Nothing) ∷ rest a.1) → q ≡ p → q.object ≡ x
       → kind_of (op_in q.op) ≡ kind_at m.0.kinds x → r < 32 → TheHand x core r p b
-  hand_ok x core r q p m a b k e f same on of_kind low =
-      let l : List AnyEntry = log_of op_in reply_in core in
-      let is : b ≡ (after_pick x l r (request_in op_in p) m.0, (16 + r, slot.Nothing) ∷ m.1) =
-      f ∙ (ap (λ z. (z.0, (16 + r, slot.Nothing) ∷ rest z.1)) e
-      ∙ ap (λ z. (after_pick x l r (request_in op_in z) m.0, (16 + r, slot.Nothing) ∷ m.1)) same) in
-      subst (TheHand x core r p) (sym is) record {
-        agrees = agrees_light k.agrees;
-        holds = refl;
-        in_hand = ap (λ z. (16 + r, slot.Nothing) ∷ z) k.in_hand;
-        fits = k.fits;
-        low = k.low;
-        row_low = low;
-        on = ap (λ z. z.object) (sym same) ∙ on;
-        of_kind = ap (λ z. kind_of (op_in z.op)) (sym same) ∙ of_kind;
-      }
+  hand_ok x core r q p m a b k e f same on of_kind low = rw (f, e, ← same) record {
+    agrees = agrees_light k.agrees;
+    holds = refl;
+    in_hand = ap (λ z. (16 + r, slot.Nothing) ∷ z) k.in_hand;
+    fits = k.fits;
+    low = k.low;
+    row_low = low;
+    on = on;
+    of_kind = of_kind;
+  }
 
   -- the request is back in its row: b with the request in its slot, d after the step
   pub back_ok : (x : ℕ) (core : Core S O R) (r : ℕ) (p : Request O) (m b d : M) → TheHand x core r p m
       → b ≡ (m.0, (16 + r, slot.Request p) ∷ rest m.1)
       → d ≡ (after_put_back x (log_of op_in reply_in core) r (request_in op_in p) b.0, rest b.1) → ThePass x core d
-  back_ok x core r p m b d h e f =
-      let l : List AnyEntry = log_of op_in reply_in core in let q : AnyRequest = request_in op_in p in
-      let is : d ≡ (after_put_back x l r q m.0, rest m.1) = f ∙ ap (λ z. (after_put_back x l r q z.0, rest z.1)) e in
-      subst (ThePass x core) (sym is) record {
-        agrees = agrees_light h.agrees;
-        holds = refl;
-        in_hand = ap rest h.in_hand;
-        fits = h.fits;
-        low = h.low;
-      }
+  back_ok x core r p m b d h e f = rw (f, e) record {
+    agrees = agrees_light h.agrees;
+    holds = refl;
+    in_hand = ap rest h.in_hand;
+    fits = h.fits;
+    low = h.low;
+  }
 
   -- the pass after an answer: b with the answer in hand, d after the step
   pub answered_ok : (x r : ℕ) (k k' : Core S O R) (q : Request O) (a : Answer R) (m b d : M) → TheHand x k r q m
@@ -290,13 +247,10 @@ module _ {S O R : Type 0} (content : S → Content) (op_in : O → AnyOp) (reply
         after_answer r x (log_of op_in reply_in k ++ logged r (request_in op_in q) (answer_in reply_in a)) b.0,
         rest m.1,
       ) → ThePass x k' d
-  answered_ok x r k k' q a m b d h fits log e f =
-      let is : d ≡ (after_answer r x (log_of op_in reply_in k') m.0, rest m.1) =
-      f ∙ λ i. (after_answer r x (sym log i) (e i).0, rest m.1) in
-      subst (ThePass x k') (sym is) record {
-        agrees = agrees_light h.agrees;
-        holds = refl;
-        in_hand = ap rest h.in_hand;
-        fits = fits;
-        low = h.low;
-      }
+  answered_ok x r k k' q a m b d h fits log e f = rw (f, e) record {
+    agrees = agrees_light h.agrees;
+    holds = ap (held.Pass x) (sym log);
+    in_hand = ap rest h.in_hand;
+    fits = fits;
+    low = h.low;
+  }

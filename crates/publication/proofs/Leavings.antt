@@ -1,19 +1,19 @@
 -- What is in the slots of a desk when all clients but one have ended, and that one holds nothing.
-use Rattle.std.proofs.Common.{◌≡◌, ◌≢◌, ℕ, zero, suc, ◌+◌, ◌<◌, ◌≤◌, true, List, [], ◌∷◌, map, length, get_or}
+use Rattle.std.proofs.Common.{◌≡◌, ◌≢◌, ℕ, ◌+◌, ◌<◌, ◌≤◌, true, List, [], map, length, get_or}
 use Rattle.std.proofs.Common.{Option, Some, None, Contains, All, refl, sym, ap, subst, ◌∙◌, ⊎_elim, arith}
 use mathlib.Core.Logic.{dite}
 use mathlib.Core.Option.{some}
 use native.Mathlib.Decide.{ℕ_discrete}
 use lib.ListN.{get_elem?}
 use Rattle.std.proofs.lemmas.Bool.{cases_lt}
+use Rattle.std.proofs.lemmas.List.{get_or_past}
 use Rattle.std.proofs.lemmas.List.Elements.{All-contains}
 use Rattle.atomic_table.specs.Table.{Final, Seen}
 use Rattle.model.specs.declared.Kind.{Kind}
 use Rattle.model.specs.declared.AnyOp.{AnyOp}
 use Rattle.model.specs.declared.AnyReply.{AnyReply}
 use Rattle.model.specs.Objects.{Content}
-use Rattle.desk_model.specs.World.{AnyEntry, AnyEvent, absent, World, kind_at, journal_of, journal_in, IsLegal}
-use Rattle.desk_model.specs.World.{StartsWith}
+use Rattle.desk_model.specs.World.{AnyEntry, AnyEvent, absent, World, journal_of, journal_in, StartsWith}
 use Rattle.desk_model.specs.Sound.{Sound}
 use Rattle.desk_model.specs.Records.{IsSoundRecord}
 use Rattle.desk_model.proofs.Entries.{starts_same}
@@ -37,6 +37,8 @@ use Rattle.desk_invariant.proofs.Seeing.{all_covered, accounts}
 use Rattle.publication.specs.Handles.{DeskSeen, Known, log_of}
 use Rattle.publication.specs.Calls.{Closed}
 use Rattle.publication.specs.Closing.{IsJournalOf, AreLogs, HaveEnded, HasLearntEnds}
+
+-- ---- all slots, once the other clients have ended
 
 module _ {S O R : Type 0} (op_in : O → AnyOp) (reply_in : R → AnyReply) where
   -- the slots are those of a sound world, in which the last client has the view v
@@ -67,8 +69,8 @@ module _ {S O R : Type 0} (content : S → Content) (op_in : O → AnyOp) (reply
       → Final (Seen (Kept content op_in reply_in kinds clients quota) id v) words xs
       → Leavings op_in reply_in kinds clients quota v xs
   leavings id v words xs cl free rest all f =
-      let s = f.0 in let k = f.1.0 in let at = f.1.1 in let home = f.4 in let w : World = k.world in let ok =
-      mine content op_in reply_in kinds clients quota s k id v cl at in let few = k.few_clients in
+      let s = f.0 in let k = f.1.0 in let at = f.1.1 in let home = f.4 in let w : World = k.world in
+      let ok = mine k id cl at in let few = k.few_clients in
       let ended : (c : ℕ) → c < clients → c ≢ v.number → w.ended c ≡ true =
       λ c l other. All-contains (λ d. w.ended d ≡ true) v.retired c ok.retired (all c l other) in
       let not_mine : (x : ℕ) → w.holder x ≢ Some v.number = subst (HeldOk (length kinds) w v.number) free ok.held in
@@ -89,6 +91,8 @@ module _ {S O R : Type 0} (content : S → Content) (op_in : O → AnyOp) (reply
         come = k.come;
       }
 
+-- ---- the record, by what is in the slots
+
 same_core : {S O R : Type 0} (k k' : Core S O R)
     → ◌≡◌ {A = mathlib.Core.Option.Option (Slot S O R)} (some (slot.Core k)) (some (slot.Core k')) → k ≡ k'
 same_core k k' e = cc
@@ -96,12 +100,6 @@ same_core k k' e = cc
 same_journal : {S O R : Type 0} (j j' : Journal O R)
     → ◌≡◌ {A = mathlib.Core.Option.Option (Slot S O R)} (some (slot.Journal j)) (some (slot.Journal j')) → j ≡ j'
 same_journal j j' e = cc
-
--- a list of lists has nothing past its end
-nothing_past : {A : Type 0} (ls : List (List A)) (i : ℕ) → length ls ≤ i → get_or ls i [] ≡ []
-nothing_past [] i past = refl
-nothing_past (l ∷ ls) zero past = absurd (omega arith)
-nothing_past (l ∷ ls) (suc i) past = nothing_past ls i (omega arith)
 
 module _ {S O R : Type 0} (op_in : O → AnyOp) (reply_in : R → AnyReply) (d : DeskSeen) (last : Known)
     (xs : List (Slot S O R)) (r : Recorded O R)
@@ -114,7 +112,7 @@ module _ {S O R : Type 0} (op_in : O → AnyOp) (reply_in : R → AnyReply) (d :
       let same = same_core b.0 a.0 (sym b.1 ∙ a.1) in
       ap (map (entry_in op_in reply_in)) (sym a.2) ∙ (ap (log_of op_in reply_in) (sym same) ∙ b.2))
       (λ (far : length d.id.kinds ≤ x). let count = logs.0 in
-      ap (map (entry_in op_in reply_in)) (nothing_past r.logs x (omega arith))
+      ap (map (entry_in op_in reply_in)) (get_or_past r.logs x [] (omega arith))
       ∙ sym (no_log_beyond d.id.kinds d.id.quota left.world left.sound x far))
       (cases_lt x (length d.id.kinds))
 
@@ -130,7 +128,7 @@ module _ {S O R : Type 0} (op_in : O → AnyOp) (reply_in : R → AnyReply) (d :
       let same = same_journal b.0 a.0 (sym b.1 ∙ a.1) in
       ap (map (event_in op_in reply_in)) (sym a.2)
       ∙ (ap (λ (j : Journal O R). map (event_in op_in reply_in) j.events.items) (sym same) ∙ b.2))
-      (λ (far : d.clients ≤ c). ap (map (event_in op_in reply_in)) (nothing_past r.journals c (omega arith))
+      (λ (far : d.clients ≤ c). ap (map (event_in op_in reply_in)) (get_or_past r.journals c [] (omega arith))
       ∙ sym (no_journal_beyond d.id.kinds d.id.quota left.world left.sound d.clients left.come c far))
       (cases_lt c d.clients))
 
@@ -143,29 +141,21 @@ module _ {S O R : Type 0} (op_in : O → AnyOp) (reply_in : R → AnyReply) (d :
     journals = count;
     logs = logs.0;
     own = own;
-    legal = λ x l. subst (IsLegal (kind_at d.id.kinds x)) (sym (same x)) (left.sound.legal x);
-    seen = λ x l. subst (λ z. StartsWith z (seen_of last.knows x)) (sym (same x)) (left.seen x);
-    accounts = λ x. subst (IsAccount x last.knows) (sym (same x)) (left.accounts x);
+    legal = λ x l. rw (same x) (left.sound.legal x);
+    seen = λ x l. rw (same x) (left.seen x);
+    accounts = λ x. rw (same x) (left.accounts x);
     sound = subst (λ (z : (ℕ → List AnyEvent) × (ℕ → List AnyEntry)). IsSoundRecord d.id.kinds d.id.quota z.0 z.1)
         (λ i. (λ c. sym (same_journals count own others c) i, λ x. sym (same x) i))
         (sound_record d.id.kinds d.id.quota left.world left.sound);
   }
 
+-- ---- the same of a desk and its last client, as they are seen
+
 module _ {O R : Type 0} (op_in : O → AnyOp) (reply_in : R → AnyReply) where
   -- what the last client has learnt of end words does not matter
   pub closed_same : (d : DeskSeen) (a b : Known) (r : Recorded O R) → HasLearntEnds a b → Closed op_in reply_in d b r
       → Closed op_in reply_in d a r
-  closed_same d a b r is k = let same = subst (λ z. Closed op_in reply_in d z r) is k in
-      record {
-        journals = same.journals;
-        logs = same.logs;
-        own = same.own;
-        left = same.left;
-        legal = same.legal;
-        seen = same.seen;
-        accounts = same.accounts;
-        sound = same.sound;
-      }
+  closed_same d a b r is k = let same = subst (λ z. Closed op_in reply_in d z r) is k in assumption
 
 module _ {S O R : Type 0} (content : S → Content) (op_in : O → AnyOp) (reply_in : R → AnyReply) where
   -- the same of a desk and its last client, as they are seen

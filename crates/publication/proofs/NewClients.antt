@@ -1,6 +1,6 @@
 -- A new desk keeps its rule, and each client that is made of it knows that it has made no call. By the lists with
 -- which a desk begins, and what making one more client adds.
-use Rattle.std.proofs.Common.{◌≡◌, ℕ, zero, suc, ◌+◌, ◌<◌, false, List, [], ◌∷◌, length, map, get_or, replicate}
+use Rattle.std.proofs.Common.{◌≡◌, ℕ, zero, suc, ◌+◌, ◌<◌, ◌≤◌, false, List, [], ◌∷◌, length, map, get_or, replicate}
 use Rattle.std.proofs.Common.{refl, sym, ap, subst, ◌∙◌, arith}
 use mathlib.Core.Option.{some, some-injective, some-ne-none}
 use lib.ListN.{get_elem?, length-map}
@@ -18,7 +18,7 @@ use Rattle.desk_invariant.specs.declared.board.Slot.{Slot}
 use Rattle.desk_invariant.specs.declared.board.Slot.TheVariants as slot
 use Rattle.desk_invariant.specs.declared.board.Own.TheVariants as own
 use Rattle.desk_invariant.specs.declared.board.DeskView.{DeskView}
-use Rattle.desk_invariant.specs.Views.{new_client, first_maker, maker_of, with_own}
+use Rattle.desk_invariant.specs.Views.{seen_of, IsAccount, new_client, first_maker, maker_of, with_own}
 use Rattle.desk_invariant.specs.Rule.{Kept}
 use Rattle.desk_invariant.proofs.Beginnings.{get_or-replicate_same, opening_keeps_rule}
 use Rattle.publication.specs.Handles.{IsClient, at_hand}
@@ -63,25 +63,13 @@ module _ {S O R : Type 0} (op_in : O → AnyOp) (reply_in : R → AnyReply) wher
       → quota < 10001 → HasRoom quota j
       → m ≡ (with_own own.Idle (new_client kinds lists number), at_hand number own.Idle)
       → IsClient op_in reply_in number 0 quota false j m
-  begun_ok kinds lists number quota j m low few room is =
-      subst (IsClient op_in reply_in number 0 quota false j) (sym is) record {
-        agrees = record {
-          client_is = refl;
-          number_is = refl;
-          number_low = low;
-          at_rest = tt;
-          going = refl;
-          calls_is = refl;
-          within = omega arith;
-          few = few;
-          outstanding_is = refl;
-          journal_is = ap (map (event_in op_in reply_in)) room.0;
-          room = room.1;
-          wide = refl;
-          legal = λ x. subst (IsLegal (kind_at kinds x)) (sym (get_or-replicate_same [] 16 x))
-              (empty (kind_at kinds x), refl);
-          accounts = λ x. ([], ap (entries_of number) (get_or-replicate_same [] 16 x), refl);
-        };
+  begun_ok kinds lists number quota j m low few room is = let within : 0 ≤ quota = omega arith in
+      let legal : (x : ℕ) → IsLegal (kind_at kinds x) (seen_of (new_client kinds lists number) x) =
+      λ x. subst (IsLegal (kind_at kinds x)) (sym (get_or-replicate_same [] 16 x)) (empty (kind_at kinds x), refl) in
+      let accounts : (x : ℕ) → IsAccount x (with_own own.Idle (new_client kinds lists number))
+      (seen_of (new_client kinds lists number) x) =
+      λ x. ([], ap (entries_of number) (get_or-replicate_same [] 16 x), refl) in rw is record {
+        agrees = assumption (ap (map (event_in op_in reply_in)) room.0);
         free = refl;
         in_hand = refl;
       }
@@ -93,8 +81,4 @@ module _ {S O R : Type 0} where
       → new ≡ (new_client f.0.kinds f.0.lists f.0.made, [])
       → m ≡ (with_own own.Idle new.0, (16 + number, slot.Nothing) ∷ (48 + number, slot.Nothing) ∷ new.1)
       → m ≡ (with_own own.Idle (new_client kinds lists number), at_hand number own.Idle)
-  entered kinds lists number f new m a b e =
-      e ∙ (ap (λ (z : Me (Slot S O R) DeskView).
-      (with_own own.Idle z.0, (16 + number, slot.Nothing) ∷ (48 + number, slot.Nothing) ∷ z.1)) b
-      ∙ ap (λ (z : Me (Slot S O R) DeskView).
-      (with_own own.Idle (new_client z.0.kinds z.0.lists z.0.made), at_hand number own.Idle)) a)
+  entered kinds lists number f new m a b e = rw (e, b, a)

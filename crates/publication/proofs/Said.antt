@@ -1,6 +1,6 @@
 -- What the clauses of the desk's calls say, from what the steps told.
 use Rattle.std.proofs.Common.{◌≡◌, ◌≢◌, ℕ, ◌+◌, ◌<◌, Bool, List, [], ◌∷◌, ◌++◌, length, All, IsSome, IsTrue, ◌↔◌}
-use Rattle.std.proofs.Common.{refl, sym, ap, subst, ◌∙◌}
+use Rattle.std.proofs.Common.{refl, sym, ap, arith}
 use Rattle.std.proofs.lemmas.List.{get_or-set_same}
 use lib.ListN.{get_elem?}
 use Rattle.atomic_table.specs.Table.{rest, Me}
@@ -23,32 +23,28 @@ use Rattle.desk_invariant.specs.Rule.{Fits}
 use Rattle.publication.specs.Handles.{DeskId, Known, PassState, Holding, Handling, log_of}
 use Rattle.publication.specs.Calls.{Opened, Got, NotGot, CanDo, kind_held, Answered, IsPutBack}
 
+-- ---- a miss, a release and an answer
+
 -- w after a miss at the row r
 pub not_got : (p : Holding) (d : DeskId) (n : PassState) (r : ℕ) (w : DeskView) (v : Holding) → p ≡ v
     → w ≡ after_row_miss (row_place r) v.object v.knows → All (λ b. b.row ≢ r) v.knows.back
     → NotGot p r (record { desk = d; knows = w; object = v.object; log = v.log; state = n })
-not_got p d n r w v is e none_back =
-    subst (λ z. NotGot z r (record { desk = d; knows = w; object = v.object; log = v.log; state = n }))
-    (sym is) record { object = refl; log = refl; knows = e; none_back = none_back }
+not_got p d n r w v is e none_back = rw is (assumption (e, none_back))
 
 -- b with the core in its slot, d after the step
 pub is_released : {S O R : Type 0} (p : Holding) (b d : Me (Slot S O R) DeskView) (v : Holding) (i : ℕ)
     (s : Slot S O R) (tl : List (ℕ × Slot S O R))
     → p ≡ v → b ≡ (v.knows, (i, s) ∷ tl) → d ≡ (after_release v.object v.log b.0, rest b.1)
     → d.0 ≡ after_release p.object p.log p.knows
-is_released p b d v i s tl is e f =
-    ap (λ z. z.0) f ∙ (ap (λ z. after_release v.object v.log z.0) e
-    ∙ ap (λ (z : Holding). after_release z.object z.log z.knows) (sym is))
+is_released p b d v i s tl is e f = rw (f, e, is)
 
 -- the same: the log was seen
 pub log_is_seen : {S O R : Type 0} (p : Holding) (b d : Me (Slot S O R) DeskView) (v : Holding) (i : ℕ)
     (s : Slot S O R) (tl : List (ℕ × Slot S O R))
     → p ≡ v → b ≡ (v.knows, (i, s) ∷ tl) → d ≡ (after_release v.object v.log b.0, rest b.1)
     → v.object < 16 → length v.knows.seen ≡ 16 → seen_of d.0 p.object ≡ p.log
-log_is_seen p b d v i s tl is e f low wide =
-    ap (λ z. seen_of z p.object) (is_released p b d v i s tl is e f)
-    ∙ get_or-set_same p.knows.seen p.object p.log []
-    (subst (λ (z : Holding). z.object < length z.knows.seen) (sym is) (subst (λ z. v.object < z) (sym wide) low))
+log_is_seen p b d v i s tl is e f low wide = rw (f, e, is)
+    (get_or-set_same v.knows.seen v.object v.log [] (omega arith))
 
 -- b with the answer in its slot, d after the step
 pub answered : {S O R : Type 0} (h : Handling) (z : DeskId) (n : PassState) (a : AnyAnswer)
@@ -58,13 +54,9 @@ pub answered : {S O R : Type 0} (h : Handling) (z : DeskId) (n : PassState) (a :
     → log ≡ v.log ++ logged v.row v.request a → IsLegal (kind_at v.knows.kinds v.object) log
     → Answered h a (record { desk = z; knows = d.0; object = v.object; log = log; state = n })
 answered h z n a b d v log i s tl is e f grown legal =
-    subst (λ u. Answered u a (record { desk = z; knows = d.0; object = v.object; log = log; state = n }))
-    (sym is) record {
-      object = refl;
-      log = grown;
-      legal = legal;
-      knows = ap (λ z. z.0) f ∙ λ j. after_answer v.row v.object (sym grown j) (e j).0;
-    }
+    rw (is, f, e) (assumption (grown, legal, ap (λ z. after_answer v.row v.object z v.knows) (sym grown)))
+
+-- ---- what the object can do
 
 -- what the object can do by its log is what it can do
 can_do : (kind : Kind) (log : List AnyEntry) (op : AnyOp) (content : Content) → Replays (empty kind) log content
@@ -73,21 +65,21 @@ can_do kind log op content h can = (content, h, can)
 
 does : (kind : Kind) (log : List AnyEntry) (op : AnyOp) (content : Content) → Replays (empty kind) log content
     → CanDo kind log op → IsSome (next content op)
-does kind log op content h can =
-    subst (λ z. IsSome (next z op)) (replays_once (empty kind) can.0 content log can.1 h) can.2
+does kind log op content h can = rw (replays_once (empty kind) can.0 content log can.1 h) at can.2
 
 -- the same of a hand whose object contains this
 pub can_says : (h v : Handling) (content : Content) (b : Bool) → h ≡ v → Replays (empty (kind_held v)) v.log content
     → (IsTrue b ↔ IsSome (next content v.request.op)) → IsTrue b ↔ CanDo (kind_held h) h.log h.request.op
-can_says h v content b is replays can = subst (λ u. IsTrue b ↔ CanDo (kind_held u) u.log u.request.op) (sym is) (
+can_says h v content b is replays can = rw is (
   (λ t. can_do (kind_held v) v.log v.request.op content replays (can.0 t)),
   λ t. can.1 (does (kind_held v) v.log v.request.op content replays t),
 )
 
 pub may_serve : (h v : Handling) (content : Content) → h ≡ v → Replays (empty (kind_held v)) v.log content
     → CanDo (kind_held h) h.log h.request.op → IsSome (next content v.request.op)
-may_serve h v content is replays can =
-    does (kind_held v) v.log v.request.op content replays (subst (λ u. CanDo (kind_held u) u.log u.request.op) is can)
+may_serve h v content is replays can = does (kind_held v) v.log v.request.op content replays (rw is at can)
+
+-- ---- a request put back, an object opened, a request got
 
 -- m before, b with the request in its slot, d after the step
 pub is_put_back : {S O R : Type 0} (h : Handling) (z : DeskId) (n : PassState) (b d : Me (Slot S O R) DeskView)
@@ -95,13 +87,7 @@ pub is_put_back : {S O R : Type 0} (h : Handling) (z : DeskId) (n : PassState) (
     (s : Slot S O R) (tl : List (ℕ × Slot S O R)) → h ≡ v → b ≡ (v.knows, (i, s) ∷ tl)
     → d ≡ (after_put_back v.object v.log v.row v.request b.0, rest b.1)
     → IsPutBack h (record { desk = z; knows = d.0; object = v.object; log = v.log; state = n })
-is_put_back h z n b d v i s tl is e f =
-    subst (λ u. IsPutBack u (record { desk = z; knows = d.0; object = v.object; log = v.log; state = n }))
-    (sym is) record {
-      object = refl;
-      log = refl;
-      knows = ap (λ z. z.0) f ∙ ap (λ z. after_put_back v.object v.log v.row v.request z.0) e;
-    }
+is_put_back h z n b d v i s tl is e f = rw (is, f, e) assumption
 
 module _ {S O R : Type 0} (content : S → Content) (op_in : O → AnyOp) (reply_in : R → AnyReply) where
   -- m before, a after the win, b with nothing in the slot
@@ -112,15 +98,12 @@ module _ {S O R : Type 0} (content : S → Content) (op_in : O → AnyOp) (reply
       → core ≡ k → Fits content op_in reply_in (kind_at m.0.kinds x) (get_elem? m.0.lists x) k l
       → StartsWith l (seen_of m.0 x)
       → Opened c x (record { desk = d; knows = b.0; object = x; log = log_of op_in reply_in core; state = n })
-  opened c x k core l m a b d n kinds is e f same fits begins =
-      let log : log_of op_in reply_in core ≡ l = ap (log_of op_in reply_in) same ∙ fits.0 in record {
-        object = refl;
-        knows = ap (λ z. z.0) f ∙ (ap (λ z. z.0) e ∙ λ i. after_win x (sym log i) (sym is i));
-        legal = subst (λ z. IsLegal (kind_at z x) (log_of op_in reply_in core)) (sym kinds)
-            (subst (IsLegal (kind_at m.0.kinds x)) (sym log) (content k.object, fits.1));
-        begins = subst (λ z. StartsWith (log_of op_in reply_in core) (seen_of z x)) (sym is)
-            (subst (λ z. StartsWith z (seen_of m.0 x)) (sym log) begins);
-      }
+  opened c x k core l m a b d n kinds is e f same fits begins = rw (f, e, same) record {
+    object = refl;
+    knows = λ i. after_win x (sym fits.0 i) (sym is i);
+    legal = rw (kinds, fits.0) (content k.object, fits.1);
+    begins = rw (is, fits.0) begins;
+  }
 
 module _ {S O R : Type 0} (op_in : O → AnyOp) where
   -- m before, a after the pick, b with nothing in the slot
@@ -141,23 +124,4 @@ module _ {S O R : Type 0} (op_in : O → AnyOp) where
         row = r;
         request = request_in op_in q';
       })
-  got p d n r q q' tl a b v is e f same on of_kind again is_own =
-      subst (λ z. Got z r (record {
-        desk = d;
-        knows = b.0;
-        object = v.object;
-        log = v.log;
-        state = n;
-        row = r;
-        request = request_in op_in q';
-      })) (sym is) record {
-        object = refl;
-        log = refl;
-        row = refl;
-        knows = ap (λ z. z.0) f
-            ∙ (ap (λ z. z.0) e ∙ ap (λ z. after_pick v.object v.log r (request_in op_in z) v.knows) same);
-        on = ap (λ z. z.object) (sym same) ∙ on;
-        of_kind = ap (λ z. kind_of (op_in z.op)) (sym same) ∙ of_kind;
-        again = subst (λ z. All (λ b. b.row ≡ r → b.request ≡ request_in op_in z) v.knows.back) same again;
-        mine = λ p here waits. ap (request_in op_in) (sym same) ∙ is_own p here waits;
-      }
+  got p d n r q q' tl a b v is e f same on of_kind again is_own = rw (is, f, e, ← same) assumption

@@ -1,8 +1,7 @@
 -- A client over a whole post, and over a whole poll: m before, and one seat after each step.
-use Rattle.std.proofs.Common.{◌≡◌, ⊎_elim, inl, ℕ, ◌+◌, ◌<◌, Bool, true, false, List, [], ◌∷◌, ◌++◌, map, length}
-use Rattle.std.proofs.Common.{length-append, All, Option, Some}
-use Rattle.std.proofs.Common.{None, vec_len, vec_capacity, arith, refl, sym, ap, subst, ◌∙◌, get_or-set_same}
-use Rattle.std.proofs.Common.{length-set, append-nil}
+use Rattle.std.proofs.Common.{◌≡◌, ⊎_elim, inl, ℕ, ◌+◌, ◌<◌, ◌≤◌, Bool, true, false, List, [], ◌∷◌, ◌++◌, map, length}
+use Rattle.std.proofs.Common.{length-append, All, Option, Some, None, vec_len, vec_capacity, arith, refl, sym, ap}
+use Rattle.std.proofs.Common.{subst, ◌∙◌, get_or-set_same, length-set, append-nil}
 use mathlib.Core.List.{map-append}
 use lib.ListN.{length-map}
 use Rattle.atomic_table.specs.Table.{rest, Me}
@@ -30,33 +29,30 @@ use Rattle.publication.specs.Handles.{Agrees, IsClient, at_hand}
 use Rattle.publication.specs.Calls.{Posted, Polled}
 use Rattle.desk_model.proofs.Tickets.{journal_begun, journal_over}
 
+-- ---- the own call, and the length of a journal
+
 pub own_idle : (o : Own) → IsAtRest o → is_waiting o ≡ false → o ≡ own.Idle
-own_idle own.Absent a e = absurd a
-own_idle own.Idle a e = refl
-own_idle (own.Drawn q) a e = absurd a
-own_idle (own.Waiting q) a e = absurd (cc)
-own_idle (own.Taken q b) a e = absurd a
+own_idle o a e = grind arith
 
 pub own_waiting : (o : Own) → IsAtRest o → is_waiting o ≡ true
     → (q : AnyRequest) × (o ≡ own.Waiting q) × (q.object < 16)
-own_waiting own.Absent a e = absurd a
-own_waiting own.Idle a e = absurd (cc)
-own_waiting (own.Drawn q) a e = absurd a
 own_waiting (own.Waiting q) a e = (q, refl, a)
-own_waiting (own.Taken q b) a e = absurd a
+own_waiting own.Idle a e = absurd cc
+own_waiting o a e = absurd a
 
 -- the same client, where it is known whether a call is outstanding
 pub outstanding_is : {S O R : Type 0} {op_in : O → AnyOp} {reply_in : R → AnyReply} {number calls quota : ℕ}
     {a b : Bool} {j : Journal O R}
     {m : Me (Slot S O R) DeskView} → a ≡ b → IsClient op_in reply_in number calls quota a j m
     → IsClient op_in reply_in number calls quota b j m
-outstanding_is {op_in = op_in} {reply_in = reply_in} {number = number} {calls = calls} {quota = quota} {j = j}
-    {m = m} e k = subst (λ z. IsClient op_in reply_in number calls quota z j m) e k
+outstanding_is e k = rw e at k
 
 journal_long : (ds : List AnyDone) (q : Option AnyRequest) → length (journal_of ds q) ≡ tickets_drawn ds q
 journal_long [] None = refl
 journal_long [] (Some q) = refl
 journal_long (d ∷ ds) q = let n = journal_long ds q in omega arith
+
+-- ---- the vector of the journal, and its room
 
 module _ {O R : Type 0} (op_in : O → AnyOp) (reply_in : R → AnyReply) where
   -- the journal's vector is as long as the journal
@@ -100,6 +96,8 @@ module _ {O R : Type 0} (op_in : O → AnyOp) (reply_in : R → AnyReply) where
       ∙ (map-append (event_in op_in reply_in) j.events.items (e ∷ [])
       ∙ ap (λ z. z ++ event_in op_in reply_in e ∷ []) is)
 
+-- ---- a whole post
+
 module _ {S O R : Type 0} (op_in : O → AnyOp) (reply_in : R → AnyReply) where
   -- a after the request is in the slot, b after the draw, c after the request has its ticket, d after the post
   pub post_turn : (number calls quota : ℕ) (j : Journal O R) (p q : Request O) (m a b c d : Me (Slot S O R) DeskView)
@@ -109,11 +107,8 @@ module _ {S O R : Type 0} (op_in : O → AnyOp) (reply_in : R → AnyReply) wher
       → d ≡ (with_own (own.Waiting (request_in op_in q)) m.0, (48 + number, slot.Nothing) ∷ [])
   post_turn number calls quota j p q m a b c d k ea eb ec ed =
       let is = own_idle m.0.own k.agrees.at_rest (sym k.agrees.outstanding_is) in
-      let w : AnyRequest = request_in op_in q in
-      ed ∙ (ap (λ z. (with_own (own.Waiting w) z.0, rest z.1)) ec
-      ∙ (ap (λ z. (with_own (own.Waiting w) z.0, rest z.1)) eb
-      ∙ (ap (λ z. (with_own (own.Waiting w) z.0, rest z.1)) ea
-      ∙ ap (λ z. (with_own (own.Waiting w) m.0, rest z)) (k.in_hand ∙ ap (at_hand number) is))))
+      rw (ed, ec, eb, ea) (ap (λ z. (with_own (own.Waiting (request_in op_in q)) m.0, rest z))
+      (k.in_hand ∙ ap (at_hand number) is))
 
   -- the client after a post
   pub post_ok : (number calls quota : ℕ) (j j' : Journal O R) (q : Request O) (m d : Me (Slot S O R) DeskView)
@@ -127,25 +122,18 @@ module _ {S O R : Type 0} (op_in : O → AnyOp) (reply_in : R → AnyReply) wher
       own_idle m.0.own h.at_rest (sym h.outstanding_is) in let n = h.calls_is in
       let count : calls_made m.0.done (own_request m.0.own) ≡ length m.0.done + 0 =
       ap (λ z. calls_made m.0.done (own_request z)) is in let room = h.room in
-      subst (IsClient op_in reply_in number (calls + 1) quota true j') (sym e) record {
-        agrees = record {
-          client_is = h.client_is;
-          number_is = h.number_is;
-          number_low = h.number_low;
-          at_rest = low;
-          going = h.going;
-          calls_is = omega arith;
-          within = omega arith;
-          few = h.few;
-          outstanding_is = refl;
-          journal_is = journal_grows op_in reply_in j j' (Invoked q.ticket q.object q.op) (journal_of m.0.done None)
-              (h.journal_is ∙ ap (λ z. journal_of m.0.done (own_request z)) is) more ∙ sym (journal_begun m.0.done w);
-          room = omega arith;
-          wide = h.wide;
-          legal = h.legal;
-          accounts = λ x. let a = h.accounts x in let f : a.0 ≡ [] = subst (λ o. MayHold x m.0.number o a.0) is a.2 in
-              (a.0, a.1, inl f);
-        };
+      let calls_is : calls + 1 ≡ calls_made m.0.done (Some w) = omega arith in
+      let within : calls + 1 ≤ quota = omega arith in let wide : quota + quota ≤ vec_capacity j'.events = omega arith in
+      let accounts : (x : ℕ) → IsAccount x (with_own (own.Waiting w) m.0) (seen_of m.0 x) = λ x. let a = h.accounts x in
+      (a.0, a.1, inl (subst (λ o. MayHold x m.0.number o a.0) is a.2)) in rw e record {
+        agrees = assumption (
+          h,
+          low,
+          accounts,
+          journal_grows op_in reply_in j j' (Invoked q.ticket q.object q.op)
+              (journal_of m.0.done None) (h.journal_is ∙ ap (λ z. journal_of m.0.done (own_request z)) is) more
+              ∙ sym (journal_begun m.0.done w),
+        );
         free = k.free;
         in_hand = refl;
       }
@@ -158,15 +146,15 @@ module _ {S O R : Type 0} (op_in : O → AnyOp) (reply_in : R → AnyReply) wher
         (48 + number, slot.Nothing) ∷ [],
       ) → Posted v x (op_in op) d.0
   posted number calls quota x t j op v m d k is e =
-      let same = own_idle m.0.own k.agrees.at_rest (sym k.agrees.outstanding_is) in let q : AnyRequest =
-      record { object = x; ticket = t; op = op_in op } in
-      subst (λ z. Posted z x (op_in op) d.0) (sym is)
-      (subst (λ z. Posted m.0 x (op_in op) z) (sym (ap (λ z. z.0) e)) record {
+      let same = own_idle m.0.own k.agrees.at_rest (sym k.agrees.outstanding_is) in
+      let q : AnyRequest = record { object = x; ticket = t; op = op_in op } in rw (is, e) record {
         ticket = t;
         was_idle = same;
         knows = refl;
         journal = journal_begun m.0.done q ∙ ap (λ z. journal_of m.0.done (own_request z) ++ invoked q ∷ []) (sym same);
-      })
+      }
+
+  -- ---- a whole poll that takes the answer
 
   -- a after the take, b with nothing in the slot, d after the draw of the return
   pub poll_turn : (number calls quota t : ℕ) (j : Journal O R) (q : AnyRequest) (e : Answer R) (l : List AnyEntry)
@@ -179,10 +167,8 @@ module _ {S O R : Type 0} (op_in : O → AnyOp) (reply_in : R → AnyReply) wher
         (16 + number, slot.Nothing) ∷ (48 + number, slot.Nothing) ∷ [],
       )
   poll_turn number calls quota t j q e l m a b d k is ea eb ed = let w : AnyAnswer = answer_in reply_in e in
-      ed ∙ (ap (λ z. (after_return q w t z.0, z.1)) eb
-      ∙ (ap (λ z. (after_return q w t z.0, (16 + number, slot.Nothing) ∷ rest z.1)) ea
-      ∙ ap (λ z. (after_return q w t (after_take q w l m.0), (16 + number, slot.Nothing) ∷ z))
-      (k.in_hand ∙ ap (at_hand number) is)))
+      rw (ed, eb, ea) (ap (λ z. (after_return q w t (after_take q w l m.0), (16 + number, slot.Nothing) ∷ z))
+      (k.in_hand ∙ ap (at_hand number) is))
 
   -- the client after a poll that took the answer
   pub poll_ok : (number calls quota t : ℕ) (j j' : Journal O R) (q : AnyRequest) (e : Answer R) (l : List AnyEntry)
@@ -200,11 +186,11 @@ module _ {S O R : Type 0} (op_in : O → AnyOp) (reply_in : R → AnyReply) wher
       let h = k.agrees in let n = h.calls_is in let w : AnyAnswer =
       answer_in reply_in e in let room = h.room in let wide = h.wide in
       let ds : List AnyDone = m.0.done ++ record { request = q; answer = w; returned = t } ∷ [] in
+      -- one call more is over
       let long : length ds ≡ length m.0.done + 1 =
       length-append m.0.done (record { request = q; answer = w; returned = t } ∷ []) in
       let count : calls_made m.0.done (own_request m.0.own) ≡ length m.0.done + 1 =
-      ap (λ z. calls_made m.0.done (own_request z)) is in
-      subst (IsClient op_in reply_in number calls quota false j') (sym f) record {
+      ap (λ z. calls_made m.0.done (own_request z)) is in rw f record {
         agrees = record {
           client_is = h.client_is;
           number_is = h.number_is;
@@ -215,11 +201,13 @@ module _ {S O R : Type 0} (op_in : O → AnyOp) (reply_in : R → AnyReply) wher
           within = h.within;
           few = h.few;
           outstanding_is = refl;
+          -- the journal has the return
           journal_is = journal_grows op_in reply_in j j' (Returned t e) (journal_of m.0.done (Some q))
               (h.journal_is ∙ ap (λ z. journal_of m.0.done (own_request z)) is) more
               ∙ sym (journal_over m.0.done q w t);
           room = omega arith;
           wide = length-set m.0.seen q.object l ∙ wide;
+          -- the log that was seen is legal, and accounts for the calls of the client
           legal = seen_all (λ x z. IsLegal (kind_at m.0.kinds x) z) m.0.seen q.object l (omega arith) legal
               (λ x _. h.legal x);
           accounts = seen_all (λ x z. IsAccount x (after_return q w t (after_take q w l m.0)) z) m.0.seen q.object l
@@ -231,6 +219,7 @@ module _ {S O R : Type 0} (op_in : O → AnyOp) (reply_in : R → AnyReply) wher
                     ∙ sym (append-nil (served q.object m.0.number ds)))),
                 refl,
               )
+              -- another object, which this call is not for
               (λ x other. let a = h.accounts x in
               let nothing : logged_on x m.0.number q w ≡ [] = logged_else x m.0.number q w (λ g. other (sym g)) in
               let none_now : a.0 ≡ [] =
@@ -262,8 +251,7 @@ module _ {S O R : Type 0} (op_in : O → AnyOp) (reply_in : R → AnyReply) wher
   polled number calls quota t j q e l v u m d k is waits low legal begins counted took later f =
       let w : AnyAnswer = answer_in reply_in e in let wide = k.agrees.wide in
       let now : seen_of u q.object ≡ l =
-      ap (λ z. seen_of z q.object) took ∙ get_or-set_same m.0.seen q.object l [] (omega arith) in
-      subst (λ z. Polled z w d.0) (sym is) (subst (Polled m.0 w) (sym (ap (λ z. z.0) f)) record {
+      ap (λ z. seen_of z q.object) took ∙ get_or-set_same m.0.seen q.object l [] (omega arith) in rw (is, f) record {
         request = q;
         log = l;
         ticket = t;
@@ -276,4 +264,4 @@ module _ {S O R : Type 0} (op_in : O → AnyOp) (reply_in : R → AnyReply) wher
         later = subst (All (λ (y : AnyEntry). y.ticket < t)) now later;
         journal = journal_over m.0.done q w t
             ∙ ap (λ z. journal_of m.0.done (own_request z) ++ Returned t w ∷ []) (sym waits);
-      })
+      }

@@ -7,8 +7,24 @@ use Rattle.recorder.specs.Records.{recorded, items_of}
 use Rattle.recorder.proofs.Making.{record_from}
 use Rattle.desk_invariant.specs.Views.{journal}
 use Rattle.publication.specs.Closing.{values_of, HasJournal, IsJournalOf, AreLogs}
-use Rattle.publication.proofs.Leavings.{left_by, closed_ok}
+use Rattle.publication.proofs.Leavings.{Leavings, left_by, closed_ok}
 use Rattle.publication.proofs.closing.gather.Goals as goal
+use Rattle.publication.proofs.closing.gather.Given.{Over}
+use Rattle.publication.proofs.closing.gather.Goals.{After-close_with-left}
+
+-- what the slots have, since all others have left
+left_here : (g : Over) (c : After-close_with-left g)
+    → Leavings g.S.SeqObject.op_in g.S.SeqObject.reply_in c.args.desk.id.kinds c.args.desk.clients c.args.desk.id.quota
+    c.args.last.knows (values_of c.close_with-left.result)
+left_here g c = let d = c.desk.invariant.0 in let k = c.last.invariant.0 in
+    left_by g.S.SeqObject.content g.S.SeqObject.op_in g.S.SeqObject.reply_in c.desk.inside.table.shared.key
+    c.args.desk c.args.last
+    c.last.inside.seat.id c.last.inside.seat.me.0 (slots_items c.close_with-left.result.words)
+    (values_of c.close_with-left.result)
+    (d.2 ∙ ap (λ s. s.id.kinds) c.desk.view_is) (d.3 ∙ ap (λ s. s.clients) c.desk.view_is)
+    (d.4 ∙ ap (λ s. s.id.quota) c.desk.view_is)
+    (ap (λ k. k.knows) c.last.view_is) k.agrees.client_is k.free k.agrees.at_rest c.requires.ended
+    c.close_with-left.ensures.values.2
 
 pub take_logs-requires-clause-slots : goal.take_logs-requires-clause-slots
 take_logs-requires-clause-slots g c lfts within =
@@ -20,13 +36,7 @@ take_logs-requires-clause-slots g c lfts within =
 pub take_logs-requires-clause-cores : goal.take_logs-requires-clause-cores
 take_logs-requires-clause-cores g c lfts within =
     let d = c.desk.invariant.0 in let k = c.last.invariant.0 in let e = c.close_with-left.ensures in
-    let left = left_by g.S.SeqObject.content g.S.SeqObject.op_in g.S.SeqObject.reply_in c.desk.inside.table.shared.key
-    c.args.desk c.args.last
-    c.last.inside.seat.id c.last.inside.seat.me.0 (slots_items c.close_with-left.result.words)
-    (values_of c.close_with-left.result)
-    (d.2 ∙ ap (λ s. s.id.kinds) c.desk.view_is) (d.3 ∙ ap (λ s. s.clients) c.desk.view_is)
-    (d.4 ∙ ap (λ s. s.id.quota) c.desk.view_is)
-    (ap (λ k. k.knows) c.last.view_is) k.agrees.client_is k.free k.agrees.at_rest c.requires.ended e.values.2 in
+    let left = left_here g (goal.at.take_logs-requires-clause-cores g c).After-close_with-left in
     let n = c.len-objects.ensures in
     let count : length c.desk.inside.kinds.items ≡ vec_len c.desk.inside.kinds = search rules in
     let same : length c.desk.inside.kinds.items ≡ length c.args.desk.id.kinds =
@@ -36,13 +46,7 @@ take_logs-requires-clause-cores g c lfts within =
 pub take_all_journals-requires-clause-slots : goal.take_all_journals-requires-clause-slots
 take_all_journals-requires-clause-slots g c lfts within =
     let d = c.desk.invariant.0 in let k = c.last.invariant.0 in let e = c.close_with-left.ensures in
-    let left = left_by g.S.SeqObject.content g.S.SeqObject.op_in g.S.SeqObject.reply_in c.desk.inside.table.shared.key
-    c.args.desk c.args.last
-    c.last.inside.seat.id c.last.inside.seat.me.0 (slots_items c.close_with-left.result.words)
-    (values_of c.close_with-left.result)
-    (d.2 ∙ ap (λ s. s.id.kinds) c.desk.view_is) (d.3 ∙ ap (λ s. s.clients) c.desk.view_is)
-    (d.4 ∙ ap (λ s. s.id.quota) c.desk.view_is)
-    (ap (λ k. k.knows) c.last.view_is) k.agrees.client_is k.free k.agrees.at_rest c.requires.ended e.values.2 in
+    let left = left_here g (goal.at.take_all_journals-requires-clause-slots g c).After-close_with-left in
     let low = left.number_low in let own : c.last.inside.number ≡ c.args.last.knows.number = sym k.agrees.number_is
     ∙ ap (λ k. k.knows.number) c.last.view_is in let clients = ap (λ s. s.clients) c.desk.view_is in
     (c.pass_over.ensures.0, omega arith, d.6)
@@ -50,13 +54,7 @@ take_all_journals-requires-clause-slots g c lfts within =
 pub take_all_journals-requires-clause-present : goal.take_all_journals-requires-clause-present
 take_all_journals-requires-clause-present g c lfts within =
     let d = c.desk.invariant.0 in let k = c.last.invariant.0 in let e = c.close_with-left.ensures in
-    let left = left_by g.S.SeqObject.content g.S.SeqObject.op_in g.S.SeqObject.reply_in c.desk.inside.table.shared.key
-    c.args.desk c.args.last
-    c.last.inside.seat.id c.last.inside.seat.me.0 (slots_items c.close_with-left.result.words)
-    (values_of c.close_with-left.result)
-    (d.2 ∙ ap (λ s. s.id.kinds) c.desk.view_is) (d.3 ∙ ap (λ s. s.clients) c.desk.view_is)
-    (d.4 ∙ ap (λ s. s.id.quota) c.desk.view_is)
-    (ap (λ k. k.knows) c.last.view_is) k.agrees.client_is k.free k.agrees.at_rest c.requires.ended e.values.2 in
+    let left = left_here g (goal.at.take_all_journals-requires-clause-present g c).After-close_with-left in
     let own : c.last.inside.number ≡ c.args.last.knows.number =
     sym k.agrees.number_is ∙ ap (λ k. k.knows.number) c.last.view_is in
     let clients = ap (λ s. s.clients) c.desk.view_is in
@@ -65,13 +63,7 @@ take_all_journals-requires-clause-present g c lfts within =
 
 pub returns : goal.returns
 returns g c = let d = c.desk.invariant.0 in let k = c.last.invariant.0 in let e = c.close_with-left.ensures in
-    let left = left_by g.S.SeqObject.content g.S.SeqObject.op_in g.S.SeqObject.reply_in c.desk.inside.table.shared.key
-    c.args.desk c.args.last
-    c.last.inside.seat.id c.last.inside.seat.me.0 (slots_items c.close_with-left.result.words)
-    (values_of c.close_with-left.result)
-    (d.2 ∙ ap (λ s. s.id.kinds) c.desk.view_is) (d.3 ∙ ap (λ s. s.clients) c.desk.view_is)
-    (d.4 ∙ ap (λ s. s.id.quota) c.desk.view_is)
-    (ap (λ k. k.knows) c.last.view_is) k.agrees.client_is k.free k.agrees.at_rest c.requires.ended e.values.2 in
+    let left = left_here g (goal.at.returns g c).After-close_with-left in
     let own : c.last.inside.number ≡ c.args.last.knows.number =
     sym k.agrees.number_is ∙ ap (λ k. k.knows.number) c.last.view_is in
     let n = c.len-objects.ensures in
@@ -103,13 +95,7 @@ returns g c = let d = c.desk.invariant.0 in let k = c.last.invariant.0 in let e 
 pub new-requires-clause-kept : goal.new-requires-clause-kept
 new-requires-clause-kept g c lfts within =
     let d = c.desk.invariant.0 in let k = c.last.invariant.0 in let e = c.close_with-left.ensures in
-    let left = left_by g.S.SeqObject.content g.S.SeqObject.op_in g.S.SeqObject.reply_in c.desk.inside.table.shared.key
-    c.args.desk c.args.last
-    c.last.inside.seat.id c.last.inside.seat.me.0 (slots_items c.close_with-left.result.words)
-    (values_of c.close_with-left.result)
-    (d.2 ∙ ap (λ s. s.id.kinds) c.desk.view_is) (d.3 ∙ ap (λ s. s.clients) c.desk.view_is)
-    (d.4 ∙ ap (λ s. s.id.quota) c.desk.view_is)
-    (ap (λ k. k.knows) c.last.view_is) k.agrees.client_is k.free k.agrees.at_rest c.requires.ended e.values.2 in
+    let left = left_here g (goal.at.new-requires-clause-kept g c).After-close_with-left in
     let own : c.last.inside.number ≡ c.args.last.knows.number =
     sym k.agrees.number_is ∙ ap (λ k. k.knows.number) c.last.view_is in
     let n = c.len-objects.ensures in

@@ -1,7 +1,7 @@
 -- `post`: the call is posted with the ticket that was drawn, and its invocation is the last event of the journal.
 -- The client is idle, so each step keeps the rules of its play, and `post_turn` says what it then knows.
-use Rattle.std.proofs.Common.{map, rules, arith, ◌≡◌, ◌<◌, ◌+◌, ◌++◌, ◌∷◌, [], true, List, length, refl, sym, ap}
-use Rattle.std.proofs.Common.{◌∙◌, subst}
+use Rattle.std.proofs.Common.{map, rules, arith, ◌≡◌, ◌<◌, ◌+◌, ◌++◌, ◌∷◌, [], true, List, length, refl, sym, ap, ◌∙◌}
+use Rattle.std.proofs.Common.{subst, false}
 use Rattle.atomic_table.specs.Table.{rest}
 use Rattle.model.specs.declared.Kind.{Kind}
 use Rattle.desk_model.specs.declared.JournalEvent.TheVariants.{Invoked}
@@ -14,11 +14,24 @@ use Rattle.publication.proofs.Dealing.{own_still}
 use Rattle.publication.proofs.Slots.{came_out, can_exchange, in_slot}
 use Rattle.publication.proofs.Turns.{own_idle, outstanding_is, post_turn, post_ok, posted, room_to_call}
 use Rattle.publication.proofs.desk.Desk.post.Goals as goal
+use Rattle.publication.proofs.desk.Desk.post.Given.{Over}
+use Rattle.publication.proofs.desk.Desk.post.Goals.{After-exchange}
+
+-- the client before the call, which has none outstanding, and has calls left
+before : (g : Over) (c : After-exchange g) → IsClient g.S.SeqObject.op_in g.S.SeqObject.reply_in c.client.inside.number
+    c.client.inside.member.calls c.client.inside.member.quota false c.client.inside.member.journal
+    c.client.inside.seat.me
+before g c = outstanding_is (c.client.invariant.0.agrees.outstanding_is
+    ∙ (ap (λ z. is_waiting z.knows.own) c.client.view_is ∙ c.in_default.ensures.may.0)) c.client.invariant.0
+
+calls_left : (g : Over) (c : After-exchange g)
+    → calls_made c.client.inside.seat.me.0.done (own_request c.client.inside.seat.me.0.own) <
+    c.client.inside.member.quota
+calls_left g c = subst (λ (z : Known). calls_made z.knows.done (own_request z.knows.own) < z.desk.quota)
+    (sym c.client.view_is) c.in_default.ensures.may.1
 
 pub fetch_add-ticket-requires : goal.fetch_add-ticket-requires
-fetch_add-ticket-requires g c = let may = c.in_default.ensures.may in let k =
-    outstanding_is (c.client.invariant.0.agrees.outstanding_is
-    ∙ (ap (λ z. is_waiting z.knows.own) c.client.view_is ∙ may.0)) c.client.invariant.0 in
+fetch_add-ticket-requires g c = let k = before g (goal.at.fetch_add-ticket-requires g c).After-exchange in
     let is = own_idle _ k.agrees.at_rest (sym k.agrees.outstanding_is) in
     let d = c.self.invariant.0 in let wide = d.0 in let e = c.exchange.ensures.3 in
     let ok = c.in_default.ensures.there in
@@ -29,11 +42,7 @@ fetch_add-ticket-requires g c = let may = c.in_default.ensures.may in let k =
     let quota : c.client.inside.member.quota ≡ c.self.inside.table.shared.key.quota =
     ap (λ v. v.desk.quota) c.client.view_is
     ∙ (ap (λ z. z.quota) c.requires ∙ (sym (ap (λ v. v.id.quota) c.self.view_is) ∙ sym d.4)) in
-    let count = k.agrees.calls_is in
-    let left : calls_made c.client.inside.seat.me.0.done (own_request c.client.inside.seat.me.0.own)
-    < c.client.inside.member.quota =
-    subst (λ (z : Known). calls_made z.knows.done (own_request z.knows.own) < z.desk.quota)
-    (sym c.client.view_is) may.1 in
+    let count = k.agrees.calls_is in let left = calls_left g (goal.at.fetch_add-ticket-requires g c).After-exchange in
     let few : c.client.inside.member.calls < c.client.inside.member.quota = omega arith in
     let done : length c.exchange.new.seat.me.0.done ≡ length c.client.inside.seat.me.0.done =
     ap (λ z. length z.0.done) e in
@@ -60,9 +69,7 @@ set_ticket-requires g c =
     (_, came_out _ _ _ _ _ (ap (λ z. z.1) f ∙ ap (λ z. z.1) e) c.slot_mut.ensures.value)
 
 pub store-requires : goal.store-requires
-store-requires g c = let may = c.in_default.ensures.may in let k =
-    outstanding_is (c.client.invariant.0.agrees.outstanding_is
-    ∙ (ap (λ z. is_waiting z.knows.own) c.client.view_is ∙ may.0)) c.client.invariant.0 in
+store-requires g c = let k = before g (goal.at.store-requires g c).After-exchange in
     let is = own_idle _ k.agrees.at_rest (sym k.agrees.outstanding_is) in
     let wide = c.self.invariant.0.0 in let low = k.agrees.number_low in let e = c.exchange.ensures.3 in let f =
     c.fetch_add-ticket.ensures.2 _ _ _ (ap (λ z. z.1) e) in let h =
@@ -79,30 +86,19 @@ store-requires g c = let may = c.in_default.ensures.may in let k =
     )
 
 pub note_invoked-requires-clause-room : goal.note_invoked-requires-clause-room
-note_invoked-requires-clause-room g c = let may = c.in_default.ensures.may in let k =
-    outstanding_is (c.client.invariant.0.agrees.outstanding_is
-    ∙ (ap (λ z. is_waiting z.knows.own) c.client.view_is ∙ may.0)) c.client.invariant.0 in
-    let is = own_idle _ k.agrees.at_rest (sym k.agrees.outstanding_is) in
-    let count = k.agrees.calls_is in
-    let left : calls_made c.client.inside.seat.me.0.done (own_request c.client.inside.seat.me.0.own)
-    < c.client.inside.member.quota =
-    subst (λ (z : Known). calls_made z.knows.done (own_request z.knows.own) < z.desk.quota)
-    (sym c.client.view_is) may.1 in
+note_invoked-requires-clause-room g c = let k = before g (goal.at.note_invoked-requires-clause-room g c).After-exchange
+    in
+    let is = own_idle _ k.agrees.at_rest (sym k.agrees.outstanding_is) in let count = k.agrees.calls_is in
+    let left = calls_left g (goal.at.note_invoked-requires-clause-room g c).After-exchange in
     room_to_call g.S.SeqObject.op_in g.S.SeqObject.reply_in _ _ _ c.client.inside.member.journal _ k.agrees
     (omega arith)
 
 pub note_invoked-requires-clause-calls : goal.note_invoked-requires-clause-calls
-note_invoked-requires-clause-calls g c =
-    let may = c.in_default.ensures.may in let count = c.client.invariant.0.agrees.calls_is in
-    let left : calls_made c.client.inside.seat.me.0.done (own_request c.client.inside.seat.me.0.own)
-    < c.client.inside.member.quota =
-    subst (λ (z : Known). calls_made z.knows.done (own_request z.knows.own) < z.desk.quota)
-    (sym c.client.view_is) may.1 in omega arith
+note_invoked-requires-clause-calls g c = let count = c.client.invariant.0.agrees.calls_is in
+    let left = calls_left g (goal.at.note_invoked-requires-clause-calls g c).After-exchange in omega arith
 
 pub invariant_of-client : goal.invariant_of-client
-invariant_of-client g c = let may = c.in_default.ensures.may in let k =
-    outstanding_is (c.client.invariant.0.agrees.outstanding_is
-    ∙ (ap (λ z. is_waiting z.knows.own) c.client.view_is ∙ may.0)) c.client.invariant.0 in
+invariant_of-client g c = let k = before g (goal.at.invariant_of-client g c).After-exchange in
     let is = own_idle _ k.agrees.at_rest (sym k.agrees.outstanding_is) in
     let e = c.exchange.ensures.3 in let f = c.fetch_add-ticket.ensures.2 _ _ _ (ap (λ z. z.1) e) in let h =
     in_slot c.fetch_add-ticket.new.seat.me.0 (16 + c.client.inside.number) _ _ (rest c.fetch_add-ticket.new.seat.me.1)
@@ -118,10 +114,7 @@ invariant_of-client g c = let may = c.in_default.ensures.may in let k =
     let ok = post_ok g.S.SeqObject.op_in g.S.SeqObject.reply_in _ _ _ c.client.inside.member.journal _ _ _ _ k turn
     (omega arith)
     (let count = k.agrees.calls_is in
-    let left : calls_made c.client.inside.seat.me.0.done (own_request c.client.inside.seat.me.0.own)
-    < c.client.inside.member.quota =
-    subst (λ (z : Known). calls_made z.knows.done (own_request z.knows.own) < z.desk.quota)
-    (sym c.client.view_is) may.1 in omega arith) written p.capacity in
+    let left = calls_left g (goal.at.invariant_of-client g c).After-exchange in omega arith) written p.capacity in
     subst (λ z. IsClient g.S.SeqObject.op_in g.S.SeqObject.reply_in c.client.inside.number z.calls z.quota
     z.outstanding z.journal c.store.new.seat.me
     × ArePlacesOf c.client.inside.number c.store.new.seat.me.0.lists z.places) (sym p.same) (
@@ -131,9 +124,7 @@ invariant_of-client g c = let may = c.in_default.ensures.may in let k =
     )
 
 pub returns-clause-posted : goal.returns-clause-posted
-returns-clause-posted g c = let may = c.in_default.ensures.may in let k =
-    outstanding_is (c.client.invariant.0.agrees.outstanding_is
-    ∙ (ap (λ z. is_waiting z.knows.own) c.client.view_is ∙ may.0)) c.client.invariant.0 in
+returns-clause-posted g c = let k = before g (goal.at.returns-clause-posted g c).After-exchange in
     let is = own_idle _ k.agrees.at_rest (sym k.agrees.outstanding_is) in
     let e = c.exchange.ensures.3 in let f = c.fetch_add-ticket.ensures.2 _ _ _ (ap (λ z. z.1) e) in let h =
     in_slot c.fetch_add-ticket.new.seat.me.0 (16 + c.client.inside.number) _ _ (rest c.fetch_add-ticket.new.seat.me.1)
