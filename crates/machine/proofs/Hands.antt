@@ -4,7 +4,7 @@ use Rattle.std.proofs.Common.{◌≡◌, ℕ, [], Some, None, IsSome, get_or, ap
 use Rattle.std.proofs.lemmas.Option.{same_Some}
 use Rattle.model.specs.declared.AnyReply.{AnyReply}
 use Rattle.model.specs.Objects.{Content, empty, next}
-use Rattle.desk_model.specs.World.{AnyRequest, picked, kind_at, Replays}
+use Rattle.desk_model.specs.World.{AnyRequest, picked, kind_at}
 use Rattle.desk_model.specs.Transitions.{put_back}
 use Rattle.desk_model.proofs.SameKind.{replays_once}
 use Rattle.machine.specs.Machines.{State, world_of}
@@ -33,14 +33,10 @@ pub put_back_not : (s : State) (c x r : ℕ) (q : AnyRequest) → IsInHand s c x
 put_back_not s c x r q h can after m =
     let t = m.3 in
     let i = t.in_hand in
-    let same = same_hand s c x r q h t.object t.row t.request i.0 i.1 i.2 in
-    let replays : Replays (empty (kind_at s.kinds x)) (get_or s.logs x []) t.content
-    = subst (λ (y : ℕ). Replays (empty (kind_at s.kinds y)) (get_or s.logs y []) t.content) same.object i.3 in
+    let same = same_hand s c x r q h t.object t.row t.request i.0 i.1 i.2 in let replays = rw same.object at i.3 in
     let once : can.0 ≡ t.content =
     replays_once (empty (kind_at s.kinds x)) can.0 t.content (get_or s.logs x []) can.1 replays in
     let there : IsSome (next t.content t.request.op) =
-    subst (λ (z : Content). IsSome (next z t.request.op)) once
-    (subst (λ (z : AnyRequest). IsSome (next can.0 z.op)) (sym same.request) can.2) in
-    let none : next t.content t.request.op ≡ None = t.impossible in
+    rw (← once, same.request) can.2 in let none : next t.content t.request.op ≡ None = t.impossible in
     let no : IsSome {T = Content × AnyReply} None = subst IsSome none there in
     absurd (cc)

@@ -17,7 +17,7 @@ use Rattle.desk_model.specs.Transitions.{Step, Takes, Transition, MayEnd, HoldsN
 use Rattle.desk_model.specs.Transitions.{held_by, handed, ended_by, served_by, draw_call, draw_return, answer, win}
 use Rattle.desk_model.specs.Transitions.{release, end}
 use Rattle.desk_model.proofs.Changed.{changed_here, changed_else, changed_all}
-use Rattle.machine.specs.declared.step.Stage.TheVariants.{Idle, Drawn, Posted, Picked, Answered, Taken}
+use Rattle.machine.specs.declared.step.Stage.TheVariants.{Idle, Drawn, Answered}
 use Rattle.machine.specs.Machines.{State, AnyStage, HasRun, IsMachine, clients_of, world_of, stage_of, done_in}
 use Rattle.machine.specs.Runs.{Leads, IsWorldOfRun, IsImpossible}
 use Rattle.machine.specs.Steps.{IsGoing, IsTaken}
@@ -25,6 +25,8 @@ use Rattle.desk_model.proofs.Entries.{replays_more}
 use Rattle.machine.proofs.Lists.{get_or-set, slice_get-set_same, slice_get-set_other, map-set_same_at}
 use Rattle.machine.proofs.States.{world-staged, world-ticked, world-held, world-handed, world-served, world-ended}
 use Rattle.machine.proofs.Journals.{done_in-journal_of, journal_called, journal_returned}
+
+-- ---- runs that are one transition longer, and states under other names
 
 leads_more : (kinds : List Kind) (quota : ℕ) (w : World) (ms : List (ℕ × Step)) (m : ℕ × Step) (between after : World)
     → Leads kinds quota w ms between → Transition kinds quota m.1 between m.0 after
@@ -51,13 +53,7 @@ run_more kinds n quota step w after c r h =
 
 -- a step of a machine is one
 pub run_taken : (s s' : State) (c : ℕ) (w : Step) → HasRun s → IsTaken s c w s' → HasRun s'
-run_taken s s' c w run t =
-    let same : (ks : List Kind) (n q : ℕ) → s'.kinds ≡ ks → clients_of s' ≡ n → s'.quota ≡ q
-    → IsWorldOfRun ks n q (world_of s') → HasRun s' =
-    λ ks n q a b d h. subst (λ (k : List Kind). IsWorldOfRun k (clients_of s') s'.quota (world_of s')) (sym a)
-    (subst (λ (k : ℕ). IsWorldOfRun ks k s'.quota (world_of s')) (sym b)
-    (subst (λ (k : ℕ). IsWorldOfRun ks n k (world_of s')) (sym d) h)) in
-    same s.kinds (clients_of s) s.quota t.kinds t.clients t.quota
+run_taken s s' c w run t = rw (t.kinds, t.clients, t.quota)
     (run_more s.kinds (clients_of s) s.quota w (world_of s) (world_of s') c run t.moves)
 
 -- a client that is there has come
@@ -68,6 +64,8 @@ is_there : (ts : List AnyStage) (c : ℕ) → c < length ts → get_or (map stag
 is_there [] c low e = absurd (omega arith)
 is_there (t ∷ ts) zero low e = named t e
 is_there (t ∷ ts) (suc c) low e = is_there ts c (omega arith) e
+
+-- ---- what a step has to keep
 
 -- what no step changes
 pub record IsLike (s s' : State) : Type 0 where
@@ -119,9 +117,7 @@ module _ (contents : List Content) (s : State) (m : IsMachine contents s) (c : �
           fits = keeps.fits;
           journals_are = keeps.journals_are;
           single = keeps.single;
-          run = subst (λ (ks : List Kind). IsWorldOfRun ks (length s'.stages) s'.quota (world_of s')) (sym ek)
-              (subst (λ (q : ℕ). IsWorldOfRun s.kinds (length s'.stages) q (world_of s')) (sym eq)
-              (subst (λ (n : ℕ). IsWorldOfRun s.kinds n s.quota (world_of s')) (sym es) run));
+          run = rw (ek, eq, es) run;
         },
         record { moves = moved; kinds = ek; clients = es; quota = eq },
       )
@@ -133,6 +129,8 @@ module _ (contents : List Content) (s : State) (m : IsMachine contents s) (c : �
   requests_staged s' r t is same j =
       changed_all (λ k v. request_of ((world_of s).stage k) ≡ request_of v) (world_of s).stage r t (sym same)
       (λ k _. refl) j ∙ ap (λ (f : ℕ → Stage). request_of (f j)) (sym is)
+
+  -- ---- the steps that write a stage, a holder or an end
 
   -- A client only goes to another stage, with the same request.
   pub staged_now : (t : AnyStage) (w : Step)
@@ -185,22 +183,16 @@ module _ (contents : List Content) (s : State) (m : IsMachine contents s) (c : �
       f : ℕ → Option ℕ
       f k = get_or s.holders k None
 
-      -- the holder of an object other than x is not c
-      here : (d y : ℕ) → y ≢ x → changed f x (Some c) y ≡ Some d → (f y ≡ Some d) × (d ≢ c)
-      here d y other a =
-          let b : f y ≡ Some d = sym (changed_else f x (Some c) y other) ∙ a in
-          (b, λ same. nothing y (b ∙ ap Some same))
-
-      there : (d : ℕ) → changed f x (Some c) x ≡ Some d → d ≡ c
-      there d a = let b : Some c ≡ Some d = sym (changed_here f x (Some c)) ∙ a in sym (same_Some c d b)
-
       single : (d y z : ℕ) → changed f x (Some c) y ≡ Some d → changed f x (Some c) z ≡ Some d → y ≡ z
-      single d y z a b = dite (ℕ_discrete y x)
-          (λ yx. dite (ℕ_discrete z x) (λ zx. yx ∙ sym zx)
-          (λ zo. absurd ((here d z zo b).1 (there d (sym (ap (changed f x (Some c)) yx) ∙ a)))))
-          (λ yo. dite (ℕ_discrete z x)
-          (λ zx. absurd ((here d y yo a).1 (there d (sym (ap (changed f x (Some c)) zx) ∙ b))))
-          (λ zo. m.single d y z (here d y yo a).0 (here d z zo b).0))
+      single d y z a b = grind (
+        arith,
+        changed_here f x (Some c),
+        changed_else f x (Some c) y,
+        changed_else f x (Some c) z,
+        nothing y,
+        nothing z,
+        m.single d y z,
+      )
 
   pub release_now : (x : ℕ) → x < length s.kinds → (world_of s).holder x ≡ Some c → (world_of s).hand x ≡ None
       → IsMachine contents (record s { holders = set s.holders x None })
@@ -211,13 +203,9 @@ module _ (contents : List Content) (s : State) (m : IsMachine contents s) (c : �
       f : ℕ → Option ℕ
       f k = get_or s.holders k None
 
-      held_still : (d y : ℕ) → changed f x None y ≡ Some d → f y ≡ Some d
-      held_still d y a = dite (ℕ_discrete y x)
-          (λ yx. let b : None ≡ Some d = sym (ap (changed f x None) yx ∙ changed_here f x None) ∙ a in absurd (cc))
-          (λ yo. sym (changed_else f x None y yo) ∙ a)
-
       single : (d y z : ℕ) → changed f x None y ≡ Some d → changed f x None z ≡ Some d → y ≡ z
-      single d y z a b = m.single d y z (held_still d y a) (held_still d z b)
+      single d y z a b =
+          grind (arith, changed_here f x None, changed_else f x None y, changed_else f x None z, m.single d y z)
 
   pub end_now : MayEnd ((world_of s).stage c) → HoldsNothing (world_of s) c
       → IsMachine contents (record s { ended = set s.ended c true })
@@ -231,6 +219,8 @@ module _ (contents : List Content) (s : State) (m : IsMachine contents s) (c : �
       (subst (Takes s.kinds s.quota end (world_of s) c) (sym is)
       (record { may_end = may; holds_nothing = nothing; after = refl }))
       assumption
+
+  -- ---- the steps that draw a ticket
 
   -- what a draw leaves: each journal is that of the world
   ticked_now : (t : AnyStage) (js : List AnyEvent) (w : Step)
@@ -252,19 +242,14 @@ module _ (contents : List Content) (s : State) (m : IsMachine contents s) (c : �
 
       each : (s' : State) → world_of s' ≡ ticked (world_of s) c (stage_of t) (done_in js) → c < length s.journals
           → (j : ℕ) → IsOwn (get_or (set s.journals c js) j []) ((world_of s').stage j)
-      each s' is within j = subst (λ (xs : List AnyEvent). IsOwn xs ((world_of s').stage j))
-          (sym (get_or-set s.journals c js [] within j))
-          (subst (λ (z : World). IsOwn (changed (λ k. get_or s.journals k []) c js j) (z.stage j)) (sym is)
-          (dite (ℕ_discrete j c)
-          (λ same. subst (λ k. IsOwn (changed (λ k. get_or s.journals k []) c js k)
-          (changed (world_of s).stage c (stage_of t) k)) (sym same)
-          (subst (λ xs. IsOwn xs (changed (world_of s).stage c (stage_of t) c))
-          (sym (changed_here (λ k. get_or s.journals k []) c js))
-          (subst (IsOwn js) (sym (changed_here (world_of s).stage c (stage_of t))) here)))
-          (λ other. subst (λ xs. IsOwn xs (changed (world_of s).stage c (stage_of t) j))
-          (sym (changed_else (λ k. get_or s.journals k []) c js j other))
-          (subst (IsOwn (get_or s.journals j [])) (sym (changed_else (world_of s).stage c (stage_of t) j other))
-          (m.journals_are j)))))
+      each s' is within j =
+          subst (λ (z : World). IsOwn (get_or (set s.journals c js) j []) (z.stage j)) (sym is) (dite (ℕ_discrete j c)
+          (λ same. rw (same, get_or-set_same s.journals c js [] within, changed_here (world_of s).stage c (stage_of t))
+          here)
+          (λ other. rw (
+            get_or-set_other s.journals c j js [] other,
+            changed_else (world_of s).stage c (stage_of t) j other,
+          ) (m.journals_are j)))
 
   pub call_now : (x : ℕ) (op : AnyOp) → (world_of s).stage c ≡ world.idle
       → calls_made ((world_of s).done c) None < s.quota → x < length s.kinds → kind_of op ≡ kind_at s.kinds x
@@ -311,6 +296,8 @@ module _ (contents : List Content) (s : State) (m : IsMachine contents s) (c : �
       (record { request = q; given = a; was = taken; after = ap (ticked (world_of s) c world.idle) over })
       (whole ∙ ap (λ z. journal_of z None) (sym over))
 
+  -- ---- picking a request up, putting it back and answering it
+
   -- A request is picked up or put back.
   pub handed_now : (x : ℕ) (h : Option ℕ) (r : ℕ) (t : AnyStage) (w : Step) → x < length s.kinds → r < length s.stages
       → Takes s.kinds s.quota w (world_of s) c (handed (world_of s) x h r (stage_of t))
@@ -353,7 +340,9 @@ module _ (contents : List Content) (s : State) (m : IsMachine contents s) (c : �
       } in
       let hands_long = m.hands in let logs_long = m.logs in
       let there : x < length s.logs = omega arith in
+      -- the new world is that of an answered request
       let is : world_of s' ≡ served_by (world_of s) x r q a = world-served s x r q a (omega arith) there within in
+      -- the log of the object replays to what it contains
       let replays : Replays (empty (kind_at s.kinds x)) (get_or s.logs x []) before =
       subst (λ (k : Kind). Replays (empty k) (get_or s.logs x []) before) (sym kind) (m.fits x before at) in
       kept (set contents x after) s' answer
@@ -362,6 +351,7 @@ module _ (contents : List Content) (s : State) (m : IsMachine contents s) (c : �
         length-set s.hands x None,
         length-set s.stages r (Answered q a),
       ))
+      -- the step is an answer to the request in hand
       (subst (Takes s.kinds s.quota answer (world_of s) c) (sym is)
       (record {
         object = x;
@@ -376,6 +366,7 @@ module _ (contents : List Content) (s : State) (m : IsMachine contents s) (c : �
         after = refl;
       }))
       (record {
+        -- the new state keeps what a machine has to keep
         kinds = m.kinds ∙ sym (map-set_same_at kind_with contents x after before at same);
         fits = fits_served x r q before after a at there kind same
             (replays_more (empty (kind_with before)) before after (get_or s.logs x []) r q a
@@ -397,13 +388,6 @@ module _ (contents : List Content) (s : State) (m : IsMachine contents s) (c : �
           (λ yx. let here : after ≡ d =
           same_Some after d (sym (slice_get-set_same contents x after before at)
           ∙ ap (slice_get (set contents x after)) (sym yx) ∙ e) in
-          subst (λ (z : Content). Replays (empty (kind_with z))
-          (get_or (set s.logs x (get_or s.logs x [] ++ logged r q a)) y []) z) here
-          (subst (λ (k : Kind). Replays (empty k)
-          (get_or (set s.logs x (get_or s.logs x [] ++ logged r q a)) y []) after) (sym same)
-          (subst (λ (l : List AnyEntry). Replays (empty (kind_with before)) l after)
-          (sym (ap (λ k. get_or (set s.logs x (get_or s.logs x [] ++ logged r q a)) k []) yx
-          ∙ get_or-set_same s.logs x (get_or s.logs x [] ++ logged r q a) [] there)) whole)))
-          (λ yo. subst (λ (l : List AnyEntry). Replays (empty (kind_with d)) l d)
-          (sym (get_or-set_other s.logs x y (get_or s.logs x [] ++ logged r q a) [] yo))
+          rw (← here, yx, same, get_or-set_same s.logs x (get_or s.logs x [] ++ logged r q a) [] there) whole)
+          (λ yo. rw (get_or-set_other s.logs x y (get_or s.logs x [] ++ logged r q a) [] yo)
           (m.fits y d (sym (slice_get-set_other contents x after y yo) ∙ e)))

@@ -1,25 +1,18 @@
 -- Lists by number, and what is past their end: a list that is written at one place has the new value there, and each
 -- other value where it was (`get_or-set_by`). By induction along the list.
-use Rattle.std.proofs.Common.{◌≡◌, ◌≢◌, ℕ, zero, suc, [], ◌∷◌, ◌<◌, inl, inr, List, length, Option, Some, None, set}
+use Rattle.std.proofs.Common.{◌≡◌, ◌≢◌, ℕ, zero, suc, [], ◌∷◌, ◌<◌, List, length, Option, Some, None, set}
 use Rattle.std.proofs.Common.{get_or, map, slice_get, refl, ap, sym, ◌∙◌, arith}
 use Rattle.std.proofs.lemmas.List.{get_or_past, get_or-set_same, get_or-set_other}
 use Rattle.std.proofs.lemmas.Option.{same_Some}
 use mathlib.Core.Logic.{dite}
 use native.Mathlib.Decide.{ℕ_discrete}
-use Rattle.std.proofs.lemmas.Bool.{cases_order}
 use Rattle.desk_model.specs.Transitions.{changed}
 use Rattle.desk_model.proofs.Changed.{changed_here, changed_else}
 
 -- what no number below the length finds, no number finds
 pub none_past : {A : Type 0} (xs : List (Option A)) (n : ℕ) (v : A) → length xs ≡ n
     → ((x : ℕ) → x < n → get_or xs x None ≢ Some v) → (x : ℕ) → get_or xs x None ≢ Some v
-none_past xs n v long none x e = elim (cases_order x n) [
-  | inl same ↦ let past = get_or_past xs x None (omega arith) in absurd cc
-  | inr o ↦ elim o [
-    | inl low ↦ none x low e
-    | inr high ↦ let past = get_or_past xs x None (omega arith) in absurd cc
-  ]
-]
+none_past xs n v long none x e = grind (arith, get_or_past xs x None, none x)
 
 -- a list with another value at i, seen by number through f, is the function with another value at i
 pub get_or-set_by : {A B : Type 0} (f : A → B) (xs : List A) (i : ℕ) (v d : A) → i < length xs → (j : ℕ)

@@ -1,10 +1,9 @@
 -- What a look at the machine's fields says of its state: an element of a list is that of the world with this number
 -- (`seen_at`), and a client that has come is one of the list (`stage_there`).
-use Rattle.std.proofs.Common.{◌≡◌, ◌≢◌, ℕ, zero, suc, ◌*◌, ◌<◌, inl, inr, List, [], ◌∷◌, length, Option, Some, None}
+use Rattle.std.proofs.Common.{◌≡◌, ◌≢◌, ℕ, zero, suc, ◌*◌, ◌<◌, List, [], ◌∷◌, length, Option, Some, None}
 use Rattle.std.proofs.Common.{IsSome, IfSome, get_or, map, refl, ap, sym, ◌∙◌, subst, arith, slice_get}
 use Rattle.std.specs.declared.vec.Vec.{Vec}
 use Rattle.std.proofs.lemmas.List.{length-map, get_or-map, get_or_past}
-use Rattle.std.proofs.lemmas.Bool.{cases_order}
 use Rattle.model.specs.declared.Kind.{Kind}
 use Rattle.model.specs.declared.AnyOp.{AnyOp}
 use Rattle.model.specs.Objects.{Content, empty, next, kind_with}
@@ -29,13 +28,7 @@ length-journal_of (d ∷ ds) = let e = length-journal_of ds in omega arith
 
 -- a client that is there, by its stage
 pub stage_there : (s : State) (c : ℕ) → (world_of s).stage c ≢ world.absent → c < clients_of s
-stage_there s c is = elim (cases_order c (clients_of s)) [
-  | inl same ↦ absurd (is (get_or_past (map stage_of s.stages) c world.absent (simp length-map (omega arith))))
-  | inr o ↦ elim o [
-    | inl low ↦ low
-    | inr high ↦ absurd (is (get_or_past (map stage_of s.stages) c world.absent (simp length-map (omega arith))))
-  ]
-]
+stage_there s c is = grind (arith, get_or_past (map stage_of s.stages) c world.absent, length-map s.stages stage_of)
 
 pub slice_get_read : {A : Type 0} (xs : List A) (i : ℕ) (v : A) → i < length xs → v ≡ get_or xs i v
     → slice_get xs i ≡ Some v

@@ -64,9 +64,4 @@ module _ {S O R : Type 0} (content : S → Content) (op_in : O → AnyOp) (reply
 
     pub is_sound : IsSoundRecord now.kinds now.quota (λ c. map (event_in op_in reply_in) (journal_at r c))
         (λ x. map (entry_in op_in reply_in) (log_at r x))
-    is_sound = subst (λ (s : State). IsSoundRecord s.kinds s.quota
-        (λ c. map (event_in op_in reply_in) (journal_at r c)) (λ x. map (entry_in op_in reply_in) (log_at r x))) same
-        (subst (λ (z : Recorded O R). IsSoundRecord (state_in content op_in reply_in m).kinds
-        (state_in content op_in reply_in m).quota
-        (λ c. map (event_in op_in reply_in) (journal_at z c)) (λ x. map (entry_in op_in reply_in) (log_at z x)))
-        (sym made) sound_in)
+    is_sound = rw (← same, made) sound_in

@@ -61,6 +61,8 @@ module _ {S O R : Type 0} (content : S → Content) (op_in : O → AnyOp) (reply
             ∙ ap (λ z. kind_with (content z)) (sym read),
       )
 
+  -- ---- the stage of one client
+
   -- with another stage of the client c
   abbrev pub state_staged : Inside S O R → ℕ → Stage O R → State
   state_staged m c t = state_of content op_in reply_in m.objects.items
@@ -73,15 +75,8 @@ module _ {S O R : Type 0} (content : S → Content) (op_in : O → AnyOp) (reply
       (staged (world_of (state_in m)) c (stage_of (stage_in op_in reply_in t)))
       → request_of (stage_of (stage_in op_in reply_in t)) ≡ request_of ((world_of (state_in m)).stage c)
       → IsMachine (map content m.objects.items) (state_staged m c t) × IsTaken (state_in m) c w (state_staged m c t)
-  staged_inside m is c go t w takes same =
-      let n = staged_now (map content m.objects.items) (state_in m) is c go (stage_in op_in reply_in t) w takes same in
-      let e : state_staged m c t
-      ≡ record (state_in m) {
-        stages =
-            set (map (stage_in op_in reply_in) m.stages.items) c (stage_in op_in reply_in t);
-      } =
-      λ i. record (state_in m) { stages = map-set (stage_in op_in reply_in) m.stages.items c t i } in
-      subst (λ (z : State). IsMachine (map content m.objects.items) z × IsTaken (state_in m) c w z) (sym e) n
+  staged_inside m is c go t w takes same = rw (map-set (stage_in op_in reply_in) m.stages.items c t)
+      (staged_now (map content m.objects.items) (state_in m) is c go (stage_in op_in reply_in t) w takes same)
 
   -- what a look at the stage found is the stage in the world
   pub stage_found : (m : Inside S O R) (c : ℕ) (found t : Stage O R) → c < clients_of (state_in m)
@@ -105,6 +100,8 @@ module _ {S O R : Type 0} (content : S → Content) (op_in : O → AnyOp) (reply
       → (p : Request O) × (b : Answer R) × (t ≡ Answered p b)
   answered_is (Answered p b) q a e = (p, b, refl)
   answered_is t q a e = absurd cc
+
+  -- ---- steps that are taken, under another name of the state
 
   -- Below, `now` is the machine's state under another name.
   module _ (m : Inside S O R) (is : IsMachine (map content m.objects.items) (state_in m)) (now : State)
@@ -132,25 +129,12 @@ module _ {S O R : Type 0} (content : S → Content) (op_in : O → AnyOp) (reply
     state_handed x h r t = record (state_in m)
         { hands = set m.hands.items x h; stages = map (stage_in op_in reply_in) (set m.stages.items r t) }
 
-    abbrev handed_alike : (x : ℕ) (h : Option ℕ) (r : ℕ) (t : Stage O R)
-        → record (state_in m) {
-          hands = set m.hands.items x h;
-          stages = set (map (stage_in op_in reply_in) m.stages.items) r (stage_in op_in reply_in t);
-        }
-        ≡ state_handed x h r t
-    handed_alike x h r t = λ i.
-        record (state_in m) {
-          hands = set m.hands.items x h;
-          stages = sym (map-set (stage_in op_in reply_in) m.stages.items r t) i;
-        }
-
     pub pick_done : (x r : ℕ) (q : Request O) → IsGoing now c → x < length now.kinds → r < clients_of now
         → (world_of now).holder x ≡ Some c
         → (world_of now).hand x ≡ None → (world_of now).stage r ≡ world.posted (request_in op_in q) → q.object ≡ x
         → Took (pick r) (state_handed x (Some r) r (Picked q))
     pick_done x r q = rw (← same) (λ go low within held hand at on.
-        subst (λ (z : State). IsMachine (map content m.objects.items) z × IsTaken (state_in m) c (pick r) z)
-        (handed_alike x (Some r) r (Picked q))
+        rw (map-set (stage_in op_in reply_in) m.stages.items r (Picked q))
         (handed_now (map content m.objects.items) (state_in m) is c go x (Some r) r
         (stage_in op_in reply_in (Picked q)) (pick r) low within
         (record {
@@ -166,9 +150,8 @@ module _ {S O R : Type 0} (content : S → Content) (op_in : O → AnyOp) (reply
     pub put_back_done : (x r : ℕ) (q : Request O) → IsGoing now c → IsInHand now c x r (request_in op_in q)
         → HasContent now x → (CanDo now x (op_in q.op) → ⊥)
         → Took put_back (state_handed x None r (Posted q))
-    put_back_done x r q = rw (← same) (λ go h k never. subst
-        (λ (z : State). IsMachine (map content m.objects.items) z × IsTaken (state_in m) c put_back z)
-        (handed_alike x None r (Posted q))
+    put_back_done x r q = rw (← same) (λ go h k never.
+        rw (map-set (stage_in op_in reply_in) m.stages.items r (Posted q))
         (handed_now (map content m.objects.items) (state_in m) is c go x None r
         (stage_in op_in reply_in (Posted q)) put_back h.object h.row
         (record {
@@ -181,28 +164,14 @@ module _ {S O R : Type 0} (content : S → Content) (op_in : O → AnyOp) (reply
           after = refl;
         }) (sym (ap request_of h.stage))))
 
+    -- ---- the steps that draw a ticket
+
     -- a ticket was drawn: the fields then
     abbrev pub state_ticked : List (List (JournalEvent O R)) → Stage O R → ℕ → State
     state_ticked js t n = record (state_in m) {
       clock = n;
       stages = map (stage_in op_in reply_in) (set m.stages.items c t);
       journals = map (map (event_in op_in reply_in)) js;
-    }
-
-    ticked_alike : (js : List (List (JournalEvent O R))) (e : JournalEvent O R) (t : Stage O R) (n : ℕ)
-        → js ≡ set (items_of m.journals.items) c (get_or (items_of m.journals.items) c [] ++ e ∷ []) → n ≡ m.clock + 1
-        → record (state_in m) {
-          clock = m.clock + 1;
-          stages = set (map (stage_in op_in reply_in) m.stages.items) c (stage_in op_in reply_in t);
-          journals = set (map (map (event_in op_in reply_in)) (items_of m.journals.items)) c
-              (get_or (map (map (event_in op_in reply_in)) (items_of m.journals.items)) c []
-              ++ event_in op_in reply_in e ∷ []);
-        } ≡ state_ticked js t n
-    ticked_alike js e t n grew one = λ i. record (state_in m) {
-      clock = sym one i;
-      stages = sym (map-set (stage_in op_in reply_in) m.stages.items c t) i;
-      journals = sym (ap (map (map (event_in op_in reply_in))) grew
-          ∙ seen_grown (event_in op_in reply_in) (items_of m.journals.items) c e) i;
     }
 
     -- the journals are as they were
@@ -217,9 +186,12 @@ module _ {S O R : Type 0} (content : S → Content) (op_in : O → AnyOp) (reply
         → x < length now.kinds → kind_of (op_in op) ≡ kind_at now.kinds x
         → Took (draw_call x (op_in op)) (state_ticked js (Drawn (record { object = x; ticket = m.clock; op = op })) n)
     call_done x op js n grew one = let t : Stage O R = Drawn (record { object = x; ticket = m.clock; op = op }) in
-        rw (← same) (λ go idle few low kind. subst
-        (λ (z : State). IsMachine (map content m.objects.items) z × IsTaken (state_in m) c (draw_call x (op_in op)) z)
-        (ticked_alike js (Invoked m.clock x op) t n grew one)
+        rw (← same) (λ go idle few low kind. rw (
+          grew,
+          one,
+          map-set (stage_in op_in reply_in) m.stages.items c t,
+          seen_grown (event_in op_in reply_in) (items_of m.journals.items) c (Invoked m.clock x op),
+        )
         (call_now (map content m.objects.items) (state_in m) is c go x (op_in op) idle few low kind))
 
     pub return_done : (q : Request O) (a : Answer R) (js : List (List (JournalEvent O R))) (n : ℕ)
@@ -227,11 +199,17 @@ module _ {S O R : Type 0} (content : S → Content) (op_in : O → AnyOp) (reply
         → n ≡ m.clock + 1
         → IsGoing now c → (world_of now).stage c ≡ world.taken (request_in op_in q) (answer_in reply_in a)
         → Took draw_return (state_ticked js Idle n)
-    return_done q a js n grew one = rw (← same) (λ go taken. subst
-        (λ (z : State). IsMachine (map content m.objects.items) z × IsTaken (state_in m) c draw_return z)
-        (ticked_alike js (Returned m.clock a) Idle n grew one)
+    return_done q a js n grew one = rw (← same)
+        (λ go taken. rw (
+          grew,
+          one,
+          map-set (stage_in op_in reply_in) m.stages.items c Idle,
+          seen_grown (event_in op_in reply_in) (items_of m.journals.items) c (Returned m.clock a),
+        )
         (return_now (map content m.objects.items) (state_in m) is c go (request_in op_in q)
         (answer_in reply_in a) taken))
+
+    -- ---- the answer to the request in hand
 
     -- the fields once the request in hand is answered
     abbrev pub state_answered : ℕ → ℕ → S → Vec (LogEntry O R) Global → Stage O R → State
@@ -290,6 +268,8 @@ module _ {S O R : Type 0} (content : S → Content) (op_in : O → AnyOp) (reply
         (served_now (map content m.objects.items) (state_in m) is c go x r (request_in op_in q) (content old)
         (content o) (answer_in reply_in a) at.0
         h.object h.row at.1 kind h.held h.hand h.stage can serves)))
+
+  -- ---- posting and taking, and steps that are impossible
 
   -- post: taken from a drawn stage, and from no other
   pub post_taken : (m : Inside S O R) → IsMachine (map content m.objects.items) (state_in m) → (c : ℕ)

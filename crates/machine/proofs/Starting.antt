@@ -1,11 +1,10 @@
 -- The lists of a new machine are the world at the start (`world-start`), and they make a machine (`machine_start`).
 -- By the laws of lists in which one value is repeated.
-use Rattle.std.proofs.Common.{◌≡◌, ℕ, zero, suc, add-one, ◌+◌, ◌<◌, ◌≤◌, inl, inr, List, [], ◌∷◌, ◌++◌, length}
-use Rattle.std.proofs.Common.{replicate, Option, Some, None, Bool}
-use Rattle.std.proofs.Common.{true, false, nat_lt, if◌then◌else◌, get_or, map, slice_get, refl, ap, sym, ◌∙◌, subst}
-use Rattle.std.proofs.Common.{arith}
-use Rattle.std.proofs.lemmas.List.{length-map, map-append, get_or-replicate, get_or_past}
-use Rattle.std.proofs.lemmas.Bool.{cases_order}
+use Rattle.std.proofs.Common.{◌≡◌, ℕ, zero, suc, ◌+◌, ◌<◌, List, [], ◌∷◌, ◌++◌, length, replicate, Option, Some, None}
+use Rattle.std.proofs.Common.{Bool, true, false, nat_lt, if◌then◌else◌, get_or, map, slice_get, refl, ap, sym, ◌∙◌}
+use Rattle.std.proofs.Common.{subst, arith}
+use Rattle.std.proofs.lemmas.List.{length-map, map-append, get_or-replicate, get_or_past, length-replicate}
+use Rattle.std.proofs.lemmas.List.{replicate-append-replicate}
 use Rattle.std.proofs.lemmas.Option.{same_Some}
 use Rattle.std.proofs.lemmas.Bool.Decides.{nat_tests}
 use Rattle.std.specs.declared.vec.Vec.{Vec}
@@ -30,37 +29,17 @@ get_or-copies (suc n) v zero = refl
 get_or-copies (suc n) v (suc i) = get_or-copies n v i
 
 pub copies_more : {A : Type 0} (n : ℕ) (v : A) → replicate n v ++ v ∷ [] ≡ replicate (n + 1) v
-copies_more n v = copies_suc n v ∙ ap (λ m. replicate m v) (sym (add-one n))
-  where
-    copies_suc : {A : Type 0} (n : ℕ) (v : A) → replicate n v ++ v ∷ [] ≡ replicate (suc n) v
-    copies_suc zero v = refl
-    copies_suc (suc n) v = ap (λ vs. v ∷ vs) (copies_suc n v)
+copies_more n v = replicate-append-replicate n 1 v
 
 pub map-copies : {A B : Type 0} (f : A → B) (n : ℕ) (v : A) → map f (replicate n v) ≡ replicate n (f v)
 map-copies f zero v = refl
 map-copies f (suc n) v = ap (λ vs. f v ∷ vs) (map-copies f n v)
 
-pub length-copies : {A : Type 0} (n : ℕ) (v : A) → length (replicate n v) ≡ n
-length-copies zero v = refl
-length-copies (suc n) v = ap suc (length-copies n v)
-
 -- each client is idle, and no client has come past the last one
 pub at_start : (n c : ℕ)
     → get_or (replicate n world.idle) c world.absent ≡ (if nat_lt c n then world.idle else world.absent)
-at_start n c = elim (cases_order c n) [
-  | inl same ↦ past (omega arith)
-  | inr o ↦ elim o [ inl low ↦ there low | inr high ↦ past (omega arith) ]
-]
-  where
-    there : c < n → get_or (replicate n world.idle) c world.absent ≡ (if nat_lt c n then world.idle else world.absent)
-    there low =
-        let t : nat_lt c n ≡ true = grind (arith, nat_tests) in
-        get_or-replicate n c world.idle world.absent low ∙ sym (ap (λ b. if b then world.idle else world.absent) t)
-
-    past : n ≤ c → get_or (replicate n world.idle) c world.absent ≡ (if nat_lt c n then world.idle else world.absent)
-    past high = let t : nat_lt c n ≡ false = grind (arith, nat_tests) in let long = length-copies n world.idle in
-        get_or_past (replicate n world.idle) c world.absent (omega arith)
-        ∙ sym (ap (λ b. if b then world.idle else world.absent) t)
+at_start n c = let long = length-replicate n world.idle in
+    grind (arith, nat_tests, get_or-replicate n c world.idle world.absent, get_or_past (replicate n world.idle) c)
 
 -- the state at the start, of n objects and m clients
 abbrev pub start_state : List Kind → ℕ → ℕ → ℕ → State
@@ -104,20 +83,21 @@ machine_start contents m quota few_objects few_clients few_calls empties =
     let kinds_long : length (map kind_with contents) ≡ n = simp length-map in
     record {
       kinds = refl;
-      logs = length-copies n [] ∙ sym kinds_long;
-      holders = length-copies n None ∙ sym kinds_long;
-      hands = length-copies n None ∙ sym kinds_long;
-      journals = length-copies m [] ∙ sym (length-copies m Idle);
-      ended = length-copies m false ∙ sym (length-copies m Idle);
+      logs = length-replicate n [] ∙ sym kinds_long;
+      holders = length-replicate n None ∙ sym kinds_long;
+      hands = length-replicate n None ∙ sym kinds_long;
+      journals = length-replicate m [] ∙ sym (length-replicate m Idle);
+      ended = length-replicate m false ∙ sym (length-replicate m Idle);
       few_objects = omega arith;
-      few_clients = subst (λ (k : ℕ). k < 33) (sym (length-copies m Idle)) few_clients;
+      few_clients = subst (λ (k : ℕ). k < 33) (sym (length-replicate m Idle)) few_clients;
       few_calls = few_calls;
       fits = λ x c at. subst (λ (l : List AnyEntry). Replays (empty (kind_with c)) l c) (sym (get_or-copies n [] x))
           (sym (empties x c at));
       journals_are = λ c. get_or-copies m [] c
           ∙ sym (ap (λ (w : World). journal_in w c) is ∙ ap (journal_of []) (no_request (nat_lt c m)));
       single = λ c x y a. let e : None ≡ Some c = sym (get_or-copies n None x) ∙ a in absurd (cc);
-      run = subst (λ (k : ℕ). IsWorldOfRun (map kind_with contents) k quota (world_of s)) (sym (length-copies m Idle))
+      run = subst (λ (k : ℕ). IsWorldOfRun (map kind_with contents) k quota (world_of s))
+          (sym (length-replicate m Idle))
           ([], is);
     }
 

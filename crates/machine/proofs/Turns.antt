@@ -1,6 +1,7 @@
 -- Steps that are taken or passed over, one list after another: the transitions of both lists together are those of
 -- their concatenation (`more`). By induction along the steps.
-use Rattle.std.proofs.Common.{◌≡◌, inl, inr, ℕ, zero, suc, add-one, ◌+◌, ◌<◌, List, [], ◌∷◌, ◌++◌, take, length}
+use Rattle.std.proofs.lemmas.List.{take_more, map-append}
+use Rattle.std.proofs.Common.{◌≡◌, inl, inr, ℕ, ◌+◌, ◌<◌, List, [], ◌∷◌, ◌++◌, take, length}
 use Rattle.std.proofs.Common.{get_or, map, ap, sym, ◌∙◌, subst, arith}
 use Rattle.model.specs.declared.Kind.{Kind}
 use Rattle.desk_model.specs.World.{World}
@@ -28,16 +29,11 @@ more kinds quota w (m ∷ ms) n between ns k after h j = elim h [
       )
 ]
 
-take_one_more : {A B : Type 0} (f : A → B) (xs : List A) (i : ℕ) (v : A) → i < length xs → v ≡ get_or xs i v
-    → map f (take i xs) ++ f v ∷ [] ≡ map f (take (suc i) xs)
-take_one_more f [] i v low e = absurd (omega arith)
-take_one_more f (x ∷ xs) zero v low e = ap (λ z. f z ∷ []) e
-take_one_more f (x ∷ xs) (suc i) v low e = ap (λ zs. f x ∷ zs) (take_one_more f xs i v (omega arith) e)
-
 -- one element more of a list, seen through f
 pub taken_more : {A B : Type 0} (f : A → B) (xs : List A) (i : ℕ) (v : A) → i < length xs → v ≡ get_or xs i v
     → map f (take i xs) ++ f v ∷ [] ≡ map f (take (i + 1) xs)
-taken_more f xs i v low e = take_one_more f xs i v low e ∙ ap (λ n. map f (take n xs)) (sym (add-one i))
+taken_more f xs i v low e = ap (λ z. map f (take i xs) ++ f z ∷ []) e
+    ∙ (sym (map-append f (take i xs) (get_or xs i v ∷ [])) ∙ ap (map f) (sym (take_more xs i v low)))
 
 pub like_both : (a b c : State) → IsLike a b → IsLike b c → IsLike a c
 like_both a b c h j = record { kinds = j.kinds ∙ h.kinds; clients = j.clients ∙ h.clients; quota = j.quota ∙ h.quota }

@@ -1,13 +1,12 @@
 -- A run keeps the world sound (`run_sound`), and draws few tickets (`run_few`). It begins in a sound world
 -- (`start_sound`), and each transition keeps the invariant; by induction along the run.
-use Rattle.std.proofs.Common.{◌≡◌, ◌≢◌, ℕ, ◌*◌, ◌<◌, ◌≤◌, Contains, Bool, true, false, List, [], ◌∷◌, nat_lt}
-use Rattle.std.proofs.Common.{if◌then◌else◌, Option, Some, None, All, AllPairs, map, refl, ap, sym, ◌∙◌, subst}
-use Rattle.std.proofs.Common.{arith}
+use Rattle.std.proofs.Common.{◌≡◌, ◌≢◌, ℕ, ◌*◌, ◌<◌, ◌≤◌, Bool, List, [], ◌∷◌, nat_lt, if◌then◌else◌, Some, None, refl}
+use Rattle.std.proofs.Common.{ap, sym, ◌∙◌, subst, arith}
 use Rattle.std.proofs.lemmas.List.Elements.{All-nil}
 use Rattle.model.specs.declared.Kind.{Kind}
 use Rattle.model.specs.Objects.{empty}
 use Rattle.desk_model.specs.World.{AnyEntry, AnyRequest, Stage, absent, idle, picked, World, kind_at, request_of}
-use Rattle.desk_model.specs.World.{served_now, journal_of, ticket_of, tickets_drawn, calls_made}
+use Rattle.desk_model.specs.World.{served_now, tickets_drawn, calls_made}
 use Rattle.desk_model.specs.Transitions.{Step}
 use Rattle.desk_model.specs.Sound.{Sound, IsAmong, IsInTime}
 use Rattle.desk_model.proofs.Transitions.{transition_keeps_soundness}
@@ -20,16 +19,13 @@ begun : Bool → Stage
 begun b = if b then idle else absent
 
 no_request : (b : Bool) → request_of (if b then idle else absent) ≡ None
-no_request true = refl
-no_request false = refl
+no_request b = grind arith
 
 nothing_served : (x c : ℕ) (b : Bool) → served_now x c (if b then idle else absent) ≡ []
-nothing_served x c true = refl
-nothing_served x c false = refl
+nothing_served x c b = grind arith
 
 not_picked : (b : Bool) (q : AnyRequest) → (if b then idle else absent) ≢ picked q
-not_picked true q e = absurd (cc)
-not_picked false q e = absurd (cc)
+not_picked b q e = grind arith
 
 pub start_sound : (kinds : List Kind) (quota n : ℕ) → Sound kinds quota (start_of n)
 start_sound kinds quota n = record {
@@ -46,17 +42,12 @@ start_sound kinds quota n = record {
   within = λ c. let e = ap (calls_made []) (no_request (nat_lt c n)) in omega arith;
   journals = record {
     tickets = record {
-      rising = λ c. subst (λ (q : Option AnyRequest). AllPairs (λ t u. t < u) (map ticket_of (journal_of [] q)))
-          (sym (no_request (nat_lt c n))) (λ i j d l m. absurd (omega arith));
-      below = λ c. subst (λ (q : Option AnyRequest). All (λ t. t < 0) (map ticket_of (journal_of [] q)))
-          (sym (no_request (nat_lt c n))) (All-nil (λ t. t < 0));
-      apart = λ c d t h. let h' =
-          subst (λ (q : Option AnyRequest). Contains (map ticket_of (journal_of [] q)) t) (no_request (nat_lt c n)) h in
-          let l = h'.1 in absurd (omega arith);
+      rising = λ c. rw (no_request (nat_lt c n)) (λ i j d l m. absurd (omega arith));
+      below = λ c. rw (no_request (nat_lt c n)) (All-nil (λ t. t < 0));
+      apart = λ c d t h. let h' = rw (no_request (nat_lt c n)) at h in let l = h'.1 in absurd (omega arith);
       each = λ t l. absurd (omega arith);
     };
-    on_objects = λ c. subst (λ (q : Option AnyRequest). All (IsAmong kinds) (journal_of [] q))
-        (sym (no_request (nat_lt c n))) (All-nil (IsAmong kinds));
+    on_objects = λ c. rw (no_request (nat_lt c n)) (All-nil (IsAmong kinds));
     in_time = λ c. All-nil (IsInTime (start_of n) c);
     not_come = λ c e. refl;
   };

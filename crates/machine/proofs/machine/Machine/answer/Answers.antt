@@ -1,8 +1,7 @@
 -- `answer`: the step answers the request in hand, or is not possible now. The object can do the operation, which is
 -- what `serve` needs (`can_do_only`), and what it writes is what the transition makes (`answer_done`).
-use Rattle.std.proofs.Common.{◌<◌, refl, sym, subst}
+use Rattle.std.proofs.Common.{◌<◌, refl, sym, subst, length}
 use Rattle.machine.specs.Machines.{State, clients_of}
-use Rattle.std.proofs.Common.{length}
 use Rattle.machine.specs.Steps.{CanDo}
 use Rattle.machine.specs.declared.step.Stage.TheVariants.{Answered}
 use Rattle.machine.proofs.Looks.{can_do_only}

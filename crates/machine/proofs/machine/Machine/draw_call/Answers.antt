@@ -1,8 +1,7 @@
 -- `draw_call`: the step is taken, or it is impossible, or memory is short and nothing has changed. The client may
 -- call and the object is of the kind, so `call_done` gives the world after the step.
-use Rattle.std.proofs.Common.{◌+◌, refl, sym, ◌∙◌, ap}
+use Rattle.std.proofs.Common.{◌+◌, refl, sym, ◌∙◌, ap, ◌++◌, ◌∷◌, [], set, get_or}
 use Rattle.machine.specs.Machines.{State}
-use Rattle.std.proofs.Common.{◌++◌, ◌∷◌, [], set, get_or}
 use Rattle.recorder.specs.Records.{items_of}
 use Rattle.desk_model.specs.declared.JournalEvent.TheVariants.{Invoked}
 use Rattle.machine.proofs.Trying.{no_memory}

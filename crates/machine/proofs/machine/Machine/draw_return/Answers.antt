@@ -1,11 +1,10 @@
 -- `draw_return`: a client that has taken its answer notes its return; at any other stage the step is not possible.
 -- What is written is what the transition makes (`return_done`). Without memory nothing changes (`unticked`).
-use Rattle.std.proofs.Common.{◌≡◌, ◌+◌, refl, sym, subst, ◌∙◌, ap}
+use Rattle.std.proofs.Common.{◌≡◌, ◌+◌, refl, sym, subst, ◌∙◌, ap, ◌++◌, ◌∷◌, [], set, get_or}
 use Rattle.machine.specs.Machines.{State, world_of, stage_of, stage_in}
 use Rattle.machine.specs.declared.step.Stage.TheVariants.{Taken}
 use Rattle.desk_model.specs.Transitions.{draw_return}
 use Rattle.machine.proofs.Kept.{going_of, not_of}
-use Rattle.std.proofs.Common.{◌++◌, ◌∷◌, [], set, get_or}
 use Rattle.recorder.specs.Records.{items_of}
 use Rattle.desk_model.specs.declared.JournalEvent.TheVariants.{Returned}
 use Rattle.machine.proofs.Trying.{no_memory}

@@ -1,8 +1,7 @@
 -- `run`: the steps so far were taken, or passed over where they were not possible, and these are counted. The loop
 -- keeps that, and one turn more adds one step to the run (`more`).
-use Rattle.std.proofs.Common.{◌+◌, ◌∷◌, [], subst, arith}
+use Rattle.std.proofs.Common.{◌+◌, ◌∷◌, [], subst, arith, List, ℕ}
 use Rattle.model.specs.declared.Kind.{Kind}
-use Rattle.std.proofs.Common.{List, ℕ}
 use Rattle.desk_model.specs.Transitions.{Step}
 use Rattle.machine.specs.Machines.{world_of}
 use Rattle.machine.specs.Runs.{TakesPossible}
