@@ -1,6 +1,6 @@
 -- What the events of journals denote is the history of the journals.
-use Rattle.std.proofs.Common.{◌≡◌, ℕ, ◌==◌, Bool, true, false, cond, inl, inr, List, [], ◌∷◌, ◌++◌, filter, find, Some}
-use Rattle.std.proofs.Common.{refl, ap, sym, ◌∙◌, subst}
+use Rattle.std.proofs.Common.{arith, ◌≡◌, ℕ, ◌==◌, Bool, true, false, cond, List, [], ◌∷◌, ◌++◌, filter, Some, refl, ap}
+use Rattle.std.proofs.Common.{sym, ◌∙◌, subst}
 use Rattle.std.proofs.lemmas.List.Elements.{filter-append}
 use Rattle.std.proofs.lemmas.Bool.{eqb-true, eq-eqb}
 use Rattle.model.specs.Histories.{Inv, Res, process_of}
@@ -21,55 +21,34 @@ use Rattle.recorder.proofs.Journals.{InTurn, none, last, call}
 -- the next event of a process is its own part's first
 next_part : (p : ℕ) (es : List Event) → next_event p (filter (λ e. e.process == p) es) ≡ next_event p es
 next_part p [] = refl
-next_part p (e ∷ es) = go (e.process == p) refl (next_part p es)
-  where
-    go : (b : Bool) → (e.process == p) ≡ b → next_event p (filter (λ e. e.process == p) es) ≡ next_event p es
-        → find (λ (x : Event). x.process == p)
-        (cond b (e ∷ filter (λ (x : Event). x.process == p) es) (filter (λ (x : Event). x.process == p) es))
-        ≡ cond b (Some e) (find (λ (x : Event). x.process == p) es)
-    go true q later = ap (λ b.
-        cond b (Some e) (find (λ (x : Event). x.process == p) (filter (λ (x : Event). x.process == p) es))) q
-    go false q later = later
+next_part p (e ∷ es) = let rest = next_part p es in grind arith
 
 of_process : (n p x : ℕ) (a : Action) (b : Bool) (m : Numbered) → In m (denoted_by n p x a b) → process_of m.event ≡ p
-of_process n p x (Invoke op) false m i = elim i [
-  | inl e ↦ ap (λ (k : Numbered). process_of k.event) e
-  | inr j ↦ absurd j
-]
-of_process n p x (Ok r) b m i = elim i [ inl e ↦ ap (λ (k : Numbered). process_of k.event) e | inr j ↦ absurd j ]
-of_process n p x a b m i = absurd i
+of_process n p x a b m i = grind arith
+
+-- what an event denotes, with those after it
+abbrev first_in : Event → List Event → List Numbered
+first_in e es = denoted_by e.number e.process e.object e.action (fails (next_event e.process es))
 
 -- the part of a process is what its own events denote
 part_denoted : (c : ℕ) (es : List Event) → part c (denoted es) ≡ denoted (filter (λ e. e.process == c) es)
 part_denoted c [] = refl
-part_denoted c (e ∷ es) =
-    filter-append (λ (m : Numbered). process_of m.event == c)
-    (denoted_by e.number e.process e.object e.action (fails (next_event e.process es)))
-    (denoted es) ∙ go (e.process == c) refl (part_denoted c es)
+part_denoted c (e ∷ es) = filter-append (λ (m : Numbered). process_of m.event == c) (first_in e es) (denoted es)
+    ∙ go (e.process == c) refl (part_denoted c es)
   where
     go : (b : Bool) → (e.process == c) ≡ b → part c (denoted es) ≡ denoted (filter (λ (x : Event). x.process == c) es)
-        → part c (denoted_by e.number e.process e.object e.action (fails (next_event e.process es)))
-        ++ part c (denoted es)
+        → part c (first_in e es) ++ part c (denoted es)
         ≡ denoted (cond b (e ∷ filter (λ (x : Event). x.process == c) es) (filter (λ (x : Event). x.process == c) es))
     go true q later =
         let own : e.process ≡ c = eqb-true e.process c q in
-        let here : part c (denoted_by e.number e.process e.object e.action (fails (next_event e.process es)))
-        ≡ denoted_by e.number e.process e.object e.action (fails (next_event e.process es)) =
-        filter_all (λ (m : Numbered). process_of m.event == c)
-        (denoted_by e.number e.process e.object e.action (fails (next_event e.process es)))
-        (λ m i. eq-eqb (process_of m.event) c
+        let here : part c (first_in e es) ≡ first_in e es =
+        filter_all (λ (m : Numbered). process_of m.event == c) (first_in e es) (λ m i. eq-eqb (process_of m.event) c
         (of_process e.number e.process e.object e.action (fails (next_event e.process es)) m i ∙ own)) in
         let next : next_event e.process es ≡ next_event e.process (filter (λ (x : Event). x.process == c) es) =
-        subst (λ (p : ℕ). next_event p es ≡ next_event p (filter (λ (x : Event). x.process == c) es)) (sym own)
-        (sym (next_part c es)) in
-        ap (λ xs. xs ++ part c (denoted es)) here
-        ∙ (ap (λ o. denoted_by e.number e.process e.object e.action (fails o) ++ part c (denoted es)) next
-        ∙ ap (λ xs. denoted_by e.number e.process e.object e.action
-        (fails (next_event e.process (filter (λ (x : Event). x.process == c) es))) ++ xs) later)
+        rw own (sym (next_part c es)) in ap (λ xs. xs ++ part c (denoted es)) here
+        ∙ λ j. denoted_by e.number e.process e.object e.action (fails (next j)) ++ later j
     go false q later =
-        let here : part c (denoted_by e.number e.process e.object e.action (fails (next_event e.process es))) ≡ [] =
-        filter_none (λ (m : Numbered). process_of m.event == c)
-        (denoted_by e.number e.process e.object e.action (fails (next_event e.process es)))
+        let here : part c (first_in e es) ≡ [] = filter_none (λ (m : Numbered). process_of m.event == c) (first_in e es)
         (λ m i. ap (λ p. p == c)
         (of_process e.number e.process e.object e.action (fails (next_event e.process es)) m i) ∙ q) in
         ap (λ xs. xs ++ part c (denoted es)) here ∙ later

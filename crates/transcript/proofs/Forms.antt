@@ -1,11 +1,10 @@
 -- The forms of lines are a history's maps, and none of them is faulty.
-use Rattle.std.proofs.Common.{◌≡◌, ℕ, ◌≤◌, cond, Option, Some, None, option_map, refl, ap, ◌∙◌, arith}
-use Rattle.std.specs.Prelude.{option_and_then}
+use Rattle.std.proofs.Common.{◌≡◌, ℕ, ◌≤◌, cond, Option, Some, None, refl, ap, arith}
 use Rattle.std.proofs.lemmas.Bool.{le-leb}
 use Rattle.model.specs.declared.AnyOp.{AnyOp}
 use Rattle.seq_objects.specs.declared.value.Value.{Value}
 use Rattle.seq_objects.specs.Functions.{name_of}
-use Rattle.seq_objects.specs.Values.{function_in, op_with, op_value, reply_value, reply_with}
+use Rattle.seq_objects.specs.Values.{function_in, op_with, op_value}
 use Rattle.events.specs.declared.event.Action.{Action}
 use Rattle.events.specs.declared.event.Action.TheVariants.{Invoke, Ok, Fail, Info}
 use Rattle.edn_fields.specs.Fields.{max_object}
@@ -15,7 +14,7 @@ use Rattle.history.specs.Denotes.{action_of}
 use Rattle.history.proofs.Naming.{named_is}
 use Rattle.transcript.specs.declared.line.Line.{Line}
 use Rattle.transcript.specs.Lines.{type_of, value_of, value_form, form_of}
-use Rattle.transcript.proofs.ClientLines.{MayFollow, Follows}
+use Rattle.transcript.proofs.ClientLines.{Follows}
 
 abbrev pub type_map : Action → MapType
 type_map (Invoke o) = invoke
@@ -54,21 +53,4 @@ op_back o = grind arith
 -- a line that follows says its action
 pub action_is : (l : Line) (last : Option Line) → Follows last l
     → action_of (map_of l).type (map_of l) ≡ Some l.event.action
-action_is l last h = go l.event.action refl h
-  where
-    go : (a : Action) → l.event.action ≡ a → MayFollow last l.event.object l.op a
-        → action_of (type_map a)
-        (record {
-          process = l.event.process;
-          type = type_map a;
-          function = Some (function_in l.op);
-          object = l.event.object;
-          value = value_form (value_of l.op a);
-        }) ≡ Some a
-    go (Invoke o) is f = ap (option_map Invoke)
-        (ap (λ v. option_and_then (op_with (function_in l.op)) v) (value_back (op_value l.op)) ∙ op_back l.op)
-        ∙ ap (λ z. Some (Invoke z)) f.0
-    go (Ok r) is f = ap (option_map Ok)
-        (ap (λ v. option_and_then (reply_with (function_in l.op)) v) (value_back (reply_value r)) ∙ f.1)
-    go Fail is f = refl
-    go Info is f = refl
+action_is l last h = grind (arith, value_back, op_back)

@@ -2,8 +2,8 @@
 -- and no ticket is of two clients, so each comes once and the sorted list rises (`sorted_rises`).
 use Rattle.std.proofs.lemmas.Bool.Decides.{nat_tests}
 use Rattle.std.proofs.lemmas.List.{append-nil, get_or-map, length-map}
-use Rattle.std.proofs.Common.{◌≡◌, ◌≢◌, ℕ, zero, suc, ◌+◌, ◌<◌, ◌≤◌, ◌==◌, eqb, Bool, true, false, cond, inl, inr, List}
-use Rattle.std.proofs.Common.{[], ◌∷◌, ◌++◌, length, map, filter, get_or, Option, Some, None, AllPairs, refl, ap, sym}
+use Rattle.std.proofs.Common.{◌≡◌, ◌≢◌, ℕ, zero, suc, ◌+◌, ◌<◌, ◌≤◌, ◌==◌, eqb, Bool, false, inl, inr, List}
+use Rattle.std.proofs.Common.{[], ◌∷◌, length, map, filter, get_or, Option, Some, None, AllPairs, refl, ap, sym}
 use Rattle.std.proofs.Common.{◌∙◌, subst, arith}
 use Rattle.std.specs.List.Sorted.{IsPermutation, IsNonDecreasingBy}
 use Rattle.std.specs.List.{IsDistinct}
@@ -15,15 +15,15 @@ use Rattle.model.proofs.Lists.{in_left, in_right, In, Pairs, in_append, in_filte
 use Rattle.model.proofs.Lists.{in_map_from, in_from_contains, contains_from_in, pairs_append, pairs_filter}
 use Rattle.model.proofs.Lists.{pairs_weaker, pairs_from_all, pairs_from_map, pairs_map, all_from_pairs, filter_all}
 use Rattle.model.proofs.Lists.{filter_none}
-use Rattle.desk_model.specs.declared.Answer.TheVariants.{Reply, Refused}
 use Rattle.desk_model.specs.declared.JournalEvent.TheVariants.{Invoked, Returned}
-use Rattle.desk_model.specs.World.{AnyAnswer, AnyEvent}
+use Rattle.desk_model.specs.World.{AnyEvent}
 use Rattle.events.specs.declared.event.Event.{Event}
 use Rattle.events.specs.Events.{IsProper}
 use Rattle.events.proofs.Parts.{same_event}
 use Rattle.events.proofs.ProcessRuns.{State, idle, MayDo, Runs, runs_from_start}
-use Rattle.recorder.specs.Histories.{action_of, events_from, events_of, AreEventsOf}
+use Rattle.recorder.specs.Histories.{events_from, events_of, AreEventsOf}
 use Rattle.recorder.proofs.Same.{same_rising, same_by_parts}
+use Rattle.transcript.proofs.Turns.{no_return}
 use Rattle.transcript.specs.declared.line.Call.{Call}
 use Rattle.transcript.specs.declared.line.Line.{Line}
 use Rattle.transcript.specs.Lines.{call_after, event_with, line_with, lines_from, lines_of, lines_in, AreLinesOf}
@@ -48,29 +48,11 @@ events_after c q (Returned u a ∷ js) = ap (λ es. event_with c q.object (Retur
 first_may : (p : ℕ) (s : State) (es : List Event) (f : Event) (fs : List Event) → Runs p s es
     → filter (λ e. e.process == p) es ≡ f ∷ fs → MayDo s f.object f.action
 first_may p s [] f fs h e = absurd (cc)
-first_may p s (g ∷ es) f fs h e = go (g.process == p) refl (first_may p s es f fs)
-  where
-    go : (b : Bool) → (g.process == p) ≡ b
-        → (Runs p s es → filter (λ (x : Event). x.process == p) es ≡ f ∷ fs → MayDo s f.object f.action)
-        → MayDo s f.object f.action
-    go true q later =
-        let whole : g ∷ filter (λ (x : Event). x.process == p) es ≡ f ∷ fs =
-        sym (ap (λ b. cond b (g ∷ filter (λ (x : Event). x.process == p) es)
-        (filter (λ (x : Event). x.process == p) es)) q) ∙ e in
-        let same : g ≡ f = cc (whole) in
-        subst (λ (x : Event). MayDo s x.object x.action) same (h.0 q).0
-    go false q later = later (h.1 q)
-        (sym (ap (λ b. cond b (g ∷ filter (λ (x : Event). x.process == p) es)
-        (filter (λ (x : Event). x.process == p) es)) q) ∙ e)
-
-no_return : (u x : ℕ) (a : AnyAnswer) → MayDo idle x (action_of a) → ⊥
-no_return u x (Reply r) m = m
-no_return u x Refused m = m
+first_may p s (g ∷ es) f fs h e = let later = first_may p s es f fs in grind arith
 
 -- each line is of its client
 of_event : (c x : ℕ) (e : AnyEvent) → (event_with c x e).process ≡ c
-of_event c x (Invoked t y op) = refl
-of_event c x (Returned u a) = refl
+of_event c x e = grind arith
 
 of_line : (c : ℕ) (e : AnyEvent) (q : Option Call) (l : Line) → In l (line_with c e q) → l.event.process ≡ c
 of_line c e None l i = absurd i
@@ -101,28 +83,17 @@ not_below n (j ∷ js) l i = elim (in_append l (lines_of n j) (lines_in (n + 1) 
 pub lines_at : (n : ℕ) (js : List (List AnyEvent)) (k : ℕ)
     → filter (λ l. l.event.process == n + k) (lines_in n js) ≡ lines_of (n + k) (get_or js k [])
 lines_at n [] k = refl
-lines_at n (j ∷ js) zero =
-    let here : n + 0 ≡ n = omega arith in
-    let own : filter (λ (l : Line). l.event.process == n + 0) (lines_of n j) ≡ lines_of n j =
-    filter_all (λ (l : Line). l.event.process == n + 0) (lines_of n j)
+lines_at n (j ∷ js) zero = let here : n + 0 ≡ n = omega arith in let P : Line → Bool = λ l. l.event.process == n + 0 in
+    let own = filter_all P (lines_of n j)
     (λ l i. eq-eqb l.event.process (n + 0) (of_client n None j l i ∙ sym here)) in
-    let others : filter (λ (l : Line). l.event.process == n + 0) (lines_in (n + 1) js) ≡ [] =
-    filter_none (λ (l : Line). l.event.process == n + 0) (lines_in (n + 1) js)
+    let others = filter_none P (lines_in (n + 1) js)
     (λ l i. ne_eqb l.event.process (n + 0) (λ e. let h = not_below (n + 1) js l i in absurd (omega arith))) in
-    filter-append (λ (l : Line). l.event.process == n + 0) (lines_of n j) (lines_in (n + 1) js)
-    ∙ (ap (λ xs. xs ++ filter (λ (l : Line). l.event.process == n + 0) (lines_in (n + 1) js)) own
-    ∙ (ap (λ xs. lines_of n j ++ xs) others ∙ (append-nil (lines_of n j) ∙ ap (λ m. lines_of m j) (sym here))))
-lines_at n (j ∷ js) (suc k) =
-    let there : n + suc k ≡ (n + 1) + k = omega arith in
-    let own : filter (λ (l : Line). l.event.process == n + suc k) (lines_of n j) ≡ [] =
-    filter_none (λ (l : Line). l.event.process == n + suc k) (lines_of n j)
+    rw (filter-append P (lines_of n j) (lines_in (n + 1) js), own, others)
+    (append-nil (lines_of n j) ∙ ap (λ m. lines_of m j) (sym here))
+lines_at n (j ∷ js) (suc k) = let there : n + suc k ≡ (n + 1) + k = omega arith in
+    let P : Line → Bool = λ l. l.event.process == n + suc k in let own = filter_none P (lines_of n j)
     (λ l i. ne_eqb l.event.process (n + suc k) (λ e. let h = of_client n None j l i in absurd (omega arith))) in
-    let rest : filter (λ (l : Line). l.event.process == n + suc k) (lines_in (n + 1) js)
-    ≡ lines_of (n + suc k) (get_or js k []) =
-    subst (λ (m : ℕ). filter (λ (l : Line). l.event.process == m) (lines_in (n + 1) js) ≡ lines_of m (get_or js k []))
-    (sym there) (lines_at (n + 1) js k) in
-    filter-append (λ (l : Line). l.event.process == n + suc k) (lines_of n j) (lines_in (n + 1) js)
-    ∙ (ap (λ xs. xs ++ filter (λ (l : Line). l.event.process == n + suc k) (lines_in (n + 1) js)) own ∙ rest)
+    rw (filter-append P (lines_of n j) (lines_in (n + 1) js), own, there) (lines_at (n + 1) js k)
 
 -- where those of each client rise, and no number is of two clients, no number stands twice
 apart : (n : ℕ) (js : List (List AnyEvent))
@@ -204,8 +175,7 @@ module _ (journals : ℕ → List AnyEvent) (es : List Event) (are : AreEventsOf
       go (Invoked t x op ∷ js) h =
           ap (λ (fs : List Event). event_with c x (Invoked t x op) ∷ fs)
           (events_after c (record { object = x; op = op }) js)
-      go (Returned u a ∷ js) h =
-          absurd (no_return u 0 a
+      go (Returned u a ∷ js) h = absurd (no_return 0 a
           (first_may c idle es (event_with c 0 (Returned u a)) (events_from c 0 js) (runs_from_start es c proper) h))
 
   lines_rise : (c : ℕ) → Pairs (λ a b. number_in a < number_in b) (lines_of c (journals c))

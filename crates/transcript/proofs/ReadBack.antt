@@ -41,7 +41,7 @@ use Rattle.recorder.proofs.Same.{same_by_parts}
 use Rattle.recorder.proofs.Journals.{InTurn, none, last, call, numbers_of}
 use Rattle.transcript.specs.declared.line.Call.{Call}
 use Rattle.transcript.specs.declared.line.Line.{Line}
-use Rattle.transcript.specs.Lines.{event_with as journal_event, value_of, value_form, form_of, history_text, lines_from}
+use Rattle.transcript.specs.Lines.{value_of, value_form, form_of, history_text, lines_from}
 use Rattle.transcript.specs.Lines.{AreLinesOf, events_in}
 use Rattle.transcript.specs.Reading.{DenotesEvents}
 use Rattle.transcript.proofs.Gathered.{same_events}
@@ -138,9 +138,7 @@ outstanding before p o h = go (last_line p before) refl (sym (last_is p before) 
   where
     invoked : (a : Action) → type_map a ≡ invoke → (op : AnyOp) × (a ≡ Invoke op)
     invoked (Invoke op) e = (op, refl)
-    invoked (Ok r) e = absurd (cc)
-    invoked Fail e = absurd (cc)
-    invoked Info e = absurd (cc)
+    invoked a e = absurd cc
 
     go : (q : Option Line) → last_line p before ≡ q → option_map map_of q ≡ Some o
         → (k : Line) × (last_line p before ≡ Some k) × (o ≡ map_of k) × (op : AnyOp) × (k.event.action ≡ Invoke op)
@@ -158,9 +156,7 @@ module _ (before : List Line) (l : Line) (fine : IsFine before l) where
       → IsOutstanding (map map_of before) l.event.process o → ⊥
   busy (Invoke op) is t o h =
       let k = outstanding before l.event.process o h in
-      let f : MayFollow (last_line l.event.process before) l.event.object l.op (Invoke op) =
-      subst (MayFollow (last_line l.event.process before) l.event.object l.op) is fine.follows in
-      f.1 k.0 k.3 k.1 k.4
+      let f = rw is at fine.follows in f.1 k.0 k.3 k.1 k.4
   busy a h t o k = absurd cc
 
   -- a completion's process has its call outstanding
@@ -168,14 +164,9 @@ module _ (before : List Line) (l : Line) (fine : IsFine before l) where
       → (k : Line) × (last_line l.event.process before ≡ Some k) × (op : AnyOp)
       × (k.event.action ≡ Invoke op) × (k.op ≡ l.op) × (k.event.object ≡ l.event.object)
   pending (Invoke op) is t = absurd (t refl)
-  pending (Ok r) is t = let f : MayFollow (last_line l.event.process before) l.event.object l.op (Ok r) =
-      subst (MayFollow (last_line l.event.process before) l.event.object l.op) is fine.follows in
-      (f.0.0, f.0.1, l.op, f.0.2, f.0.3, f.0.4)
-  pending Fail is t = let f : MayFollow (last_line l.event.process before) l.event.object l.op Fail =
-      subst (MayFollow (last_line l.event.process before) l.event.object l.op) is fine.follows in
-      (f.0, f.1, l.op, f.2, f.3, f.4)
-  pending Info is t = let f : MayFollow (last_line l.event.process before) l.event.object l.op Info =
-      subst (MayFollow (last_line l.event.process before) l.event.object l.op) is fine.follows in absurd f
+  pending (Ok r) is t = let f = rw is at fine.follows in (f.0.0, f.0.1, l.op, f.0.2, f.0.3, f.0.4)
+  pending Fail is t = let f = rw is at fine.follows in (f.0, f.1, l.op, f.2, f.3, f.4)
+  pending Info is t = absurd (rw is at fine.follows)
 
   closed_not : IsClosed (map map_of before) l.event.process → ⊥
   closed_not h =
@@ -241,14 +232,10 @@ line_call c q js (call t x op u a rest fits more) l i = elim i [
 invocation_event : (c x t y : ℕ) (op : AnyOp) (js : List AnyEvent) → In (Invoked t y op) js
     → In (record { number = t; process = c; object = y; action = Invoke op }) (journal_events c x js)
 invocation_event c x t y op [] i = absurd i
-invocation_event c x t y op (Invoked u z o ∷ js) i = elim i [
-  | inl s ↦ inl (ap (journal_event c x) s)
-  | inr j ↦ inr (invocation_event c z t y op js j)
-]
-invocation_event c x t y op (Returned u a ∷ js) i = elim i [
-  | inl s ↦ absurd (cc (s))
-  | inr j ↦ inr (invocation_event c x t y op js j)
-]
+invocation_event c x t y op (Invoked u z o ∷ js) i =
+    let later = invocation_event c z t y op js in grind (arith, later)
+invocation_event c x t y op (Returned u a ∷ js) i =
+    let later = invocation_event c x t y op js in grind (arith, later)
 
 -- ---- what the lines spell
 
@@ -364,9 +351,8 @@ module _ (objects : ℕ) (journals : ℕ → List AnyEvent) (logs : ℕ → List
   follows_at before after l is = line_follows ls journals turn are.each before after l is
 
   not_info : (l : Line) → In l ls → l.event.action ≢ Info
-  not_info l i e =
-      let r = in_split l ls i in let f : MayFollow (last_line l.event.process r.0) l.event.object l.op Info =
-      subst (MayFollow (last_line l.event.process r.0) l.event.object l.op) e (follows_at r.0 r.1 l r.2) in f
+  not_info l i e = let r = in_split l ls i in
+      subst (MayFollow (last_line l.event.process r.0) l.event.object l.op) e (follows_at r.0 r.1 l r.2)
 
   fine_at : (before after : List Line) (l : Line) → ls ≡ before ++ l ∷ after → IsFine before l
   fine_at before after l is = record {

@@ -1,6 +1,6 @@
 -- In a record's journals calls and returns come in turn, and the operations on an object are of one kind.
-use Rattle.std.proofs.Common.{◌≡◌, ℕ, ◌==◌, Bool, true, false, cond, inl, inr, List, [], ◌∷◌, ◌++◌, filter, refl}
-use Rattle.std.proofs.Common.{ap, sym, ◌∙◌, subst, append_assoc}
+use Rattle.std.proofs.Common.{arith, ◌≡◌, ℕ, ◌==◌, inl, inr, List, [], ◌∷◌, ◌++◌, filter, refl, ap, sym, ◌∙◌, subst}
+use Rattle.std.proofs.Common.{append_assoc}
 use Rattle.std.proofs.lemmas.Bool.{eq-eqb}
 use Rattle.model.specs.declared.AnyOp.{AnyOp}
 use Rattle.model.specs.Objects.{kind_of}
@@ -11,24 +11,17 @@ use Rattle.desk_model.specs.World.{AnyAnswer, AnyEvent}
 use Rattle.events.specs.declared.event.Action.TheVariants.{Invoke}
 use Rattle.events.specs.declared.event.Event.{Event}
 use Rattle.events.specs.Events.{Follows, IsProper}
-use Rattle.events.proofs.ProcessRuns.{State, idle, MayDo, state_by, Runs, runs_from_start}
+use Rattle.events.proofs.ProcessRuns.{State, idle, MayDo, Runs, runs_from_start}
 use Rattle.recorder.specs.Histories.{AreEventsOf, action_of, events_from}
 use Rattle.recorder.proofs.Journals.{InTurn, none, last, call}
 
 -- a process does in its own events what it does among all
 own_runs : (p : ℕ) (s : State) (es : List Event) → Runs p s es → Runs p s (filter (λ e. e.process == p) es)
 own_runs p s [] h = tt
-own_runs p s (e ∷ es) h = go (e.process == p) refl (λ t k. own_runs p t es k)
-  where
-    go : (b : Bool) → (e.process == p) ≡ b
-        → ((t : State) → Runs p t es → Runs p t (filter (λ (x : Event). x.process == p) es))
-        → Runs p s (cond b (e ∷ filter (λ (x : Event). x.process == p) es) (filter (λ (x : Event). x.process == p) es))
-    go true q rest = let f = h.0 q in (λ r. (f.0, rest (state_by e.object e.action) f.1), λ r. absurd (cc (q, r)))
-    go false q rest = rest s (h.1 q)
+own_runs p s (e ∷ es) h = let rest = λ (t : State) (k : Runs p t es). own_runs p t es k in grind (arith, rest)
 
-no_return : (x : ℕ) (a : AnyAnswer) → MayDo idle x (action_of a) → ⊥
-no_return x (Reply r) m = m
-no_return x Refused m = m
+pub no_return : (x : ℕ) (a : AnyAnswer) → MayDo idle x (action_of a) → ⊥
+no_return x a m = grind arith
 
 turns : (c x : ℕ) (js : List AnyEvent) → Runs c idle (events_from c x js) → InTurn js
 turns c x [] h = none
