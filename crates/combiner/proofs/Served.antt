@@ -20,6 +20,8 @@ use Rattle.combiner.specs.declared.passes.Tried.{Tried}
 use Rattle.combiner.specs.declared.passes.Tried.TheVariants as tried
 use Rattle.combiner.specs.Passes.{KeepsCalls, Goes, IsTried, IsSettled, IsSettledBy, IsSettledNow, IsSameBut}
 
+-- ---- what stays of a client's calls
+
 -- what stays where the own calls of w are written from those of v
 pub keeps_same : (v w u : DeskView) → w ≡ u → KeepsCalls v u → KeepsCalls v w
 keeps_same v w u e k = subst (KeepsCalls v) (sym e) k
@@ -40,6 +42,8 @@ keeps_all v = record { number = refl; kinds = refl; own = refl; done = refl; see
 pub keeps_held : (v : DeskView) {h : Held} {back : List PutBack} {missed : List ℕ} {ready : Bool} {won : ℕ}
     → KeepsCalls v (record v { held = h; back = back; missed = missed; ready = ready; won = won })
 keeps_held v = record { number = refl; kinds = refl; own = refl; done = refl; seen = λ x. starts_same (seen_of v x) }
+
+-- ---- a pass that goes on
 
 pub goes_nowhere : (p : Holding) → Goes p p
 goes_nowhere p = record {
@@ -106,6 +110,8 @@ same_tried p q t s k = subst (λ z. IsTried z t) (sym s.2) (also t k)
     also tried.Nothing k = k
     also tried.Answered k = k
     also tried.PutBack k = k
+
+-- ---- the try of one row
 
 pub not_goes : (p q : Holding) (row : ℕ) → q.desk ≡ p.desk → q.state ≡ p.state → NotGot p row q → Goes p q
 not_goes p q row d s n = let k = n.knows in record {
@@ -176,6 +182,8 @@ back_tried p h q row g k cannot here r waiting can =
     let log : CanDo (kind_held h) h.log r.op = subst (λ z. CanDo (kind_held h) z r.op) k.log object in
     cannot (subst (λ (z : AnyRequest). CanDo (kind_held h) h.log z.op) (sym is) log)
 
+-- ---- the own call is settled
+
 -- The own row was tried at q, with this answer, and then the other rows up to r. Where it was not put back, its
 -- request is answered.
 pub settled_first : (q r : Holding) (t : Tried) → IsTried q t → t ≢ tried.PutBack → Goes q r → IsSettledNow r
@@ -198,6 +206,8 @@ settled_after x q v on is seen s =
     subst (λ y. IsSettled y v) on
     (subst (λ l. IsSettledBy q.object l v) (sym seen)
     (subst (IsSettledBy q.object q.log) (sym is) (λ p waiting at. s p waiting at)))
+
+-- ---- what a client keeps, with a pass or without one
 
 -- what was seen goes on where a longer log is seen
 pub seen_on : (s : List (List AnyEntry)) (x : ℕ) (l : List AnyEntry) → StartsWith l (get_or s x []) → (y : ℕ)
