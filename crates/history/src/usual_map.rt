@@ -64,7 +64,7 @@ fn after_pairs(text: &[u8]) -> Option<&[u8]>
     }
 }
 
-/// What follows a map that has an index and such pairs, or some of these.
+/// What follows a map that may have an index, and one more pair.
 #[inline(always)]
 fn after_index(text: &[u8]) -> Option<&[u8]>
     ensures { IfSome result (λ rest. ReadsLast keys_to_time text.entry.now 0 rest.now) }
@@ -76,7 +76,7 @@ fn after_index(text: &[u8]) -> Option<&[u8]>
     after_pairs(rest)
 }
 
-/// What follows a map that has a time, an index and such pairs, or some of these.
+/// What follows a map that may have a time, an index, and one more pair.
 #[inline(always)]
 fn after_time(text: &[u8]) -> Option<&[u8]>
     ensures { IfSome result (λ rest. ReadsLast keys_to_object text.entry.now 0 rest.now) }

@@ -30,7 +30,8 @@ kept_dead t before kept all is_kept = elim is_kept [
 ]
 
 pub remembered_dead : (t : Trials) (before : Dead) (pair : Pair) (after : Dead) → AreAllDead t before
-    → IsDeadPair (length t.items.items) (call_at t.items.items) pair.high pair.not_done.items (content_kept pair.content)
+    → IsDeadPair (length t.items.items) (call_at t.items.items) pair.high pair.not_done.items
+    (content_kept pair.content)
     → IsRemembered before pair after → AreAllDead t after
 remembered_dead t before pair after all dead r =
     let k = kept_dead t before r.kept all r.is_kept in

@@ -53,8 +53,8 @@ pub record Describes (n : ℕ) (high : ℕ) (not_done : List ℕ) (done : List �
   pub cover : (k : ℕ) → k < n → k < high → (In k not_done → ⊥) → In k done
 
 -- a pair of calls done and content from which nothing goes on
-pub record IsDeadPair (n : ℕ) (call : ℕ → Call) (high : ℕ) (not_done : List ℕ) (c : Content) : Type 0
-  where
-    pub done : List ℕ
-    pub describes : Describes n high not_done done
-    pub dead : IsDead n call done c
+pub record IsDeadPair (n : ℕ) (call : ℕ → Call) (high : ℕ) (not_done : List ℕ)
+    (c : Content) : Type 0 where
+  pub done : List ℕ
+  pub describes : Describes n high not_done done
+  pub dead : IsDead n call done c
