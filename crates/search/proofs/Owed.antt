@@ -1,5 +1,5 @@
 -- How many calls that returned are left: none exactly where each has been placed (`none_owed`), one less after such a
--- call is placed (`owes_placed`), and as many after a pending one. By induction on the count below a bound.
+-- call is placed (`owes_more`), and as many after a pending one. By induction on the count below a bound.
 use Rattle.std.proofs.Common.{◌≡◌, ◌≢◌, ℕ, zero, suc, ◌<◌, ◌==◌, ◌&&◌, not, Bool, true, false, cond, ◌⊎◌, inl}
 use Rattle.std.proofs.Common.{inr, List, [], ◌∷◌, Option, Some, None, is_some, refl, ap, sym, ◌∙◌, arith}
 use Rattle.std.specs.List.{list_any}

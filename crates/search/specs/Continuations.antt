@@ -46,7 +46,7 @@ IsDeadAt n call done c k = (rest : List ℕ) → Continues n call done c (k ∷ 
 abbrev pub IsTried : (n : ℕ) (call : ℕ → Call) → List ℕ → Content → ℕ → Type 0
 IsTried n call done c at = (k : ℕ) → k < at → IsDeadAt n call done c k
 
--- the places done are those below `high` that are not among the not_done ones
+-- the places done are those below `high` that are not in the list of those not done
 pub record Describes (n : ℕ) (high : ℕ) (not_done : List ℕ) (done : List ℕ) : Type 0 where
   pub bound : (k : ℕ) → In k done → k < high
   pub apart : (k : ℕ) → In k not_done → In k done → ⊥

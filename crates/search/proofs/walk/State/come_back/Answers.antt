@@ -1,5 +1,5 @@
--- `come_back`: with a level popped and its operation not_done, the search is as sound as before that operation. The
--- stack without its top is a walk again (`back_walk`), and the pair that is remembered is dead (`remembered_some`).
+-- `come_back`: with a level popped and its operation undone, the search is as sound as before that operation. The
+-- stack without its top is a walk again (`came_back`), and the pair that is remembered is dead (`remembered_some`).
 use Rattle.std.proofs.Common.{◌<◌, ◌+◌, length, reverse, ap, ◌∙◌, arith}
 use Rattle.std.proofs.lemmas.List.{get_or_default, length-set}
 use Rattle.model.specs.Orders.{Call}

@@ -1,5 +1,5 @@
 -- `go_on`: one operation more leaves a search that goes on, or a whole order. The walk's stack grows by it
--- (`stepped`), and with no return owed it is an order (`over_now`). At a dead pair it is not_done (`hit_any`).
+-- (`stepped`), and with no return owed it is an order (`over_now`). At a dead pair it is undone (`hit_any`).
 use Rattle.std.proofs.Common.{length, reverse, ap, ◌∙◌, arith}
 use Rattle.std.proofs.lemmas.List.{get_or_default}
 use Rattle.model.specs.Objects.{empty}
