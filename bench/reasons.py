@@ -14,7 +14,6 @@ DIR; with --together for all numbers of calls at once together. The ratio is the
 import argparse
 import json
 import os
-import re
 import resource
 import statistics
 import subprocess
@@ -25,9 +24,7 @@ sys.dont_write_bytecode = True
 HERE = os.path.dirname(os.path.realpath(__file__))
 sys.path.insert(0, os.path.join(HERE, os.pardir, "tests"))
 
-from edge.verify.reasons import explained_in, why_not_shown  # noqa: E402
-
-MAPS = re.compile(r"maps? (\d+)(?: and (\d+))?:")
+from edge.verify.reasons import TOLD, explained_in, why_not_shown  # noqa: E402
 
 
 def ran(words, seconds):
@@ -46,7 +43,7 @@ def size_of(path, out):
     if len(explained) != 1 or others:
         raise SystemExit("reasons.py: %s: no judgement: %r" % (path, out[:200]))
     on, operations, reason = explained[0]
-    named = {int(it) for line in operations for it in MAPS.match(line).groups() if it}
+    named = {int(it) for line in operations for it in TOLD.match(line).groups()[:2] if it}
     with open(path) as text:
         history = "".join(line if place in named else "{}" for place, line in enumerate(text))
     wrong = why_not_shown(history, on, operations, reason)

@@ -10,10 +10,11 @@ import tokenize
 
 from .running import ROOT
 
-sys.path[:0] = [f"{ROOT}/crates", f"{ROOT}/docs/scripts"]
+sys.path[:0] = [f"{ROOT}/crates", f"{ROOT}/docs/scripts", f"{ROOT}/bench"]
 
 import contract_list  # noqa: E402
 import lines_to_believe  # noqa: E402
+import reasons  # noqa: E402
 from sources import listed, with_below  # noqa: E402
 
 PAGES = [
@@ -364,4 +365,14 @@ def usages(program, report):
             report.equal(f"usages: {script} {word}", (status, status == 0, status != 0), (ran.returncode, bool(ran.stdout), bool(ran.stderr)), ran)
 
 
-PARTS = (documents, links, names_of_several, names_of_rows, named_clauses, definitions_of_clauses, plain_words, widths, heads_of_proofs, snippets, usages, like_lines)
+def sizes_of_reasons(program, report):
+    """bench/reasons.py reads from a judgement how many operations it tells."""
+    example = f"{ROOT}/examples/postgres_queue"
+    judged = read(f"{example}.judged").removesuffix("status 1\n")
+    report.equal("sizes_of_reasons: of a queue in PostgreSQL", 2, reasons.size_of(f"{example}.history.edn", judged.encode()))
+
+
+PARTS = (
+    documents, links, names_of_several, names_of_rows, named_clauses, definitions_of_clauses, plain_words, widths, heads_of_proofs, snippets, usages,
+    like_lines, sizes_of_reasons,
+)

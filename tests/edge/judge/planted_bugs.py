@@ -1,6 +1,6 @@
 """Planted bugs: the sentence that judge gives of each, and how many operations it tells.
 
-A number in a sentence is that of a map. What the part says is checked by all orders, and by refute."""
+A number in a sentence is that of an event. What the part says is checked by all orders, and by refute."""
 import re
 
 from ..verify.reasons import explained_in, why_not_explained
