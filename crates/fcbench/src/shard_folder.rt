@@ -110,7 +110,7 @@ impl<'a, R: Files> ShardFolder<'a, R> {
         }
     }
 
-    /// Whether it failed by an allocation failure.
+    /// Whether the last failure of `add` was an allocation failure.
     pub fn lacks_memory(&self) -> bool {
         matches!(self.failure, Some(ErrorKind::OutOfMemory))
     }
@@ -162,11 +162,7 @@ impl<'a, R: Files> ShardFolder<'a, R> {
         let Ok(path) = self.path(shard, file) else {
             return Err(ShardFault::NoMemory);
         };
-        match read_text(alloc, &mut In::new(NamedFile::new(self.files, &path))) {
-            Ok(text) => Ok(text),
-            Err(ReadFault::NoMemory) => Err(ShardFault::NoMemory),
-            Err(ReadFault::Failed) => Err(ShardFault::Unread(file)),
-        }
+        text_of(alloc, NamedFile::new(self.files, &path), file)
     }
 
     /// The text of a file of a shard, if there is such a file.
@@ -180,8 +176,12 @@ impl<'a, R: Files> ShardFolder<'a, R> {
             return Err(ShardFault::NoMemory);
         };
         match fs::open(self.files, &path) {
-            Err(error) if error.kind() == ErrorKind::NotFound => Ok(None),
-            _ => Ok(Some(self.text(alloc, shard, file)?)),
+            Ok(opened) => Ok(Some(text_of(alloc, opened, file)?)),
+            Err(error) => match error.kind() {
+                ErrorKind::NotFound => Ok(None),
+                ErrorKind::OutOfMemory => Err(ShardFault::NoMemory),
+                _ => Err(ShardFault::Unread(file)),
+            },
         }
     }
 
@@ -203,6 +203,15 @@ impl<'a, R: Files> ShardFolder<'a, R> {
             Some(count) if count > 0 => Ok(count),
             _ => Err(ReadFault::Failed),
         }
+    }
+}
+
+/// The text that is read from this file of a shard.
+fn text_of<F: Read + Drop>(alloc: Global, opened: F, file: ShardFile) -> Result<Vec<u8>, ShardFault> {
+    match read_text(alloc, &mut In::new(opened)) {
+        Ok(text) => Ok(text),
+        Err(ReadFault::NoMemory) => Err(ShardFault::NoMemory),
+        Err(ReadFault::Failed) => Err(ShardFault::Unread(file)),
     }
 }
 
