@@ -32,7 +32,7 @@ fn object_on(pieces: &[Piece]) -> Option<u32>
     edn_fields::object(edn_fields::natural_at(number))
 }
 
-/// The certificate of which this is kept, if it is one.
+/// The certificate of these kept values, if they are those of one.
 fn certificate_on(pieces: &[Piece], integer_vector: Option<Vec<i64>>) -> Option<Certificate>
     ensures { (d : Datum) → IsKept pieces.now (numbers_of integer_vector) d → Says result d }
 {

@@ -23,7 +23,7 @@ impl<'a, R: Files> NamedFile<'a, R> {
     }
 }
 
-// Of a file it is not known what it will give.
+// No clause can say what a file holds.
 impl<'a, R: Files> Read for NamedFile<'a, R> {
     fn read(&mut self, buf: &mut [u8]) -> io::Result<usize> {
         if let Some(file) = &mut self.file {

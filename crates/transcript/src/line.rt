@@ -80,7 +80,7 @@ fn event_with<S: SeqObject>(
     }
 }
 
-/// Puts the line of an event of this call after the others.
+/// Puts the line of an event of this call after the others, or nothing if there is no call.
 fn push_line<S: SeqObject>(
     client: usize,
     event: &JournalEvent<S::Op, S::Reply>,
