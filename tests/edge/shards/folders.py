@@ -5,6 +5,7 @@ import re
 from . import wide_objects
 from .dividing import Folder
 from .long_wholes import MOST_MAPS, maps_of
+from .trusted_statuses import BELIEVED
 from .worked_wholes import MERGED, MERGED_YES, ORDERS, TWO_QUEUES
 from ..answers import through_pipes
 from ..check.unreadable_files import AS_NOBODY
@@ -99,6 +100,23 @@ def wholes_through_pipes(program, report):
     folder = Folder(program, "by_one_byte", 2)
     report.answers("split: reads of one byte", folder.split("whole.edn", faults={"READ_AT_MOST": 1}), TWO_SHARDS, 0)
     report.equal("split: reads of one byte: the files", expected.files(), folder.files())
+
+
+def shards_through_pipes(program, report):
+    """Any file of a shard may be a pipe, since each is read once: also the evidence and the status, which may be missing."""
+    merged_with(program, "piped", {})
+    for file in ("0.edn", "1.places", "2.evidence"):
+        folder = Folder(program, "piped", 3)
+        with open(folder.path(file), "rb") as it:
+            text = it.read()
+        ran = through_pipes(program, ((f"piped/{file}", text),), ("merge", "piped"))
+        report.answers(f"merge: {file} is a pipe", ran, MERGED_YES, 0)
+        os.remove(folder.path(file))
+        folder.write(file, text)
+    for shard in range(3):
+        folder.write(f"{shard}.status", b"0\n")
+    ran = through_pipes(program, (("piped/1.status", b"0\n"),), ("merge", "piped", "--trust-statuses"))
+    report.answers("merge: a status is a pipe", ran, BELIEVED % 3 + "yes by statuses: 3 shards\n", 0)
 
 
 def failing_reads_of_shards(program, report):
@@ -228,6 +246,7 @@ PARTS = (
     folders_that_cannot_be_written,
     full_output_of_shards,
     wholes_through_pipes,
+    shards_through_pipes,
     failing_reads_of_shards,
     failing_writes_of_shards,
     refused_memory_of_shards,
