@@ -284,6 +284,21 @@ ACCEPTED = (
 )
 
 
+# A command with its files in a page, in a line of code or in backquotes.
+WITH_FILES = re.compile(r"(?:`|^    )(?:fcbench )?([a-z]+)((?: \[?[A-Z]{3,}\]?)+)(?=[`\n]| >)", re.M)
+
+
+def files_in_pages(program, report):
+    """Where a page names the files of a command, their names are those of its help."""
+    for page in sorted(("README.md", *[f"docs/{it}" for it in os.listdir(f"{ROOT}/docs") if it.endswith(".md")])):
+        with open(f"{ROOT}/{page}") as file:
+            named = [it for it in WITH_FILES.findall(file.read()) if it[0] in (*COMMANDS, *OF_TOOLS)]
+        for command, files in named:
+            usage = re.search(rf"Usage: fcbench {command}(?: \[OPTIONS\])?([^\n]*)", program.run(command, "--help").out.decode())[1]
+            all_of_them, needed = re.findall(r"[A-Z]+", usage), re.findall(r"<([A-Z]+)>", usage)
+            report.holds(f"{page}: {command}{files}: the files of its help", re.findall("[A-Z]+", files) in (all_of_them, needed), usage)
+
+
 def help_texts(program, report):
     """Help goes to standard output, names each command, and ends with 0."""
     for words in (("--help",), ("-h",), ("help",)):
@@ -421,4 +436,4 @@ def dispatched(program, report):
         report.equal(f"fcbench.sh help {command}", program.run(command, "--help").out, script("help", command).stdout)
 
 
-PARTS = (help_texts, accepted, version, refused, refused_words_are_named, bad_words_are_told, not_utf_8, limits, dispatched)
+PARTS = (help_texts, files_in_pages, accepted, version, refused, refused_words_are_named, bad_words_are_told, not_utf_8, limits, dispatched)
