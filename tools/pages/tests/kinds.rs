@@ -117,6 +117,18 @@ fn why_an_entry_is_refused() {
 }
 
 #[test]
+fn contents_before_a_part_of_a_lock() {
+    let calls = ["lock | 1 | nil", "unlock | 1 | nil", "unlock | 3 | nil"];
+    let texts = [
+        "All 3 ways to begin",
+        "1free#2 unlock 1is not possible",
+        "2held by another#2 unlock 1is not possible",
+        "3#2 unlock 1free#4 unlock 3is not possible",
+    ];
+    assert_says(&calls, None, "; object 0: impossible", &texts);
+}
+
+#[test]
 fn why_there_is_no_order() {
     let lines = "; object 0: impossible";
     let says = |calls: &[&str], text: &str| assert_says(calls, None, lines, &[text]);

@@ -195,7 +195,7 @@ impl Content {
 }
 
 /// Whether a token is held, in a word.
-pub fn held_text(is_held: bool) -> &'static str {
+fn held_text(is_held: bool) -> &'static str {
     if is_held { "held" } else { "free" }
 }
 

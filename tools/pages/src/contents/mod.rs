@@ -13,4 +13,4 @@ pub use content::Content;
 pub use longest::longest_order;
 pub use orders::{rows_of, walk_along};
 pub use sources::{puts, takes, value_put, wanted};
-pub use tried::{try_orders, with_other_content};
+pub use tried::{try_orders, with_other_contents};

@@ -1,9 +1,9 @@
 //! The orders of a part's operations that were tried, each up to the operation that does not fit.
 
-use super::content::{Content, held_text, value_reply};
+use super::content::{Content, value_reply};
 use crate::timeline::{Attempt, Failure, Operation, Tried, operation_at};
 use crate::words::Words;
-use finder::{Invocation, Kind, Reply, Shape};
+use finder::{Invocation, Kind, Op, Reply, Shape};
 use std::collections::HashSet;
 
 /// A part with more operations is not tried, and no more steps are taken.
@@ -145,20 +145,33 @@ impl Trying<'_> {
     }
 }
 
-/// The same ways, and, for a part of a token, before them the content before the part with which its
-/// first operation is not possible.
-pub fn with_other_content(mut tried: Tried, first: Option<Operation>) -> Tried {
-    let next = first.filter(|_| !tried.attempts.is_empty());
-    let Some((next, holds)) = next.and_then(|next| Some((next, next.op().holds()?))) else {
+/// The contents with which this operation on a token is not possible, in words.
+fn other_contents(op: Op) -> &'static [&'static str] {
+    match op.holds() {
+        Some(true) => &["held"],
+        Some(false) if op.kind().has_owner() => &["free", "held by another"],
+        Some(false) => &["free"],
+        None => &[],
+    }
+}
+
+/// The same ways, and, for a part of a token, before them the contents before the part with which
+/// its first operation is not possible.
+pub fn with_other_contents(mut tried: Tried, first: Option<Operation>) -> Tried {
+    let Some(next) = first.filter(|_| !tried.attempts.is_empty()) else {
         return tried;
     };
-    if tried.attempts.len() == ROWS {
-        tried.attempts.pop();
-        tried.more += 1;
-    }
-    let content = held_text(holds).into();
     let failure = Failure::NotPossible;
-    tried.attempts.insert(0, Attempt { before: Vec::new(), content, next, failure });
+    let attempt = |content: &&str| Attempt {
+        before: Vec::new(),
+        content: content.to_string(),
+        next,
+        failure,
+    };
+    let attempts: Vec<Attempt> = other_contents(next.op()).iter().map(attempt).collect();
+    tried.attempts.splice(0..0, attempts);
+    tried.more += tried.attempts.len().saturating_sub(ROWS);
+    tried.attempts.truncate(ROWS);
     tried
 }
 

@@ -3,7 +3,7 @@
 use super::reasons::{Reason, one_of};
 use super::refusals::{Alone, Explanation, Refused};
 use crate::contents::{
-    boxes_of, longest_order, rows_of, try_orders, walk_along, with_other_content,
+    boxes_of, longest_order, rows_of, try_orders, walk_along, with_other_contents,
 };
 use crate::figures::{
     Moment, Placed, Scene, Stretch, WithoutLane, choose, drawn_places, figure_of, narrow, near_to,
@@ -517,7 +517,7 @@ pub fn draw_impossible(subject: &Subject, part: &DrawnPart) -> ObjectDrawing {
             .collect(),
         content: reason.said().map(|said| capitalized(&subject.words.sentence(said))),
         outside: outside_of(&recorded, &live),
-        tried: Some(with_other_content(tried, part.begins_at(&operations))),
+        tried: Some(with_other_contents(tried, part.begins_at(&operations))),
         reason: recorded.len(),
         live: live_count(&operations),
         from: part.from,
