@@ -22,9 +22,18 @@ LATER_FUNCTIONS = {
     "register of all functions": (*FUNCTIONS["register"], "clear", "create"),
     "map of all functions": (*FUNCTIONS["map"], "assoc", "dissoc", "put-if-absent", "replace"),
 }
-KIND_OF = {f: kind.split()[0] for kind, functions in {**FUNCTIONS, **LATER_FUNCTIONS}.items() for f in functions}
+# All of them: from these the generators of pages, shards and small histories draw. The first word of a name is that of the kind.
+ALL_FUNCTIONS = {**FUNCTIONS, **LATER_FUNCTIONS}
+KIND_OF = {f: kind.split()[0] for kind, functions in ALL_FUNCTIONS.items() for f in functions}
 WITHOUT_ARGUMENT = ("dequeue", "pop", "extract-min", "read", "acquire", "release", "clear", "get-count")
 ARGUMENTS = {"cas": 2, "put": 2, "assoc": 2, "put-if-absent": 2, "replace": 3}
+# The kinds whose objects are held or free: what takes hold of one, and what lets it go.
+TOKENS = ("mutex", "lock")
+HOLDS = {"acquire": "release", "lock": "unlock"}
+# The functions that reply their argument, that reply nil alone, and that reply whether they did, or found, what they ask for.
+REPLY_ARGUMENT = ("enqueue", "push", "insert", "write")
+REPLY_NIL = ("acquire", "release", "lock", "unlock", "clear", "assoc", "dissoc")
+REPLY_WHETHER = ("create", "put-if-absent", "replace", "add", "remove", "contains")
 
 
 @dataclass
@@ -66,7 +75,7 @@ def calls_of(history):
 
 @dataclass
 class Made:
-    """A history that is linearizable, of one object, and a valid order of it."""
+    """A history that is linearizable, of one object, and a valid order of it. The kind may be one of all functions."""
 
     kind: str
     maps: list
@@ -93,7 +102,7 @@ def made(kind, seed, calls=12, processes=3, values=4, on=0):
         process = names[place]
         if process not in running:
             if begun < calls:
-                f = rng.choice(FUNCTIONS.get(kind) or LATER_FUNCTIONS[kind])
+                f = rng.choice(ALL_FUNCTIONS[kind])
                 argument = argument_for(rng, f, values)
                 running[process] = [len(maps), f, argument, None]
                 maps.append(text_writers.invoke(process, f, argument, on))
@@ -124,26 +133,33 @@ def spoilt(kind, seed):
     rng = random.Random(f"spoilt {kind} {seed}")
     history = made(kind, seed, calls=rng.choice((6, 10, 16)), values=3)
     calls, _ = calls_of(history.text())
-    returned = [it for it in calls.values() if it.end == "ok"]
+    returned = [it for it in calls.values() if it.end == "ok" and (kind in TOKENS or it.f not in REPLY_NIL)]
     if not returned:
         return history.maps
     call = rng.choice(returned)
     maps = list(history.maps)
-    if kind == "mutex":
+    if kind in TOKENS:
         del maps[call.number : call.at + 1]
-        return [it for it in maps]
+        return maps
+    maps[call.at] = text_writers.ok(call.process, call.f, other_reply(rng, call), call.on)
+    return maps
+
+
+def other_reply(rng, call):
+    """A reply that the function of a call may have, in most cases another one."""
     reply = rng.choice((None, 0, 1, 2, 77))
     if call.f == "cas":
-        reply = False if call.reply is not False else call.argument
-    maps[call.at] = text_writers.ok(call.process, call.f, reply, call.on)
-    return maps
+        return False if call.reply is not False else call.argument
+    if call.f in REPLY_WHETHER:
+        return not call.reply
+    return reply if reply is not None or KIND_OF[call.f] != "counter" else -1
 
 
 def long_search(seed, on=None):
     """The maps of a history with an order that takes a long search: of writes at once the one that returned first is the last, since
     none of the other values was found afterwards. It is of this object, or other objects may have other calls."""
     rng = random.Random(f"long search {seed}")
-    others = made(rng.choice(tuple(FUNCTIONS)), f"beside {seed}", calls=rng.choice((0, 0, 5, 12)), on=0).maps if on is None else []
+    others = made(rng.choice(tuple(ALL_FUNCTIONS)), f"beside {seed}", calls=rng.choice((0, 0, 5, 12)), on=0).maps if on is None else []
     on, writers = (1 if others else on or 0), rng.sample(range(100, 200), rng.randrange(12, 15))
     maps = [text_writers.invoke(it, "write", it, on) for it in writers]
     maps += [text_writers.ok(it, "write", it, on) for it in writers]
@@ -161,16 +177,25 @@ FAULTS = {
     "found empty": ("queue", "stack", "heap"),
     "taken twice": ("queue", "stack", "heap"),
     "wrong turn": ("queue", "stack", "heap"),
-    "out of date": ("register", "map"),
+    "out of date": ("register", "map", "counter", "register of all functions", "map of all functions"),
     "own value": ("register", "map"),
+    "wrong answer": ("set", "register of all functions", "map of all functions"),
 }
+
+
+# The functions that reply what they found.
+READERS = ("dequeue", "pop", "extract-min", "read", "get", "fetch-add", "get-count")
 
 
 def wrong_replies(rng, sort, calls, replies):
     """Replies of which one or two are wrong in this way, where the calls can have such."""
-    readers = [it for it in replies if calls[it].f in ("dequeue", "pop", "extract-min", "read", "get")]
+    readers = [it for it in replies if calls[it].f in READERS]
     with_value = [it for it in readers if replies[it] is not None]
     setters = [it for it in replies if calls[it].f in ("cas", "put")]
+    answers = [it for it in replies if calls[it].f in REPLY_WHETHER]
+    if sort == "wrong answer":
+        own = rng.choice(answers) if answers else None
+        return {**replies, own: not replies[own]} if answers else replies
     if sort == "own value" and setters:
         own = rng.choice(setters)
         _, value = calls[own].argument
@@ -184,10 +209,11 @@ def wrong_replies(rng, sort, calls, replies):
 
 
 def faulty(sort, kind, seed):
-    """A made history of rarely the same value in which one or two replies are wrong, as a faulty object gives them, with the order of
-    the right one."""
+    """A made history of rarely the same value, if the kind is not of few, in which one or two replies are wrong, as a faulty object gives them, with
+    the order of the right one."""
     rng = random.Random(f"faulty {sort} {kind} {seed}")
-    right = made(kind, f"{sort} {seed}", calls=rng.choice((8, 14, 30)), processes=rng.choice((1, 2, 3)), values=1000)
+    values = 4 if kind in ("set", "map of all functions") else 1000
+    right = made(kind, f"{sort} {seed}", calls=rng.choice((8, 14, 30)), processes=rng.choice((1, 2, 3)), values=values)
     calls, maps = calls_of(right.text())[0], list(right.maps)
     replies = {it.number: it.reply for it in calls.values() if it.end == "ok"}
     for number, reply in wrong_replies(rng, sort, calls, replies).items():

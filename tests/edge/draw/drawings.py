@@ -12,6 +12,7 @@ from . import fault_places, pages, sentences, tables_and_boxes
 from .. import histories, text_writers, worked_rows
 from .pages import Drawn
 from .drawn_inputs import (
+    COUNTER_PAST_ITS_END, COUNTER_TELLS_ANOTHER, LOCK_OF_ANOTHER, LOCK_UNLOCKED_AGAIN, SET_ANSWERS_WRONGLY,
     OF_EACH, OF_EACH_FORM, Case, checked, comes_too_late, example, extreme, forty_objects, generated, hostile,
     many_objects, never_put, of_two_values, old_values, options_and_faults, orders_of, situations,
 )
@@ -441,6 +442,40 @@ FALSIFIED_TOO_LATE = {
 }
 # A line between points whose entries do not follow each other.
 FALSIFIED_SIXTY_LANES = {"marks": (("L447 1017M524 555M", "L447 1017L524 555M"),)}
+FALSIFIED_SET = {
+    "sentences": (("the set contains <code>{5, 7}</code> there", "the set contains <code>{5}</code> there"),),
+    # The operation that put it there is not named, and so not outlined.
+    "sentences captions": ((' 5 was put there by <a class="ref" href="#o0"><b>#0</b> <code>add 5 → true</code></a>.', ""),),
+    "boxes": (("gives true</text>", "gives</text>"), ("put by #2</text>", "put by #0</text>"), (">7</text>", ">8</text>")),
+    "rows": (("<td><code>{5, 7}</code></td>", "<td><code>{7, 5}</code></td>"),),
+}
+FALSIFIED_COUNTER = {
+    "sentences": (("the counter contains <code>2</code> there", "the counter contains <code>1</code> there"),),
+    "boxes": (("contains</text>", "gives</text>"), ('y="19">1</text>', 'y="19">0</text>')),
+    "rows": (("<td><code>2</code></td>", "<td><code>0</code></td>"),),
+}
+FALSIFIED_PAST_END = {
+    "sentences": (("07</code> there", "06</code> there"),),
+    # Without a known sentence nothing says why the entry is refused.
+    "sentences points rows": (("the sum has more than 64 bits", "the sum has more than 63 bits"),),
+}
+FALSIFIED_LOCK = {
+    "sentences": (("is unlocked only by its owner", "is locked only while it is free"), ("the lock is held there, by", "the lock is free there, since")),
+    "boxes": (('y="19">3</text>', 'y="19">4</text>'),),
+    "rows": (("<td><code>3</code></td>", "<td><code>held</code></td>"),),
+    "legend": (("</svg> releases</li>", "</svg> takes out</li>"),),
+}
+# A lock that another one unlocks, without one of the contents with which the first operation of the reason is not possible.
+FALSIFIED_LOCK_RELEASED = {
+    "tried": (
+        (
+            '<tr><th scope="row">2</th><td></td><td><code>held by another</code></td><td><a class="ref" href="#o2"><b>#2</b> <code>unlock 1</code></a></td>'
+            "<td>is not possible</td></tr>\n",
+            "",
+        ),
+        ("<span>Every order breaks. All 3 ways", "<span>Every order breaks. Both ways"),
+    ),
+}
 FALSIFIED_OPEN = {"open": (("has 24 of 25 operations", "has 23 of 25 operations"),), "sentences open": (("After it comes", "Before it comes"),)}
 # Its operations are all up to the first that does not fit: the 2,600 that put values in, and 1,302 that took them out.
 FALSIFIED_LONG_REASON = {
@@ -462,6 +497,11 @@ def falsified():
     yield never_put(), FALSIFIED_NEVER_PUT
     yield comes_too_late(), FALSIFIED_TOO_LATE
     yield checked("a queue of 60 processes", played(("queue",), 120, 60)), FALSIFIED_SIXTY_LANES
+    yield Case("a set finds another answer", SET_ANSWERS_WRONGLY, text_writers.order(0, 2, 4)), FALSIFIED_SET
+    yield Case("a counter tells another number", COUNTER_TELLS_ANOTHER, text_writers.order(0, 2)), FALSIFIED_COUNTER
+    yield Case("a counter past its end", COUNTER_PAST_ITS_END, text_writers.order(0, 2)), FALSIFIED_PAST_END
+    yield Case("a lock of another owner", LOCK_OF_ANOTHER, text_writers.order(0, 2)), FALSIFIED_LOCK
+    yield Case("a lock that is unlocked again", LOCK_UNLOCKED_AGAIN), FALSIFIED_LOCK_RELEASED
     yield Case("a short search", text_writers.lines(*histories.long_search(1)), None, ("--steps", "1")), FALSIFIED_OPEN
     yield Case("a reason of 3 902 operations", of_two_values(2_600, 1)), FALSIFIED_LONG_REASON
 

@@ -16,6 +16,11 @@ LEAST = -(2**63)
 OF_EACH = 50
 # How often each sentence must be said.
 OF_EACH_FORM = 5
+# Of how many kinds there is a spoilt history with each seed.
+SPOILT = 5
+CONTAINERS = (("enqueue", "dequeue"), ("push", "pop"), ("insert", "extract-min"))
+WITHOUT_TOKENS = tuple(it for it in histories.ALL_FUNCTIONS if it not in histories.TOKENS)
+PUTTERS = (*histories.REPLY_ARGUMENT, *histories.HOLDS, "put", "assoc", "put-if-absent", "create", "add", "fetch-add")
 
 
 @dataclass(frozen=True)
@@ -131,6 +136,11 @@ TAKEN_BY_A_PENDING_ONE = text_writers.lines(
 )
 WRONG_REPLY_OF_AN_ENQUEUE = text_writers.one_process(("enqueue", 7, 7), ("enqueue", 1, 2))
 ACQUIRED_TWICE = text_writers.one_process(("acquire", None, None), ("release", None, None), ("acquire", None, None), ("acquire", None, None))
+SET_ANSWERS_WRONGLY = text_writers.one_process(("add", 5, True), ("add", 7, True), ("contains", 5, False))
+COUNTER_TELLS_ANOTHER = text_writers.one_process(("fetch-add", 2, 0), ("get-count", None, 1))
+COUNTER_PAST_ITS_END = text_writers.one_process(("fetch-add", GREATEST, 0), ("fetch-add", 1, GREATEST))
+LOCK_OF_ANOTHER = text_writers.one_process(("lock", 3, None), ("unlock", 4, None))
+LOCK_UNLOCKED_AGAIN = text_writers.one_process(("lock", 1, None), ("unlock", 1, None), ("unlock", 3, None))
 BUSY = text_writers.lines(
     text_writers.invoke(0, "write", 1),
     text_writers.invoke(1, "read"),
@@ -201,6 +211,10 @@ def of_no(program):
     yield Case("a value that a pending operation took out", TAKEN_BY_A_PENDING_ONE, text_writers.order(0, 2, 4, 6, 8), says=("c6 taken",))
     yield Case("an enqueue returns another value", WRONG_REPLY_OF_AN_ENQUEUE, text_writers.order(0, 2))
     yield Case("a mutex is acquired twice", ACQUIRED_TWICE, text_writers.order(0, 2, 4, 6), says=("c9 held",))
+    yield Case("a set gives another answer", SET_ANSWERS_WRONGLY, text_writers.order(0, 2, 4), says=("c6 of a set", "c6 whether"))
+    yield Case("a counter tells another number", COUNTER_TELLS_ANOTHER, text_writers.order(0, 2), says=("c6 of a counter",))
+    yield Case("a counter is past its end", COUNTER_PAST_ITS_END, text_writers.order(0, 2), says=("past_end",))
+    yield Case("a lock is unlocked by another", LOCK_OF_ANOTHER, text_writers.order(0, 2), says=("c9 of another owner",))
 
 
 def of_two_values(count, processes, put="enqueue", take="dequeue"):
@@ -219,9 +233,9 @@ def one_call(process, f, argument, reply):
     return text_writers.invoke(process, f, argument), text_writers.ok(process, f, reply)
 
 
-def taken_again(count):
-    """A history of a queue in which one value is put in n times, and taken out once more."""
-    calls = [("enqueue", 7, 7), ("dequeue", None, 7)] * count + [("dequeue", None, 7)]
+def taken_again(count, put="enqueue", take="dequeue"):
+    """A history of a queue, stack or heap in which one value is put in n times, and taken out once more."""
+    calls = [(put, 7, 7), (take, None, 7)] * count + [(take, None, 7)]
     return text_writers.one_process(*calls)
 
 
@@ -241,12 +255,20 @@ def old_values():
     yield "a del", [*of_map, ("del", 5, 1)]
     yield "a get after a del", [*of_map, ("del", 5, 2), ("get", 5, 2)]
     yield "a get of nothing", [*of_map, ("get", 5, None)]
+    yield "a read after a clear", [("write", 1, 1), ("clear", None, None), ("read", None, 1)]
+    yield "a read after a create", [("create", 1, True), ("read", None, None)]
+    yield "a get after an assoc", [("assoc", (5, 1), None), ("assoc", (5, 2), None), ("get", 5, 1)]
+    yield "a get after a dissoc", [("assoc", (5, 1), None), ("dissoc", 5, None), ("get", 5, 1)]
+    yield "a replace", [*of_map, ("replace", (5, 1, 3), True)]
+    yield "a get after a replace", [*of_map, ("replace", (5, 2, 3), True), ("get", 5, 2)]
 
 
 def of_impossible():
     """Histories without an order, of faulty objects."""
     for name, calls in old_values():
         yield Case(f"{name} finds an old value", text_writers.one_process(*calls), says=("out_of_date",))
+    for calls in ([("write", 1, 1), ("create", 2, True)], [("assoc", (5, 1), None), ("put-if-absent", (5, 2), True)]):
+        yield Case(f"a {calls[1][0]} finds nothing where a value is", text_writers.one_process(*calls), says=("general",))
     yield Case("a value taken out 301 times", taken_again(300), says=("too_often",))
     yield Case("a reason of 100 operations of 40 processes", of_two_values(50, 40), says=("general",))
     yield Case("a reason of 5 200 operations", of_two_values(2_600, 1), says=("general",))
@@ -362,7 +384,7 @@ def extreme():
             says=("c6",),
         )
         yield Case(f"a {name} with values at the limits, impossible", text_writers.one_process(*wrong))
-    for put, take in (("enqueue", "dequeue"), ("push", "pop"), ("insert", "extract-min")):
+    for put, take in CONTAINERS:
         values = [GREATEST - it for it in range(12)] + [LEAST + it for it in range(12)]
         calls = [(put, it, it) for it in values] + [(take, None, values[5])]
         yield Case(f"24 values of 64 bits, {take}", text_writers.one_process(*calls), text_writers.order(*range(0, 50, 2)), says=("c6",))
@@ -414,31 +436,47 @@ def mutated(rng, made, code):
 def without_one(rng, made):
     """The order without one that puts a value in, or with one of these at its end."""
     calls, _ = histories.calls_of(made.text())
-    putters = [it for it in made.order if calls[it].f in ("enqueue", "push", "insert", "write", "put", "acquire")]
+    putters = [it for it in made.order if calls[it].f in PUTTERS]
     if not putters:
         return made.order
     gone = rng.choice(putters)
     return [it for it in made.order if it != gone] + rng.choice(([], [gone]))
 
 
-def given_back_twice(seed):
-    """A history of a mutex that processes hold in turn, and that another one gives back once more."""
+def given_back_twice(seed, takes_hold="acquire"):
+    """A history of a mutex, or of a lock, that processes hold in turn, and that another one gives back once more."""
     rng = random.Random(f"given back twice {seed}")
-    calls = [(rng.randrange(3), f) for _ in range(rng.randrange(2, 20)) for f in ("acquire", "release")]
+    calls = [(rng.randrange(3), is_taken) for _ in range(rng.randrange(2, 20)) for is_taken in (True, False)]
     at = 0 if seed < OF_EACH_FORM else rng.randrange(1, len(calls) // 2 + 1) * 2
-    calls.insert(at, (3, "release"))
-    maps = [write(process, f) for process, f in calls for write in (text_writers.invoke, text_writers.ok)]
-    if at > 0 and rng.random() < 0.5:
+    # A lock by another one than its owner, while it is held.
+    at -= takes_hold == "lock" and at > 0
+    calls.insert(at, (3, False))
+    name = lambda is_taken: takes_hold if is_taken else histories.HOLDS[takes_hold]
+    owner = lambda process: process if takes_hold == "lock" else None
+    maps = [line for process, is_taken in calls for line in one_call(process, name(is_taken), owner(process), None)]
+    if at > 0 and takes_hold == "acquire" and rng.random() < 0.5:
         # It overlaps the one before.
         maps[2 * at - 1], maps[2 * at] = maps[2 * at], maps[2 * at - 1]
     return text_writers.lines(*maps)
+
+
+def past_its_end(seed):
+    """A history of a counter of which one addition is possible only after another one, which the order has after it."""
+    rng = random.Random(f"past its end {seed}")
+    less = rng.randrange(1, 100)
+    sign, more = rng.choice((1, -1)), rng.randrange(1, less + 1)
+    start = GREATEST - rng.randrange(more) if sign > 0 else LEAST + rng.randrange(more)
+    first, last = (-sign * less, start), (sign * more, start - sign * less)
+    maps = [*one_call(0, "fetch-add", start, 0), *[text_writers.invoke(it, "fetch-add", amount) for it, (amount, _) in enumerate((first, last))]]
+    maps += [text_writers.ok(it, "fetch-add", found) for it, (_, found) in enumerate((first, last))]
+    return histories.Made("counter", maps, [0, 3, 2])
 
 
 def of_faults():
     """Histories that are wrong in each way, judged, and checked by the order that was right."""
     for sort, kinds in histories.FAULTS.items():
         for kind in kinds:
-            for seed in range(14):
+            for seed in range(14 if kind in histories.FUNCTIONS else 6):
                 made = histories.faulty(sort, kind, seed)
                 yield Case(f"{sort} {kind} {seed}", made.text())
                 if made.order:
@@ -446,10 +484,19 @@ def of_faults():
     for seed in range(20):
         yield Case(f"sharded {seed}", played(("queue",), 24, 3, ShardedQueue, seed=seed).text())
         yield Case(f"a mutex that is given back twice {seed}", given_back_twice(seed))
-        yield Case(f"an expiring lock {seed}", played(("mutex",), 40, 3, ExpiringLock, seed=seed).text())
+        kind = histories.TOKENS[seed % 2]
+        yield Case(f"an expiring {kind} {seed}", played((kind,), 40, 3, ExpiringLock, seed=seed).text())
+    for seed in range(2 * OF_EACH_FORM):
+        lock = given_back_twice(seed, "lock")
+        yield Case(f"a lock that is given back twice {seed}", lock)
+        yield Case(f"a lock that is given back twice {seed} checked", lock, text_writers.order(*range(0, lock.count("\n"), 2)))
+        counter = past_its_end(seed)
+        yield Case(f"a counter past its end {seed}", counter.text(), text_writers.order(*counter.order))
+    for put, take in CONTAINERS:
+        yield Case(f"a value that {take} gives a third time", taken_again(2, put, take))
     for seed in range(60):
         rng = random.Random(f"without one {seed}")
-        made = histories.made(rng.choice(tuple(histories.FUNCTIONS)), f"without {seed}", calls=20, processes=rng.choice((1, 2, 3)), values=1000)
+        made = histories.made(rng.choice(tuple(histories.ALL_FUNCTIONS)), f"without {seed}", calls=20, processes=rng.choice((1, 2, 3)), values=1000)
         yield Case(f"without one {seed}", made.text(), text_writers.order(*without_one(rng, made)))
 
 
@@ -457,12 +504,12 @@ def of_several_objects():
     """Histories of two objects and a nemesis, with an entry that is no operation of the object, and other objects that are asked for."""
     for seed in range(40):
         rng = random.Random(f"several {seed}")
-        made = played(rng.sample(tuple(histories.FUNCTIONS)[:5], 2), 12, 3, seed=seed, lost=1, refused=1, nemeses=2)
+        made = played(rng.sample(WITHOUT_TOKENS, 2), 12, 3, seed=seed, lost=1, refused=1, nemeses=2)
         numbers = [number for number, it in enumerate(made.maps) if ":nemesis" in it] + made.orders.get(1, [])
         order = list(made.orders.get(0, []))
         order.insert(rng.randrange(len(order) + 1), rng.choice(numbers))
         yield Case(f"several {seed}", made.text(), made.certificates(lambda _, order=order: order))
-        yield Case(f"several {seed} without", made.text(), None, ("--object", str(rng.choice((0, 1, 2)))))
+        yield Case(f"several {seed} without", made.text(), None, ("--object", str(seed % 3)))
     for seed in range(8):
         yield Case(f"no operations {seed}", text_writers.lines(*[like_recorded.nemesis("stop") for _ in range(seed)]), rng.choice((None, "")))
 
@@ -471,18 +518,20 @@ def generated():
     """Histories of each verdict, several times as many as are wanted: which verdict it is, the program says."""
     yield from of_faults()
     yield from of_several_objects()
-    kinds = tuple(histories.FUNCTIONS)
+    kinds = tuple(histories.ALL_FUNCTIONS)
     for seed in range(3 * OF_EACH):
         rng = random.Random(f"generated {seed}")
         kind = kinds[seed % len(kinds)]
         made = histories.made(kind, seed, calls=rng.choice((4, 9, 20, 45)), processes=rng.choice((2, 3, 5)))
         yield Case(f"generated {kind} {seed}", made.text(), rng.choice((None, text_writers.order(*made.order))))
         for code in ("C1", "C2", "C3", "C4", "C5", "C6", "C7"):
-            other = histories.made(kind if code != "C6" else kinds[seed % 5], seed, calls=rng.choice((4, 9, 20, 45)), processes=rng.choice((1, 2, 3)))
+            of = kind if code != "C6" else WITHOUT_TOKENS[seed % len(WITHOUT_TOKENS)]
+            other = histories.made(of, seed, calls=rng.choice((4, 9, 20, 45)), processes=rng.choice((1, 2, 3)))
             yield Case(f"generated {code} {kind} {seed}", other.text(), mutated(rng, other, code))
-        mutex = histories.made("mutex", seed, calls=12, processes=2)
-        yield Case(f"generated C9 {seed}", mutex.text(), mutated(rng, mutex, "C9"))
-        for kind in kinds:
+        token = histories.made(histories.TOKENS[seed % 2], seed, calls=12, processes=2)
+        yield Case(f"generated C9 {seed}", token.text(), mutated(rng, token, "C9"))
+        for number in range(SPOILT * seed, SPOILT * (seed + 1)):
+            kind = kinds[number % len(kinds)]
             yield Case(f"spoilt {kind} {seed}", text_writers.lines(*histories.spoilt(kind, seed)))
     for seed in range(OF_EACH + 10):
         yield Case(f"a long search {seed}", text_writers.lines(*histories.long_search(seed)), None, ("--steps", str(seed % 3)))

@@ -12,7 +12,7 @@ from ..judge.like_recorded import played
 # How many pages are looked at. 500 are by tests/run --pages 500.
 PAGES = 40
 PROCESSES = (2, 3, 8, 24, 25, 60, 200, 1_000)
-KINDS = ("queue", "stack", "heap", "register", "map", "mutex")
+KINDS = tuple(histories.ALL_FUNCTIONS)
 
 
 def case_of(seed):
@@ -21,7 +21,7 @@ def case_of(seed):
     processes = PROCESSES[seed % len(PROCESSES)]
     calls = max(rng.choice((5, 40, 120, 400)), processes + rng.randrange(50))
     lost = calls * rng.choice((0, 5, 20, 40)) // 100
-    kind = rng.choice(KINDS[:5] if lost else KINDS)
+    kind = rng.choice([it for it in KINDS if not lost or it not in histories.TOKENS])
     made = played((kind,), calls, processes, seed=seed, lost=lost, refused=rng.choice((0, 3)), nemeses=rng.choice((0, 2)))
     options = () if rng.random() < 0.6 else ("--from", str(rng.randrange(2 * calls)))
     return Case(f"case {seed}", made.text(), rng.choice((made.certificates(), "")), options)

@@ -2,12 +2,11 @@
 import itertools
 import re
 
-from ..histories import KIND_OF, calls_of
+from ..histories import ALL_FUNCTIONS, HOLDS, KIND_OF, REPLY_ARGUMENT, REPLY_NIL, TOKENS, calls_of
 from .pages import REF, found, spelled
 from ..verify.reasons import NEXT, OPEN, has_order, maps_of
 from ..text_writers import value
 
-PUT = {"queue": "enqueue", "stack": "push", "heap": "insert", "register": "write", "map": "put", "mutex": "acquire"}
 PUTS = ("enqueue", "push", "insert", "write", "put", "cas")
 TAKES = ("dequeue", "pop", "extract-min")
 # The most rows of the table of objects.
@@ -15,7 +14,15 @@ MOST_OBJECTS = 64
 # How many operations a sentence or a note names one by one at most.
 FEW_NAMED = 12
 TIMES = {"once": 1, "twice": 2}
-ROLES = {f: "put" for f in PUT.values()} | {f: "take" for f in (*TAKES, "del", "release")} | {f: "read" for f in ("read", "get")} | {"cas": "swap"}
+ROLES = {
+    **dict.fromkeys((*REPLY_ARGUMENT, "put", "assoc", "add", "fetch-add", *HOLDS), "put"),
+    **dict.fromkeys((*TAKES, "del", "dissoc", "clear", "remove", *HOLDS.values()), "take"),
+    **dict.fromkeys(("read", "get", "contains", "get-count"), "read"),
+    **dict.fromkeys(("cas", "create", "put-if-absent", "replace"), "swap"),
+}
+# What sets a value, unless it replies false.
+SETTERS = (*REPLY_ARGUMENT, "cas", "create", "put", "assoc", "put-if-absent", "replace", "add")
+LEAST, GREATEST = -(2**63), 2**63 - 1
 STATES = {"ok": "done", "fail": "failed", "info": "pending", "open": "pending"}
 
 
@@ -33,22 +40,23 @@ def label_of(call):
     text = call.f + ("" if call.argument is None else f" {value(call.argument)}")
     if call.end in ("open", "info"):
         return f"{text} → ?"
-    is_said = call.f in ("acquire", "release") or call.f in ("enqueue", "push", "insert", "write") and call.reply == call.argument
+    is_said = call.f in REPLY_NIL or call.f in REPLY_ARGUMENT and call.reply == call.argument
     return text if call.end == "fail" or is_said else f"{text} → {value(call.reply)}"
 
 
 def value_put(call):
-    if call.f in ("enqueue", "push", "insert", "write"):
-        return call.argument
-    if call.f == "put" or call.f == "cas" and call.reply is not False:
-        return call.argument[1]
-    return None
+    """The value that a call puts in, or sets, or None."""
+    if call.f not in SETTERS or call.reply is False:
+        return None
+    return call.argument[-1] if isinstance(call.argument, tuple) else call.argument
 
 
 def found_by(call):
     """What a register or a key contained before the call, by its reply; ... where that does not tell it."""
-    if call.f == "cas":
-        return ... if call.reply is False else call.argument[0]
+    if call.f in ("cas", "replace"):
+        return ... if call.reply is False else call.argument[-2]
+    if call.f in ("create", "put-if-absent"):
+        return ... if call.reply is False else None
     return call.reply if call.f in ("read", "get", "put", "del") else ...
 
 
@@ -56,62 +64,122 @@ def left_by(call):
     """What a register or a key contained after the call, which returned; ... where that can't be told."""
     if call.f in ("read", "get"):
         return call.reply
-    return None if call.f == "del" else ... if value_put(call) is None else value_put(call)
+    return None if call.f in ("del", "dissoc", "clear") else ... if value_put(call) is None else value_put(call)
 
 
 def key_of(call):
-    return call.argument[0] if call.f == "put" else call.argument if call.f in ("get", "del") else None
+    """The key of a call on a map, and the element of one on a set."""
+    if KIND_OF[call.f] not in ("map", "set"):
+        return None
+    return call.argument[0] if isinstance(call.argument, tuple) else call.argument
+
+
+def integers_of(call):
+    """The integers that a call takes and replies."""
+    those = [it for own in (call.argument, call.reply) for it in (own if isinstance(own, tuple) else (own,))]
+    return {it for it in those if it is not None and not isinstance(it, bool)}
+
+
+# What a call on a cell of a register, map or set replies where the cell contains this, or nothing, and what it then sets it to; ... where it sets
+# nothing.
+ON_CELL = {
+    "write": lambda of, now: (of, of),
+    "read": lambda of, now: (now, ...),
+    "cas": lambda of, now: (of, of[1]) if now == of[0] else (False, ...),
+    "create": lambda of, now: (True, of) if now is None else (False, ...),
+    "clear": lambda of, now: (None, None),
+    "put": lambda of, now: (now, of[1]),
+    "get": lambda of, now: (now, ...),
+    "del": lambda of, now: (now, None),
+    "assoc": lambda of, now: (None, of[1]),
+    "dissoc": lambda of, now: (None, None),
+    "put-if-absent": lambda of, now: (True, of[1]) if now is None else (False, ...),
+    "replace": lambda of, now: (True, of[2]) if now == of[1] else (False, ...),
+    "add": lambda of, now: (True, of) if now is None else (False, ...),
+    "remove": lambda of, now: (now is not None, None),
+    "contains": lambda of, now: (now is not None, ...),
+}
 
 
 class Walked:
-    """What an object contains after some entries of an order, as values with the numbers of the calls that put them there."""
+    """What an object contains after some entries of an order, with the numbers of the calls that put it there."""
 
     def __init__(self, kind):
         self.kind, self.items, self.holder, self.releaser = kind, [], None, None
+        # Of a lock its owner; of a counter its number, and the last call that changed it.
+        self.owner, self.number, self.changer = None, 0, None
 
     def take(self, call):
         """Takes in a call, and returns its reply."""
-        before, f, of = list(self.items), call.f, call.argument
-        if f in ("enqueue", "push", "insert"):
-            self.items.append((of, call.number))
-            if f == "insert":
-                self.items.sort()
-            return of
-        if f in TAKES:
-            return self.items.pop(-1 if f == "pop" else 0)[0] if before else None
-        if f == "write" or f == "cas" and before and before[0][0] == of[0]:
-            self.items = [(of if f == "write" else of[1], call.number)]
-            return of
-        if f in ("read", "cas"):
-            return False if f == "cas" else before[0][0] if before else None
-        if f in ("put", "get", "del"):
-            own = [it for it in before if it[0][0] == key_of(call)]
-            if f != "get":
-                self.items = [it for it in before if it not in own]
-            if f == "put":
-                self.items = sorted(self.items + [(of, call.number)])
-            return own[0][0][1] if own else None
-        self.holder, self.releaser = (call.number, self.releaser) if f == "acquire" else (None, call.number)
-        return None
+        if call.f in ON_CELL:
+            return self.take_of_cell(call)
+        if self.kind == "counter":
+            return self.take_of_counter(call)
+        if call.f in HOLDS:
+            self.holder, self.owner = call.number, call.argument
+            return None
+        if call.f in HOLDS.values():
+            self.holder, self.owner, self.releaser = None, None, call.number
+            return None
+        if call.f in TAKES:
+            return self.items.pop(-1 if call.f == "pop" else 0)[0] if self.items else None
+        self.items.append((call.argument, call.number))
+        if call.f == "insert":
+            self.items.sort()
+        return call.argument
+
+    def take_of_cell(self, call):
+        own, found, key = self.entry_of(call), self.found(call), key_of(call)
+        reply, left = ON_CELL[call.f](call.argument, found[0] if found else None)
+        if left is not ...:
+            self.items = [it for it in self.items if it is not own]
+        if left is not ... and left is not None:
+            self.items = sorted([*self.items, ((key, left) if self.kind == "map" else left, call.number)])
+        return reply
+
+    def take_of_counter(self, call):
+        before, amount = self.number, call.argument if call.f == "fetch-add" else 0
+        self.number += amount
+        self.changer = call.number if amount else self.changer
+        return before
 
     def is_possible(self, call):
-        return call.f not in ("acquire", "release") or (call.f == "acquire") == (self.holder is None)
+        if call.f in HOLDS:
+            return self.holder is None
+        if call.f in HOLDS.values():
+            return self.holder is not None and self.owner == call.argument
+        return call.f != "fetch-add" or LEAST <= self.number + call.argument <= GREATEST
+
+    def entry_of(self, call):
+        """The item of the cell of a call, with its key if it has one, or None."""
+        key = key_of(call)
+        return next((it for it in self.items if key is None or (it[0][0] if self.kind == "map" else it[0]) == key), None)
 
     def found(self, call):
         """The item that the call finds, or None."""
-        if call.f in ("put", "get", "del"):
-            return next(((it[0][1], it[1]) for it in self.items if it[0][0] == key_of(call)), None)
+        if call.f in ON_CELL:
+            own = self.entry_of(call)
+            return (own[0][1], own[1]) if own and self.kind == "map" else own
+        if self.kind == "counter":
+            return None if self.changer is None else (self.number, self.changer)
         return (self.items[-1] if self.kind == "stack" else self.items[0]) if self.items else None
+
+    def state(self):
+        """What it contains, without the calls that put it there."""
+        return [it[0] for it in self.items], self.holder is None, self.owner, self.number
 
     def text(self):
         values = [it[0] for it in self.items]
-        if self.kind == "mutex":
-            return "free" if self.holder is None else "held"
+        if self.kind == "counter":
+            return str(self.number)
+        if self.kind in TOKENS:
+            return "free" if self.holder is None else "held" if self.kind == "mutex" else str(self.owner)
         if self.kind == "register":
             return value(values[0] if values else None)
-        if self.kind == "map":
+        if self.kind in ("map", "set"):
             more = f", … {len(values) - 6} more" if len(values) > 6 else ""
-            return "{" + ", ".join(f"{k} {v}" for k, v in values[:6]) + more + "}"
+            entries = [f"{it[0]} {it[1]}" if self.kind == "map" else str(it) for it in values[:6]]
+            return "{" + ", ".join(entries) + more + "}"
         if len(values) > 11:
             first = 2 if self.kind == "stack" else 8
             shown = (" ".join(map(str, it)) for it in (values[:first], values[first - 10 :]))
@@ -189,14 +257,19 @@ class Said:
         order = self.orders[call.on]
         return call, order, order[int(k) - 1] == call.number, self.walked(call.on, order, int(k))
 
-    def c9(self, k, n, of):
+    def c9(self, k, n, kind, of, rule):
         call, order, is_there, walk = self.at_entry(k, n)
         held = re.fullmatch(r"held there, by ⟨(\d+)\|.*", of)
         since = re.fullmatch(r"free there, since ⟨(\d+)\|.*", of)
+        is_so = is_there and not walk.is_possible(call) and (KIND_OF[call.f], RULES[call.f]) == (kind, rule)
         if held:
-            return is_there and walk.holder == int(held[1]) and call.f == "acquire"
+            return is_so and walk.holder == int(held[1])
         releaser = int(since[1]) if since else None
-        return is_there and walk.holder is None and walk.releaser == releaser and call.f == "release"
+        return is_so and walk.holder is None and walk.releaser == releaser and (since or of == "free there, from the beginning")
+
+    def past_end(self, k, n, number):
+        call, _, is_there, walk = self.at_entry(k, n)
+        return is_there and call.f == "fetch-add" and not walk.is_possible(call) and walk.number == int(number)
 
     def c6(self, k, n, gives, kind, content, returned, rest):
         call, order, is_there, walk = self.at_entry(k, n)
@@ -204,15 +277,16 @@ class Said:
         is_so = is_there and (value(given), value(call.reply)) == (gives, returned) and call.end == "ok"
         is_so &= KIND_OF[call.f] == kind and text == content and given != call.reply
         giver = re.match(rf" (-?\d+) was put there by {REF}\.", rest)
+        is_so &= bool(giver) == (found is not None and call.f not in REPLY_ARGUMENT)
         if giver:
-            is_so &= found == (int(giver[1]), int(giver[2])) and call.f not in ("enqueue", "push", "insert", "write")
+            is_so &= found == (int(giver[1]), int(giver[2]))
             rest = rest[giver.end() :]
         return bool(is_so and (not rest or self.source(call, order, int(k), walk, rest)))
 
     def source(self, call, order, k, walk, rest):
         """Checks the sentence for the value that the call returned."""
         live = [it for it in self.on(call.on) if it.is_live() and it.number < call.at]
-        same_key = [it for it in live if key_of(it) == key_of(call) or it.f not in ("put", "get", "del")]
+        same_key = [it for it in live if key_of(it) == key_of(call)]
         nothing = re.fullmatch(r" No (other )?operation that was invoked before event (\d+) put (-?\d+)\.", rest)
         if nothing:
             putters = [it.number for it in same_key if value_put(it) == int(nothing[3])]
@@ -238,7 +312,7 @@ class Said:
             taker, rank = self.calls[int(taken[1])], int(taken[3])
             is_there = place < rank < k and order[rank - 1] == taker.number and taker.f in TAKES
             return is_there and self.walked(call.on, order, rank).found(taker) == (wanted, number)
-        return how == "" and call.f in ("read", "cas", "put", "get", "del")
+        return how == "" and call.f in ON_CELL
 
     # ---- no order
 
@@ -264,15 +338,24 @@ class Said:
         is_so = later.end == earlier.end == "ok" and found is not Ellipsis and left is not Ellipsis and found != left
         is_so &= v == again == so == value(None if found is Ellipsis else found) and key_of(later) == key_of(earlier) and later.on == earlier.on
         is_so &= verb == ("returned" if later.f in ("read", "get") else "found")
-        under, key = "" if key_of(earlier) is None else f" under key {key_of(earlier)}", key_of(earlier)
-        words = {"read": f"found {{}}{under}", "get": f"found {{}}{under}", "del": f"deleted key {key}"}.get(earlier.f, f"set {{}}{under}")
-        is_so &= how == words.format(value(None if left is Ellipsis else left))
+        is_so &= how == self.left_in_words(earlier, value(None if left is Ellipsis else left))
         is_so &= earlier.returned() == int(at) < later.number and (earlier.number, later.at) == (int(first), int(last))
         ran = [it for it in self.on(later.on) if it.is_live() and it.number < later.at and (it.returned() is None or it.returned() > earlier.number)]
-        others = [it for it in ran if it.number != later.number and (key_of(it) == key_of(later) or it.f in ("write", "cas"))]
+        others = [it for it in ran if it.number != later.number and key_of(it) == key_of(later)]
         if found is None:
-            return is_so and not any(it.f == "del" for it in others)
-        return is_so and not any(value_put(it) == found and it.argument != (found, found) for it in others)
+            return is_so and not any(it.f in ("del", "dissoc", "clear") for it in others)
+        # What replaces a value by the same does not make it that again.
+        keeps = [it for it in others if it.f in ("cas", "replace") and it.argument[-2:] == (found, found)]
+        return is_so and not any(value_put(it) == found and it not in keeps for it in others)
+
+    def left_in_words(self, call, left):
+        """What a call left in its cell, in the words of a page."""
+        if call.f == "clear":
+            return "left nothing"
+        if call.f in ("del", "dissoc"):
+            return f"deleted key {key_of(call)}"
+        under = "" if key_of(call) is None else f" under key {key_of(call)}"
+        return f"{'found' if call.f in ('read', 'get') else 'set'} {left}{under}"
 
     def twice_released(self, first, last, a, b):
         one, two = self.calls[int(a)], self.calls[int(b)]
@@ -359,14 +442,13 @@ class Said:
         if not has_window:
             return [()]
         kind = KIND_OF[calls[0].f]
-        seen = {it for call in calls for it in (call.reply, value_put(call)) if isinstance(it, int) and it is not False} | {-99}
-        if kind == "mutex":
-            return [(), ("held",)]
-        if kind == "register":
-            return [()] + [(it,) for it in seen]
-        if kind == "map":
-            keys = {key_of(it) for it in calls}
-            return [tuple(zip(sorted(keys), those)) for those in itertools.product(seen, repeat=len(keys))] + [()]
+        seen = {it for call in calls for it in integers_of(call)} | {-99}
+        if kind in ("map", "set"):
+            return contents_by_keys(kind, calls)
+        if kind == "counter":
+            return contents_of_counter(calls)
+        if kind in ("register", *TOKENS):
+            return [(), *[(it,) for it in (("held",) if kind == "mutex" else seen)]]
         sizes = range(3)
         found = [it for size in sizes for it in itertools.product(sorted(seen), repeat=size)]
         return [tuple(sorted(it)) if kind == "heap" else it for it in found]
@@ -389,6 +471,22 @@ class Said:
             if is_ordered(kept, content):
                 return True
         return False
+
+
+def contents_by_keys(kind, calls):
+    """What a map or a set may have contained before the calls, of their keys or elements: of each a value that they name, another one, or nothing."""
+    keys = sorted({key_of(it) for it in calls})
+    if kind == "set":
+        return [those for size in range(len(keys) + 1) for those in itertools.combinations(keys, size)]
+    values = [{it for call in calls if key_of(call) == key for it in integers_of(call)} | {-99, None} for key in keys]
+    return [tuple((key, it) for key, it in zip(keys, those) if it is not None) for those in itertools.product(*values)]
+
+
+def contents_of_counter(calls):
+    """The numbers before the calls of which one may be told: before the first of them that returned some pending ones may have added."""
+    pending = [it.argument for it in calls if it.returned() is None and it.f == "fetch-add"]
+    sums = {sum(those) for size in range(len(pending) + 1) for those in itertools.combinations(pending, size)}
+    return [(it,) for it in {it.reply - amount for it in calls if it.returned() is not None for amount in sums}]
 
 
 def is_ordered(calls, content):
@@ -416,8 +514,15 @@ VALID = (
     "The history is linearizable: (?:this order is|these orders, one for each object, are) valid. Each operation that returned has its "
     "place in the order between its invocation and its return, and each reply is what the object gives there."
 )
-KINDS = "(queue|stack|heap|register|map|mutex)"
-REPLY = r"(nil|false|-?\d+|\[-?\d+ -?\d+\])"
+KINDS = rf"({'|'.join(sorted({kind.split()[0] for kind in ALL_FUNCTIONS}))})"
+REPLY = r"(nil|false|true|-?\d+|\[-?\d+ -?\d+\])"
+# When an operation on an object that is held or free is possible.
+RULES = {
+    "acquire": "A mutex is acquired only while it is free",
+    "release": "A mutex is released only while it is held",
+    "lock": "A lock is locked only while it is free",
+    "unlock": "A lock is unlocked only by its owner",
+}
 FORMS = {
     "c1": r"Object (\d+) has no certificate. The history has ([\d ]+) operations? on it, so it needs one: `\{:object \d+, :order \[..\]\}`.",
     "c2": r"The certificates give an order for object (\d+), and no invocation of the history names it. Each certificate must be of an "
@@ -429,13 +534,13 @@ FORMS = {
     "c6": rf"As entry (\d+) of the order, {REF} gives {REPLY}: the {KINDS} contains `([^`]*)` there. The history says that it returned "
     rf"{REPLY}\.(.*)",
     "c7": rf"{REF} returned at event (\d+), so it happened. But the order for object (\d+) leaves it out.",
-    "c9": rf"As entry (\d+) of the order, {REF} is not possible: the mutex is (.*)\. A mutex is (?:acquired only while it is free|released "
-    r"only while it is held)\.",
+    "c9": rf"As entry (\d+) of the order, {REF} is not possible: the {KINDS} is (.*)\. (A (?:mutex|lock) is .*)\.",
+    "past_end": rf"As entry (\d+) of the order, {REF} is not possible: the counter contains `(-?\d+)` there, and the sum has more than 64 bits\.",
     "none_valid": rf"No order of the operations of object (\d+), a {KINDS}, is valid. So the history is not linearizable.",
     "never_put": rf"{REF} returned (-?\d+) at event (\d+), and no ([\w-]+) of (-?\d+) was invoked before that.",
     "not_empty": rf"{REF} found the {KINDS} empty. But {REF} had returned before \(event (\d+)\), and nothing that was invoked before event "
     r"(\d+) took (-?\d+) out again. So the \w+ contained -?\d+.",
-    "out_of_date": rf"{REF} (returned|found) (nil|-?\d+). But {REF} ((?:set|found|deleted) [\w -]+) and returned "
+    "out_of_date": rf"{REF} (returned|found) (nil|-?\d+). But {REF} ((?:set|found|deleted|left) [\w -]+) and returned "
     r"\(event (\d+)\) before that began, and nothing else that ran in between \(events (\d+) to (\d+)\) made it (nil|-?\d+) again. "
     r"So (nil|-?\d+) is out of date.",
     "twice_released": rf"Between event (\d+) and event (\d+) the mutex was released twice, by {REF} and {REF}, and no acquire ran in between.",
@@ -458,8 +563,9 @@ GENERAL = re.compile(
     rf"(?:⟨(\d+)\|[^⟩]*⟩ could not return {REPLY}\.|⟨(\d+)\|[^⟩]*⟩ is not possible\.|one of them does not fit(?:: the table says where each "
     r"order breaks)?\.)"
 )
-# A line that says no more than the general sentence.
+# A line that says no more than the general sentence, of any object or of an element of a set.
 SAYS_NO_MORE = "the following operations have no valid order"
+SAY_NO_MORE = r"the following operations(?: on value -?\d+)? have no valid order$"
 # What is said beside.
 ASIDES = (
     r"`--steps N` lets the last search of an object go further\.",
@@ -491,6 +597,11 @@ ENDINGS = {
     "c9 held": ("c9", "the mutex is held there, by "),
     "c9 free since": ("c9", "the mutex is free there, since "),
     "c9 free": ("c9", "the mutex is free there, from the beginning"),
+    "c9 locked": ("c9", "the lock is held there, by .* only while it is free"),
+    "c9 of another owner": ("c9", "the lock is held there, by .* only by its owner"),
+    "c9 unlocked": ("c9", "the lock is free there, "),
+    **{f"c6 of a {kind}": ("c6", f": the {kind} contains ") for kind in ("set", "counter")},
+    "c6 whether": ("c6", " gives (?:true|false): .* returned (?:true|false)"),
     "too_often once": ("too_often", " (?:enqueued|pushed|inserted) once, by "),
     "too_often twice": ("too_often", " (?:enqueued|pushed|inserted) twice, by "),
     "out of steps": ("left_open", "out of steps"),
@@ -579,7 +690,7 @@ def why_first_false(page):
 def why_vague(page):
     """A general sentence that does not begin with what the lines say of the object, or None: a sentence of the page is never vaguer than the line."""
     explained = re.split(r"; (?:event \d+ is the first|the first event|before that, )", line_of(page))[0]
-    if explained.endswith(SAYS_NO_MORE):
+    if re.search(SAY_NO_MORE, explained):
         return None
     wanted = f"{explained[0].upper()}{explained[1:]}. "
     vague = [it for it in page.said if form_of(it) == "general" and not it.startswith(wanted)]

@@ -4,10 +4,10 @@ import itertools
 import re
 from functools import cached_property
 
-from ..histories import KIND_OF, Call, calls_of
+from ..histories import HOLDS, KIND_OF, REPLY_ARGUMENT, REPLY_WHETHER, TOKENS, Call, calls_of
 from .pages import REF, classes, found, spelled
 from ..verify.reasons import IMPOSSIBLE, TOLD, maps_of, value_of
-from .sentences import FEW_NAMED, FORMS, Said, Walked, grouped, label_of, number_in, why_bars_false
+from .sentences import FEW_NAMED, FORMS, Said, Walked, grouped, key_of, label_of, number_in, why_bars_false
 from ..text_writers import value
 
 # The most events of an object that is drawn whole, and how many of a larger one without a focus are drawn.
@@ -35,6 +35,7 @@ BECAUSE = {
     "c5": lambda it: f"returned at event {it[6]}, before #{it[7]} was invoked",
     "c6": lambda it: f"gives {it[4]}, returned {it[7]}",
     "c9": lambda it: "not possible",
+    "past_end": lambda it: "not possible",
 }
 
 
@@ -236,7 +237,7 @@ def boxes_of(figure):
 def boxes_of_list(walk, call, boxes):
     """The boxes of a list that are right, of which as many are left out as it says."""
     items, wanted, place = walk.items, [], 0
-    gives = None if call.f in ("enqueue", "push", "insert") or not items else len(items) - 1 if walk.kind == "stack" else 0
+    gives = None if call.f in REPLY_ARGUMENT or not items else len(items) - 1 if walk.kind == "stack" else 0
     others = [it for it in range(len(items)) if it != gives and items[it][0] == call.reply and call.reply is not None]
     returned = others[0] if others else None
     for name, text, _ in boxes:
@@ -249,7 +250,7 @@ def boxes_of_list(walk, call, boxes):
             wanted.append((own[0], str(number), (*own[1], f"put by #{by}")))
             place += 1
     if not items:
-        wanted.append(("gives", "empty", ("gives nil",)) if call.f not in ("enqueue", "push", "insert") else ("", "empty", ()))
+        wanted.append(("gives", "empty", ("gives nil",)) if call.f not in REPLY_ARGUMENT else ("", "empty", ()))
     if returned is None:
         wanted.append(("absent", value(call.reply), ("returned",) if call.reply is None else ("returned,", "not in it")))
     # Those that are told of are there.
@@ -258,19 +259,28 @@ def boxes_of_list(walk, call, boxes):
 
 
 def boxes_wanted(walk, call, boxes):
-    kind, found_item = walk.kind, walk.found(call) if walk.kind != "mutex" else None
+    kind, returned = walk.kind, ("absent", value(call.reply), ("returned",))
     if kind in ("queue", "stack", "heap"):
         return boxes_of_list(walk, call, boxes)
-    if kind == "mutex":
+    if kind in TOKENS:
         return [("gives", walk.text(), () if walk.holder is None else (f"put by #{walk.holder}",))]
-    returned = ("absent", value(call.reply), ("returned",))
-    if kind == "register":
-        return [("gives", walk.text(), ("contains", *([f"put by #{found_item[1]}"] if found_item else []))), returned]
-    key, entries = call.argument[0] if call.f == "put" else call.argument, []
-    for (own, held), by in walk.items:
-        if own == key or len(walk.items) <= FEW:
-            entries.append(("gives", f"{own} {held}", ("gives", f"put by #{by}")) if own == key else ("", f"{own} {held}", (f"put by #{by}",)))
-    return [*entries, *([] if found_item else [("gives", f"{key} nothing", ("gives nil",))]), returned]
+    if kind in ("map", "set"):
+        return [*boxes_of_entries(walk, call), returned]
+    found_item = walk.found(call)
+    own = ("gives", walk.text(), ("contains", *([f"put by #{found_item[1]}"] if found_item else [])))
+    return [own, returned] if walk.is_possible(call) else [own]
+
+
+def boxes_of_entries(walk, call):
+    """The boxes of the keys of a map, or of the elements of a set; of many that of the call alone."""
+    key, own = key_of(call), walk.entry_of(call)
+    text = lambda it: f"{it[0]} {it[1]}" if walk.kind == "map" else str(it)
+    entries = [("gives" if it is own else "", text(it[0]), it) for it in walk.items if it is own or len(walk.items) <= FEW]
+    found_before = [(name, words, (f"put by #{it[1]}",)) for name, words, it in entries]
+    given = walk.take(call)
+    gives = "gives nil" if given is None else f"gives {value(given)}" if isinstance(given, bool) else "gives"
+    boxes = [(name, words, (gives, *under) if name else under) for name, words, under in found_before]
+    return boxes if own else [*boxes, ("gives", f"{key} {'nothing' if walk.kind == 'map' else 'not in it'}", (gives,))]
 
 
 def why_boxes_false(shown):
@@ -312,18 +322,18 @@ def tries_of(calls, other, recorded):
         for it in before:
             walk.take(it)
         text = "other" if kind == "register" and walk.items and walk.items[0][0] == other else walk.text()
-        old = [it[0] for it in walk.items], walk.holder is None
+        old = walk.state()
         if not walk.is_possible(call):
             rows.append((before, text, call, "is not possible"))
             continue
         there, own, given = walk.items[0][0] if walk.items else None, recorded[call.number], walk.take(call)
         if call.end == "ok" and given != call.reply:
-            # One that the part counts as a cas was given what is there.
-            given = there if call.f == "cas" != own.f else given
+            # One that the part counts as a cas was given what is there, or replies whether it was done.
+            given = given if not call.f == "cas" != own.f else False if own.f in REPLY_WHETHER else there
             is_other = other is not None and given is not False and given == other
             rows.append((before, text, call, f"gives {'other' if is_other else value(given)}, returned {value(own.reply)}"))
             continue
-        new = [it[0] for it in walk.items], walk.holder is None
+        new = walk.state()
         state = frozenset(it.number for it in (*before, call)), repr(new)
         if state in reached or call.end == "open" and old == new:
             continue
@@ -334,15 +344,17 @@ def tries_of(calls, other, recorded):
 
 def leaves_nothing(call):
     """Whether the object is empty, or free, after a call, by its reply."""
-    return call.f in ("del", "release") or call.f in ("dequeue", "pop", "extract-min", "read", "get") and call.reply is None
+    removes = call.f in ("del", "dissoc", "clear", "remove", *HOLDS.values())
+    return removes or call.f == "contains" and call.reply is False or call.f in ("dequeue", "pop", "extract-min", "read", "get") and call.reply is None
 
 
 def prior_content(shown, since):
-    """The row for the content of a lock before a part with which the operation that begins the part is not possible."""
-    if since is None or shown.kind(shown.calls[since].on) != "mutex":
+    """The rows for the contents of a mutex or a lock before a part with which the operation that begins the part is not possible."""
+    if since is None or shown.kind(shown.calls[since].on) not in TOKENS:
         return []
     first = shown.calls[since]
-    return [((), "held" if first.f == "acquire" else "free", first, "is not possible")]
+    contents = ("held",) if first.f in HOLDS else ("free",) if first.f == "release" else ("free", "held by another")
+    return [((), it, first, "is not possible") for it in contents]
 
 
 def why_tried_false(shown):
@@ -652,21 +664,26 @@ def why_zoom_false(shown):
 # ---- the legend
 
 
+def is_of_token(bar):
+    """Whether a bar is of an operation by which an object is held or set free, as its title says."""
+    return "".join(bar.find("title").itertext()).split()[0] in (*HOLDS, *HOLDS.values())
+
+
 def signs_of(page):
     """What the figures of a page show, each as the legend names it."""
     lines = [it for it in page.body.iter("svg") if "sys" in classes(it)]
     bars = [it for line in lines for it in found(line, "g", "op")]
     has = lambda name: any(name in classes(it) for it in bars)
-    shining = [(classes(it), "".join(it.find("title").itertext()).startswith(("acquire", "release"))) for it in bars if "dim" not in classes(it)]
-    shines = lambda name, is_of_lock=False: any(name in those and of_lock == is_of_lock for those, of_lock in shining)
+    shining = [(classes(it), is_of_token(it)) for it in bars if "dim" not in classes(it)]
+    shines = lambda name, of_token=False: any(name in those and of_token == is_so for those, is_so in shining)
     is_open = lambda bar: "pending" not in classes(bar) and not bar.find(".//path[@class='edge']").get("d").endswith("Z")
     points = [it for line in lines for it in found(line, "a", "pt")]
     among = lambda name: any(found(line, "g", name) for line in lines)
     return {
         " puts in or sets": shines("put"),
         " takes out": shines("take"),
-        " acquires": shines("put", is_of_lock=True),
-        " releases": shines("take", is_of_lock=True),
+        " acquires": shines("put", of_token=True),
+        " releases": shines("take", of_token=True),
         " reads": shines("read"),
         " compares and sets": shines("swap"),
         " pending: open at the right, it may have happened or not": has("pending"),

@@ -4,7 +4,7 @@ import random
 from dataclasses import dataclass, field
 
 from .. import text_writers
-from ..histories import FUNCTIONS, calls_of
+from ..histories import ALL_FUNCTIONS, ARGUMENTS, HOLDS, REPLY_ARGUMENT, WITHOUT_ARGUMENT, calls_of
 from ..verify.reasons import NEXT
 
 # Calls that could not be done for this many turns of all clients are given up.
@@ -83,10 +83,10 @@ class ExpiringLock:
 
     def call(self, number, process, on, f, argument):
         yield
-        while f == "acquire" and self.left > 0:
+        while f in HOLDS and self.left > 0:
             self.left -= 1
             yield
-        self.left = 6 if f == "acquire" else 0
+        self.left = 6 if f in HOLDS else 0
         yield
 
 
@@ -162,19 +162,27 @@ class Wishes:
     def next(self, process):
         """An object, a function and its argument."""
         if process in self.held:
-            return self.held.pop(process), "release", None
+            return self.held.pop(process)
         on = self.rng.randrange(len(self.kinds))
         f = self.rng.choice(self.functions[self.kinds[on]])
-        if f in ("acquire", "release"):
-            self.held[process] = on
-            return on, "acquire", None
-        if f in ("enqueue", "push", "insert", "write"):
-            return on, f, self.value()
+        for takes_hold, lets_go in HOLDS.items():
+            if f in (takes_hold, lets_go):
+                owner = process if takes_hold == "lock" else None
+                self.held[process] = on, lets_go, owner
+                return on, takes_hold, owner
+        return on, f, self.argument(f)
+
+    def argument(self, f):
+        if f in WITHOUT_ARGUMENT:
+            return None
+        if f in REPLY_ARGUMENT or f == "create":
+            return self.value()
         if f == "cas":
-            return on, f, (self.value(), self.value())
-        if f == "put":
-            return on, f, (self.rng.randrange(4), self.value())
-        return on, f, self.rng.randrange(4) if f in ("get", "del") else None
+            return self.value(), self.value()
+        if f == "fetch-add":
+            return self.rng.randrange(5) - 1
+        key = self.rng.randrange(4)
+        return (key, *[self.value() for _ in range(ARGUMENTS[f] - 1)]) if f in ARGUMENTS else key
 
 
 def nemesis(word):
@@ -209,22 +217,22 @@ class Play:
         self.played.maps.append(write(process, f, reply if kind == "ok" else argument, on))
         if kind == "info":
             self.names[place] = max(self.names) + 1
-        if f == "acquire" and kind != "ok":
+        if f in HOLDS and kind != "ok":
             self.wishes.held.pop(process, None)
 
     def step(self, place):
         call, _, _, f, _, own, turns = self.running[place]
         self.running[place][6] += 1
-        if own in self.refused and f != "release":
+        if own in self.refused and f not in HOLDS.values():
             return self.end(place, "fail")
         # A lock that was lost is not held, and one that is given back is free.
-        if own in self.lost and (f == "acquire" or f != "release" and turns >= self.rng.randrange(3)):
+        if own in self.lost and (f in HOLDS or f not in HOLDS.values() and turns >= self.rng.randrange(3)):
             return self.end(place, "info")
         try:
             next(call)
         except StopIteration as ended:
             return self.end(place, "info" if own in self.lost else "ok", ended.value)
-        if turns > PATIENCE and self.begun >= self.calls and f == "acquire":
+        if turns > PATIENCE and self.begun >= self.calls and f in HOLDS:
             self.end(place, "fail")
 
     def all(self):
@@ -238,9 +246,9 @@ class Play:
 
 
 def played(kinds, calls, processes, system=Right, seed=1, lost=0, refused=0, nemeses=0, values=0):
-    """A history of this many calls of this many processes on objects of these kinds, of which the given numbers are lost, and refused. Values
-    are drawn from this many, or each is another."""
+    """A history of this many calls of this many processes on objects of these kinds, named as in ALL_FUNCTIONS, of which the given numbers are
+    lost, and refused. Values are drawn from this many, or each is another."""
     rng, made = random.Random(f"played {kinds} {calls} {system.__name__} {seed}"), Played()
-    wishes = Wishes(rng, kinds, FUNCTIONS, values)
+    wishes = Wishes(rng, kinds, ALL_FUNCTIONS, values)
     Play(rng, wishes, system(made), made, processes, calls, lost, refused, nemeses).all()
     return made
