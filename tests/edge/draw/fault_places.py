@@ -5,7 +5,7 @@ import re
 from dataclasses import dataclass
 
 from .. import histories, text_writers
-from ..histories import FUNCTIONS, calls_of
+from ..histories import ALL_FUNCTIONS, REPLY_ARGUMENT, REPLY_WHETHER, WITHOUT_ARGUMENT, calls_of
 from .pages import found, spelled
 from .sentences import grouped, label_of, why_bars_false
 
@@ -18,9 +18,8 @@ MOST_MAPS = 1_000_000
 OF_NEMESIS = "{:process :n}"
 # How many characters of a token are quoted.
 TOKEN = 40
-# A reply that each function may have.
-REPLIES = {"enqueue": 1, "push": 1, "insert": 1, "write": 1, "cas": (1, 2)}
-ARGUMENTS = REPLIES | {"put": (1, 2), "get": 1, "del": 1}
+# A reply that each function may have, where that is not nil.
+REPLIES = dict.fromkeys((*REPLY_ARGUMENT, "fetch-add", "get-count"), 1) | {"cas": (1, 2)} | dict.fromkeys(REPLY_WHETHER, True)
 
 
 @dataclass(frozen=True)
@@ -82,7 +81,18 @@ def idle(calls, at):
 
 
 def other_function(rng, kind, f):
-    return rng.choice([it for it in FUNCTIONS[kind] if it != f])
+    return rng.choice([it for it in ALL_FUNCTIONS[kind] if it != f])
+
+
+def argument_of(f):
+    """An argument that a function may have."""
+    count = histories.ARGUMENTS.get(f)
+    return None if f in WITHOUT_ARGUMENT else tuple(range(1, count + 1)) if count else 1
+
+
+def word_of(kind):
+    """The word for an object of a kind, which may be one of all functions."""
+    return kind.split()[0]
 
 
 def before_of(maps, at):
@@ -101,7 +111,7 @@ def whole(rng, code, maps, at, faulty, said, earlier=()):
 
 def no_operation(rng, made):
     at = rng.randrange(len(made.maps) + 1)
-    f = FUNCTIONS[made.kind][0]
+    f = ALL_FUNCTIONS[made.kind][0]
     faulty = rng.choice(
         (
             f"{{:type :invoke, :f :{f}}}",
@@ -124,7 +134,7 @@ def unknown_function(rng, made):
 
 def wrong_value(rng, made):
     at = rng.randrange(len(made.maps) + 1)
-    faulty = f"{{:process 991, :type :invoke, :f :{rng.choice(FUNCTIONS[made.kind])}, :value [1 2 3], :note \"{'a <note> ' * 40}\"}}"
+    faulty = f"{{:process 991, :type :invoke, :f :{rng.choice(ALL_FUNCTIONS[made.kind])}, :value [1 2 3 4], :note \"{'a <note> ' * 40}\"}}"
     return whole(rng, "H3", made.maps, at, faulty, " does not fit its :f: it must be what that takes, or returns.")
 
 
@@ -136,11 +146,11 @@ def of_value(it):
 
 def other_kind(rng, made):
     at = rng.randrange(1, len(made.maps) + 1)
-    kind = rng.choice([it for it in FUNCTIONS if it != made.kind])
-    f = FUNCTIONS[kind][0]
-    faulty = text_writers.invoke(991, f, ARGUMENTS.get(f), 0)
+    kind = rng.choice([it for it in ALL_FUNCTIONS if word_of(it) != word_of(made.kind)])
+    f = ALL_FUNCTIONS[kind][0]
+    faulty = text_writers.invoke(991, f, argument_of(f), 0)
     first = before_of(made.maps, at)[0]
-    said = f" calls a function of another kind on an object that ⟨0|{label_of(first)}⟩ made a {made.kind}."
+    said = f" calls a function of another kind on an object that ⟨0|{label_of(first)}⟩ made a {word_of(made.kind)}."
     return whole(rng, "H4", made.maps, at, faulty, said, (0, "The object’s first event, "))
 
 
@@ -149,8 +159,8 @@ def busy(rng, made):
     places = [at for at in range(1, len(made.maps) + 1) if outstanding(calls, at)]
     at = rng.choice(places)
     call = rng.choice(outstanding(before_of(made.maps, at), at))
-    f = rng.choice(FUNCTIONS[made.kind])
-    faulty = text_writers.invoke(call.process, f, ARGUMENTS.get(f), 0)
+    f = rng.choice(ALL_FUNCTIONS[made.kind])
+    faulty = text_writers.invoke(call.process, f, argument_of(f), 0)
     said = f" invokes an operation of process {call.process}, and ⟨{call.number}|{label_of(call)}⟩ of that process is still outstanding."
     return whole(rng, "H5", made.maps, at, faulty, said, (call.number, "The operation that is outstanding, event "))
 
@@ -158,7 +168,7 @@ def busy(rng, made):
 def stray(rng, made):
     at = rng.randrange(len(made.maps) + 1)
     process = idle(before_of(made.maps, at), at)
-    f = rng.choice(FUNCTIONS[made.kind])
+    f = rng.choice(ALL_FUNCTIONS[made.kind])
     faulty = text_writers.ok(process, f, REPLIES.get(f), 0)
     return whole(rng, "H6", made.maps, at, faulty, f" completes an operation of process {process}, which has none outstanding.")
 
@@ -175,13 +185,13 @@ def mismatch(rng, made):
 
 def after_info(rng, made):
     maps = list(made.maps)
-    f = FUNCTIONS[made.kind][0]
+    f = ALL_FUNCTIONS[made.kind][0]
     begun = rng.randrange(len(maps) + 1)
-    maps[begun:begun] = [text_writers.invoke(992, f, ARGUMENTS.get(f), 0), text_writers.info(992, f, ARGUMENTS.get(f), 0)]
+    maps[begun:begun] = [text_writers.invoke(992, f, argument_of(f), 0), text_writers.info(992, f, argument_of(f), 0)]
     at = rng.randrange(begun + 2, len(maps) + 1)
     call = before_of(maps, at)[begun]
-    g = rng.choice(FUNCTIONS[made.kind])
-    faulty = text_writers.invoke(992, g, ARGUMENTS.get(g), 0)
+    g = rng.choice(ALL_FUNCTIONS[made.kind])
+    faulty = text_writers.invoke(992, g, argument_of(g), 0)
     said = (
         f" is of process 992, which the :info at event {call.at} closed: ⟨{call.number}|{label_of(call)}⟩ may have happened or not, so what "
         "it does next must be of another process."
@@ -342,7 +352,7 @@ def faulty_texts(of_each):
     for sort, make in enumerate(SORTS):
         for seed in range(of_each):
             rng = random.Random(f"marked {sort} {seed}")
-            kind = rng.choice(tuple(FUNCTIONS))
+            kind = rng.choice(tuple(ALL_FUNCTIONS))
             made = histories.made(kind, f"marked {sort} {seed}", calls=rng.choice((2, 5, 12, 40)), processes=rng.choice((2, 3, 5)))
             yield made, make(rng, made)
 
@@ -353,7 +363,7 @@ def longest_texts():
         rng = random.Random(f"too many {kind}")
         made = histories.made(kind, "too many", calls=12)
         beside = [OF_NEMESIS] * (MOST_MAPS - len(made.maps))
-        faulty = rng.choice((OF_NEMESIS, text_writers.invoke(991, FUNCTIONS[kind][0], 1)))
+        faulty = rng.choice((OF_NEMESIS, text_writers.invoke(991, ALL_FUNCTIONS[kind][0], 1)))
         text = text_writers.lines(*made.maps, *beside, faulty).encode()
         end = len(text) - 1
         said = f"The text can be read, but it is no history. Event {MOST_MAPS} is one too many: a history has at most 1,000,000."

@@ -2,10 +2,17 @@
 import random
 import re
 
-from ..histories import FUNCTIONS
+from ..histories import ALL_FUNCTIONS, REPLY_WHETHER
 from ..judge.like_recorded import played
 
-KINDS = tuple(FUNCTIONS)
+KINDS = tuple(ALL_FUNCTIONS)
+# The replies that a damage puts in the place of another one, by the functions that may have them.
+NUMBERS = ("1", "2", "3", "77")
+OTHER_REPLIES = {
+    "dequeue|pop|extract-min|read|get|del|put": ("nil", *NUMBERS),
+    "fetch-add|get-count": ("0", "-1", *NUMBERS),
+    "|".join(REPLY_WHETHER): ("true", "false"),
+}
 
 
 def made(seed):
@@ -54,9 +61,9 @@ def other_reply(rng):
     """A damage: a reply of another value, so that it may be that no order is valid."""
 
     def damage(maps):
-        told = [at for at, text in enumerate(maps) if re.search(r":type :ok, :f :(dequeue|pop|extract-min|read|get|del|put)\b", text)]
-        for at in rng.sample(told, min(1, len(told))):
-            maps[at] = re.sub(r"(?<=:value )(nil|-?\d+)", lambda _: rng.choice(("nil", "1", "2", "3", "77")), maps[at], count=1)
+        told = [(at, replies) for at, text in enumerate(maps) for f, replies in OTHER_REPLIES.items() if re.search(rf":type :ok, :f :({f}),", text)]
+        for at, replies in rng.sample(told, min(1, len(told))):
+            maps[at] = re.sub(r"(?<=:value )[^,]+", lambda _: rng.choice(replies), maps[at], count=1)
 
     return damage
 
@@ -80,7 +87,7 @@ def damages(rng):
         "two maps exchanged": exchanged(rng),
         "another process": replaced(rng, ":process", ("0", "1", "2", "-1", ":nemesis", "nil", '"p"', "9223372036854775808")),
         "another type": replaced(rng, ":type", (":invoke", ":ok", ":fail", ":info", ":what", "7", "[]")),
-        "another function": replaced(rng, ":f", (":read", ":enqueue", ":drain", ":acquire", "3")),
+        "another function": replaced(rng, ":f", (":read", ":enqueue", ":drain", ":acquire", ":contains", ":fetch-add", ":lock", "3")),
         "another value": replaced(rng, ":value", ("nil", "false", "true", "7", "[1 2]", "[1 2 3]", '"x"', ":x", "007")),
         "another object": replaced(rng, ":object", ("0", "1", "2", "-1", ":a", "65535", "4294967296", "1.5")),
         "another reply": other_reply(rng),

@@ -57,7 +57,7 @@ def verified(program, history, evidence):
 
 def short_histories():
     """Histories of each kind with at most six calls, of which some have no valid order. Each has whether it has one."""
-    for kind in (*histories.FUNCTIONS, *histories.LATER_FUNCTIONS):
+    for kind in histories.ALL_FUNCTIONS:
         for seed in range(OF_EACH):
             made = histories.made(kind, f"evidence {seed}", calls=3 + seed % 4, processes=2, values=2)
             maps = made.maps if seed % 3 == 0 or kind in FREED else exchanged(made.maps, seed)
