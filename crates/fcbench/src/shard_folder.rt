@@ -207,7 +207,11 @@ impl<'a, R: Files> ShardFolder<'a, R> {
 }
 
 /// The text that is read from this file of a shard.
-fn text_of<F: Read + Drop>(alloc: Global, opened: F, file: ShardFile) -> Result<Vec<u8>, ShardFault> {
+fn text_of<F: Read + Drop>(
+    alloc: Global,
+    opened: F,
+    file: ShardFile,
+) -> Result<Vec<u8>, ShardFault> {
     match read_text(alloc, &mut In::new(opened)) {
         Ok(text) => Ok(text),
         Err(ReadFault::NoMemory) => Err(ShardFault::NoMemory),
