@@ -12,7 +12,7 @@ use commands::{
 use edn::Failed;
 use std::alloc::{AllocError, Global};
 use std::fs::{self, File, OpenOptions};
-use std::io::{self, ErrorKind, Write};
+use std::io::{self, ErrorKind, Read, Write};
 use std::rt::Files;
 
 /// What the name of a file of a shard ends with.
