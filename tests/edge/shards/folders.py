@@ -111,7 +111,6 @@ def shards_through_pipes(program, report):
             text = it.read()
         ran = through_pipes(program, ((f"piped/{file}", text),), ("merge", "piped"))
         report.answers(f"merge: {file} is a pipe", ran, MERGED_YES, 0)
-        os.remove(folder.path(file))
         folder.write(file, text)
     for shard in range(3):
         folder.write(f"{shard}.status", b"0\n")
