@@ -47,6 +47,14 @@ pub outstanding_is : {S O R : Type 0} {op_in : O → AnyOp} {reply_in : R → An
     → IsClient op_in reply_in number calls quota b j m
 outstanding_is e k = rw e at k
 
+-- The client of which a call is outstanding, and the request of that call.
+pub outstanding : {S O R : Type 0} {op_in : O → AnyOp} {reply_in : R → AnyReply} {number calls quota : ℕ} {a : Bool}
+    {j : Journal O R} {m : Me (Slot S O R) DeskView} → a ≡ true → IsClient op_in reply_in number calls quota a j m
+    → IsClient op_in reply_in number calls quota true j m
+    × ((q : AnyRequest) × (m.0.own ≡ own.Waiting q) × (q.object < 16))
+outstanding e k =
+    let k' = outstanding_is e k in (k', own_waiting _ k'.agrees.at_rest (sym k'.agrees.outstanding_is))
+
 journal_long : (ds : List AnyDone) (q : Option AnyRequest) → length (journal_of ds q) ≡ tickets_drawn ds q
 journal_long [] None = refl
 journal_long [] (Some q) = refl

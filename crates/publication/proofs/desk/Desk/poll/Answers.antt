@@ -12,7 +12,7 @@ use Rattle.publication.specs.Handles.{IsClient, ArePlacesOf}
 use Rattle.publication.specs.Calls.{Polled, NotPolled}
 use Rattle.publication.proofs.Slots.{can_exchange, came_out, same_answer}
 use Rattle.publication.proofs.Holds.{missed_ok}
-use Rattle.publication.proofs.Turns.{own_waiting, outstanding_is, poll_turn, poll_ok, polled, room_to_return}
+use Rattle.publication.proofs.Turns.{outstanding, poll_turn, poll_ok, polled, room_to_return}
 use Rattle.publication.proofs.desk.Desk.poll.Goals as goal
 
 pub look_and_exchange-found-requires-clause-look : goal.look_and_exchange-found-requires-clause-look
@@ -22,16 +22,14 @@ look_and_exchange-found-requires-clause-look g c =
 
 pub look_and_exchange-found-requires-clause-exchange : goal.look_and_exchange-found-requires-clause-exchange
 look_and_exchange-found-requires-clause-exchange g c =
-    let k = c.client.invariant.0 in let low = k.agrees.number_low in let o =
-    own_waiting _ k.agrees.at_rest
-    (sym k.agrees.outstanding_is ∙ (sym c.is_outstanding.ensures ∙ c.if-not-is_outstanding.false)) in
+    let k = c.client.invariant.0 in let low = k.agrees.number_low in
+    let o = (outstanding (sym c.is_outstanding.ensures ∙ c.if-not-is_outstanding.false) k).1 in
     take_keeps_rule _ _ _ _ _ _ _ _ _ _ o.0 k.agrees.client_is k.agrees.number_is o.1 k.free o.2 low
 
 pub look_and_exchange-found-requires-clause-found : goal.look_and_exchange-found-requires-clause-found
 look_and_exchange-found-requires-clause-found g c =
     let k = c.client.invariant.0 in
-    let o = own_waiting _ k.agrees.at_rest
-    (sym k.agrees.outstanding_is ∙ (sym c.is_outstanding.ensures ∙ c.if-not-is_outstanding.false)) in
+    let o = (outstanding (sym c.is_outstanding.ensures ∙ c.if-not-is_outstanding.false) k).1 in
     λ m told. (told c.client.inside.number o.0 k.agrees.number_is refl o.1).0 refl
 
 pub look_and_exchange-found-requires-clause-missed : goal.look_and_exchange-found-requires-clause-missed
@@ -41,8 +39,7 @@ look_and_exchange-found-requires-clause-missed g c =
 pub invariant_of-client : goal.invariant_of-client
 invariant_of-client g c =
     let k = c.client.invariant.0 in
-    let o = own_waiting _ k.agrees.at_rest
-    (sym k.agrees.outstanding_is ∙ (sym c.is_outstanding.ensures ∙ c.if-not-is_outstanding.false)) in
+    let o = (outstanding (sym c.is_outstanding.ensures ∙ c.if-not-is_outstanding.false) k).1 in
     let t = ((c.look_and_exchange-found.ensures.tried c.client.inside.number o.0 k.agrees.number_is refl o.1).1
     (search rules)).0 in (
       missed_ok g.S.SeqObject.content _ _ _ _ _ _ _ _ _ _ k t,
@@ -52,8 +49,7 @@ invariant_of-client g c =
 pub returns-then-found-ne-ANSWERED-clause-missed : goal.returns-then-found-ne-ANSWERED-clause-missed
 returns-then-found-ne-ANSWERED-clause-missed g c =
     let k = c.client.invariant.0 in
-    let o = own_waiting _ k.agrees.at_rest
-    (sym k.agrees.outstanding_is ∙ (sym c.is_outstanding.ensures ∙ c.if-not-is_outstanding.false)) in
+    let o = (outstanding (sym c.is_outstanding.ensures ∙ c.if-not-is_outstanding.false) k).1 in
     let t = (c.look_and_exchange-found.ensures.tried c.client.inside.number o.0 k.agrees.number_is refl o.1).1
     (search rules) in
     subst (λ (v : DeskView). NotPolled v c.look_and_exchange-found.new.seat.me.0) (ap (λ v. v.knows) c.client.view_is)
@@ -66,16 +62,15 @@ returns-then-found-ne-ANSWERED-clause-missed g c =
 pub exchange-requires : goal.exchange-requires
 exchange-requires g c =
     let k = c.client.invariant.0 in
-    let o = own_waiting _ k.agrees.at_rest
-    (sym k.agrees.outstanding_is ∙ (sym c.is_outstanding.ensures ∙ c.if-not-is_outstanding.false)) in
+    let o = (outstanding (sym c.is_outstanding.ensures ∙ c.if-not-is_outstanding.false) k).1 in
     let t = (c.look_and_exchange-found.ensures.tried c.client.inside.number o.0 k.agrees.number_is refl o.1).0
     (search rules) in (search rules, can_exchange _ _ _ _ (ap (λ z. z.1) t.2))
 
 pub fetch_add-ticket-requires : goal.fetch_add-ticket-requires
 fetch_add-ticket-requires g c =
-    let k = outstanding_is (sym c.is_outstanding.ensures ∙ c.if-not-is_outstanding.false) c.client.invariant.0 in
-    let o = own_waiting _ k.agrees.at_rest (sym k.agrees.outstanding_is) in let t =
-    (c.look_and_exchange-found.ensures.tried c.client.inside.number o.0 k.agrees.number_is refl o.1).0
+    let own = outstanding (sym c.is_outstanding.ensures ∙ c.if-not-is_outstanding.false) c.client.invariant.0 in
+    let k = own.0 in let o = own.1 in
+    let t = (c.look_and_exchange-found.ensures.tried c.client.inside.number o.0 k.agrees.number_is refl o.1).0
     c.if-found-ne-ANSWERED.false in
     let wide = c.self.invariant.0.0 in let took = ap (λ z. z.0) c.exchange.ensures.3 ∙ ap (λ z. z.0) t.2 in (
       search rules,
@@ -86,9 +81,9 @@ fetch_add-ticket-requires g c =
 
 pub note_returned-requires : goal.note_returned-requires
 note_returned-requires g c =
-    let k = outstanding_is (sym c.is_outstanding.ensures ∙ c.if-not-is_outstanding.false) c.client.invariant.0 in
-    let o = own_waiting _ k.agrees.at_rest (sym k.agrees.outstanding_is) in let t =
-    (c.look_and_exchange-found.ensures.tried c.client.inside.number o.0 k.agrees.number_is refl o.1).0
+    let own = outstanding (sym c.is_outstanding.ensures ∙ c.if-not-is_outstanding.false) c.client.invariant.0 in
+    let k = own.0 in let o = own.1 in
+    let t = (c.look_and_exchange-found.ensures.tried c.client.inside.number o.0 k.agrees.number_is refl o.1).0
     c.if-found-ne-ANSWERED.false in
     record {
       room = room_to_return g.S.SeqObject.op_in g.S.SeqObject.reply_in _ _ _ c.client.inside.member.journal _
@@ -97,9 +92,9 @@ note_returned-requires g c =
 
 pub invariant_of-client-in-Answer : goal.invariant_of-client-in-Answer
 invariant_of-client-in-Answer g c =
-    let k = outstanding_is (sym c.is_outstanding.ensures ∙ c.if-not-is_outstanding.false) c.client.invariant.0 in
-    let o = own_waiting _ k.agrees.at_rest (sym k.agrees.outstanding_is) in let t =
-    (c.look_and_exchange-found.ensures.tried c.client.inside.number o.0 k.agrees.number_is refl o.1).0
+    let own = outstanding (sym c.is_outstanding.ensures ∙ c.if-not-is_outstanding.false) c.client.invariant.0 in
+    let k = own.0 in let o = own.1 in
+    let t = (c.look_and_exchange-found.ensures.tried c.client.inside.number o.0 k.agrees.number_is refl o.1).0
     c.if-found-ne-ANSWERED.false in
     let f = (c.fetch_add-ticket.ensures.2 _ _ (ap (λ z. z.0.own) c.exchange.ensures.3 ∙ ap (λ z. z.0.own) t.2)).0 in
     let p = c.note_returned.ensures in
@@ -117,9 +112,9 @@ invariant_of-client-in-Answer g c =
 
 pub returns-clause-polled : goal.returns-clause-polled
 returns-clause-polled g c =
-    let k = outstanding_is (sym c.is_outstanding.ensures ∙ c.if-not-is_outstanding.false) c.client.invariant.0 in
-    let o = own_waiting _ k.agrees.at_rest (sym k.agrees.outstanding_is) in let t =
-    (c.look_and_exchange-found.ensures.tried c.client.inside.number o.0 k.agrees.number_is refl o.1).0
+    let own = outstanding (sym c.is_outstanding.ensures ∙ c.if-not-is_outstanding.false) c.client.invariant.0 in
+    let k = own.0 in let o = own.1 in
+    let t = (c.look_and_exchange-found.ensures.tried c.client.inside.number o.0 k.agrees.number_is refl o.1).0
     c.if-found-ne-ANSWERED.false in
     let f = c.fetch_add-ticket.ensures.2 _ _ (ap (λ z. z.0.own) c.exchange.ensures.3 ∙ ap (λ z. z.0.own) t.2) in
     let same = same_answer _ _ (sym (came_out _ _ _ _ _ (ap (λ m. m.1) t.2) c.exchange.ensures.2) ∙ c.in-Answer.is) in
@@ -133,9 +128,9 @@ returns-clause-polled g c =
 
 pub returns-clause-desk : goal.returns-clause-desk
 returns-clause-desk g c =
-    let k = outstanding_is (sym c.is_outstanding.ensures ∙ c.if-not-is_outstanding.false) c.client.invariant.0 in
-    let o = own_waiting _ k.agrees.at_rest (sym k.agrees.outstanding_is) in let t =
-    (c.look_and_exchange-found.ensures.tried c.client.inside.number o.0 k.agrees.number_is refl o.1).0
+    let own = outstanding (sym c.is_outstanding.ensures ∙ c.if-not-is_outstanding.false) c.client.invariant.0 in
+    let k = own.0 in let o = own.1 in
+    let t = (c.look_and_exchange-found.ensures.tried c.client.inside.number o.0 k.agrees.number_is refl o.1).0
     c.if-found-ne-ANSWERED.false in
     let f = c.fetch_add-ticket.ensures.2 _ _ (ap (λ z. z.0.own) c.exchange.ensures.3 ∙ ap (λ z. z.0.own) t.2) in
     let kinds : c.fetch_add-ticket.new.seat.me.0.kinds ≡ c.client.inside.seat.me.0.kinds =
@@ -150,8 +145,7 @@ returns-clause-desk g c =
 pub returns-then-found-ne-ANSWERED-clause-desk : goal.returns-then-found-ne-ANSWERED-clause-desk
 returns-then-found-ne-ANSWERED-clause-desk g c =
     let k = c.client.invariant.0 in
-    let o = own_waiting _ k.agrees.at_rest
-    (sym k.agrees.outstanding_is ∙ (sym c.is_outstanding.ensures ∙ c.if-not-is_outstanding.false)) in
+    let o = (outstanding (sym c.is_outstanding.ensures ∙ c.if-not-is_outstanding.false) k).1 in
     let t = (c.look_and_exchange-found.ensures.tried c.client.inside.number o.0 k.agrees.number_is refl o.1).1
     (search rules) in
     let kinds : c.look_and_exchange-found.new.seat.me.0.kinds ≡ c.client.inside.seat.me.0.kinds =
@@ -167,8 +161,7 @@ returns-then-found-ne-ANSWERED-clause-desk g c =
 pub unreachable-requires : goal.unreachable-requires
 unreachable-requires g c =
     let k = c.client.invariant.0 in
-    let o = own_waiting _ k.agrees.at_rest
-    (sym k.agrees.outstanding_is ∙ (sym c.is_outstanding.ensures ∙ c.if-not-is_outstanding.false)) in
+    let o = (outstanding (sym c.is_outstanding.ensures ∙ c.if-not-is_outstanding.false) k).1 in
     let t = (c.look_and_exchange-found.ensures.tried c.client.inside.number o.0 k.agrees.number_is refl o.1).0
     (search rules) in
     c.in_default.not-Answer t.0 (came_out _ _ _ _ _ (ap (λ z. z.1) t.2) c.exchange.ensures.2)
