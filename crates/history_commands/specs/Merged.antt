@@ -118,7 +118,7 @@ finding_on decisions =
 abbrev pub shown_on : ℕ → ShownReason → ShownReason
 shown_on x f = record f { reason = record f.reason { object = x } }
 
--- the same of a decision, if a reason shows it
+-- the decision, in which a reason, if one shows it, names the object by this number
 abbrev pub decided_on : ℕ → Decision → Decision
 decided_on x (Order c) = Order c
 decided_on x (Impossible f) = Impossible (shown_on x f)
@@ -143,7 +143,8 @@ pub record AnswersClaims (whole_name : ℕ → ℕ) (es : List Event) (claims : 
   pub certified : a.finding ≡ Certified → IsLinearizable (kind_at es) (events (denoted es))
   pub refuted : a.finding ≡ Refuted → IsLinearizable (kind_at es) (events (denoted es)) → ⊥
 
--- the same by evidence, which denotes claims, or is malformed
+-- The answer by evidence on the history that events denote: the evidence denotes claims, or it is
+-- malformed, and a line on the shard says so.
 abbrev pub AnswersEvidence : ℕ → (ℕ → ℕ) → List Event → List ℕ → ℕ → Answer → Type 0
 AnswersEvidence number whole_name es evidence limit a =
     ((claims : List Claim) × DenotesClaims evidence claims

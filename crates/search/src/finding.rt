@@ -136,8 +136,9 @@ pub fn find_order(alloc: Global, history: &ObjectHistory, first: TryFirst, limit
     find_order_of_any_size(alloc, history, first, limit)
 }
 
-/// The same, for any number of operations: none is too many. If there are more than 4,294,967,294,
-/// which no history within the limits of its form has, the answer is that the steps are not enough.
+/// Searches as `find_order` does, for any number of operations: none is too many. If there are more
+/// than 4,294,967,294, which no history within the limits of its form has, the answer is that the
+/// steps are not enough.
 pub fn find_order_of_any_size(
     alloc: Global,
     history: &ObjectHistory,

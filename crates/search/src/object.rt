@@ -56,7 +56,7 @@ pub fn search(alloc: Global, history: &ObjectHistory, limit: u64) -> Search
     search_by(alloc, history, TryFirst::LeastNumber, limit)
 }
 
-/// The same, with a choice of which operation is tried first.
+/// Searches as `search` does; `first` chooses which operation is tried first.
 pub fn search_by(alloc: Global, history: &ObjectHistory, first: TryFirst, limit: u64) -> Search
     ensures { IsAnswer history.now.object history.now.kind (calls_of history.now.ops) limit result }
 {
