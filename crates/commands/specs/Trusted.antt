@@ -41,11 +41,11 @@ said_by text =
 abbrev pub said_of : Option (List ℕ) → Option Finding
 said_of read = option_and_then said_by read
 
--- what is found by it: if nothing is said, the shard is undecided
+-- the finding by the text of a status: if the text says nothing, the shard is undecided
 abbrev pub finding_of : Option (List ℕ) → Finding
 finding_of read = unwrap_or (said_of read) Undecided
 
--- the worst of what is found: malformed before a no, before undecided, before a yes
+-- the worst of the findings: malformed before a no, before undecided, before a yes
 abbrev pub finding_by : List (Option (List ℕ)) → Finding
 finding_by read = worst (map finding_of read)
 

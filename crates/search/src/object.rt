@@ -49,7 +49,7 @@ pub fn search(alloc: Global, history: &ObjectHistory, limit: u64) -> Search
     ensures out_of_steps { result.found ≡ SearchOutcome.OutOfSteps → result.steps ≡ limit }
     ensures too_large { (result.found ≡ SearchOutcome.TooLarge)
         ↔ (max_operations < length (calls_of history.now.ops)) }
-    // NoMemory is answered only if some operation returned.
+    // The answer is NoMemory only if some operation returned.
     ensures memory { result.found ≡ SearchOutcome.NoMemory
         → Any (λ call. IsSome call.returned) (calls_of history.now.ops) }
 {
