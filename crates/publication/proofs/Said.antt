@@ -46,8 +46,8 @@ pub log_is_seen : {S O R : Type 0} (p : Holding) (b d : Me (Slot S O R) DeskView
 log_is_seen p b d v i s tl is e f low wide = rw (f, e, is)
     (get_or-set_same v.knows.seen v.object v.log [] (omega arith))
 
--- After `answer` the request has this answer, and the log has it too (b: with the answer in its slot; d: after the
--- step).
+-- After `answer` the request has this answer, and the log has its entry, if it is a reply (b: with the answer in its
+-- slot; d: after the step).
 pub answered : {S O R : Type 0} (h : Handling) (z : DeskId) (n : PassState) (a : AnyAnswer)
     (b d : Me (Slot S O R) DeskView) (v : Handling)
     (log : List AnyEntry) (i : ℕ) (s : Slot S O R) (tl : List (ℕ × Slot S O R)) → h ≡ v → b ≡ (v.knows, (i, s) ∷ tl)
