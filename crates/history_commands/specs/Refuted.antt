@@ -123,8 +123,8 @@ AreAnsweredIn es r limit status text =
     IsShort r × (ds : List Datum) × Spells ds r × (reasons : List Reason) × Denotes ds reasons
     × AreAnswered es reasons limit status text
 
--- The history's text is not too long to be read, and denotes a history. The reasons are answered
--- on it, or their text is faulty.
+-- The history's text is not too long to be read, and denotes a history. The output has the answers
+-- to the reasons on this history, or says what is wrong with the text of the reasons.
 abbrev pub IsRefuteText : List ℕ → List ℕ → ℕ → Status → List ℕ → Type 0
 IsRefuteText h r limit status text =
     IsShort h × (es : List Event) × DenotesHistory h es
