@@ -1,5 +1,5 @@
--- The text written for certificates spells forms that denote them (`lines_spell`). What is left to write loses one
--- number of an order, or one line, at each turn of a loop (`numbers_left`, `lines_left`).
+-- The text written for certificates spells forms that denote them (`lines_spell`). The rest to write loses one number
+-- of an order, or one line, at each turn of a loop (`numbers_left`, `lines_left`).
 use Rattle.std.proofs.Common.{◌≡◌, ℕ, ◌+◌, ◌<◌, ◌≤◌, Bool, true, false, suc, List, [], ◌∷◌, ◌++◌, length, take}
 use Rattle.std.proofs.Common.{drop, get_or, map, option_map, Some}
 use Rattle.std.proofs.Common.{None, lit<, refl, ap, sym, ◌∙◌, subst, append_assoc, arith}

@@ -56,7 +56,8 @@ pub(crate) fn place_of(ops: &[Invocation], entry: i64, near: usize) -> Option<us
     }
 }
 
-/// The same, by a search among all.
+/// The place of the operation with this number, if there is one that did not fail, by a search
+/// among all.
 fn place_among(ops: &[Invocation], entry: i64) -> Option<usize>
     requires { AllPairs (λ a b. a.number < b.number) ops.now }
     ensures some { IfSome result (λ k. (k < length ops.now)

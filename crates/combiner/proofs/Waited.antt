@@ -60,7 +60,8 @@ called v u w object op a p r = record {
       record { legal = l.legal; counted = l.counted; later = l.later };
 }
 
--- a round in which nothing was answered: v before the loop, u before the round, p after the poll, e after the enlisting
+-- A round without an answer keeps the client's calls (v: before the loop; u: before the round; p: after the poll; e:
+-- after the enlisting; w: after the round).
 pub keeps_round : (v u p e w : DeskView) → KeepsCalls v u → NotPolled u p → e ≡ p → KeepsCalls e w → KeepsCalls v w
 keeps_round v u p e w before none same after =
     keeps_on v u w before (keeps_on u p w (keeps_unpolled u p none) (subst (λ z. KeepsCalls z w) same after))

@@ -27,11 +27,13 @@ IsSettledBy x log v =
     (q : AnyRequest) → v.own ≡ own.Waiting q → q.object ≡ x
     → (v.ready ≡ true) ⊎ (CanDo (kind_at v.kinds x) log q.op → ⊥)
 
--- the same, after the log that the client has seen
+-- A call of the client on the object x that is outstanding is known to be answered; or the object
+-- cannot do it after the log that the client has seen.
 abbrev pub IsSettled : ℕ → DeskView → Type 0
 IsSettled x v = IsSettledBy x (seen_of v x) v
 
--- the same, of the object that is held
+-- A call of the client on the object that is held is known to be answered, if it is outstanding; or
+-- the object cannot do it after its log.
 abbrev pub IsSettledNow : Holding → Type 0
 IsSettledNow p = IsSettledBy p.object p.log p.knows
 

@@ -135,7 +135,7 @@ pub record AskFor (words : List Text) (line : Line) : Type 0 where
 abbrev pub IsHelp : ErrorKind → Type 0
 IsHelp k = (k ≡ DisplayHelp) ⊎ (k ≡ DisplayVersion)
 
--- what is answered for an error of this kind of clap, if no allocation fails
+-- the fault of the line for an error of this kind of clap, if no allocation fails
 abbrev pub IsClapFaultFor : ErrorKind → LineFault → Type 0
 IsClapFaultFor k (Help text) = IsHelp k
 IsClapFaultFor k (Refused text) = (k ≢ OutOfMemory) × (IsHelp k → ⊥)

@@ -61,8 +61,8 @@ pub record IsTextOf (journals : ℕ → List AnyEvent) (logs : ℕ → List AnyE
   pub are_certificates : AreCertificatesOf journals logs certificates
   pub text_is : text ≡ history ++ (between ++ comment_lines certificates)
 
--- The same, and the verdict on the record as comments. That of a sound record is yes, except if
--- an allocation fails.
+-- The lines of the record's history, then this text, its certificates as comments, and the verdict
+-- on the record as comments. The verdict on a sound record is yes, except if an allocation fails.
 pub record IsReported (journals : ℕ → List AnyEvent) (logs : ℕ → List AnyEntry) (between : List ℕ)
     (status : Status) (text : List ℕ) : Type 0 where
   pub own : List ℕ

@@ -79,7 +79,8 @@ IsMergeOf holds count limit status out =
     (shards : List Shard) × (length shards ≡ count) × AreRead holds count limit shards
     × IsMerge shards status out
 
--- the same, or one line says that an allocation failed
+-- the output of a merge of this many shards, which were read; or one line says that an allocation
+-- failed
 abbrev pub IsMergeOfFolder : Holding → ℕ → ℕ → Status → List ℕ → Type 0
 IsMergeOfFolder holds count limit status out =
     IsMergeOf holds count limit status out ⊎ IsOutOfMemory status out

@@ -37,15 +37,15 @@ said_by text =
     else if bytes_eq text (codes "3\n") then Some Undecided
     else None
 
--- the same of what was read
+-- the finding that the text of a status says, if the text was read
 abbrev pub said_of : Option (List ℕ) → Option Finding
 said_of read = option_and_then said_by read
 
--- what is found by it: if nothing is said, the shard is undecided
+-- the finding by the text of a status: if the text says nothing, the shard is undecided
 abbrev pub finding_of : Option (List ℕ) → Finding
 finding_of read = unwrap_or (said_of read) Undecided
 
--- the worst of what is found: malformed before a no, before undecided, before a yes
+-- the worst of the findings: malformed before a no, before undecided, before a yes
 abbrev pub finding_by : List (Option (List ℕ)) → Finding
 finding_by read = worst (map finding_of read)
 
@@ -102,7 +102,8 @@ IsTrustedOf holds count status out =
     (read : List (Option (List ℕ))) × (length read ≡ count) × AreStatusesRead holds read
     × IsExactly (status_with (finding_by read)) (trusted_text count read) status out
 
--- the same, or one line says that an allocation failed
+-- the output of a merge of this many shards, whose statuses were read and are trusted; or one line
+-- says that an allocation failed
 abbrev pub IsTrustedOfFolder : HoldingStatus → ℕ → Status → List ℕ → Type 0
 IsTrustedOfFolder holds count status out =
     IsTrustedOf holds count status out ⊎ IsOutOfMemory status out

@@ -83,7 +83,8 @@ module _ {S O R : Type 0} (content : S → Content) (op_in : O → AnyOp) (reply
         ),
       )
 
--- a and b before; a₁ has a message of b, a₂ has seen l, b₂ has a message of a₂
+-- A client that is told back receives the log that the other has seen (a and b: before; a₁: with a message of b; a₂:
+-- after a meeting that shows l; b₂: with a message of a₂).
 pub told_back : (x : ℕ) (a b a₁ a₂ b₂ : DeskView) (l : List AnyEntry) → x < 16 → a₁ ≡ after_message a (seen_message b)
     → a₂ ≡ after_meet x l a₁
     → length a₁.seen ≡ 16 → b₂ ≡ after_message b (seen_message a₂) → received_of b₂ x ≡ l

@@ -188,6 +188,7 @@ seats_after kinds lists clients w w' so vs id v v' at cl alike makers before lea
       }
     ]
 
+-- `Makers` stays true if one view changes, and not in its role, its number or how many clients it has made
 pub makers_stay : (clients : ℕ) (vs : List DeskView) (id : ℕ) (v v' : DeskView) → get_elem? vs id ≡ some v
     → v'.role ≡ v.role → v'.number ≡ v.number
     → v'.made ≡ v.made → Makers clients vs → Makers clients (set vs id v')
@@ -233,6 +234,7 @@ module _ {S O R : Type 0} (content : S → Content) (op_in : O → AnyOp) (reply
 
 module _ {S O R : Type 0} {content : S → Content} {op_in : O → AnyOp} {reply_in : R → AnyReply} {kinds : List Kind}
     {clients quota : ℕ} where
+  -- what the view of a client says of the client itself is true
   pub mine : {s : State (Slot S O R) DeskView} {v : DeskView} (k : Rule content op_in reply_in kinds clients quota s)
       (id : ℕ) → v.role ≡ role.Client
       → get_elem? s.views id ≡ some v → SeatOk kinds k.world v.number v
@@ -251,6 +253,7 @@ module _ {S O R : Type 0} {content : S → Content} {op_in : O → AnyOp} {reply
     pub others : (d : ℕ) → d ≢ v.number → Later k.world world d
     pub own : SeatOk kinds world v.number v'
 
+  -- the rule holds after a step for which there is such a world
   pub kept_after : {s : State (Slot S O R) DeskView} {v : DeskView} {words : List ℕ}
       {homes : List (maybe.Option (Slot S O R))} (k : Rule content op_in reply_in kinds clients quota s) (id : ℕ)
       (v' : DeskView) → get_elem? s.views id ≡ some v
@@ -293,6 +296,7 @@ module _ {S O R : Type 0} {content : S → Content} {op_in : O → AnyOp} {reply
         own = ok;
       })
 
+  -- the rule holds after a miss of a client
   pub misses : {s : State (Slot S O R) DeskView} {v : DeskView} (k : Rule content op_in reply_in kinds clients quota s)
       (i id : ℕ) (cs : List (ℕ × Slot S O R))
       → v.role ≡ role.Client → get_elem? s.views id ≡ some v

@@ -103,7 +103,7 @@ pub struct DeskView {
     pub ready: bool,
     /// Of each object, by its number, a beginning of its log.
     pub seen: LinkedList<LinkedList<LogEntry<AnyOp, AnyReply>>>,
-    /// The same, of another client, from its message.
+    /// Of each object, by its number, the beginning of its log that another client's message gave.
     pub received: LinkedList<LinkedList<LogEntry<AnyOp, AnyReply>>>,
     /// The requests that were put back into their rows while the object is held.
     pub back: LinkedList<PutBack>,

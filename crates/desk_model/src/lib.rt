@@ -31,7 +31,7 @@ pub struct Request<O> {
     pub op: O,
 }
 
-/// What a call is answered: the reply, or that an allocation failed for it.
+/// The answer to a call: the reply, or that an allocation failed for it.
 #[derive(Clone, Copy, Debug, PartialEq, Eq)]
 pub enum Answer<R> {
     Reply(R),

@@ -15,7 +15,8 @@ abbrev pub IsValue : List Piece → Option Datum → Type 0
 IsValue ps None = ps ≡ []
 IsValue ps (Some d) = (ts : List Token) × (token_buffer_tokens ps ≡ tokens_of d ++ ts)
 
--- the same of a key of a map
+-- The form is a map. The token buffer begins with the tokens of its value for this key, or the map
+-- has no such value and the buffer is empty.
 abbrev pub IsValueIn : List Piece → List ℕ → Datum → Type 0
 IsValueIn ps k (atom a) = ⊥
 IsValueIn ps k (vector ds) = ⊥

@@ -13,14 +13,16 @@ pub record BeginsForm (tokens : List Token) : Type 0 where
   pub own : InProfile form
   pub are : tokens ≡ tokens_of form ++ remains
 
--- the same of a vector's elements and the bracket after them
+-- The tokens of a vector's elements and of the bracket after them, and then these. Their integers
+-- have 64 bits, their strings are text and their keywords are spelled as keywords.
 pub record BeginsItems (tokens : List Token) : Type 0 where
   pub items : Items
   pub remains : List Token
   pub own : ItemsInProfile items
   pub are : tokens ≡ items_tokens items ++ close_vector ∷ remains
 
--- and of a map's pairs, and the brace after them
+-- The tokens of a map's pairs and of the brace after them, and then these. Their integers have 64
+-- bits, their strings are text and their keywords are spelled as keywords.
 pub record BeginsPairs (tokens : List Token) : Type 0 where
   pub pairs : Entries
   pub remains : List Token

@@ -1,4 +1,4 @@
--- What is left of the tokens of an element. No public clause speaks of it.
+-- The rest of the tokens of an element. No public clause speaks of it.
 use Rattle.std.specs.Prelude.{List}
 use Rattle.edn_reader.specs.Token.{Token}
 use Rattle.edn_reader.specs.Pieces.{token_buffer_tokens}

@@ -6,11 +6,11 @@ use Rattle.edn_reader.specs.Kepts.{keeping_of}
 use Rattle.edn_reader.specs.TokenBuffers.{tokens_on, integer_vector_on}
 use Rattle.edn_reader.specs.declared.elements.Elements.{Elements}
 
--- what is left of the text
+-- the rest of the text
 abbrev pub left_of : Elements → List ℕ
 left_of e = e.rest.now
 
--- the byte of the text at which that begins
+-- the byte of the text at which the rest begins
 abbrev pub start_of : Elements → ℕ
 start_of e = e.whole - length e.rest.now
 

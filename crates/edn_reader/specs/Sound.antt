@@ -32,7 +32,8 @@ pub record IsSoundAt (place : ℕ) (text : List ℕ) : Type 0 where
   pub stands : Begins here token rest
   pub stands_at : place + length here ≡ length text
 
--- The same of what is left of a text, if it begins at this byte of the text.
+-- `IsSoundAt` for the rest of a text, which begins at the byte `start` of the text: the place is
+-- counted in the full text.
 abbrev pub IsSoundFrom : ℕ → ℕ → List ℕ → Type 0
 IsSoundFrom start place left = (n : ℕ) × (place ≡ start + n) × IsSoundAt n left
 

@@ -55,7 +55,7 @@ abbrev pub IsPositive : ℤ → List ℕ → Type 0
 IsPositive z ds =
     (is_decimal ds ≡ true) × (value_after 0 ds < 2 ^ 63) × (z ≡ pos (value_after 0 ds))
 
--- the same after a minus sign
+-- the digits after the minus sign of an integer of 64 bits
 abbrev pub IsNegative : ℤ → List ℕ → Type 0
 IsNegative z ds =
     (is_decimal ds ≡ true) × (value_after 0 ds ≤ 2 ^ 63) × (z ≡ minus (value_after 0 ds))
@@ -119,7 +119,7 @@ Begins bytes open_map rest = bytes ≡ 123 ∷ rest
 Begins bytes close_map rest = bytes ≡ 125 ∷ rest
 Begins bytes (leaf d) rest = BeginsWord bytes d rest ⊎ BeginsString bytes d rest
 
--- The same after separators and comments.
+-- The text begins with this token, after separators and comments, and this rest follows it.
 abbrev pub IsNext : List ℕ → Token → List ℕ → Type 0
 IsNext bytes t rest =
     (gap after : List ℕ) × IsGap gap × Begins after t rest × (bytes ≡ gap ++ after)

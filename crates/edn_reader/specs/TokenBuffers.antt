@@ -22,6 +22,6 @@ integer_vector_on t = noted (noted_in t.integer_vector)
 abbrev pub open_on : TokenBuffer → Shapes
 open_on t = levels_shapes t.levels
 
--- nothing is wrong up to the token at which so much of the text is left
+-- nothing is wrong up to the token at which the rest of the text has this length
 abbrev pub IsSoundAfter : ℕ → List ℕ → Type 0
 IsSoundAfter left text = (left ≤ length text) × IsSoundAt (length text - left) text

@@ -1,4 +1,4 @@
--- What is handed out of lines that were made, and what the number that is answered then shows.
+-- The part of the lines that the caller gets, and what the number that the call returns then shows.
 use Rattle.std.proofs.Common.{◌≡◌, ◌≢◌, ◌∙◌, ◌⊎◌, ℕ, List, codes, inl, inr, refl, ap, sym}
 use Rattle.report.specs.declared.verdict.Verdict.{Verdict}
 use Rattle.report.specs.declared.verdict.Verdict.TheVariants as verdict

@@ -11,7 +11,7 @@ pub record IsHandedOut (text before after : List ℕ) (told : ℕ) : Type 0 wher
       ++ drop (min (length text) (length before)) before
   pub needed : told ≡ length text
 
--- `IsOutput` holds of a status, whose number is answered, and of a text that is handed out; or an
+-- `IsOutput` holds of a status, whose number is the result, and of a text that is handed out; or an
 -- allocation for the text failed, and one line says so.
 abbrev pub IsAnswered : (Status → List ℕ → Type 0) → ℕ → List ℕ → List ℕ → ℕ → Type 0
 IsAnswered IsOutput result before after told =

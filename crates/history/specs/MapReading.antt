@@ -6,11 +6,11 @@ use Rattle.history.specs.declared.client_map.OperationMap.{OperationMap}
 use Rattle.history.specs.declared.map_reader.MapReader.{MapReader}
 use Rattle.history.specs.UsualForms.{ReadsForm}
 
--- what is left of the text
+-- the rest of the text
 abbrev pub left_in : MapReader → List ℕ
 left_in r = left_of r.elements
 
--- the byte of the text at which that begins
+-- the byte of the text at which the rest begins
 abbrev pub start_in : MapReader → ℕ
 start_in r = start_of r.elements
 

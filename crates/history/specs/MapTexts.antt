@@ -7,7 +7,7 @@ use Rattle.edn_reader.specs.Spells.{Spells}
 use Rattle.history.specs.declared.map_texts.MapText.{MapText}
 use Rattle.history.specs.Views.{Says}
 
--- what is said of the map is what the form says, and its bytes spell the form alone
+-- The fields of the map say what the form says, and its bytes spell the form alone.
 pub record IsMapText (m : MapText) (d : Datum) : Type 0 where
   pub says : Says m.said d
   pub spelled : Spells (d ∷ []) m.text.now

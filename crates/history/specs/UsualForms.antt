@@ -22,7 +22,7 @@ pub record ReadsForm (text : List ℕ) (said : OperationMap) (rest : List ℕ) :
   pub utf8 : IsUtf8 rest
   pub says : Says said form
 
--- The same of the map of a client.
+-- The text begins with the map of a client, this is what the map says, and this rest follows it.
 abbrev pub ReadsUsual : List ℕ → ClientMap → List ℕ → Type 0
 ReadsUsual text map rest = ReadsForm text (OfClient map) rest
 

@@ -14,9 +14,9 @@ use crate::usual_map::usual_map;
 use edn::{EdnFault, Elements, FaultKind};
 use std::alloc::Global;
 
-/// What is left of a text in which each form is to be one operation map. The usual reader is tried
-/// first, and if it finds no map, the form is read token by token. Of each value only what can
-/// be an argument or a reply is kept.
+/// The rest of a text in which each form is to be one operation map. The reader of maps tries the
+/// usual reader first, and if that finds no map, it reads the form token by token. Of each value it
+/// keeps only what can be an argument or a reply.
 #[derive(Drop)]
 pub(crate) struct MapReader<'a> {
     elements: Elements<'a>,
@@ -43,7 +43,7 @@ impl<'a> MapReader<'a> {
         }
     }
 
-    /// What is left of the text.
+    /// The rest of the text.
     #[inline(always)]
     pub fn rest(&self) -> &'a str
         ensures { result.now ≡ left_in self.now }
@@ -51,8 +51,8 @@ impl<'a> MapReader<'a> {
         self.elements.rest()
     }
 
-    /// What the next form says, or that there is none. After an error what is left stays as it was,
-    /// and the next call returns the same, except for an allocation failure.
+    /// What the next form says, or that there is none. After an error the rest stays as it was, and
+    /// the next call returns the same, except for an allocation failure.
     #[inline(always)]
     pub fn advance(&mut self) -> Result<Option<OperationMap>, EdnFault>
         ensures reads { IfOk result (λ r. ReadsNext (left_in self.old) r (left_in self.new)) }

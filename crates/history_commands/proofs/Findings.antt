@@ -1,4 +1,4 @@
--- The worst of what is found: what it says of each finding, by cases of two and by induction on the list.
+-- The worst finding: what it says of each finding, by cases of two and by induction on the list.
 use Rattle.std.proofs.Common.{arith, ◌≡◌, ◌⊎◌, inl, inr, List, [], ◌∷◌, ◌++◌, map, fold, refl, ap, sym, ◌∙◌}
 use Rattle.std.proofs.lemmas.List.{map_push}
 use Rattle.model.proofs.Lists.{In}
@@ -20,7 +20,7 @@ fold_push : (f g : Finding) (fs : List Finding) → fold worse f (fs ++ g ∷ []
 fold_push f g [] = refl
 fold_push f g (x ∷ fs) = fold_push (worse f x) g fs
 
--- what is found of each element
+-- the findings on the elements, and the worst of them
 module _ {X : Type 0} (of : X → Finding) where
   each_certified : (f : Finding) (xs : List X) → fold worse f (map of xs) ≡ Certified
       → (f ≡ Certified) × ((x : X) → In x xs → of x ≡ Certified)
@@ -33,7 +33,7 @@ module _ {X : Type 0} (of : X → Finding) where
   pub all_certified : (xs : List X) → worst (map of xs) ≡ Certified → (x : X) → In x xs → of x ≡ Certified
   all_certified xs e = (each_certified Certified xs e).1
 
-  -- what is found together is found of one
+  -- the worst finding is the first one, or that on some element
   found_of_one : (f g : Finding) (xs : List X) → fold worse f (map of xs) ≡ g
       → (f ≡ g) ⊎ ((x : X) × In x xs × (of x ≡ g))
   found_of_one f g [] e = inl e

@@ -115,7 +115,7 @@ answers_claims name es claims limit ds a decided suffices finding note lines cou
 
 -- ---- what an answer shows
 
--- what is found is one thing
+-- an answer has one finding
 other_finding : (f g : Finding) (a : Answer) → (f ≡ g → ⊥) → a.finding ≡ f → a.finding ≡ g → ⊥
 other_finding f g a apart is e = apart (sym is ∙ e)
 
@@ -276,7 +276,7 @@ lines_in_no answers a l out h i j =
 
 -- ---- all shards
 
--- what holds of each that is answered so
+-- what follows for each element from its partner
 each_zipped : {X Y : Type 0} (R : X → Y → Type 0) (P : X → Type 0) (xs : List X) (ys : List Y) → AllZip R xs ys
     → ((x : X) (y : Y) → In y ys → R x y → P x) → (x : X) → In x xs → P x
 each_zipped R P [] ys h f x i = absurd i

@@ -1,4 +1,4 @@
--- The merge of what is found of the shards of a history: what is answered of each, and the output.
+-- The merge of the findings on the shards of a history: the answer for each, and the output.
 use Rattle.std.specs.Prelude.{◌≡◌, ◌⊎◌, ℕ, false, List, [], ◌∷◌, ◌++◌, codes, decimal, map, fold}
 use Rattle.std.specs.Prelude.{nat_lt, if◌then◌else◌, All, Any}
 use Rattle.std.specs.List.{AllZip, flat_map, list_all, list_any}
@@ -51,8 +51,8 @@ pub record Shard : Type 0 where
   pub evidence : List ℕ
   pub limit : ℕ
 
--- what is answered of a shard: what is found, a line on the shard or nothing, the lines on each of
--- its objects that has no order, and what its history has
+-- the answer for a shard: the finding, a line on the shard or nothing, the lines on each of its
+-- objects that has no order, and the counts of its history
 pub record Answer : Type 0 where
   pub finding : Finding
   pub note : List ℕ
@@ -86,7 +86,7 @@ status_with Malformed = ends.Malformed
 abbrev pub shard_line : ℕ → List ℕ → List ℕ
 shard_line number said = (codes "shard " ++ (decimal number ++ codes ": ")) ++ said
 
--- this is found, and said of the shard, and nothing of its objects
+-- the answer has this finding, and a line that says this about the shard, and no lines on objects
 abbrev pub IsNoted : ℕ → Finding → List ℕ → Answer → Type 0
 IsNoted number finding said a =
     (a.finding ≡ finding) × (a.note ≡ shard_line number said) × (a.lines ≡ [])
@@ -99,8 +99,8 @@ IsTooLarge (HistoryMaps f) = f.kind ≡ TooMany
 IsTooLarge (CertificateText e) = ⊥
 IsTooLarge (CertificateForms f) = ⊥
 
--- what is answered of a shard whose text has this fault: that the text is malformed, unless it is
--- too large, which says nothing of the whole
+-- The answer for a shard whose text has this fault: the text is malformed, unless it is too large,
+-- which says nothing about the whole.
 abbrev pub AnswersFault : ℕ → Fault → Answer → Type 0
 AnswersFault number f a =
     (IsTooLarge f × IsNoted number Undecided (codes "too large\n") a)
@@ -118,7 +118,7 @@ finding_on decisions =
 abbrev pub shown_on : ℕ → ShownReason → ShownReason
 shown_on x f = record f { reason = record f.reason { object = x } }
 
--- the same of a decision, if a reason shows it
+-- the decision, in which a reason, if one shows it, names the object by this number
 abbrev pub decided_on : ℕ → Decision → Decision
 decided_on x (Order c) = Order c
 decided_on x (Impossible f) = Impossible (shown_on x f)
@@ -130,8 +130,8 @@ decided_on x Open = Open
 abbrev pub lines_by : List Event → ℕ → Decision → List (ℕ × List ℕ)
 lines_by es x d = if is_order d then [] else (x, decision_lines es x (decided_on x d)) ∷ []
 
--- What is answered by claims on the history that events denote, and what that shows. The history
--- and the claims have the names of a shard, the lines those of the whole, which are given.
+-- The answer by claims on the history that events denote, and what it shows. The history and the
+-- claims have the names of a shard, the lines those of the whole, which are given.
 pub record AnswersClaims (whole_name : ℕ → ℕ) (es : List Event) (claims : List Claim) (limit : ℕ)
     (a : Answer) : Type 0 where
   pub decisions : List (ℕ × Decision)
@@ -143,7 +143,8 @@ pub record AnswersClaims (whole_name : ℕ → ℕ) (es : List Event) (claims : 
   pub certified : a.finding ≡ Certified → IsLinearizable (kind_at es) (events (denoted es))
   pub refuted : a.finding ≡ Refuted → IsLinearizable (kind_at es) (events (denoted es)) → ⊥
 
--- the same by evidence, which denotes claims, or is malformed
+-- The answer by evidence on the history that events denote: the evidence denotes claims, or it is
+-- malformed, and a line on the shard says so.
 abbrev pub AnswersEvidence : ℕ → (ℕ → ℕ) → List Event → List ℕ → ℕ → Answer → Type 0
 AnswersEvidence number whole_name es evidence limit a =
     ((claims : List Claim) × DenotesClaims evidence claims
@@ -151,8 +152,8 @@ AnswersEvidence number whole_name es evidence limit a =
     ⊎ ((f : ClaimTextFault) × IsTextFault evidence f × IsOfText f
     × IsNoted number Undecided (evidence_fault_line f) a)
 
--- What is answered of the events of a shard, whose table gives them the numbers of the whole, or
--- does not fit. The evidence is in these numbers.
+-- The answer for the events of a shard, whose table gives them the numbers of the whole, or does
+-- not fit. The evidence is in these numbers.
 abbrev pub AnswersTable : ℕ → (ℕ → ℕ) → List Event → List ℕ → List ℕ → ℕ → Answer → Type 0
 AnswersTable number whole_name es table evidence limit a =
     ((ns : List ℕ) × FitsTable ns table es
@@ -164,7 +165,7 @@ AnswersTable number whole_name es table evidence limit a =
 abbrev pub whole_name : Shard → ℕ → ℕ
 whole_name s = object_named s.count s.number
 
--- What is answered of a shard, whose text denotes a history, or has a fault.
+-- The answer for a shard, whose text denotes a history, or has a fault.
 abbrev pub AnswersShard : Shard → Answer → Type 0
 AnswersShard s a =
     ((es : List Event) × DenotesHistory s.text es
@@ -186,7 +187,7 @@ seen a =
       counts = seen_counts a.counts;
     }
 
--- These shards were taken, and no others, and what is kept is what is answered of them.
+-- The merge took these shards, and no others, and keeps the answers for them.
 pub record AreMerged (m : Merging) (shards : List Shard) : Type 0 where
   pub answers : List Answer
   pub each : AllZip AnswersShard shards answers
@@ -202,8 +203,8 @@ pub record AreInOrder (lines sorted : List (ℕ × List ℕ)) : Type 0 where
   pub same : IsPermutation lines sorted
   pub rising : IsNonDecreasingBy (λ l. l.0) sorted
 
--- The lines if this is the worst that is found: those of a yes with the counts of all shards, or
--- what is said of shards; and then, unless one of these is malformed, what is said of objects.
+-- The lines if this is the worst finding: those of a yes with the counts of all shards, or the
+-- lines on shards; and then, unless one of these is malformed, the lines on objects.
 abbrev pub AreLinesWith : Finding → List Answer → List ℕ → Type 0
 AreLinesWith Certified answers out =
     (s : Summary) × AreSums s (map (λ a. a.counts) answers)

@@ -106,7 +106,7 @@ refutations_text es limit (r ∷ rs) (a ∷ answers) =
 abbrev pub refute_status : List Refutation → Status
 refute_status answers = status_by (list_any is_impossible answers) false
 
--- What is answered to the reasons, one by one, and what it shows.
+-- The answers to the reasons, one by one, and what they show.
 pub record AreAnswered (es : List Event) (reasons : List Reason) (limit : ℕ)
     (status : Status) (text : List ℕ) : Type 0 where
   pub answers : List Refutation
@@ -116,14 +116,15 @@ pub record AreAnswered (es : List Event) (reasons : List Reason) (limit : ℕ)
   -- if it is a no the history is not linearizable
   pub refuted : status ≡ ends.No → IsLinearizable (kind_at es) (events (denoted es)) → ⊥
 
--- The same of the reasons that a text denotes, which is not too long to be read.
+-- The answers to the reasons that a text denotes, one by one, and what they show. The text is not
+-- too long to be read.
 abbrev pub AreAnsweredIn : List Event → List ℕ → ℕ → Status → List ℕ → Type 0
 AreAnsweredIn es r limit status text =
     IsShort r × (ds : List Datum) × Spells ds r × (reasons : List Reason) × Denotes ds reasons
     × AreAnswered es reasons limit status text
 
--- The history's text is not too long to be read, and denotes a history. The reasons are answered
--- on it, or their text is faulty.
+-- The history's text is not too long to be read, and denotes a history. The output has the answers
+-- to the reasons on this history, or says what is wrong with the text of the reasons.
 abbrev pub IsRefuteText : List ℕ → List ℕ → ℕ → Status → List ℕ → Type 0
 IsRefuteText h r limit status text =
     IsShort h × (es : List Event) × DenotesHistory h es

@@ -71,7 +71,8 @@ pub record AreSearched (es : List Event) (limit : ℕ) (status : Status) (text :
       → (cs : List Certificate) × AreValid es cs × AreDistinct cs × (text ≡ lines_of cs)
   pub refuted : status ≡ ends.No → IsLinearizable (kind_at es) (events (denoted es)) → ⊥
 
--- The same of the history that a text denotes, which is not too long to be read.
+-- The answers on the objects of the history that a text denotes, and what they show. The text is
+-- not too long to be read.
 abbrev pub IsSearched : List ℕ → ℕ → Status → List ℕ → Type 0
 IsSearched h limit status text =
     IsShort h × (es : List Event) × DenotesHistory h es × AreSearched es limit status text

@@ -148,7 +148,7 @@ abbrev pub AreJudged : List Event → List Claim → ℕ → Status → List ℕ
 AreJudged es claims limit status text =
     IsOutput (AreOpen es claims limit) (IsVerdictBy es claims limit) status text
 
--- ---- the same of the texts
+-- ---- the outputs for texts
 
 -- The output for a history that is denoted: some object has no order, or the evidence denotes no
 -- claims.

@@ -1,11 +1,11 @@
-//! What is found of a shard of a history, or of several together.
+//! The finding on a shard of a history, or on several together.
 
 ghost use Rattle.std.specs.Prelude.{◌≡◌, ◌≢◌};
 ghost use Rattle.history_commands.specs.Merged as spec;
 
 use crate::status::Status;
 
-/// What is found of a shard, or of several together: the worst of what is found of each.
+/// The finding on a shard, or on several together: the worst of those on each.
 #[derive(Clone, Copy, Debug, PartialEq, Eq)]
 pub enum Finding {
     /// Each object has an order.

@@ -12,7 +12,7 @@ use crate::shard_counts::Counts;
 use report::Verdict;
 use std::alloc::{AllocError, Global};
 
-/// What is found of the shards that were taken, and the lines on them.
+/// The findings on the shards that were taken, and the lines on them.
 #[derive(Drop)]
 pub struct Merging {
     finding: Finding,

@@ -251,7 +251,8 @@ fn answer_reasons(
     })
 }
 
-/// The same of the reasons that a text denotes, or the output that says why it denotes none.
+/// Checks the reasons that a text denotes on the history, each with a limit of `steps` steps of its
+/// search; or returns the output that says why the text denotes none.
 fn answer_text(
     alloc: Global,
     history: &History,

@@ -19,15 +19,15 @@ pub record IsVerdictOnRead (history history_left certificates certificates_left 
   pub second_read : WasRead read_limit certificates certificates_left second
   pub holds : Holds first second v
 
--- The same, and the lines of the verdict were written. What the sink was sent is given as it was
--- before and after.
+-- The verdict is on what was read of both sources, and its lines were written. What the sink was
+-- sent is given as it was before and after.
 abbrev pub IsJudged : Option (List ℕ) → Option (List ℕ) → Option (List ℕ) → Option (List ℕ)
     → Option (List ℕ) → Option (List ℕ) → Verdict → Type 0
 IsJudged history history_left certificates certificates_left sent_before sent v =
     IsVerdictOnRead history history_left certificates certificates_left v
     × Appends sent_before sent (verdict_text false v)
 
--- The same, and a beginning of the lines of the verdict was written.
+-- Some verdict is on what was read of both sources, and a beginning of its lines was written.
 abbrev pub IsCutOff : Option (List ℕ) → Option (List ℕ) → Option (List ℕ) → Option (List ℕ)
     → Option (List ℕ) → Option (List ℕ) → Type 0
 IsCutOff history history_left certificates certificates_left sent_before sent =
@@ -39,7 +39,7 @@ abbrev pub IsLinearizableRead : Option (List ℕ) → Option (List ℕ) → Type
 IsLinearizableRead history history_left =
     (text : List ℕ) × WasRead read_limit history history_left text × IsLinearizableText text
 
--- The same, and it is not linearizable.
+-- The text of a history was read, and the history that it denotes is not linearizable.
 abbrev pub IsNotLinearizableRead : Option (List ℕ) → Option (List ℕ) → Type 0
 IsNotLinearizableRead history history_left =
     (text : List ℕ) × WasRead read_limit history history_left text × IsNotLinearizableText text

@@ -109,7 +109,7 @@ pub fn check_over<R: Threads + Sync, H: Source, C: Source, W: Sink>(
         (H.broken history.new ≡ true) × (certificates.new ≡ certificates.old)) }
     ensures unread_certificates { IfErr result (λ e. e ≡ ToolFault.Read Text.Certificates →
         (H.broken history.new ≡ false) × (C.broken certificates.new ≡ true)) }
-    // It is answered only if that source refused a call.
+    // `check_over` returns it only if that source refused a call.
     ensures history_refused { IfErr result (λ e. e ≡ ToolFault.Read Text.History →
         WasRefused H.remaining H.refuses history.old history.new) }
     ensures certificates_refused { IfErr result (λ e. e ≡ ToolFault.Read Text.Certificates →

@@ -9,6 +9,6 @@ use Rattle.model.specs.Orders.{Numbered, calls_on, IsValidOrderOf}
 abbrev pub HasValidOrderOf : (ℕ → Specification) → List Numbered → ℕ → Type 0
 HasValidOrderOf objects h x = (order : List ℤ) × IsValidOrderOf (objects x) (calls_on x h) order
 
--- the same if each object is of one of the kinds here
+-- some order of the operations on this object is valid, and each object is of one of the kinds here
 abbrev pub HasValidOrder : (ℕ → Kind) → List Numbered → ℕ → Type 0
 HasValidOrder kinds h x = HasValidOrderOf (λ y. any (kinds y)) h x

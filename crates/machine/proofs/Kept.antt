@@ -34,7 +34,7 @@ leads_more : (kinds : List Kind) (quota : ℕ) (w : World) (ms : List (ℕ × St
 leads_more kinds quota w [] m between after l h = (after, subst (λ z. Transition kinds quota m.1 z m.0 after) l h, refl)
 leads_more kinds quota w (n ∷ ns) m between after l h = (l.0, l.1, leads_more kinds quota l.0 ns m between after l.2 h)
 
--- what is said of one state is said of the same under another name
+-- what holds of one state holds of the same state under another name
 pub taken_of : (s t s' : State) (c : ℕ) (w : Step) → s ≡ t → IsTaken s c w s' → IsTaken t c w s'
 taken_of s t s' c w e h = subst (λ (z : State). IsTaken z c w s') e h
 
@@ -320,7 +320,7 @@ module _ (contents : List Content) (s : State) (m : IsMachine contents s) (c : �
             (requests_staged s' r (stage_of t) (ap (λ (z : World). z.stage) is) same j);
       })
 
-  -- The request in hand is answered: the object contains what the operation leaves, and the log has what was answered.
+  -- The client answers the request in hand: the object contains what the operation leaves, and the log has the answer.
   pub served_now : (x r : ℕ) (q : AnyRequest) (before after : Content) (a : AnyAnswer)
       → slice_get contents x ≡ Some before → x < length s.kinds
       → r < length s.stages → kind_at s.kinds x ≡ kind_with before → kind_with after ≡ kind_with before

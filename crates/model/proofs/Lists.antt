@@ -9,6 +9,7 @@ use Rattle.std.proofs.lemmas.List.Elements.{filter-append}
 use Rattle.std.proofs.lemmas.Bool.{eqb-false, ne_eqb, not-true, ltb-false, le-ltb}
 use Rattle.std.proofs.lemmas.Bool.Decides.{nat_tests}
 
+-- the element is in the list
 abbrev pub In : {X : Type 0} → X → List X → Type 0
 In x [] = ⊥
 In x (y ∷ ys) = (x ≡ y) ⊎ In x ys
@@ -18,30 +19,37 @@ abbrev pub Pairs : {X : Type 0} → (X → X → Type 0) → List X → Type 0
 Pairs R [] = Unit {0}
 Pairs {X} R (x ∷ xs) = ((y : X) → In y xs → R x y) × Pairs R xs
 
+-- an element of a filtered list is in the list
 pub in_filter : {X : Type 0} (p : X → Bool) (x : X) (xs : List X) → In x (filter p xs) → In x xs
 in_filter p x [] h = h
 in_filter p x (y ∷ ys) h = grind (arith, in_filter p x ys)
 
+-- an element of a filtered list passes the test
 pub in_filter_passes : {X : Type 0} (p : X → Bool) (x : X) (xs : List X) → In x (filter p xs) → p x ≡ true
 in_filter_passes p x [] h = absurd h
 in_filter_passes p x (y ∷ ys) h = grind (arith, in_filter_passes p x ys)
 
+-- an element that passes the test is in the filtered list
 pub in_filter_from : {X : Type 0} (p : X → Bool) (x : X) (xs : List X) → In x xs → p x ≡ true → In x (filter p xs)
 in_filter_from p x [] h e = absurd h
 in_filter_from p x (y ∷ ys) h e = grind (arith, in_filter_from p x ys)
 
+-- an element of two joined lists is in one of them
 pub in_append : {X : Type 0} (x : X) (xs ys : List X) → In x (xs ++ ys) → In x xs ⊎ In x ys
 in_append x [] ys h = inr h
 in_append x (y ∷ xs) ys h = grind (arith, in_append x xs ys)
 
+-- an element of the first list is in the joined list
 pub in_left : {X : Type 0} (y : X) (a b : List X) → In y a → In y (a ++ b)
 in_left y [] b i = absurd i
 in_left y (x ∷ a) b i = elim i [ inl e ↦ inl e | inr j ↦ inr (in_left y a b j) ]
 
+-- an element of the second list is in the joined list
 pub in_right : {X : Type 0} (y : X) (a b : List X) → In y b → In y (a ++ b)
 in_right y [] b i = i
 in_right y (x ∷ a) b i = inr (in_right y a b i)
 
+-- a list has the element that is put in between two parts
 pub in_middle : {X : Type 0} (x : X) (xs ys : List X) → In x (xs ++ x ∷ ys)
 in_middle x xs ys = in_right x xs (x ∷ ys) (inl refl)
 
@@ -53,6 +61,7 @@ in_split x (y ∷ xs) i = elim i [
   | inr j ↦ let r = in_split x xs j in (y ∷ r.0, r.1, ap (λ zs. y ∷ zs) r.2)
 ]
 
+-- what holds of each two elements holds in a filtered list
 pub pairs_filter : {X : Type 0} (R : X → X → Type 0) (p : X → Bool) (xs : List X) → Pairs R xs → Pairs R (filter p xs)
 pairs_filter R p [] h = tt
 pairs_filter {X} R p (x ∷ xs) h =
@@ -62,12 +71,14 @@ pairs_filter {X} R p (x ∷ xs) h =
       | false ↦ rest
     ]
 
+-- each two elements have a relation that follows from one that they have
 pub pairs_weaker : {X : Type 0} (R S : X → X → Type 0) (xs : List X) → ((x y : X) → In x xs → In y xs → R x y → S x y)
     → Pairs R xs → Pairs S xs
 pairs_weaker R S [] f h = tt
 pairs_weaker R S (x ∷ xs) f h =
     (λ y i. f x y (inl refl) (inr i) (h.0 y i), pairs_weaker R S xs (λ a b i j r. f a b (inr i) (inr j) r) h.1)
 
+-- two filters are one, by both tests
 pub filter-filter : {X : Type 0} (p q : X → Bool) (xs : List X) → filter p (filter q xs) ≡ filter (λ x. q x && p x) xs
 filter-filter p q [] = refl
 filter-filter p q (x ∷ xs) = grind (arith, filter-filter p q xs)
@@ -81,6 +92,7 @@ filter_same p q (x ∷ xs) f =
     let rest = filter_same p q xs (λ y i. f y (inr i)) in
     ap (λ b. cond b (x ∷ filter p xs) (filter p xs)) e ∙ ap (λ ys. cond (q x) (x ∷ ys) ys) rest
 
+-- a filter keeps all of a list whose elements pass
 pub filter_all : {X : Type 0} (p : X → Bool) (xs : List X) → ((x : X) → In x xs → p x ≡ true) → filter p xs ≡ xs
 filter_all p [] f = refl
 filter_all p (x ∷ xs) f =
@@ -88,6 +100,7 @@ filter_all p (x ∷ xs) f =
     let rest = filter_all p xs (λ y i. f y (inr i)) in
     ap (λ b. cond b (x ∷ filter p xs) (filter p xs)) e ∙ ap (λ ys. x ∷ ys) rest
 
+-- a filter keeps nothing of a list whose elements fail
 pub filter_none : {X : Type 0} (p : X → Bool) (xs : List X) → ((x : X) → In x xs → p x ≡ false) → filter p xs ≡ []
 filter_none p [] f = refl
 filter_none p (x ∷ xs) f =
@@ -95,12 +108,14 @@ filter_none p (x ∷ xs) f =
     let rest = filter_none p xs (λ y i. f y (inr i)) in
     ap (λ b. cond b (x ∷ filter p xs) (filter p xs)) e ∙ rest
 
+-- a filter of joined lists is the join of the filtered ones
 pub filter-flat_map : {X Y : Type 0} (p : Y → Bool) (f : X → List Y) (xs : List X)
     → filter p (flat_map f xs) ≡ flat_map (λ x. filter p (f x)) xs
 filter-flat_map p f [] = refl
 filter-flat_map p f (x ∷ xs) =
     filter-append p (f x) (flat_map f xs) ∙ ap (λ ys. filter p (f x) ++ ys) (filter-flat_map p f xs)
 
+-- functions that agree on the elements give the same joined list
 pub flat_map_same : {X Y : Type 0} (f g : X → List Y) (xs : List X) → ((x : X) → In x xs → f x ≡ g x)
     → flat_map f xs ≡ flat_map g xs
 flat_map_same f g [] h = refl
@@ -120,6 +135,7 @@ flat_map_filter f p (x ∷ xs) h =
     ] in
     here (p x) refl
 
+-- an element of joined lists is in one of them
 pub in_flat_map : {X Y : Type 0} (f : X → List Y) (y : Y) (xs : List X) → In y (flat_map f xs)
     → (x : X) × In x xs × In y (f x)
 in_flat_map f y [] h = absurd h
@@ -233,6 +249,7 @@ pairs_append R (x ∷ xs) ys h k f = (
   pairs_append R xs ys h.1 k (λ a b i j. f a b (inr i) j),
 )
 
+-- A relation holds between each two elements of joined lists, if it holds in each list and between two lists.
 pub pairs_flat_map : {X Y : Type 0} (R : Y → Y → Type 0) (S : X → X → Type 0) (f : X → List Y) (xs : List X)
     → Pairs S xs
     → ((x : X) → In x xs → Pairs R (f x)) → ((x z : X) → S x z → (a b : Y) → In a (f x) → In b (f z) → R a b)
@@ -242,20 +259,24 @@ pairs_flat_map R S f (x ∷ xs) h k g =
     pairs_append R (f x) (flat_map f xs) (k x (inl refl)) (pairs_flat_map R S f xs h.1 (λ y i. k y (inr i)) g)
     (λ a b i j. let r = in_flat_map f b xs j in g x r.0 (h.0 r.0 r.1) a b i r.2)
 
+-- an element of the mapped list is the image of an element
 pub in_map : {X Y : Type 0} (f : X → Y) (y : Y) (xs : List X) → In y (map f xs) → (x : X) × In x xs × (y ≡ f x)
 in_map f y [] h = absurd h
 in_map f y (x ∷ xs) h = elim h [ inl e ↦ (x, inl refl, e) | inr i ↦ let r = in_map f y xs i in (r.0, inr r.1, r.2) ]
 
+-- what holds of the images of each two elements holds of each two elements of the mapped list
 pub pairs_map : {X Y : Type 0} (R : Y → Y → Type 0) (f : X → Y) (xs : List X) → Pairs (λ a b. R (f a) (f b)) xs
     → Pairs R (map f xs)
 pairs_map R f [] h = tt
 pairs_map {X} R f (x ∷ xs) h =
     (λ y i. let r = in_map f y xs i in subst (R (f x)) (sym r.2) (h.0 r.0 r.1), pairs_map R f xs h.1)
 
+-- the image of an element is in the mapped list
 pub in_map_from : {X Y : Type 0} (f : X → Y) (x : X) (xs : List X) → In x xs → In (f x) (map f xs)
 in_map_from f x [] h = h
 in_map_from f x (y ∷ ys) h = elim h [ inl e ↦ inl (ap f e) | inr i ↦ inr (in_map_from f x ys i) ]
 
+-- what holds of each two elements of the mapped list holds of the images of each two elements
 pub pairs_from_map : {X Y : Type 0} (R : Y → Y → Type 0) (f : X → Y) (xs : List X) → Pairs R (map f xs)
     → Pairs (λ a b. R (f a) (f b)) xs
 pairs_from_map R f [] h = tt
@@ -263,6 +284,7 @@ pairs_from_map R f (x ∷ xs) h = (λ y i. h.0 (f y) (in_map_from f y xs i), pai
 
 -- ---- from the words of std, by index, to those by recursion, and back
 
+-- an element that std's `Contains` finds is in the list
 pub in_from_contains : {X : Type 0} (xs : List X) (x : X) → Contains xs x → In x xs
 in_from_contains [] x h = let l = h.1 in absurd (omega arith)
 in_from_contains (y ∷ ys) x h = go h.0 h.1 h.2 (λ k l e. in_from_contains ys x (k, l, e))
@@ -272,6 +294,7 @@ in_from_contains (y ∷ ys) x h = go h.0 h.1 h.2 (λ k l e. in_from_contains ys 
     go zero l e f = inl (sym e)
     go (suc k) l e f = inr (f k (omega arith) e)
 
+-- std's `Contains` finds an element that is in the list
 pub contains_from_in : {X : Type 0} (xs : List X) (x : X) → In x xs → Contains xs x
 contains_from_in [] x h = absurd h
 contains_from_in (y ∷ ys) x h = elim h [
@@ -279,22 +302,27 @@ contains_from_in (y ∷ ys) x h = elim h [
   | inr i ↦ let k = contains_from_in ys x i in (suc k.0, omega (arith, k.1), k.2)
 ]
 
+-- the element at an index of the list is in it
 pub in_from_get : {X : Type 0} (xs : List X) (k : ℕ) (d : X) → k < length xs → In (get_or xs k d) xs
 in_from_get [] k d l = absurd (omega arith)
 in_from_get (x ∷ xs) zero d l = inl refl
 in_from_get (x ∷ xs) (suc k) d l = inr (in_from_get xs k d (omega arith))
 
+-- an element that `slice_get` gives is in the list
 pub in_from_slice : {X : Type 0} (xs : List X) (j : ℕ) (z : X) → slice_get xs j ≡ Some z → In z xs
 in_from_slice [] j z g = absurd (cc (g))
 in_from_slice (x ∷ xs) zero z g = inl (sym (same_Some x z g))
 in_from_slice (x ∷ xs) (suc j) z g = inr (in_from_slice xs j z g)
 
+-- what holds of each element by `In` holds of all by index
 pub all_from_in : {X : Type 0} (P : X → Type 0) (xs : List X) → ((x : X) → In x xs → P x) → All P xs
 all_from_in P xs h = λ k d l. h (get_or xs k d) (in_from_get xs k d l)
 
+-- what holds of all by index holds of each element
 pub all_at : {X : Type 0} (P : X → Type 0) (xs : List X) → All P xs → (x : X) → In x xs → P x
 all_at P xs h x i = let k = contains_from_in xs x i in subst P k.2 (h k.0 x k.1)
 
+-- what holds of each two elements by `In` holds of each two by index
 pub all_from_pairs : {X : Type 0} (R : X → X → Type 0) (xs : List X) → Pairs R xs → AllPairs R xs
 all_from_pairs R [] h = λ i j d l m. absurd (omega arith)
 all_from_pairs {X} R (x ∷ xs) h = go (all_from_pairs R xs h.1)
@@ -304,6 +332,7 @@ all_from_pairs {X} R (x ∷ xs) h = go (all_from_pairs R xs h.1)
     go r zero (suc j) d l m = h.0 (get_or xs j d) (in_from_get xs j d (omega arith))
     go r (suc i) (suc j) d l m = r i j d (omega arith) (omega arith)
 
+-- what holds of each two elements by index holds of each two by `In`
 pub pairs_from_all : {X : Type 0} (R : X → X → Type 0) (xs : List X) → AllPairs R xs → Pairs R xs
 pairs_from_all R [] h = tt
 pairs_from_all {X} R (x ∷ xs) h =

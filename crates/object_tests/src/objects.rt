@@ -52,7 +52,7 @@ fn answers<S: SeqObject>(
     Ok(())
 }
 
-/// The same for an object of any kind, by the bound with its equalities of types.
+/// Does what `answers` does, on an object of any kind, by the bound with its equalities of types.
 fn sum_answers<S: SeqObject<Op = AnyOp, Reply = AnyReply>>(
     rt: &impl Abort,
     object: S,

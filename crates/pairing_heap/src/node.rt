@@ -47,7 +47,7 @@ fn next_free(nodes: &[Node], place: usize) -> Link
 }
 
 /// Puts a value into a free node, if there is one, and else into a new one. Returns its place, and
-/// what is left of the chain of free nodes.
+/// the rest of the chain of free nodes.
 pub(crate) fn put_node(
     nodes: &mut Vec<Node>,
     free: Link,

@@ -174,7 +174,7 @@ pub record Exchanged (calls : List Call) (kept : ℕ → Bool) (i : ℕ) (d : Co
   pub apart : Pairs (λ x y. x.number ≢ y.number) entries
   pub whole : (x : Call) → In x es → kept x.number ≡ true → IsSome x.returned → In x entries
 
--- a call is left out
+-- the part leaves out a call
 leave : (calls : List Call) (kept : ℕ → Bool) (i : ℕ) (d : Content) (e : Call) (es : List Call)
     → (kept e.number ≡ false)
     ⊎ (is_some e.returned ≡ false) → Exchanged calls kept i d es → Exchanged calls kept i d (e ∷ es)

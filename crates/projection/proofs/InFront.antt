@@ -1,5 +1,5 @@
 -- What is in front of a value in a queue, or on top of it in a stack, is taken out before it. By induction over the
--- calls: each puts in behind it, or takes out one that is in front.
+-- calls: each puts a value in after it, or takes out one that is in front of it.
 use Rattle.std.proofs.Common.{◌≡◌, inl, inr, ℕ, ℤ, ◌<◌, ◌≤◌, ◌+◌, Bool, true, false, ◌||◌}
 use Rattle.std.proofs.Common.{cond, List, [], ◌∷◌, ◌++◌, Some, IfSome, refl, ap, sym, ◌∙◌, subst}
 use Rattle.std.proofs.Common.{arith}
@@ -24,7 +24,7 @@ use Rattle.projection.proofs.Booleans.{false_is_not_true}
 abbrev pub every : ℤ → Bool
 every v = true
 
--- how many values are in front of the first b, where m come behind
+-- how many values are in front of the first b, where m values come after the list
 abbrev in_front : ℤ → List ℤ → ℕ → ℕ
 in_front b [] m = m
 in_front b (v ∷ vs) m = cond (int_eq b v) 0 (1 + in_front b vs m)

@@ -128,7 +128,7 @@ open_none n (o ∷ ops) f =
     let here = f o (inl refl) in
     grind (arith, nat_tests)
 
--- a pending removal among the first ones is left out
+-- a part that leaves out a pending removal among the first ones does not keep the first ones
 pub one_missing : (kept : ℕ → Bool) (most left i : ℕ) (ops : List Invocation) (d : Invocation) → i < length ops
     → keeps_first kept most ops ≡ keeps_first kept left (drop i ops) → is_open (get_or ops i d) ≡ true → zero < left
     → kept (get_or ops i d).number ≡ false → false ≡ keeps_first kept most ops
@@ -136,7 +136,7 @@ one_missing kept most left i ops d lt e o less n =
     let whole = e ∙ ap (keeps_first kept left) (drop-cons ops i d lt) in
     grind (arith, nat_tests)
 
--- what is left out comes after this many
+-- a pending removal that the part leaves out comes after this many
 pub first_kept : (kept : ℕ → Bool) (most : ℕ) (ops : List Invocation) → Pairs (λ a b. a.number < b.number) ops
     → keeps_first kept most ops ≡ true
     → (x : Invocation) → In x ops → is_open x ≡ true → kept x.number ≡ false → most ≤ open_before x.number ops

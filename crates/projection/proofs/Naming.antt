@@ -26,7 +26,7 @@ from_one cut number calls (Ok (Some p)) e rising h =
     (subst (λ (z : Cut). Names z calls part) e named) h
 from_one cut number calls (Err x) e rising h = tt
 
--- what was done with an absent value was left out, and the cut names what is left
+-- the part leaves out the calls on an absent value, and the cut names the other calls
 pub without_named : (cut : Cut) (v w : ℤ) (before : ℕ) (calls : List Call)
     (cut_out : Result (Option ObjectCalls) AllocError) → cut ≡ Without v before → w ≡ v
     → IfOk cut_out (λ o. IfSome o (λ p. IsRest w before calls (calls_of p.ops)))

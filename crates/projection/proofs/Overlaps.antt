@@ -24,6 +24,7 @@ use Rattle.projection.proofs.Booleans.{less_by_test}
 
 -- ---- what was written
 
+-- an operation of which a written value is known is one of a register, and has the key of a write
 pub before_facts : (first : Option (AnyOp × AnyReply)) (op : AnyOp) (reply : AnyReply) (v : ℤ)
     → written_before first op reply ≡ Some v → (key_of (Write v) ≡ key_of op) × (kind_of op ≡ Register)
 before_facts first op reply v e = grind arith
@@ -63,6 +64,7 @@ step_later first at e c after h = whole (nat_lt at e.number)
     whole true = h
     whole false = returned e.returned h.2
 
+-- calls that have their replies from a content on still have them as calls of a suffix
 pub later_replies : (first : Option (AnyOp × AnyReply)) (at : ℕ) (es : List Call) (c : Content) → RepliesAlong c es
     → RepliesAlong c (map (call_later first at) es)
 later_replies first at [] c h = tt
@@ -77,11 +79,13 @@ pub record IsTimed (x y : Call) : Type 0 where
   pub number : x.number ≡ y.number
   pub returned : (t : Return) → x.returned ≡ Some t → (u : Return) × (y.returned ≡ Some u) × (u.at ≡ t.at)
 
+-- the first has the number and the key of the second, and returns where the second does, if it returns
 pub record IsCutOf (x y : Call) : Type 0 where
   pub number : x.number ≡ y.number
   pub key : key_of x.op ≡ key_of y.op
   pub returned : (t : Return) → x.returned ≡ Some t → (u : Return) × (y.returned ≡ Some u) × (u.at ≡ t.at)
 
+-- a call of a suffix is a cut of the call that it comes from
 pub cut_of : (first : Option (AnyOp × AnyReply)) (at : ℕ) (y : Call) → IsCutOf (call_later first at y) y
 cut_of first at y = whole (nat_lt at y.number)
   where
@@ -109,11 +113,13 @@ cut_of first at y = whole (nat_lt at y.number)
     whole true = record { number = refl; key = refl; returned = λ t e. (t, e, refl) }
     whole false = returned y.returned refl
 
+-- If w did not return before y was invoked, no call with the times of w returned before one with those of y.
 pub in_time : (x z y w : Call) → IsTimed x y → IsTimed z w → (ReturnsBefore w y → ⊥) → ReturnsBefore z x → ⊥
 in_time x z y w a b h r =
     let u = b.returned r.0 r.1 in
     h (u.0, u.1, let n = a.number in let t = u.2 in let l = r.2 in omega arith)
 
+-- If w did not return before y was invoked, no cut of w returned before a cut of y.
 pub in_time_cut : (x z y w : Call) → IsCutOf x y → IsCutOf z w → (ReturnsBefore w y → ⊥) → ReturnsBefore z x → ⊥
 in_time_cut x z y w a b h r =
     in_time x z y w (record { number = a.number; returned = a.returned })
@@ -121,15 +127,18 @@ in_time_cut x z y w a b h r =
 
 -- ---- writes that may stand before the first call
 
+-- the write that a call with this return becomes, if it becomes one
 abbrev pub front_written : Option (AnyOp × AnyReply) → ℕ → AnyOp → Option Return → Option Call
 front_written first number op None = None
 front_written first number op (Some r) = option_map (write_call number r.at) (written_before first op r.reply)
 
+-- the write that a call becomes that overlaps the first one, if it becomes one
 abbrev pub front_call : ℕ → ℕ → Option (AnyOp × AnyReply) → Call → Option Call
 front_call from at first y =
     cond (ended_before from y.returned) None
     (cond (nat_lt at y.number) None (front_written first y.number y.op y.returned))
 
+-- the call y, which overlaps the first one, becomes the write x
 pub record IsFront (from at : ℕ) (first : Option (AnyOp × AnyReply)) (y x : Call) : Type 0 where
   pub not_over : ended_before from y.returned ≡ false
   pub is_later : call_later first at y ≡ x
@@ -139,6 +148,7 @@ pub record IsFront (from at : ℕ) (first : Option (AnyOp × AnyReply)) (y x : C
   pub value : ℤ
   pub write : x ≡ write_call y.number when value
 
+-- a call for which `front_call` gives a write becomes this write in the suffix
 pub front_facts : (from at : ℕ) (first : Option (AnyOp × AnyReply)) (y x : Call) → front_call from at first y ≡ Some x
     → IsFront from at first y x
 front_facts from at first y x e = over (ended_before from y.returned) refl e
@@ -189,6 +199,7 @@ pub record Late (from at : ℕ) (first : Option (AnyOp × AnyReply)) (y : Call) 
   pub either : (at < y.number)
       ⊎ (ended_before from y.returned ≡ false → front_call from at first y ≡ Some (call_later first at y))
 
+-- what `Late` says holds of each call of the suffix that returned
 pub late_facts : (from at : ℕ) (first : Option (AnyOp × AnyReply)) (y : Call)
     → IsSome (call_later first at y).returned → Late from at first y
 late_facts from at first y so = whole (nat_lt at y.number) refl so
@@ -228,6 +239,7 @@ late_facts from at first y so = whole (nat_lt at y.number) refl so
 
 -- ---- their replies
 
+-- what a call on a register leaves is what a write leaves
 pub first_write : (op : AnyOp) (reply : AnyReply) (p : AnyOp × AnyReply) → leaves op reply ≡ Some (Some p)
     → kind_of op ≡ Register → (v : ℤ) × (p ≡ (Write v, Value (Some v)))
 first_write (Write w) reply p e k = (w, sym (same_Some (Write w, Value (Some w)) p (same_Some _ _ e)))
@@ -236,6 +248,7 @@ first_write (Cas a b) (Swapped c d) p e k = (b, sym (same_Some (Write b, Value (
 first_write (Create w) (Flag true) p e k = (w, sym (same_Some (Write w, Value (Some w)) p (same_Some _ _ e)))
 first_write op reply p e k = search rules
 
+-- the call is a write that returned
 abbrev pub IsWrite : Call → Type 0
 IsWrite x = (number at : ℕ) × (v : ℤ) × (x ≡ write_call number at v)
 
@@ -251,6 +264,7 @@ writes_before (x ∷ xs) c from at v es f h =
     (sym w.3)
     (register (Some w.2), Value (Some w.2), refl, refl, writes_before xs (Some w.2) from at v es (λ y i. f y (inr i)) h)
 
+-- calls have their replies in a suffix where writes come in front of its first call
 pub front_replies : (kind : Kind) (front : List Call) (from at : ℕ) (p : AnyOp × AnyReply) (d : Content)
     (es : List Call)
     → next (empty kind) p.0 ≡ Some (d, p.1) → ((x : Call) → In x front → IsWrite x × (kind ≡ Register))

@@ -30,12 +30,12 @@ Open = AnyOp → Option AnyOp
 
 -- ---- steps
 
--- an operation that returned is left out, or done with its reply
+-- the part leaves out an operation that returned, or does it with its reply
 abbrev pub DoneOf : (Content → Content → Type 0) → Option (AnyOp × AnyReply) → Content → Content → Type 0
 DoneOf R None d after = R after d
 DoneOf R (Some f) d after = (behind : Content) × (next d f.0 ≡ Some (behind, f.1)) × R after behind
 
--- a pending one is left out, or may be done, with any reply
+-- the part leaves out a pending operation, or may do it, with any reply
 abbrev pub OpenOf : (Content → Content → Type 0) → Option AnyOp → Content → Content → Type 0
 OpenOf R None d after = R after d
 OpenOf R (Some op) d after =

@@ -56,8 +56,8 @@ abbrev pub may_take : (ℤ → Bool) → AnyOp → Option AnyReply → Bool
 may_take keeps op None = is_removal op
 may_take keeps op (Some reply) = takes_out keeps op (Some reply)
 
--- The same, and the call may come before the removal of this number, which returned at `at`: it is
--- another call, and was not invoked after that response.
+-- Whether a call took out one of these values, or may have, and may come before the removal of this
+-- number, which returned at `at`: it is another call, and was not invoked after that response.
 abbrev pub may_precede : (ℤ → Bool) → ℕ → ℕ → Call → Bool
 may_precede keeps number at e =
     may_take keeps e.op (reply_of e.returned) && not (e.number == number || nat_lt at e.number)

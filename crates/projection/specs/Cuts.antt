@@ -83,7 +83,7 @@ kind_cut (Keep values numbers) kind = kind
 kind_cut (Cell values other numbers) kind = kind
 kind_cut (Entry key values other numbers) kind = kind_of_part (OfKey key) kind
 
--- the same, of cuts one after another
+-- the kind of the part that cuts of an object of this kind name, one after another
 abbrev pub part_kind : List Cut → Kind → Kind
 part_kind [] kind = kind
 part_kind (cut ∷ cuts) kind = part_kind cuts (kind_cut cut kind)

@@ -49,9 +49,9 @@ pub record IsClosed (all : Bool) (keeps : ℤ → Bool) (kept : ℕ → Bool)
     (calls : List Call) : Type 0 where
   pub every : all ≡ true → (v : ℤ) → keeps v ≡ true
   pub each : All (λ e. fits all keeps (kept e.number) e.op (reply_of e.returned) ≡ true) calls
-  -- A pending removal may have taken any value. It is left out only if as many kept values were
-  -- taken out, or can be by the pending removals that were invoked before it, as can have been put
-  -- in.
+  -- A pending removal may have taken any value. The part leaves it out only if as many kept values
+  -- were taken out, or can be by the pending removals that were invoked before it, as can have been
+  -- put in.
   pub pending : All (λ e. is_pending_removal e.op e.returned ≡ true → kept e.number ≡ false
       → put_count keeps calls ≤ taken_count keeps calls + pending_before e.number calls) calls
 
@@ -125,7 +125,7 @@ returned_call from at first = record {
   returned = Some (record { at = at; reply = first.1 });
 }
 
--- what a call becomes; one that returned before the first call is left out
+-- what a call becomes; the part leaves out one that returned before the first call
 abbrev pub call_from : ℕ → ℕ → Option (AnyOp × AnyReply) → Call → Option Call
 call_from from at first e =
     if e.number == from then option_map (returned_call from at) first

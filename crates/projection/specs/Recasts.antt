@@ -1,5 +1,5 @@
--- What becomes of a call: it is left out or becomes a call of another operation, with the
--- same numbers.
+-- What becomes of a call: the part leaves it out, or it becomes a call of another operation, with
+-- the same numbers.
 use Rattle.std.specs.Prelude.{ℕ, Option, Some, None, option_map}
 use Rattle.model.specs.declared.AnyOp.{AnyOp}
 use Rattle.model.specs.declared.AnyReply.{AnyReply}

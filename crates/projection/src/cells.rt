@@ -55,8 +55,8 @@ fn change(
     }
 }
 
-/// What a touch becomes, as a call of a register, which the part may choose; `None`: it is left
-/// out.
+/// What a touch becomes, as a call of a register, which the part may choose; `None`: the part
+/// leaves it out.
 fn cut_touch(
     keeps_none: bool,
     values: &Values,
@@ -86,7 +86,8 @@ fn cut_touch(
     }
 }
 
-/// What an operation with this reply becomes, which the part may choose; `None`: it is left out.
+/// What an operation with this reply becomes, which the part may choose; `None`: the part leaves it
+/// out.
 fn returned_op(
     cell: CellCut,
     values: &Values,
@@ -102,7 +103,7 @@ fn returned_op(
     cut_touch(place.keeps_none(), values, other, kept, own, touch)
 }
 
-/// What a pending operation becomes; `None`: it is left out.
+/// What a pending operation becomes; `None`: the part leaves it out.
 fn pending_op(cell: CellCut, values: &Values, op: AnyOp) -> Option<AnyOp>
     ensures { result ≡ spec.open_at cell.place (keeps_value values.now) cell.other op }
 {
@@ -112,7 +113,7 @@ fn pending_op(cell: CellCut, values: &Values, op: AnyOp) -> Option<AnyOp>
     Some(op)
 }
 
-/// What an operation becomes; `None`: it is left out.
+/// What an operation becomes; `None`: the part leaves it out.
 fn cut_operation(
     cell: CellCut,
     values: &Values,

@@ -83,7 +83,7 @@ pub(crate) fn is_before(end: End, from: u32) -> bool
     }
 }
 
-/// What an operation becomes; `None`: it is left out.
+/// What an operation becomes; `None`: the part leaves it out.
 fn cut_operation(operation: &Invocation, from: u32, start: Start) -> Option<Invocation>
     ensures { result ≡ operation_from from start.at start.first operation.now }
 {
@@ -178,10 +178,10 @@ fn start_at(operations: &[Invocation], number: u32) -> Option<Start>
 }
 
 /// The part that begins with the call of this number. The call returned, its reply tells what it
-/// left, and at a map each call is on its key, or at a set on its element; `None`: it is not so. A
-/// call that returned before it is left out. Of those that overlap it, if it left a value, a write
-/// becomes a write, and so does a swap that was not refused. Any other is pending; if it left
-/// nothing, all of them are.
+/// left, and at a map each call is on its key, or at a set on its element; `None`: it is not so.
+/// The part leaves out each call that returned before it. Of those that overlap it, if it left a
+/// value, a write becomes a write, and so does a swap that was not refused. Any other is pending;
+/// if it left nothing, all of them are.
 ///
 /// An error: an allocation failed.
 pub fn from(

@@ -25,20 +25,20 @@ use Rattle.publication.specs.Calls.{Opened, Got, NotGot, CanDo, kind_held, Answe
 
 -- ---- a miss, a release and an answer
 
--- w after a miss at the row r
+-- A miss at the row r tells that the pass got no request there (w: the view after the miss).
 pub not_got : (p : Holding) (d : DeskId) (n : PassState) (r : ℕ) (w : DeskView) (v : Holding) → p ≡ v
     → w ≡ after_row_miss (row_place r) v.object v.knows → All (λ b. b.row ≢ r) v.knows.back
     → NotGot p r (record { desk = d; knows = w; object = v.object; log = v.log; state = n })
 not_got p d n r w v is e none_back = rw is (assumption (e, none_back))
 
--- b with the core in its slot, d after the step
+-- After `release` the client knows the log that it left (b: with the core in its slot; d: after the step).
 pub is_released : {S O R : Type 0} (p : Holding) (b d : Me (Slot S O R) DeskView) (v : Holding) (i : ℕ)
     (s : Slot S O R) (tl : List (ℕ × Slot S O R))
     → p ≡ v → b ≡ (v.knows, (i, s) ∷ tl) → d ≡ (after_release v.object v.log b.0, rest b.1)
     → d.0 ≡ after_release p.object p.log p.knows
 is_released p b d v i s tl is e f = rw (f, e, is)
 
--- the same: the log was seen
+-- After `release` the client has seen the log that it left (b: with the core in its slot; d: after the step).
 pub log_is_seen : {S O R : Type 0} (p : Holding) (b d : Me (Slot S O R) DeskView) (v : Holding) (i : ℕ)
     (s : Slot S O R) (tl : List (ℕ × Slot S O R))
     → p ≡ v → b ≡ (v.knows, (i, s) ∷ tl) → d ≡ (after_release v.object v.log b.0, rest b.1)
@@ -46,7 +46,8 @@ pub log_is_seen : {S O R : Type 0} (p : Holding) (b d : Me (Slot S O R) DeskView
 log_is_seen p b d v i s tl is e f low wide = rw (f, e, is)
     (get_or-set_same v.knows.seen v.object v.log [] (omega arith))
 
--- b with the answer in its slot, d after the step
+-- After `answer` the request has this answer, and the log has its entry, if it is a reply (b: with the answer in its
+-- slot; d: after the step).
 pub answered : {S O R : Type 0} (h : Handling) (z : DeskId) (n : PassState) (a : AnyAnswer)
     (b d : Me (Slot S O R) DeskView) (v : Handling)
     (log : List AnyEntry) (i : ℕ) (s : Slot S O R) (tl : List (ℕ × Slot S O R)) → h ≡ v → b ≡ (v.knows, (i, s) ∷ tl)
@@ -67,7 +68,7 @@ does : (kind : Kind) (log : List AnyEntry) (op : AnyOp) (content : Content) → 
     → CanDo kind log op → IsSome (next content op)
 does kind log op content h can = rw (replays_once (empty kind) can.0 content log can.1 h) at can.2
 
--- the same of a hand whose object contains this
+-- a test of the object's content tells whether the object can do the request in hand
 pub can_says : (h v : Handling) (content : Content) (b : Bool) → h ≡ v → Replays (empty (kind_held v)) v.log content
     → (IsTrue b ↔ IsSome (next content v.request.op)) → IsTrue b ↔ CanDo (kind_held h) h.log h.request.op
 can_says h v content b is replays can = rw is (
@@ -81,7 +82,7 @@ may_serve h v content is replays can = does (kind_held v) v.log v.request.op con
 
 -- ---- a request put back, an object opened, a request got
 
--- m before, b with the request in its slot, d after the step
+-- After `put_back` the request is back in its row (b: with the request in its slot; d: after the step).
 pub is_put_back : {S O R : Type 0} (h : Handling) (z : DeskId) (n : PassState) (b d : Me (Slot S O R) DeskView)
     (v : Handling) (i : ℕ)
     (s : Slot S O R) (tl : List (ℕ × Slot S O R)) → h ≡ v → b ≡ (v.knows, (i, s) ∷ tl)
@@ -90,7 +91,8 @@ pub is_put_back : {S O R : Type 0} (h : Handling) (z : DeskId) (n : PassState) (
 is_put_back h z n b d v i s tl is e f = rw (is, f, e) assumption
 
 module _ {S O R : Type 0} (content : S → Content) (op_in : O → AnyOp) (reply_in : R → AnyReply) where
-  -- m before, a after the win, b with nothing in the slot
+  -- After a win the client has opened the object x, whose log goes on from what it had seen (m: before; a: after the
+  -- win; b: with nothing in the slot).
   pub opened : (c : Known) (x : ℕ) (k core : Core S O R) (l : List AnyEntry) (m a b : Me (Slot S O R) DeskView)
       (d : DeskId) (n : PassState)
       → c.desk.kinds ≡ m.0.kinds → c.knows ≡ m.0 → a ≡ (after_win x l m.0, (x, slot.Core k) ∷ m.1)
@@ -106,7 +108,7 @@ module _ {S O R : Type 0} (content : S → Content) (op_in : O → AnyOp) (reply
   }
 
 module _ {S O R : Type 0} (op_in : O → AnyOp) where
-  -- m before, a after the pick, b with nothing in the slot
+  -- After a pick the client has got the request of the row r (a: after the pick; b: with nothing in the slot).
   pub got : (p : Holding) (d : DeskId) (n : PassState) (r : ℕ) (q q' : Request O) (tl : List (ℕ × Slot S O R))
       (a b : Me (Slot S O R) DeskView)
       (v : Holding) → p ≡ v → a

@@ -107,7 +107,8 @@ module _ {O R : Type 0} (op_in : O → AnyOp) (reply_in : R → AnyReply) where
 -- ---- a whole post
 
 module _ {S O R : Type 0} (op_in : O → AnyOp) (reply_in : R → AnyReply) where
-  -- a after the request is in the slot, b after the draw, c after the request has its ticket, d after the post
+  -- After a whole post the client waits for its request, and has the empty slot of its journal in hand (a: after the
+  -- request is in the slot; b: after the draw; c: after the request has its ticket; d: after the post).
   pub post_turn : (number calls quota : ℕ) (j : Journal O R) (p q : Request O) (m a b c d : Me (Slot S O R) DeskView)
       → IsClient op_in reply_in number calls quota false j m → a ≡ (m.0, (16 + number, slot.Request p) ∷ rest m.1)
       → b ≡ (with_own (own.Drawn (request_in op_in q)) a.0, a.1) → c ≡ (b.0, (16 + number, slot.Request q) ∷ rest b.1)
@@ -164,7 +165,8 @@ module _ {S O R : Type 0} (op_in : O → AnyOp) (reply_in : R → AnyReply) wher
 
   -- ---- a whole poll that takes the answer
 
-  -- a after the take, b with nothing in the slot, d after the draw of the return
+  -- After a whole poll the client has taken the answer and drawn its return, and has two empty slots in hand (a: after
+  -- the take; b: with nothing in the slot; d: after the draw of the return).
   pub poll_turn : (number calls quota t : ℕ) (j : Journal O R) (q : AnyRequest) (e : Answer R) (l : List AnyEntry)
       (m a b d : Me (Slot S O R) DeskView) → IsClient op_in reply_in number calls quota true j m
       → m.0.own ≡ own.Waiting q

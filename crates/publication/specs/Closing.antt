@@ -1,4 +1,4 @@
--- What is left of a desk, and what its record takes of it.
+-- A closed desk, and what its record takes of it.
 use Rattle.std.specs.Prelude.{◌≡◌, ◌≢◌, ℕ, ◌<◌, ◌≤◌, false, List, [], length, slice_index_or}
 use Rattle.std.specs.Prelude.{Contains}
 use Rattle.std.specs.Slots.{slots_items, slots_filled, slots_len}

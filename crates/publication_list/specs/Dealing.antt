@@ -19,7 +19,7 @@ AreGrown {Z} id old new =
     × ((c : ℕ) (d : Vec PlaceSeen Z) → c < length old
     → HasOneMore id c (slice_index_or old c d) (slice_index_or new c d))
 
--- the same, from the owner k on
+-- each owner from k on has one place more, and the others have what they had
 abbrev pub AreGrownFrom : {Z : Type 0} → ℕ → TableId → List (Vec PlaceSeen Z)
     → List (Vec PlaceSeen Z) → Type 0
 AreGrownFrom {Z} k id old new =

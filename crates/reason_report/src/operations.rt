@@ -198,7 +198,8 @@ fn push_said(text: &mut Vec<u8>, told: &Invocation, counted: &Invocation) -> Res
     push_end(text, counted.end)
 }
 
-/// The same of the operation with what the history has at its numbers.
+/// What the history says of the operation, with what the history has at its numbers, and what the
+/// part does.
 fn push_recorded(
     text: &mut Vec<u8>,
     events: &[Event],

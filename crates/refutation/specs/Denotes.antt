@@ -76,7 +76,8 @@ integers_with keys no_items = Some keys
 integers_with keys (item d ds) =
     option_and_then (λ z. integers_with (insert_key int_cmp keys z) ds) (integer_in d)
 
--- the same of numbers of maps
+-- these numbers of maps in rising order, and those of the vector put in among them, if all are
+-- numbers of maps
 abbrev pub numbers_with : List ℕ → Items → Option (List ℕ)
 numbers_with keys no_items = Some keys
 numbers_with keys (item d ds) =

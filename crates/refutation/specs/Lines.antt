@@ -29,7 +29,7 @@ integers_text first [] = []
 integers_text first (z ∷ zs) =
     (between first (codes " ") ++ signed_decimal z) ++ integers_text false zs
 
--- the same of numbers of maps
+-- the numbers of maps with a space between them
 abbrev pub naturals_text : Bool → List ℕ → List ℕ
 naturals_text first [] = []
 naturals_text first (n ∷ ns) = (between first (codes " ") ++ decimal n) ++ naturals_text false ns

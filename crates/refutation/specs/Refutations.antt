@@ -1,4 +1,4 @@
--- What is answered of a reason why no order of an object's operations is valid.
+-- The answer to a reason why no order of an object's operations is valid.
 use Rattle.std.specs.Prelude.{◌≡◌, ◌≢◌, ℕ, Bool, true, false, ⊤, List, Any, IsSome}
 use Rattle.std.specs.Prelude.{Option, Some, None}
 use Rattle.model.specs.declared.Kind.{Kind}
@@ -119,6 +119,6 @@ pub record IsAnswerOn (kind : Kind) (calls : List Call) (reason : Reason)
 pub record IsAnswer (es : List Event) (reason : Reason) (answer : Refutation) : Type 0 where
   pub on : IsAnswerOn (kind_at es reason.object) (calls_on reason.object (denoted es)) reason
       answer
-  -- another object is answered exactly if no invocation names the reason's object
+  -- the answer is another object exactly if no invocation names the reason's object
   pub other_object : answer ≡ refutation.OtherObject → IsNamed es reason.object → ⊥
   pub own_object : answer ≢ refutation.OtherObject → IsNamed es reason.object

@@ -46,8 +46,8 @@ pub fn part_is_not_linearizable()
     linearizable_has_orders();
 }
 
-/// The same of the part's calls alone, as they are counted: they are a history, with these calls,
-/// and it is not linearizable exactly if the part has no valid order.
+/// The part's calls alone, as they are counted, are a history that has these calls and no others.
+/// It is not linearizable exactly if the part has no valid order.
 pub fn part_alone_is_not_linearizable()
     // The calls of a part of a history are a history, on its object, and have no other calls.
     ensures history { (cuts : List Cut) (x : ℕ) (h : List Numbered) (part : List Call)

@@ -107,13 +107,13 @@ pub fn refute(
     reason: &Reason,
     limit: u64,
 ) -> Result<Refutation, AllocError>
-    // Impossible is answered only if no order of the whole is valid.
+    // The answer is impossible only if no order of the whole is valid.
     ensures impossible { IfOk result (λ r. is_impossible r ≡ true
         → IsNoneValid history.now.kind (calls_of history.now.ops)) }
     // The part that is returned is the one that the reason names.
     ensures part { IfOk result (λ r. IfPart r (IsNamedPart reason.now.cuts.items
         history.now.object history.now.kind (calls_of history.now.ops))) }
-    // Impossible is answered only if the basis shows it of that part: a count is exceeded. No
+    // The answer is impossible only if the basis shows it of that part: a count is exceeded. No
     // order of the part is valid.
     ensures shown { IfOk result (λ r. IfImpossible r (λ part.
         IsShownBy reason.now.basis part × HasNoValidOrder part)) }

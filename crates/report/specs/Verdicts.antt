@@ -8,8 +8,8 @@ use Rattle.report.specs.declared.verdict.Verdict.{Verdict}
 use Rattle.report.specs.declared.verdict.Verdict.TheVariants.{Yes, No, Malformed, NoMemory}
 
 -- If the certificates of these client events were checked with this result: yes with the counts
--- of the events, or no with the refusal. `NoMemory` is answered for the refusal of that name, and
--- if memory for the counts was refused.
+-- of the events, or no with the refusal. The verdict is `NoMemory` for the refusal of that name,
+-- and if memory for the counts was refused.
 abbrev pub IsVerdictOnCheck : List Event → Result Unit Refusal → Verdict → Type 0
 IsVerdictOnCheck es (Ok u) (Yes s) = AreCountsOf es s
 IsVerdictOnCheck es (Ok u) (No r) = ⊥

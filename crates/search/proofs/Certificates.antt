@@ -28,7 +28,7 @@ if_found : (f : SearchOutcome) (P : Certificate → Type 0) (c : Certificate) �
 if_found (found.Found d) P c h e = subst P (same_Some d c e) h
 if_found f P c h e = absurd (cc e)
 
--- what is found is certified
+-- an order that is found is a certificate of its object
 pub certifies : (Is : ℕ → Kind → List Call → Search → Type 0)
     → ((x : ℕ) (kind : Kind) (calls : List Call) (s : Search) → Is x kind calls s
     → IfFound s.found (IsCertificateOf x kind calls)) → Certifies (λ s. certificate_in s.found) Is

@@ -166,7 +166,7 @@ over_now n call start levels bs here s counts zero_left =
 module _ {n : ℕ} {call : ℕ → Call} where
   module _ {start : Content} {ls : List Level} {bs : List Content} {here : Position} {to : Turn}
       (w : IsWalk n call start ls bs here to) where
-    -- what is left to remember where a walk is dead
+    -- the pair that the search remembers where a walk is dead
     pub dead_pair : {not_done : List ℕ} → IsDead n call (places ls) here.content → Lists here.next 0 not_done here.high
         → IsDeadPair n call here.high not_done here.content
     dead_pair d h = record { done = places ls; describes = listed (walk_linked w) (walk_bound w) h; dead = d }

@@ -59,13 +59,13 @@ pub record IsSoundAnswer (object : ℕ) (kind : Kind) (calls : List Call) (limit
   where
     -- what was found is valid
     pub found : IfFound s.found (IsCertificateOf object kind calls)
-    -- impossible is answered only if no order is valid
+    -- the answer is impossible only if no order is valid
     pub impossible : s.found ≡ Impossible → IsNoneValid kind calls
     -- The number of steps is at most the limit, and is the limit if that was not enough. Nothing
     -- says how many operations were tried.
     pub steps : s.steps ≤ limit
     pub out_of_steps : s.found ≡ OutOfSteps → s.steps ≡ limit
-    -- NoMemory is answered only if some operation returned
+    -- the answer is NoMemory only if some operation returned
     pub memory : s.found ≡ NoMemory → Any (λ call. IsSome call.returned) calls
 
 -- what a search that takes on some calls alone may answer

@@ -41,7 +41,7 @@ pub fn search_all(
     search_all_by(alloc, history, TryFirst::LeastNumber, limit)
 }
 
-/// The same, with a choice of which operation is tried first.
+/// Searches as `search_all` does; `first` chooses which operation is tried first.
 pub fn search_all_by(
     alloc: Global,
     history: &History,

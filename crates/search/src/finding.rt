@@ -123,7 +123,7 @@ pub fn find_order(alloc: Global, history: &ObjectHistory, first: TryFirst, limit
     ensures out_of_steps { result.outcome ≡ Outcome.OutOfSteps → result.steps ≡ limit }
     ensures too_large { (result.outcome ≡ Outcome.TooLarge)
         ↔ (max_operations < length (calls_of history.now.ops)) }
-    // NoMemory is answered only if some operation returned.
+    // The answer is NoMemory only if some operation returned.
     ensures memory { result.outcome ≡ Outcome.NoMemory
         → Any (λ call. IsSome call.returned) (calls_of history.now.ops) }
 {
@@ -136,8 +136,9 @@ pub fn find_order(alloc: Global, history: &ObjectHistory, first: TryFirst, limit
     find_order_of_any_size(alloc, history, first, limit)
 }
 
-/// The same, for any number of operations: none is too many. If there are more than 4,294,967,294,
-/// which no history within the limits of its form has, the answer is that the steps are not enough.
+/// Searches as `find_order` does, for any number of operations: none is too many. If there are more
+/// than 4,294,967,294, which no history within the limits of its form has, the answer is that the
+/// steps are not enough.
 pub fn find_order_of_any_size(
     alloc: Global,
     history: &ObjectHistory,
@@ -151,7 +152,7 @@ pub fn find_order_of_any_size(
     ensures steps { result.steps ≤ limit }
     ensures out_of_steps { result.outcome ≡ Outcome.OutOfSteps → result.steps ≡ limit }
     ensures any_size { result.outcome ≢ Outcome.TooLarge }
-    // NoMemory is answered only if some operation returned.
+    // The answer is NoMemory only if some operation returned.
     ensures memory { result.outcome ≡ Outcome.NoMemory
         → Any (λ call. IsSome call.returned) (calls_of history.now.ops) }
 {

@@ -49,14 +49,14 @@ pub fn search(alloc: Global, history: &ObjectHistory, limit: u64) -> Search
     ensures out_of_steps { result.found ≡ SearchOutcome.OutOfSteps → result.steps ≡ limit }
     ensures too_large { (result.found ≡ SearchOutcome.TooLarge)
         ↔ (max_operations < length (calls_of history.now.ops)) }
-    // NoMemory is answered only if some operation returned.
+    // The answer is NoMemory only if some operation returned.
     ensures memory { result.found ≡ SearchOutcome.NoMemory
         → Any (λ call. IsSome call.returned) (calls_of history.now.ops) }
 {
     search_by(alloc, history, TryFirst::LeastNumber, limit)
 }
 
-/// The same, with a choice of which operation is tried first.
+/// Searches as `search` does; `first` chooses which operation is tried first.
 pub fn search_by(alloc: Global, history: &ObjectHistory, first: TryFirst, limit: u64) -> Search
     ensures { IsAnswer history.now.object history.now.kind (calls_of history.now.ops) limit result }
 {

@@ -29,7 +29,7 @@ pub(crate) struct Trials {
     pub items: Vec<Invocation>,
     /// For each place the least number from there on.
     pub floors: Vec<u32>,
-    /// The same of the operations that returned.
+    /// For each place the least number from there on of an operation that returned.
     pub return_floors: Vec<u32>,
     /// All operations below this place have returned.
     pub pending: u32,

@@ -281,7 +281,7 @@ impl State {
         Ok(true)
     }
 
-    /// Extends orders depth first until one is complete or none is left. A step is one operation
+    /// Extends orders depth first until one is complete or none remains. A step is one operation
     /// tried.
     pub fn run(
         &mut self,

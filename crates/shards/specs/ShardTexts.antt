@@ -18,7 +18,8 @@ pub record IsRenamed (name : ℕ → ℕ) (m n : ClientMap) : Type 0 where
   pub object : n.object ≡ name m.object
   pub value : plain_value n.value ≡ plain_value m.value
 
--- the same of forms that are maps of clients
+-- Both forms are maps of clients, and the second says what the first says, of an object by this
+-- name.
 abbrev pub SaysRenamed : (ℕ → ℕ) → Datum → Datum → Type 0
 SaysRenamed name d e =
     (m n : ClientMap) × (client_of d ≡ Some m) × (client_of e ≡ Some n) × IsRenamed name m n

@@ -32,7 +32,7 @@ pub record PassesPiece (old new : Pieces) (piece : List ℕ) : Type 0 where
   pub start : new.start ≡ old.start + (length piece + 1)
   pub ended : new.is_ended ≡ old.is_ended
 
--- The same was read, and nothing is gone.
+-- The pieces stay as they were: nothing more was read, and nothing is gone.
 pub record StaysAs (old new : Pieces) : Type 0 where
   pub text : new.text.items ≡ old.text.items
   pub start : new.start ≡ old.start

@@ -18,8 +18,8 @@ is_same a b = if a then b else not b
 abbrev pub only_where : Bool → Bool → Bool
 only_where kept keeps = not kept || keeps
 
--- A removal is kept exactly if the value that it took is kept. One that found nothing is kept or
--- left out. When a pending one may be left out is said of all of them (`IsClosed`).
+-- A part keeps a removal exactly if it keeps the value that the removal took. It may keep or leave
+-- out one that found nothing. `IsClosed` says of all pending ones when a part may leave them out.
 abbrev pub fits_removal : (ℤ → Bool) → Bool → Option AnyReply → Bool
 fits_removal keeps kept None = true
 fits_removal keeps kept (Some (Value (Some v))) = is_same kept (keeps v)
@@ -38,9 +38,9 @@ fits_read keeps kept (Some (Swapped a b)) = true
 fits_read keeps kept (Some NotSwapped) = true
 fits_read keeps kept (Some (Flag b)) = true
 
--- A swap is left out only if its new value is left out, and kept only if its expected value
--- is kept. A pending one is also kept if both values are left out. A failed one is kept only
--- if all values are kept.
+-- A part leaves out a swap only if it leaves out its new value, and keeps it only if it keeps its
+-- expected value. It keeps a pending one also if it leaves out both values, and a failed one only
+-- if it keeps all values.
 abbrev pub fits_cas : Bool → (ℤ → Bool) → Bool → ℤ → ℤ → Option AnyReply → Bool
 fits_cas all keeps kept a b None = if kept then keeps a || not (keeps b) else not (keeps b)
 fits_cas all keeps kept a b (Some (Value v)) = true
@@ -48,8 +48,8 @@ fits_cas all keeps kept a b (Some (Swapped c d)) = if kept then keeps a else not
 fits_cas all keeps kept a b (Some NotSwapped) = only_where kept all
 fits_cas all keeps kept a b (Some (Flag c)) = true
 
--- A creation is left out only if its value is left out. One that failed is kept only if all
--- values are kept.
+-- A part leaves out a creation only if it leaves out its value. It keeps one that failed only if it
+-- keeps all values.
 abbrev pub fits_create : Bool → (ℤ → Bool) → Bool → ℤ → Option AnyReply → Bool
 fits_create all keeps kept v (Some (Flag false)) = only_where kept all
 fits_create all keeps kept v reply = kept || not (keeps v)

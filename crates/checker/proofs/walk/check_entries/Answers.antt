@@ -1,5 +1,5 @@
 -- `check_entries`: the order is valid, or the refusal names its first fault. The loop keeps `Walk` of the entries
--- so far: each is of a call, is marked, came in time and gave its reply. At the end no call is left out.
+-- so far: each is of a call, is marked, came in time and gave its reply. At the end the order leaves out no call.
 use Rattle.std.proofs.Common.{◌≡◌, ℕ, ℤ, pos, ◌<◌, length, true, false, List, Some, get_or, slice_get, to_z, of_z}
 use Rattle.std.proofs.Common.{w64, ap, sym, ◌∙◌, subst, arith}
 use Rattle.std.proofs.lemmas.Int.{ints}

@@ -1,5 +1,5 @@
 -- `read_text`: the bytes are what the source gives, to its end or to the limit. The loop keeps that the bytes so
--- far and what is left are all that there was (`IsReading`), and a piece is never longer than is left to the limit.
+-- far and the rest are all that there was (`IsReading`), and a piece is never longer than the room up to the limit.
 use Rattle.std.proofs.Common.{length, drop, sym, subst, ◌∙◌, ◌<◌, arith}
 use Rattle.judging.specs.Reads.{read_limit}
 use Rattle.judging.proofs.Consuming.{begins, one_more_piece, came_to_end, came_to_limit}

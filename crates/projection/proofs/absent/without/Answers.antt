@@ -1,5 +1,5 @@
--- `without`: where the value is absent, what is left is a part: if it has no valid order, the whole has none
--- (`late_shows`). `None` is given only where the value may have been there.
+-- `without`: where the value is absent, the other calls are a part: if it has no valid order, the whole has none
+-- (`late_shows`). The function returns `None` only where the value may have been there.
 use Rattle.std.proofs.Common.{ℤ, List, filter, ap, sym, ◌∙◌, subst, w64}
 use Rattle.std.proofs.lemmas.Int.{to_z-of_z}
 use Rattle.events.specs.declared.operations.Invocation.{Invocation}

@@ -1,5 +1,5 @@
 -- `meet`: the rows are the list as the walk met it. The loop keeps `Meeting`: the rows so far are a front of the
--- list, and the word that was read tells what follows. Each turn shortens what is left of the list.
+-- list, and the word that was read tells what follows. Each turn shortens the rest of the list.
 use Rattle.std.proofs.Common.{arith, ℕ, ◌+◌, ◌-◌, ◌<◌, ◌∷◌, ◌++◌, [], length, length-append, slice_index, sym, ap}
 use Rattle.std.proofs.Common.{◌∙◌, subst}
 use Rattle.publication_list.specs.PublicationList.{WalkMeets}
