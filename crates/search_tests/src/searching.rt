@@ -1,5 +1,5 @@
-//! The bounded search when nothing is said of which operation it tries first, on texts whose
-//! answers and steps are known.
+//! Tests `search`, `search_all` and `search_by` on texts whose answers and steps are known. By
+//! default a search tries the operation with the least number first.
 
 use events::{History, ObjectHistory, split};
 use history::read_history_text;

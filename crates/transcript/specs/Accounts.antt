@@ -1,4 +1,4 @@
--- What is said of a record: its certificates, and that they are accepted.
+-- The certificates of a record, and whether they are valid for its history.
 use Rattle.std.specs.Prelude.{◌≡◌, ℕ, ◌<◌, ◌↔◌, List, All, AllPairs, Contains, map}
 use Rattle.desk_model.specs.World.{AnyEntry, AnyEvent}
 use Rattle.desk_model.specs.Records.{order_of}
