@@ -1,3 +1,5 @@
+//! Tests that written certificates are read back, and which fault of a text is its first.
+
 use crate::reading::all_fit;
 use certificate::{
     CertFault, CertFaultKind, CertTextFault, Certificate, read_certificates,

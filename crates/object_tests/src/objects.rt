@@ -1,3 +1,5 @@
+//! Tests the objects of all kinds: their replies, and how their operations are written and read.
+
 ghost use Rattle.std.specs.Prelude.{◌≡◌, Some, None, IfOk, MatchOption};
 ghost use Rattle.model.specs.Objects.{kind_of, kind_with, next};
 

@@ -1,3 +1,5 @@
+//! Tests how a history is split into its objects, and into parts for workers.
+
 use events::{Action, End, Event, History, Invocation, ObjectHistory, split, split_share};
 use seq_objects::{AnyOp, AnyReply, Kind};
 use std::alloc::Global;
