@@ -18,7 +18,8 @@ fn step<S: SeqObject>(object: &mut S, op: S::Op) -> Result<Option<S::Reply>, All
     requires { kind_of (S.op_in op) ≡ kind_with (S.content object.old) }
     ensures { IfOk result (λ reply. MatchOption reply
         (next (S.content object.old) (S.op_in op) ≡ None)
-        (λ r. next (S.content object.old) (S.op_in op) ≡ Some (S.content object.new, S.reply_in r))) }
+        (λ r. next (S.content object.old) (S.op_in op)
+        ≡ Some (S.content object.new, S.reply_in r))) }
 {
     if object.possible(&op) {
         Ok(Some(object.apply(&op)?))
@@ -32,7 +33,8 @@ fn step_any(object: &mut AnyObject, op: AnyOp) -> Result<Option<AnyReply>, Alloc
     requires { kind_of op ≡ kind_with (⟦<AnyObject as SeqObject>⟧.content object.old) }
     ensures { IfOk result (λ reply. MatchOption reply
         (next (⟦<AnyObject as SeqObject>⟧.content object.old) op ≡ None)
-        (λ r. next (⟦<AnyObject as SeqObject>⟧.content object.old) op ≡ Some (⟦<AnyObject as SeqObject>⟧.content object.new, r))) }
+        (λ r. next (⟦<AnyObject as SeqObject>⟧.content object.old) op
+        ≡ Some (⟦<AnyObject as SeqObject>⟧.content object.new, r))) }
 {
     step(object, op)
 }
