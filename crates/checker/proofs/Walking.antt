@@ -20,7 +20,7 @@ use Rattle.model.proofs.Lists.{In, Pairs, in_append, pairs_append, in_from_conta
 
 -- ---- what holds of each two entries
 
--- what holds of each two holds of what stands at a place and each before it
+-- what holds of each two holds of what is at a place and each before it
 pub pairs_at : {X : Type 0} (R : X → X → Type 0) (xs : List X) (j : ℕ) (y z : X) → Pairs R xs
     → slice_get xs j ≡ Some z → In y (take j xs) → R y z
 pairs_at R [] j y z h g i = absurd (cc (g))

@@ -77,7 +77,7 @@ fn make_all_room(
 }
 
 /// Makes room in the log of each object for all calls of the workload on it, by the last client.
-/// The clients have made no call yet, and so it is after that.
+/// The clients must have made no call, and make none here.
 pub(crate) fn reserve_logs(
     desk: &Desk<AnyObject>,
     workload: &Workload,

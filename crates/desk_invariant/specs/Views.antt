@@ -176,7 +176,7 @@ after_answer r x l v = record v { held = held.Pass x l; ready = v.ready || (r ==
 abbrev pub after_release : ℕ → List AnyEntry → DeskView → DeskView
 after_release x l v = record v { held = held.Free; back = []; seen = slice_set v.seen x l }
 
--- the own call has come to this point
+-- the own call is at this point
 abbrev pub with_own : Own → DeskView → DeskView
 with_own o v = record v { own = o }
 

@@ -60,7 +60,7 @@ module _ (m : Merging) (shards : List Shard) (h : AreMerged m shards) where
   ends_certified s status out found sums is lines =
       ends_with Certified status out found is (s, sums (map (λ (a : Answer). a.counts) h.answers) h.counts_are, lines)
 
-  -- the lines on objects follow what is said of shards
+  -- the lines on objects follow the lines on shards
   follow : (out : List ℕ) (sorted : List (ℕ × List ℕ)) → AreInOrder (seen_lines m.lines.items) sorted
       → out ≡ m.notes.items ++ flat_map (λ l. l.1) sorted
       → (sorted : List (ℕ × List ℕ)) × AreInOrder (flat_map (λ a. a.lines) h.answers) sorted

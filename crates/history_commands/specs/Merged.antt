@@ -1,4 +1,4 @@
--- The merge of what is found of the shards of a history: what is answered of each, and the output.
+-- The merge of what is found of the shards of a history: the answer on each, and the output.
 use Rattle.std.specs.Prelude.{◌≡◌, ◌⊎◌, ℕ, false, List, [], ◌∷◌, ◌++◌, codes, decimal, map, fold}
 use Rattle.std.specs.Prelude.{nat_lt, if◌then◌else◌, All, Any}
 use Rattle.std.specs.List.{AllZip, flat_map, list_all, list_any}
@@ -51,8 +51,8 @@ pub record Shard : Type 0 where
   pub evidence : List ℕ
   pub limit : ℕ
 
--- what is answered of a shard: what is found, a line on the shard or nothing, the lines on each of
--- its objects that has no order, and what its history has
+-- the answer on a shard: what is found, a line on the shard or nothing, the lines on each of its
+-- objects that has no order, and the counts of its history
 pub record Answer : Type 0 where
   pub finding : Finding
   pub note : List ℕ
@@ -99,8 +99,8 @@ IsTooLarge (HistoryMaps f) = f.kind ≡ TooMany
 IsTooLarge (CertificateText e) = ⊥
 IsTooLarge (CertificateForms f) = ⊥
 
--- what is answered of a shard whose text has this fault: that the text is malformed, unless it is
--- too large, which says nothing of the whole
+-- the answer on a shard whose text has this fault: that the text is malformed, unless it is too
+-- large, which says nothing about the whole
 abbrev pub AnswersFault : ℕ → Fault → Answer → Type 0
 AnswersFault number f a =
     (IsTooLarge f × IsNoted number Undecided (codes "too large\n") a)
@@ -130,8 +130,8 @@ decided_on x Open = Open
 abbrev pub lines_by : List Event → ℕ → Decision → List (ℕ × List ℕ)
 lines_by es x d = if is_order d then [] else (x, decision_lines es x (decided_on x d)) ∷ []
 
--- What is answered by claims on the history that events denote, and what that shows. The history
--- and the claims have the names of a shard, the lines those of the whole, which are given.
+-- The answer by claims on the history that events denote, and what it shows. The history and the
+-- claims have the names of a shard, the lines those of the whole, which are given.
 pub record AnswersClaims (whole_name : ℕ → ℕ) (es : List Event) (claims : List Claim) (limit : ℕ)
     (a : Answer) : Type 0 where
   pub decisions : List (ℕ × Decision)
@@ -151,8 +151,8 @@ AnswersEvidence number whole_name es evidence limit a =
     ⊎ ((f : ClaimTextFault) × IsTextFault evidence f × IsOfText f
     × IsNoted number Undecided (evidence_fault_line f) a)
 
--- What is answered of the events of a shard, whose table gives them the numbers of the whole, or
--- does not fit. The evidence is in these numbers.
+-- The answer on the events of a shard, whose table gives them the numbers of the whole, or does
+-- not fit. The evidence is in these numbers.
 abbrev pub AnswersTable : ℕ → (ℕ → ℕ) → List Event → List ℕ → List ℕ → ℕ → Answer → Type 0
 AnswersTable number whole_name es table evidence limit a =
     ((ns : List ℕ) × FitsTable ns table es
@@ -164,7 +164,7 @@ AnswersTable number whole_name es table evidence limit a =
 abbrev pub whole_name : Shard → ℕ → ℕ
 whole_name s = object_named s.count s.number
 
--- What is answered of a shard, whose text denotes a history, or has a fault.
+-- The answer on a shard, whose text denotes a history, or has a fault.
 abbrev pub AnswersShard : Shard → Answer → Type 0
 AnswersShard s a =
     ((es : List Event) × DenotesHistory s.text es
@@ -186,7 +186,7 @@ seen a =
       counts = seen_counts a.counts;
     }
 
--- These shards were taken, and no others, and what is kept is what is answered of them.
+-- These shards were taken, and no others, and what is kept are the answers on them.
 pub record AreMerged (m : Merging) (shards : List Shard) : Type 0 where
   pub answers : List Answer
   pub each : AllZip AnswersShard shards answers
@@ -203,7 +203,7 @@ pub record AreInOrder (lines sorted : List (ℕ × List ℕ)) : Type 0 where
   pub rising : IsNonDecreasingBy (λ l. l.0) sorted
 
 -- The lines if this is the worst that is found: those of a yes with the counts of all shards, or
--- what is said of shards; and then, unless one of these is malformed, what is said of objects.
+-- the lines on shards; and then, unless one of these is malformed, the lines on objects.
 abbrev pub AreLinesWith : Finding → List Answer → List ℕ → Type 0
 AreLinesWith Certified answers out =
     (s : Summary) × AreSums s (map (λ a. a.counts) answers)

@@ -106,7 +106,7 @@ refutations_text es limit (r ∷ rs) (a ∷ answers) =
 abbrev pub refute_status : List Refutation → Status
 refute_status answers = status_by (list_any is_impossible answers) false
 
--- What is answered to the reasons, one by one, and what it shows.
+-- The answers to the reasons, one by one, and what they show.
 pub record AreAnswered (es : List Event) (reasons : List Reason) (limit : ℕ)
     (status : Status) (text : List ℕ) : Type 0 where
   pub answers : List Refutation

@@ -8,7 +8,8 @@ use seq_objects::AnyObject;
 use std::alloc::Global;
 use std::test::Fail;
 
-/// Whether the three checks answer so on an order of the operations of a history's only object.
+/// Whether each of the three checks gives this answer on an order of the operations of a history's
+/// only object.
 fn all_answer(
     alloc: Global,
     text: &str,

@@ -163,7 +163,7 @@ pub record IsFirstRefusalText (h c : List ℕ) (r : Refusal) : Type 0 where
   pub first : IsFirstRefusal client_events certificates r
   pub not_memory : r ≢ refusal.NoMemory
 
--- what is answered if a text could not be read
+-- the verdict if a text could not be read
 abbrev pub verdict_of : TextFailure → Verdict
 verdict_of (Faulty f) = Malformed f
 verdict_of NoMemory = verdict.NoMemory

@@ -135,7 +135,7 @@ complete-call p x op r es =
 abbrev pub Agrees : (ProcessCall → Option AnyReply) → List ProcessCall → Type 0
 Agrees give os = (e : ProcessCall) (r : Return) → In e os → e.call.returned ≡ Some r → give e ≡ Some r.reply
 
--- with the late responses and without what is still pending, each operation that is given a reply stands with it
+-- with the late responses and without what is still pending, each operation that is given a reply has it
 pub completed : (p : ℕ) (h : List Numbered) (give : ProcessCall → Option AnyReply) → Turns p h
     → Agrees give (calls_in h) → complete (events h ++ added give (calls_in h)) ≡ dones give (calls_in h)
 completed p h give none a = refl

@@ -1,5 +1,5 @@
--- The order of an object in a linearization is valid. A call that returned before another began stands before it: else
--- the events up to that moment would not count up.
+-- The order of an object in a linearization is valid. A call that returned before another began is before it: otherwise
+-- the counts of the events up to that moment would not agree.
 use Rattle.std.proofs.Common.{◌≡◌, ◌≢◌, ℕ, ℤ, pos, suc, ◌<◌, ◌≤◌, ◌==◌, ◌&&◌, nat_lt, Bool, true, false, cond, ◌⊎◌, inl}
 use Rattle.std.proofs.Common.{inr, List, [], ◌∷◌, ◌++◌, length, map, filter, Option, Some, None, IfSome, IsSome}
 use Rattle.std.proofs.Common.{Contains, refl, ap, sym, ◌∙◌, arith}
@@ -131,7 +131,7 @@ replies_back object c (e ∷ es) h rec =
     said None q = tt
     said (Some r) q = sym (rec e r (inl refl) q)
 
--- ---- lines in which a later call stands earlier
+-- ---- lines in which a later call is earlier
 
 longer : (q : Ended → Bool) (l n : List Ended) (a : Ended) → q a ≡ true
     → suc (length (filter q l)) ≤ length (filter q (l ++ a ∷ n))
@@ -160,7 +160,7 @@ invocations_all p (m ∷ h) = here m.event (invocations_all p h)
     here (Inv q x op) f = grind arith
     here (Res q x r) f = f
 
--- no moment of such a line has b returned and a not begun, where a stands before b
+-- no moment of such a line has b returned and a not begun, where a is before b
 refuted : (l m n : List Ended) (a b : Ended) (front rest : List Event)
     → front ++ rest ≡ ended_events (l ++ a ∷ m) ++ ended_events (b ∷ n)
     → length (filter (λ e. e.made.process == b.made.process) (l ++ a ∷ m)) < count (responds b.made.process) front

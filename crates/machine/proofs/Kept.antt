@@ -34,7 +34,7 @@ leads_more : (kinds : List Kind) (quota : ℕ) (w : World) (ms : List (ℕ × St
 leads_more kinds quota w [] m between after l h = (after, subst (λ z. Transition kinds quota m.1 z m.0 after) l h, refl)
 leads_more kinds quota w (n ∷ ns) m between after l h = (l.0, l.1, leads_more kinds quota l.0 ns m between after l.2 h)
 
--- what is said of one state is said of the same under another name
+-- what holds of a state holds of the same state under another name
 pub taken_of : (s t s' : State) (c : ℕ) (w : Step) → s ≡ t → IsTaken s c w s' → IsTaken t c w s'
 taken_of s t s' c w e h = subst (λ (z : State). IsTaken z c w s') e h
 

@@ -102,7 +102,7 @@ answered = event 9 0 7 (Ok (Value None))
 abbrev pub all_three : List Event
 all_three = enqueued ∷ acquired ∷ failed ∷ dequeued ∷ unknown ∷ answered ∷ []
 
--- nothing of queue 7 stands before its second invocation but operations of a queue
+-- of queue 7, only operations of a queue are before its second invocation
 before_dequeue : AllAgree (enqueued ∷ acquired ∷ failed ∷ []) 7 (kind_of Dequeue)
 before_dequeue = ((λ q. refl), ((λ q. absurd (cc q)), ((λ q. tt), tt)))
 

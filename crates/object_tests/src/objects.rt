@@ -28,7 +28,7 @@ fn step<S: SeqObject>(object: &mut S, op: S::Op) -> Result<Option<S::Reply>, All
     }
 }
 
-/// At the sum an operation and a reply stand for themselves.
+/// As `step`, for an object of any kind, whose operations and replies are those of all kinds.
 fn step_any(object: &mut AnyObject, op: AnyOp) -> Result<Option<AnyReply>, AllocError>
     requires { kind_of op ≡ kind_with (⟦<AnyObject as SeqObject>⟧.content object.old) }
     ensures { IfOk result (λ reply. MatchOption reply
@@ -39,8 +39,8 @@ fn step_any(object: &mut AnyObject, op: AnyOp) -> Result<Option<AnyReply>, Alloc
     step(object, op)
 }
 
-/// From the object on each operation is answered so, or is not possible if none is given, and a
-/// copy made then is the same.
+/// Does the operations in turn, and tests that each has the reply that its row gives, or is not
+/// possible if the row gives none. A copy that is made after the last one is the same.
 fn answers<S: SeqObject>(
     rt: &impl Abort,
     mut object: S,

@@ -99,7 +99,7 @@ not_put keeps op t p = grind arith
 
 -- ---- the order, split at the removal
 
--- the removal in an order, and what stands before and after it
+-- the removal in an order, and what is before and after it
 record Split (kind : Kind) (calls : List Call) (n : Call) : Type 0 where
   pub earlier : List Call
   pub later : List Call
@@ -126,7 +126,7 @@ split_at kind calls order n rising stands ended v =
       whole = λ e i q. subst (In e) s.2 (in_entries v e i q);
     }
 
--- a put that returned before the removal was invoked stands before it
+-- a put that returned before the removal was invoked is before it
 early : (kind : Kind) (calls : List Call) (n : Call) (s : Split kind calls n) (keeps : ℤ → Bool)
     (from before : ℕ) → is_removal n.op ≡ true → before ≤ n.number
     → (e : Call) → In e calls → is_put_ahead keeps from before e ≡ true → In e s.earlier

@@ -14,7 +14,8 @@ use Rattle.projection.proofs.Sequences.{in_filter_map, in_filter_map_from, pairs
 use Rattle.projection.proofs.Overlaps.{IsTimed, in_time}
 use Rattle.projection.proofs.Booleans.{false_is_not_true}
 
--- The step in the part, where the whole comes to `after`: a call that is left out, or is pending, may be none.
+-- The step in the part, where the whole then contains `after`: for a call that is left out, or is pending, there may be
+-- no step.
 abbrev pub StepOf : (Content → Content → Type 0) → Option Call → Content → Content → Type 0
 StepOf R None d after = R after d
 StepOf R (Some f) d after = ((f.returned ≡ None) × R after d)

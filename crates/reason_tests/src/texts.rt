@@ -123,7 +123,8 @@ fn a_sink_that_fails_has_a_beginning_of_the_reasons(rt: HostRuntime) -> Result<(
     Ok(())
 }
 
-/// Passes whichever allocation is refused: reading answers that memory ran out, or as ever.
+/// Passes for each allocation that is refused: the reader says that memory ran out, or reads the
+/// text.
 #[test]
 fn where_memory_is_refused_reasons_are_read_or_the_fault_says_so(
     rt: HostRuntime,

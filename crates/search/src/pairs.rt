@@ -19,7 +19,7 @@ pub(crate) struct Pair {
 }
 
 /// Pairs, found by hash. `heads` has for each slot the number of a pair plus one, or 0; `links`
-/// likewise the next pair of that slot, an earlier one.
+/// the same of the next pair of that slot, an earlier one.
 #[derive(Drop)]
 pub(crate) struct Pairs {
     pub heads: Vec<u32>,

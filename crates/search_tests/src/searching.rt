@@ -144,7 +144,7 @@ fn is_wanted(answer: &Search, wanted: Wanted, steps: u64) -> bool {
     is_found && answer.steps == steps
 }
 
-/// Whether `search_all` and, of each object, `search` answer so.
+/// Whether `search_all` gives these answers, and `search` the same for each object.
 fn are_wanted(
     alloc: Global,
     all: &[(u32, Search)],

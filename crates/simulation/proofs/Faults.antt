@@ -1,4 +1,4 @@
--- What is answered where a schedule could not be read.
+-- The faults that a simulation gives where a schedule could not be read.
 use Rattle.std.proofs.Common.{◌≢◌}
 use Rattle.simulation.specs.declared.fault.ScheduleFault.{ScheduleFault}
 use Rattle.simulation.specs.declared.fault.ScheduleFaultKind.TheVariants as form_kind

@@ -85,14 +85,14 @@ IsOfSteps (Form f) = ⊥
 IsOfSteps (NotEnded c) = ⊤
 IsOfSteps NoMemory = ⊤
 
--- what is answered if the text has this fault
+-- the fault that is given if the text has this fault
 abbrev pub IsTextFault : EdnFault → SimulationFault → Type 0
 IsTextFault e (Text g) = (g ≡ e) × (e.kind ≢ edn_kind.NoMemory)
 IsTextFault e (Form f) = ⊥
 IsTextFault e (NotEnded c) = ⊥
 IsTextFault e NoMemory = e.kind ≡ edn_kind.NoMemory
 
--- what is answered if the forms have this fault
+-- the fault that is given if the forms have this fault
 abbrev pub IsFormFault : ScheduleFault → SimulationFault → Type 0
 IsFormFault f (Text e) = ⊥
 IsFormFault f (Form g) = (g ≡ f) × (f.kind ≢ form_kind.NoMemory)

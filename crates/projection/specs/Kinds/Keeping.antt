@@ -19,7 +19,7 @@ abbrev pub only_where : Bool → Bool → Bool
 only_where kept keeps = not kept || keeps
 
 -- A removal is kept exactly if the value that it took is kept. One that found nothing is kept or
--- left out. When a pending one may be left out is said of all of them (`IsClosed`).
+-- left out. `IsClosed` says for all of them together when a pending one may be left out.
 abbrev pub fits_removal : (ℤ → Bool) → Bool → Option AnyReply → Bool
 fits_removal keeps kept None = true
 fits_removal keeps kept (Some (Value (Some v))) = is_same kept (keeps v)
