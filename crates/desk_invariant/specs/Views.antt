@@ -199,11 +199,11 @@ after_meet x l v = record v { seen = slice_set v.seen x l }
 abbrev pub after_end : DeskView → DeskView
 after_end v = record v { ended = true }
 
--- what the client says of its own end
+-- what the client says about its own end
 abbrev pub end_notice : DeskView → Leaving
 end_notice v = record { client = v.number; journal = journal v }
 
--- what clients that have ended said of it has come
+-- the client has got the messages of clients that have ended
 abbrev pub after_notice : List Leaving → DeskView → DeskView
 after_notice ls v = record v { left = v.left ++ ls }
 

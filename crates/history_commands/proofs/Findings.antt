@@ -1,4 +1,4 @@
--- The worst of what is found: what it says of each finding, by cases of two and by induction on the list.
+-- The worst of what is found: what it says about each finding, by cases of two and by induction on the list.
 use Rattle.std.proofs.Common.{arith, ◌≡◌, ◌⊎◌, inl, inr, List, [], ◌∷◌, ◌++◌, map, fold, refl, ap, sym, ◌∙◌}
 use Rattle.std.proofs.lemmas.List.{map_push}
 use Rattle.model.proofs.Lists.{In}

@@ -86,7 +86,7 @@ status_with Malformed = ends.Malformed
 abbrev pub shard_line : ℕ → List ℕ → List ℕ
 shard_line number said = (codes "shard " ++ (decimal number ++ codes ": ")) ++ said
 
--- this is found, and said of the shard, and nothing of its objects
+-- this is found, there is this line on the shard, and no line on its objects
 abbrev pub IsNoted : ℕ → Finding → List ℕ → Answer → Type 0
 IsNoted number finding said a =
     (a.finding ≡ finding) × (a.note ≡ shard_line number said) × (a.lines ≡ [])

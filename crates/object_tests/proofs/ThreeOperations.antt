@@ -56,7 +56,7 @@ proper es rise follow = record {
   each = λ earlier later e q. each_follows [] es earlier later e follow q;
 }
 
--- what an earlier action says of the kind
+-- what an earlier action says about the kind
 abbrev Agrees : Action → Kind → Type 0
 Agrees (Invoke op) k = kind_of op ≡ k
 Agrees (Ok r) k = Unit {0}
