@@ -16,7 +16,7 @@ use Rattle.certificate.specs.declared.fault.CertFaultKind.TheVariants.{TwoForOne
 abbrev pub has : {V : Type 0} → NumberMap V → ℕ → Bool
 has m x = is_some (value_of m x)
 
--- what was read of a form: the certificate that it is, or that it is none
+-- what was read of a form: the certificate that it is, or that it is not a certificate
 abbrev pub Says : Option Certificate → Datum → Type 0
 Says said d = certificate_of d ≡ option_map reading_of said
 

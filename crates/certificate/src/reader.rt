@@ -84,7 +84,8 @@ fn parts_in(form: &Form) -> Option<(u32, &[Form])>
 ///
 /// An error: an allocation failed for its order.
 pub fn certificate_in(alloc: Global, form: &Form) -> Result<Option<Certificate>, AllocError>
-    ensures { IfOk result (λ o. option_map spec.reading_of o ≡ spec.certificate_of (view form.now)) }
+    ensures { IfOk result (λ o. option_map spec.reading_of o
+        ≡ spec.certificate_of (view form.now)) }
 {
     let Some((object, entries)) = parts_in(form) else {
         return Ok(None);

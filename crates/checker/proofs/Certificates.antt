@@ -188,7 +188,7 @@ none_besides certificates os left h none =
     let g = h.gone c i (all_at (λ (c : Certificate). value_of left c.object ≡ None) certificates none c i) in
     rw g.2 at (number_stands os g.0 g.1))
 
--- what stands at a place
+-- what is at a place
 pub element : {X : Type 0} (xs : List X) (k : ℕ) → k < length xs → (d : X) × (d ≡ get_or xs k d)
 element [] k l = absurd (omega arith)
 element (x ∷ xs) k l = let d = get_or (x ∷ xs) k x in (d, get_or_default (x ∷ xs) k x d l)

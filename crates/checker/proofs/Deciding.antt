@@ -17,6 +17,8 @@ use Rattle.checker.specs.Faults.{call_with_number, IsGreatest, IsFaultAt, rank, 
 use Rattle.checker.proofs.Walking.{named, InOrder, ReplyIs, Along, SoFar, found_number, found_known, along_content}
 use Rattle.checker.proofs.Walking.{none_before}
 
+-- ---- an order without a fault is valid
+
 -- the calls that an order names
 in_named : (calls : List Call) (o : List ℤ) (c : Call) → In c (named calls o)
     → (z : ℤ) × In z o × (call_with_number calls z ≡ Some c)
@@ -97,6 +99,8 @@ valid_from kind calls o d s whole = record {
   replies = replies_named calls (empty kind) o d s.replies;
 }
 
+-- ---- what the walk knows at an entry
+
 -- The front of an order up to place i is right, and the entry there, z, names the call c and has not stood.
 pub record Reaches (kind : Kind) (calls : List Call) (o : List ℤ) (i : ℕ) (z : ℤ) (c : Call)
     (d : Content) : Type 0 where
@@ -108,6 +112,8 @@ pub record Reaches (kind : Kind) (calls : List Call) (o : List ℤ) (i : ℕ) (z
 -- the call is not late
 abbrev pub IsInTime : List ℤ → ℕ → Call → Type 0
 IsInTime o i c = (r : Return) → c.returned ≡ Some r → (y : ℤ) → In y (take i o) → y ≤ℤ pos r.at
+
+-- ---- an entry without a call
 
 pub unknown_first : (kind : Kind) (calls : List Call) (o : List ℤ) (i : ℕ) (z : ℤ) (d : Content)
     → SoFar kind calls (take i o) d
@@ -122,6 +128,8 @@ unknown_first kind calls o i z d s at none =
   where
     least : (f : OrderFault) → IsFaultAt kind calls o i f → 1 ≤ rank f
     least f h = grind arith
+
+-- ---- no fault of a lesser rank
 
 no_unknown : (kind : Kind) (calls : List Call) (o : List ℤ) (i : ℕ) (z y : ℤ) (c : Call) → slice_get o i ≡ Some z
     → call_with_number calls z ≡ Some c → IsFaultAt kind calls o i (UnknownOperation y) → ⊥
@@ -161,6 +169,8 @@ no_impossible kind calls o i z y c d after reply s at found can h =
     let never : next d c.op ≡ None =
     ap (λ (x : Call). next d x.op) same ∙ (ap (λ (x : Content). next x h.0.op) there ∙ h.4) in
     absurd (cc (can, never))
+
+-- ---- the first fault, by its rank
 
 pub repeated_first : (kind : Kind) (calls : List Call) (o : List ℤ) (i : ℕ) (z : ℤ) (c : Call) (d : Content)
     → SoFar kind calls (take i o) d

@@ -43,7 +43,7 @@ read_at xs k r b l e q = get_or_default xs k false r l ∙ (sym e ∙ q)
 
 -- ---- at an entry
 
--- the walk is at an entry whose operation stands at place k, and it has not been there
+-- the walk is at an entry whose operation is at place k, and it has not been there
 pub record IsHere (kind : Kind) (ops : List Invocation) (order : List ℤ) (i : ℕ) (seen : List Bool)
     (content : Content) (greatest : Option ℕ) (z : ℤ) (k : ℕ) (c : Call) : Type 0 where
   pub walk : Walk kind ops (take i order) seen content greatest

@@ -23,6 +23,8 @@ use Rattle.checker.specs.Ends.{IsEarly}
 use Rattle.checker.proofs.Walking.{IsStep, SoFar, found_number, more}
 use Rattle.model.proofs.Orders.{max_either}
 
+-- ---- numbers of operations
+
 at_most : (n : ℕ) (z : ℤ) → z ≡ pos n → z ≤ℤ pos n
 at_most n z e = omega (arith, ints)
 
@@ -43,6 +45,8 @@ numbers_apart ops k j d e up l m ne q = elim (cases_order k j) [
         absurd (omega arith)
   ]
 ]
+
+-- ---- which numbers an order has
 
 -- whether the number is in an order
 abbrev pub is_number : ℕ → ℤ → Bool
@@ -82,6 +86,8 @@ abbrev pub TopIs : Option ℕ → List ℤ → Type 0
 TopIs None o = o ≡ []
 TopIs (Some g) o = IsGreatest (pos g) o
 
+-- ---- what the walk knows
+
 -- what is known after the entries o
 pub record Walk (kind : Kind) (ops : List Invocation) (o : List ℤ) (seen : List Bool) (content : Content)
     (greatest : Option ℕ) : Type 0 where
@@ -90,6 +96,8 @@ pub record Walk (kind : Kind) (ops : List Invocation) (o : List ℤ) (seen : Lis
   pub long : length seen ≡ length ops
   pub marks : (k : ℕ) (d : Invocation) → k < length ops → get_or seen k false ≡ stands_in (get_or ops k d).number o
   pub top : TopIs greatest o
+
+-- ---- operations and their calls
 
 -- the operation of a call
 pub call_parts : (o : Invocation) (c : Call) → call_of o ≡ Some c
@@ -147,6 +155,8 @@ one_call ops a b d up i j e =
       ]) (x.0 ∙ (e ∙ sym y.0)))
     ]
 
+-- ---- the greatest number
+
 -- all entries are before a return that is early
 pub all_early : (greatest : Option ℕ) (o : List ℤ) (e : End) (r : Return) → TopIs greatest o → IsEarly e greatest
     → return_of e ≡ Some r → (y : ℤ) → In y o → y ≤ℤ pos r.at
@@ -176,6 +186,8 @@ top_more (Some g) o n top t e = record {
     | inr j ↦ elim j [ inl q ↦ let m : n ≤ top = omega arith in at_most_of n top z q m | inr k ↦ absurd k ]
   ]);
 }
+
+-- ---- one entry more
 
 -- the entry at hand is that of the operation at place k
 pub record AtHand (ops : List Invocation) (z : ℤ) (k : ℕ) (c : Call) : Type 0 where

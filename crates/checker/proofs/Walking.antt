@@ -18,7 +18,9 @@ use Rattle.checker.specs.Faults.{call_with_number, after_call, content_after, Is
 use Rattle.checker.specs.Faults.{IsFaultAt}
 use Rattle.model.proofs.Lists.{In, Pairs, in_append, pairs_append, in_from_contains, in_from_slice}
 
--- what holds of each two holds of what stands at a place and each before it
+-- ---- what holds of each two entries
+
+-- what holds of each two holds of what is at a place and each before it
 pub pairs_at : {X : Type 0} (R : X → X → Type 0) (xs : List X) (j : ℕ) (y z : X) → Pairs R xs
     → slice_get xs j ≡ Some z → In y (take j xs) → R y z
 pairs_at R [] j y z h g i = absurd (cc (g))
@@ -34,6 +36,8 @@ pairs_push R xs z h f = pairs_append R xs (z ∷ []) h (λ y i. absurd i, tt) (�
   | inl e ↦ subst (R x) (sym e) (f x i)
   | inr k ↦ absurd k
 ])
+
+-- ---- orders without a fault so far
 
 -- the calls with these numbers
 abbrev pub named : List Call → List ℤ → List Call
@@ -66,6 +70,8 @@ pub record SoFar (kind : Kind) (calls : List Call) (o : List ℤ) (content : Con
   pub once : Pairs (λ a b. a ≢ b) o
   pub in_order : Pairs (InOrder calls) o
   pub replies : Along calls (empty kind) o content
+
+-- ---- calls and steps along an order
 
 -- a call that is found has the number, and is one of the calls
 pub found_number : (calls : List Call) (z : ℤ) (c : Call) → call_with_number calls z ≡ Some c → z ≡ pos c.number
@@ -112,6 +118,8 @@ pub along_push : (calls : List Call) (c : Content) (o : List ℤ) (d : Content) 
 along_push calls c [] d z e after h f s = (e, after, f, subst (λ x. IsStep x e after) (sym h) s, refl)
 along_push calls c (y ∷ o) d z e after h f s = (h.0, h.1, h.2, h.3, along_push calls h.1 o d z e after h.4 f s)
 
+-- ---- numbers and beginnings of lists
+
 past : (a t : ℕ) → pos a ≤ℤ pos t → t < a → ⊥
 past a t l k = omega (arith, ints)
 
@@ -129,7 +137,9 @@ get_front [] (suc i) j l = refl
 get_front (x ∷ xs) (suc i) zero l = refl
 get_front (x ∷ xs) (suc i) (suc j) l = get_front xs i j (omega arith)
 
--- one more entry
+-- ---- one entry more
+
+-- with one more entry that is a step an order has no fault so far
 pub more : (kind : Kind) (calls : List Call) (o : List ℤ) (content after : Content) (z : ℤ) (c : Call)
     → SoFar kind calls o content → call_with_number calls z ≡ Some c → (In z o → ⊥)
     → ((r : Return) → c.returned ≡ Some r → (y : ℤ) → In y o → y ≤ℤ pos r.at) → IsStep content c after
@@ -148,6 +158,8 @@ more kind calls o content after z c s f fresh early step = record {
       past a.number before.0.at (subst (λ w. w ≤ℤ pos before.0.at) n l) k);
   replies = along_push calls (empty kind) o content z c after s.replies f step;
 }
+
+-- ---- no place has a fault
 
 -- where no place is faulty there is no fault
 pub no_fault : (kind : Kind) (calls : List Call) (o : List ℤ) (content : Content) → SoFar kind calls o content
@@ -173,6 +185,8 @@ no_fault kind calls o content s j (WrongReply z gives) h =
     ap (λ (x : Content × AnyReply). x.1) (same_Some (a.0, a.1.reply) (h.3, gives) (sym a.1.possible ∙ h.7)) in
     h.8 (a.1.replied h.1 h.5 ∙ same)
 no_fault kind calls o content s j (Omitted n) h = h
+
+-- ---- no place before one has a fault
 
 -- a fault before place i is one of the first i entries
 names_front : (calls : List Call) (o : List ℤ) (i j : ℕ) (z : ℤ) (c : Call) → j < i → HasNumberAt calls o j z c

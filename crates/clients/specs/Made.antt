@@ -1,4 +1,4 @@
--- What a record says of the calls that the clients of a desk were to make.
+-- What a record says about the calls that the clients of a desk were to make.
 use Rattle.std.specs.Prelude.{◌≡◌, ◌≢◌, ◌⊎◌, ℕ, ◌+◌, ◌<◌, ◌≤◌, List, [], ◌∷◌, ◌++◌, length, All}
 use Rattle.std.specs.Prelude.{Contains}
 use mathlib.Core.Option.{some}
@@ -27,9 +27,9 @@ Made (c ∷ cs) es =
     × (es ≡ Invoked t c.0 c.1 ∷ Returned u a ∷ rest) × Made cs rest
 
 -- These events are of the calls up to one, in order: the calls before it were made; of this one
--- there is the invocation alone, and of the later ones nothing. A client stops so if memory is
--- refused to the call. That it was refused is not said here, since no clause knows what the
--- allocator refused: a client that stopped at any call would meet this too.
+-- there is the invocation alone, and of the later ones nothing. A client stops in this way if an
+-- allocation of the call fails. The record does not say that one failed, since no clause knows what
+-- the allocator refused: a client that stopped at any call would meet this too.
 pub record IsStopped (cs : List Call) (es : List AnyEvent) : Type 0 where
   pub front : List Call
   pub call : Call

@@ -11,14 +11,16 @@ use publication::{Client, Desk, Win};
 use seq_objects::AnyObject;
 use std::alloc::AllocError;
 
-/// How many of these calls are on the object. Only a bound is proved: it is for room alone.
+/// How many of these calls are on the object. It is proved only that they are at most all: the
+/// number says how much room to make, and no answer depends on it.
 fn count_on(calls: &[(u32, AnyOp)], object: u32) -> usize
     ensures { result ≤ length calls.now }
 {
     calls.iter().filter(|call| call.0 == object).count()
 }
 
-/// How many calls of the workload are on the object, of which also only a bound is proved.
+/// How many calls of the workload, those of all clients, are on the object. Of this number too only
+/// a bound is proved.
 fn calls_on(workload: &Workload, object: u32) -> usize
     ensures { result ≤ max_clients * max_calls }
 {
@@ -29,9 +31,11 @@ fn calls_on(workload: &Workload, object: u32) -> usize
     count
 }
 
-/// Makes room in the log of the object for each call of the workload on it, and for one more of
-/// each client, since a pass needs that room before it serves. If another client holds the
-/// object it makes none.
+/// Makes room in the log of the object for each call of the workload on it, and for one more entry
+/// of each client, since a pass needs that room before it serves. If another client holds the
+/// object, it makes no room, and this is no error.
+///
+/// An error: an allocation failed.
 fn make_room(
     desk: &Desk<AnyObject>,
     workload: &Workload,
@@ -73,7 +77,7 @@ fn make_all_room(
 }
 
 /// Makes room in the log of each object for all calls of the workload on it, by the last client.
-/// The clients have made no call yet, and so it is after that.
+/// The clients must have made no call, and make none here.
 pub(crate) fn reserve_logs(
     desk: &Desk<AnyObject>,
     workload: &Workload,

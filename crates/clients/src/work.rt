@@ -21,7 +21,8 @@ impl Model for Workload {
 
     ghost Value = { Work };
 
-    ghost view = { λ w. record { kinds = w.kinds.items; calls = map (λ v. v.items) w.calls.items } };
+    ghost view = { λ w.
+        record { kinds = w.kinds.items; calls = map (λ v. v.items) w.calls.items } };
 
     ghost invariant = { λ w. IsWorkload
         (record { kinds = w.kinds.items; calls = map (λ v. v.items) w.calls.items }) };

@@ -1,4 +1,4 @@
-//! Passes and calls on one object: which rows are served, in which order, and what is answered.
+//! Passes and calls on one object: which rows are served, in which order, and with which answers.
 
 ghost use Rattle.std.specs.Prelude.{◌≡◌, ◌<◌, length};
 

@@ -355,7 +355,7 @@ pub(crate) fn take_turns<R: Wait + Abort>(
     Ok(())
 }
 
-/// A list of steps on a new desk, and what comes of it.
+/// A list of steps on a new desk, and its result.
 pub(crate) struct Play {
     pub(crate) name: &'static str,
     pub(crate) setup: Setup,

@@ -1,5 +1,5 @@
 -- A desk begins by the rule: the first state has no client and the initial world, a new client knows nothing yet, and
--- at its first step it comes to the world.
+-- at its first step it enters the world.
 use Rattle.std.proofs.Common.{◌≡◌, ◌≢◌, ℕ, zero, suc, ◌+◌, ◌<◌, ◌≤◌, true, false, List, [], ◌∷◌, ◌++◌, length}
 use Rattle.std.proofs.Common.{replicate, get_or, set, Some, refl, sym, ap, ◌∙◌, subst, ◌⊎◌, inl, inr, arith}
 use mathlib.Core.Option as maybe

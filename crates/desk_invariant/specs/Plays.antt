@@ -199,8 +199,8 @@ module _ {S O R : Type 0} (content : S → Content) (op_in : O → AnyOp) (reply
     abbrev pub ends : Step (Slot S O R) → Hands → ℕ → Hands → Type 0
     ends step before found after = after ≡ (after_end (known before), rest (taken_slots before))
 
-    -- The client d has ended. Or it was found there, which is no miss, and is none that was told to
-    -- have ended
+    -- The client d has ended. Or it was found there, which is no miss, and is not one that was told
+    -- to have ended
     abbrev pub sees_end : Step (Slot S O R) → Hands → ℕ → Hands → Type 0
     sees_end step before found after =
         (d : ℕ) → step.word ≡ end_place d

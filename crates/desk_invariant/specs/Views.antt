@@ -176,7 +176,7 @@ after_answer r x l v = record v { held = held.Pass x l; ready = v.ready || (r ==
 abbrev pub after_release : ℕ → List AnyEntry → DeskView → DeskView
 after_release x l v = record v { held = held.Free; back = []; seen = slice_set v.seen x l }
 
--- the own call has come to this point
+-- the own call is at this point
 abbrev pub with_own : Own → DeskView → DeskView
 with_own o v = record v { own = o }
 
@@ -199,11 +199,11 @@ after_meet x l v = record v { seen = slice_set v.seen x l }
 abbrev pub after_end : DeskView → DeskView
 after_end v = record v { ended = true }
 
--- what the client says of its own end
+-- what the client says about its own end
 abbrev pub end_notice : DeskView → Leaving
 end_notice v = record { client = v.number; journal = journal v }
 
--- what clients that have ended said of it has come
+-- the client has got the messages of clients that have ended
 abbrev pub after_notice : List Leaving → DeskView → DeskView
 after_notice ls v = record v { left = v.left ++ ls }
 

@@ -71,7 +71,7 @@ pub struct PutBack {
     pub request: Request<AnyOp>,
 }
 
-/// What a client that has ended says of it.
+/// The message of a client that has ended: its number and its journal.
 pub struct Leaving {
     pub client: u32,
     pub journal: LinkedList<JournalEvent<AnyOp, AnyReply>>,
@@ -114,7 +114,7 @@ pub struct DeskView {
     pub won: u64,
     pub held: Held,
     pub ended: bool,
-    /// What clients that have ended said of it.
+    /// The messages of clients that have ended.
     pub left: LinkedList<Leaving>,
     /// The clients that were found to have ended.
     pub retired: LinkedList<u32>,

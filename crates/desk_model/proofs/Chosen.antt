@@ -120,7 +120,7 @@ tickets_once (e ∷ es) up apart = (head, tickets_once es tail (λ f g i j s. ap
         go true h = h.1
         go false h = h
 
--- where no ticket stands twice, what stands before an entry stands before it however the log is split at it
+-- where no ticket is there twice, what is before an entry is before it however the log is split at it
 pub in_front : (es : List AnyEntry) → Pairs (λ e f. e.ticket ≢ f.ticket) es
     → Pairs (λ e f. (before after : List AnyEntry) (g : AnyEntry) → es ≡ before ++ g ∷ after → g.ticket ≡ f.ticket
     → In e before) es

@@ -24,6 +24,8 @@ module _ (kinds : List Kind) (quota : ℕ) where
   abbrev S : World → Type 0
   S = Sound kinds quota
 
+  -- ---- who holds an object, and who has ended
+
   pub sound_held : (w : World) (x : ℕ) (h : Option ℕ) → (h ≡ None → w.hand x ≡ None) → S w → S (held_by w x h)
   sound_held w x h free k =
       let empty_hand : (y : ℕ) → changed w.holder x h y ≡ None → w.hand y ≡ None =
@@ -37,6 +39,8 @@ module _ (kinds : List Kind) (quota : ℕ) where
       let journals = journals_kept kinds w (ended_by w c) refl (λ c. refl) (λ c. refl) (λ c e. e)
       (λ y. starts_same (w.log y)) k.journals in
       assumption
+
+  -- ---- the stage of one row
 
   -- The stage of the row r changes, with the same request: what holds of requests goes on.
   same_fitting : (w : World) (r : ℕ) (t : Stage) → request_of t ≡ request_of (w.stage r) → S w
@@ -81,6 +85,8 @@ module _ (kinds : List Kind) (quota : ℕ) where
     journals = journals_staged kinds w (staged w c t) c t refl (λ d. refl) (λ d. refl) same came
         (λ y. starts_same (w.log y)) k.journals;
   }
+
+  -- ---- the tickets that a client draws
 
   -- the client c draws a ticket, and goes to the stage t with these calls over
   sound_ticked : (w : World) (c : ℕ) (t : Stage) (ds : List AnyDone) → c < 32
@@ -152,6 +158,8 @@ module _ (kinds : List Kind) (quota : ℕ) where
       (λ x. append-nil (served x c ds)
       ∙ (served_more x c n (w.done c) q a ∙ ap (λ z. served x c (w.done c) ++ served_now x c z) (sym was)))
       (λ r e. absurd (cc)) tickets calls (journals_returned kinds quota w c n q a was now k) k
+
+  -- ---- a row in hand
 
   -- the row r, posted for x, comes into the hand of the client that holds x
   pub sound_picked : (w : World) (x r c : ℕ) (q : AnyRequest) → w.stage r ≡ posted q → q.object ≡ x
@@ -231,6 +239,8 @@ module _ (kinds : List Kind) (quota : ℕ) where
         (ap request_of (sym is)) (λ e. absurd (cc)) (λ y. starts_same (w.log y)) k.journals;
   }
 
+  -- ---- the answer to a row
+
   -- what an answer puts into the log is early
   early_logged : (clock r : ℕ) (q : AnyRequest) (a : AnyAnswer) → q.ticket < clock
       → All (λ (e : AnyEntry). e.ticket < clock) (logged r q a)
@@ -289,6 +299,8 @@ module _ (kinds : List Kind) (quota : ℕ) where
         (changed_all (λ y l. StartsWith l (w.log y)) w.log x (w.log x ++ logged r q a) (logged r q a, refl)
         (λ y _. starts_same (w.log y))) k.journals;
   }
+
+  -- ---- how far the clock goes
 
   -- the clients have drawn two tickets for each call at most
   pub clock_few : (w : World) → S w → w.clock ≤ 64 * quota

@@ -64,7 +64,7 @@ pub legal_front : (kind : Kind) (log seen : List AnyEntry) → StartsWith log se
 legal_front kind log seen begins legal =
     replays_front (empty kind) legal.0 seen begins.0 (subst (λ z. Replays (empty kind) z legal.0) begins.1 legal.1)
 
--- ---- events and entries of operations of all kinds stand for themselves
+-- ---- events and entries of operations of all kinds are their own images
 
 event_as_it_is : (e : AnyEvent) → event_in (λ (op : AnyOp). op) (λ (r : AnyReply). r) e ≡ e
 event_as_it_is e = grind arith

@@ -1,4 +1,5 @@
--- What the calls of a client have put into a log: of which calls it is, and that its tickets rise.
+-- What the calls of a client have put into a log: of which calls it is, and that its tickets rise. By induction on the
+-- calls that are over, and by the stage of the one that is not.
 use Rattle.std.proofs.Common.{◌≡◌, ℕ, ◌<◌, ◌==◌, Bool, true, false, cond, eqb-true, inl, inr, List, [], ◌∷◌, ◌++◌, map}
 use Rattle.std.proofs.Common.{Option, Some, None, IfSome, refl, ap, sym, ◌∙◌, subst, append_assoc, arith}
 use Rattle.std.proofs.lemmas.Option.{same_Some}
@@ -10,6 +11,8 @@ use Rattle.desk_model.specs.declared.JournalEvent.TheVariants.{Invoked}
 use Rattle.desk_model.specs.World.{AnyEntry, AnyRequest, AnyAnswer, AnyDone, AnyEvent, Stage, answered, taken, logged}
 use Rattle.desk_model.specs.World.{logged_on, served, served_now, request_of, invoked, journal_of, ticket_of}
 use Rattle.desk_model.proofs.Denoted.{ended, made}
+
+-- ---- what a client has put into a log
 
 -- what the calls have put in: those that are over, and then the one that is not
 abbrev pub put_in : ℕ → ℕ → List AnyDone → Stage → List AnyEntry
@@ -49,6 +52,8 @@ put_now : (x c : ℕ) (t : Stage) (e : AnyEntry) → In e (served_now x c t)
 put_now x c (answered q a) e i = (q, a, refl, is_put x c q a e i)
 put_now x c (taken q a) e i = (q, a, refl, is_put x c q a e i)
 put_now x c t e i = absurd i
+
+-- ---- the call of each entry
 
 -- the operation of an entry of the client c in the log of x, among these
 pub record HasCall (x c : ℕ) (e : AnyEntry) (ops : List ProcessCall) : Type 0 where
@@ -142,6 +147,8 @@ is_of x c (d ∷ ds) t e i = elim (in_append e (logged_on x c d.request d.answer
       };
     }
 
+-- ---- the order of the entries
+
 -- one answer puts in one entry at most
 pairs_logged : (R : AnyEntry → AnyEntry → Type 0) (x c : ℕ) (q : AnyRequest) (a : AnyAnswer)
     → Pairs R (logged_on x c q a)
@@ -172,6 +179,8 @@ put_rises x c (d ∷ ds) t h =
     h.0 f.ticket (inr (in_map_from ticket_of (Invoked f.ticket x f.op) (journal_of ds (request_of t))
     (is_of x c ds t f j).invocation)) in
     omega arith)
+
+-- ---- the entry of a call that returned
 
 -- a call that returned is over, and this is the entry of it
 pub record IsOver (c : ℕ) (o : ProcessCall) (r : Return) (ds : List AnyDone) : Type 0 where

@@ -1,4 +1,5 @@
 -- Journals and tickets: what holds of them goes on where no client draws a ticket, and where one client draws the next.
+-- There each ticket is the next one, or an old one, which is below it (`share_more`).
 use Rattle.std.proofs.Common.{◌≡◌, ◌≢◌, ◌⊎◌, ℕ, ◌+◌, ◌<◌, List, [], ◌∷◌, ◌++◌, Some, None, All, AllPairs, Contains, map}
 use Rattle.std.proofs.Common.{length, true, false, cond, eqb, refl, sym, ap, subst, ◌∙◌, inl, inr, arith, append_assoc}
 use mathlib.Core.Logic.{dite}

@@ -13,8 +13,8 @@ pub use laws::{
     transitions_keep_soundness,
 };
 
-/// What the log of an object says of one operation: its client, the ticket of its invocation, the
-/// operation, and its reply.
+/// What the log of an object says about one operation: its client, the ticket of its invocation,
+/// the operation, and its reply.
 #[derive(Clone, Copy, Debug, PartialEq, Eq)]
 pub struct LogEntry<O, R> {
     pub client: u32,
@@ -38,7 +38,7 @@ pub enum Answer<R> {
     Refused,
 }
 
-/// What a journal of a client says of one ticket.
+/// What a journal of a client says about one ticket.
 #[derive(Clone, Copy, Debug, PartialEq, Eq)]
 pub enum JournalEvent<O, R> {
     Invoked { ticket: u64, object: u32, op: O },

@@ -1,4 +1,4 @@
-//! What comes of schedules: random ones, and texts.
+//! The results of schedules: random ones, and texts.
 
 ghost use Rattle.std.specs.Prelude.{◌<◌, ◌≤◌};
 ghost use Rattle.simulation.specs.Schedules.{IsWithin};

@@ -19,8 +19,7 @@ type Entry = LogEntry<AnyOp, AnyReply>;
 /// How long a gate waits, each turn a yield.
 const TURNS: u32 = 10_000_000;
 
-/// Holds the first call of each client until all clients have come to theirs, and counts what it
-/// saw.
+/// Holds the first call of each client until all clients are at theirs, and counts what it saw.
 #[derive(Drop)]
 struct Together {
     clients: u64,

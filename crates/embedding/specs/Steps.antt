@@ -1,7 +1,7 @@
 -- The number of steps that a caller names.
 use Rattle.std.specs.Prelude.{ℕ, ◌==◌, if◌then◌else◌}
 
--- The number that stands for as many steps as the program takes if it is given none: the
+-- The number that means as many steps as the program takes if it is given none: the
 -- greatest of 32 bits.
 abbrev pub program_steps : ℕ
 program_steps = 4294967295

@@ -15,7 +15,7 @@ use Rattle.events.specs.Operations.{end_by, end_at, begun, operations_on, return
 use Rattle.events.proofs.ProcessRuns.{State, idle, busy, closed, state_by, MayDo, Runs, runs_from_start}
 use Rattle.events.proofs.WellFormed.{event_at}
 
--- what stands before the responses of a process is of no matter to it
+-- what is before the responses of a process does not matter to it
 skips : (p x : ℕ) (e : Event) (failed : Bool) (rest : List Numbered) → (e.process == p) ≡ false
     → response_of p x (denoted_by e.number e.process e.object e.action failed ++ rest) ≡ response_of p x rest
 skips p x e failed rest q = go e.action failed

@@ -1,4 +1,5 @@
--- The operations on one object among proper events are the history of an object.
+-- The operations on one object among proper events are the history of an object. By induction on the events: each
+-- operation begins with an event of its own (`Begins`), and what it returned is in a later one (`Returns`).
 use Rattle.std.proofs.Common.{◌≡◌, ℕ, ◌==◌, ◌<◌, Bool, true, false, cond, ◌⊎◌, inl, inr, List, [], ◌∷◌, ◌++◌}
 use Rattle.std.proofs.Common.{Option, Some, None, refl, ap, sym, ◌∙◌, subst, append_assoc, arith}
 use Rattle.std.proofs.lemmas.Bool.{eqb-true, eq-eqb}

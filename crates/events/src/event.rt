@@ -2,7 +2,7 @@
 
 use seq_objects::{AnyOp, AnyReply};
 
-/// What a client event says of its process.
+/// What a client event says about its process.
 #[derive(Clone, Copy, Debug, PartialEq, Eq)]
 pub enum Action {
     /// The process invokes this operation.

@@ -33,7 +33,8 @@ pub(crate) trait Answer {
         history: &History,
         object: u32,
     ) -> Result<(), AllocError>
-        ensures { OnOk result (text.new.items ≡ text.old.items ++ lines history.now object self.now) };
+        ensures { OnOk result (text.new.items
+            ≡ text.old.items ++ lines history.now object self.now) };
 }
 
 /// Whether some object is impossible.

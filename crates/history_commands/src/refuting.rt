@@ -183,8 +183,10 @@ fn push_answer(
     reason: &Reason,
     answer: &Refutation,
 ) -> Result<(), AllocError>
-    requires calls { All (λ o. calls_of o.ops ≡ calls_on o.object (denoted history.now)) objects.now }
-    requires named { (x : ℕ) → IsNamed history.now x → Contains (map (λ o. o.object) objects.now) x }
+    requires calls { All (λ o. calls_of o.ops ≡ calls_on o.object (denoted history.now))
+        objects.now }
+    requires named { (x : ℕ) → IsNamed history.now x
+        → Contains (map (λ o. o.object) objects.now) x }
     requires answer { IsAnswer history.now reason.now answer.now }
     ensures { OnOk result (text.new.items ≡ text.old.items
         ++ refutation_lines history.now (call_count_on history.now reason.now) steps

@@ -1,3 +1,5 @@
+//! Tests that the checks of an order, of a certificate and of all certificates give one answer.
+
 use crate::reading::history_of;
 use certificate::Certificate;
 use checker::{OrderFault, Refusal, check_all, check_object, check_order};
@@ -6,7 +8,8 @@ use seq_objects::AnyObject;
 use std::alloc::Global;
 use std::test::Fail;
 
-/// Whether the three checks answer so on an order of the operations of a history's only object.
+/// Whether each of the three checks gives this answer on an order of the operations of a history's
+/// only object.
 fn all_answer(
     alloc: Global,
     text: &str,

@@ -1,3 +1,5 @@
+//! Tests how a history is divided into shards: their texts and tables, and which faults are found.
+
 ghost use Rattle.std.specs.Prelude.{◌≡◌, None, false, IfOk};
 
 use crate::from_sources::in_pieces;

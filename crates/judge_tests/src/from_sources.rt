@@ -1,3 +1,5 @@
+//! Tests a check whose texts come from sources and readers, in pieces of any size or with an error.
+
 ghost use Rattle.std.specs.Prelude.{◌≡◌, ⊤, None, false};
 
 use edn::{Failed, MAX_LENGTH, Out};

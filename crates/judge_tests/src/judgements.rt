@@ -1,3 +1,5 @@
+//! Tests that certificates in memory are judged as their text is.
+
 use crate::reading::certificates_of;
 use checker::{OrderFault, Refusal, check_all};
 use judging::{Verdict, history_of_text, judge, one_history, one_list_of_orders};

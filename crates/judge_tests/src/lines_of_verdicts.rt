@@ -1,3 +1,5 @@
+//! Tests the lines of verdicts that no command writes.
+
 use certificate::{CertFault, CertFaultKind};
 use checker::{OrderFault, Refusal};
 use edn::Out;

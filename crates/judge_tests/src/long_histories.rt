@@ -1,3 +1,5 @@
+//! Tests how a piece of a long history is divided into its maps.
+
 use history::{Action, Event, HistoryFault, HistoryFaultKind, LongReader, MapText, maps_of};
 use seq_objects::{AnyOp, AnyReply};
 use std::alloc::Global;

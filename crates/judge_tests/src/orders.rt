@@ -1,3 +1,5 @@
+//! Tests that written certificates are read back, and which fault of a text is its first.
+
 use crate::reading::all_fit;
 use certificate::{
     CertFault, CertFaultKind, CertTextFault, Certificate, read_certificates,
@@ -29,8 +31,8 @@ fn read(alloc: Global, text: &[u8]) -> Result<Result<Vec<Certificate>, CertFault
 
 #[test]
 fn written_certificates_are_read_back(rt: HostRuntime) -> Result<(), Fail> {
-    let text =
-        b"{:object 0, :order [0 2]}\n{:object 65535, :order []}\n{:object 7, :order [-1 9223372036854775807 -9223372036854775808]}\n";
+    let text = b"{:object 0, :order [0 2]}\n{:object 65535, :order []}\n{:object 7, :order [-1 \
+          9223372036854775807 -9223372036854775808]}\n";
     let Ok(certificates) = read(rt.alloc(), text)? else {
         return Err(Fail::new("certificates are refused"));
     };

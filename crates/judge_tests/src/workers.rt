@@ -1,3 +1,5 @@
+//! Tests that two workers check at once, and that the refusal of the least object is named.
+
 use crate::reading::{certificates_of, history_of};
 use checker::{OrderFault, Refusal};
 use parallel::check_parallel;
@@ -46,7 +48,7 @@ fn wait_for(least: u64, counted: &AtomicU64, gave_up: &AtomicU64) {
     gave_up.fetch_add(1, Ordering::SeqCst);
 }
 
-/// Holds the first piece of each of two workers until both have come to theirs.
+/// Holds the first piece of each of two workers until both are at theirs.
 #[derive(Drop)]
 struct Together {
     came: AtomicU64,

@@ -51,7 +51,7 @@ one_more_piece limit old now new bytes whole buf behind stored n room given len 
       usable = usable;
     }
 
--- the source has come to its end
+-- the source is at its end
 pub came_to_end : (limit : ℕ) (old now new : Option (List ℕ)) (bytes buf : List ℕ) (n room given len : ℕ)
     (was : Bool) → IsReading limit old now bytes room was
     → n ≡ length bytes → n < limit → len + (room - (limit - n)) ≡ room → length buf ≡ len → given ≡ 0

@@ -1,4 +1,4 @@
--- What a verdict on certificates says of the texts that denote them and their history; and what it
+-- What a verdict on certificates says about the texts that denote them and their history; and what it
 -- says where a text could not be read.
 use Rattle.std.proofs.Common.{◌≡◌, List, ℕ, map, inl, inr, ap, sym, subst}
 use Rattle.edn_reader.specs.Sound.{IsShort}

@@ -9,7 +9,7 @@ use Rattle.judging.specs.declared.reading.ReadFault.TheVariants.{Failed, NoMemor
 abbrev pub read_limit : ℕ
 read_limit = max_length + 1
 
--- what a fault says of its source: it failed, or an allocation failed and it did not
+-- what a fault says about its source: it failed, or an allocation failed and it did not
 abbrev pub SourceAfterFault : Bool → ReadFault → Type 0
 SourceAfterFault broken Failed = broken ≡ true
 SourceAfterFault broken NoMemory = broken ≡ false

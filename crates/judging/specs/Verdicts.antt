@@ -12,7 +12,7 @@ use Rattle.judging.specs.declared.texts.TextFailure.{TextFailure}
 use Rattle.judging.specs.declared.texts.TextFailure.TheVariants as stopped
 use Rattle.report.specs.declared.verdict.Verdict.TheVariants.{Yes, No, Malformed, NoMemory}
 
--- What a verdict says of the certificates of a history. Yes: they are valid, and the counts are
+-- What a verdict says about the certificates of a history. Yes: they are valid, and the counts are
 -- those of the history. No: this is their first refusal. `NoMemory` says nothing.
 abbrev pub JudgesBy : List Event → List Certificate → Verdict → Type 0
 JudgesBy es cs (Yes s) = AreValid es cs × AreCountsOf es s
@@ -20,10 +20,10 @@ JudgesBy es cs (No r) = IsFirstRefusal es cs r × (r ≢ refusal.NoMemory)
 JudgesBy es cs (Malformed f) = ⊥
 JudgesBy es cs NoMemory = ⊤
 
--- What a verdict says of the text of a history and that of certificates. Yes: they denote a history
--- and valid certificates, and the counts are those of that history. No: they denote a history and
--- certificates, of which this is the first refusal. Malformed: this is the fault of the first text
--- that has one. NoMemory: nothing was wrong yet.
+-- What a verdict says about the text of a history and that of certificates. Yes: they denote a
+-- history and valid certificates, and the counts are those of that history. No: they denote a
+-- history and certificates, of which this is the first refusal. Malformed: this is the fault of the
+-- first text that has one. NoMemory: nothing was wrong yet.
 abbrev pub Judges : List ℕ → List ℕ → Verdict → Type 0
 Judges h c (Yes s) = (texts : AreValidTexts h c) × AreCountsOf texts.client_events s
 Judges h c (No r) = IsFirstRefusalText h c r

@@ -116,8 +116,9 @@ pub fn check_over<R: Threads + Sync, H: Source, C: Source, W: Sink>(
         WasRefused C.remaining C.refuses certificates.old certificates.new) }
     // X2
     ensures unwritten { IfErr result (λ e. e ≡ ToolFault.Write → (W.broken sink.new ≡ true)
-        × IsCutOff (H.remaining history.old) (H.remaining history.new) (C.remaining certificates.old)
-        (C.remaining certificates.new) (W.sent sink.old) (W.sent sink.new)) }
+        × IsCutOff (H.remaining history.old) (H.remaining history.new)
+        (C.remaining certificates.old) (C.remaining certificates.new) (W.sent sink.old)
+        (W.sent sink.new)) }
     // X3
     ensures memory { IfErr result (λ e. e ≡ ToolFault.NoMemory →
         (H.broken history.new ≡ false) × (C.broken certificates.new ≡ false)) }

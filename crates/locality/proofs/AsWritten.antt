@@ -23,6 +23,8 @@ use Rattle.locality.proofs.Moments.{Moment, count, count-append, moment_from, pr
 use Rattle.locality.proofs.ProcessHistories.{complete-call}
 use Rattle.locality.proofs.WrittenOut.{none_from, well_formed}
 
+-- ---- the operations of a completion
+
 -- a call with its response counts once among the responses, and once among the invocations
 counted : (p q x : ℕ) (op : AnyOp) (r : AnyReply) (rest kept : List Event)
     → count (responds p) rest ≤ count (invokes p) kept
@@ -74,6 +76,8 @@ as_written_lem objects h lin = record {
       (is_of_completion h lin.completion lin.completes f j) p;
 }
 
+-- ---- a history that is linearizable as written, and not here
+
 -- A history that is linearizable as the text reads, and not here: process 1 takes effect before process 0, though it
 -- was invoked after process 0 returned.
 abbrev overtaken : List Event
@@ -87,6 +91,8 @@ overtaking =
 
 abbrev queues : ℕ → Specification
 queues x = specification Queue
+
+-- ---- which moments that history has
 
 -- the first event of a history is that of each part at its beginning
 peel : (x : Event) (t front rest : List Event) → x ∷ t ≡ front ++ rest
@@ -135,6 +141,8 @@ after_itself front rest e r w = elim (peel (Inv 0 0 (Enqueue (pos 1))) _ front r
     none : (es : List Event) → es ≡ [] → 0 < count (responds 2) es → ⊥
     none es q l =
         let m : 0 < 0 = rw q at l in absurd (omega (arith, m))
+
+-- ---- its order is kept
 
 -- three processes act, and no others
 no_response : (n : ℕ) → count (responds (suc (suc (suc n)))) overtaken ≤ 0

@@ -13,6 +13,8 @@ use Rattle.model.specs.Orders.{Numbered, events, Return, ProcessCall, calls_in}
 use Rattle.model.proofs.Lists.{In}
 use Rattle.locality.proofs.ProcessHistories.{Turns, none, last, call, at, first, calls_in-call, complete-call}
 
+-- ---- operations with their replies
+
 -- an operation with the reply that it has in a completion
 pub record Ended : Type 0 where
   pub made : ProcessCall
@@ -37,6 +39,8 @@ pub record Completed (h : List Numbered) (c : List Event) : Type 0 where
   pub recorded : (e : Ended) (r : Return) → In e list → e.made.call.returned ≡ Some r → e.reply ≡ r.reply
   pub whole : (o : ProcessCall) (r : Return) → In o (calls_in h) → o.call.returned ≡ Some r
       → (e : Ended) × In e list × (e.made ≡ o)
+
+-- ---- what one process completed
 
 abbrev pub Responses : List Event → Type 0
 Responses es = AllByRecursion (λ e. is_invocation e ≡ false) es
@@ -129,6 +133,8 @@ completed_any p h es (call n x op m v rest t) r s =
       | inl t ↦ (record { made = o; reply = v }, inl refl, sym t)
       | inr j ↦ let e = b.whole w r j q in (e.0, inr e.1, e.2)
     ]
+
+-- ---- one line of the operations of all processes
 
 ended_nil : (es : List Ended) → ended_events es ≡ [] → es ≡ []
 ended_nil [] e = refl

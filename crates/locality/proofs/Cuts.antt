@@ -126,7 +126,7 @@ pairs_across R (z ∷ a) b x y h i j = elim i [
   | inr k ↦ pairs_across R a b x y h.1 k j
 ]
 
--- what stands before an event is what has a lesser number
+-- what is before an event is what has a lesser number
 pub filter_before : (q : Numbered → Bool) (a : List Numbered) (m : Numbered) (b : List Numbered)
     → Pairs (λ x y. x.number < y.number) (a ++ m ∷ b)
     → filter q a ≡ filter (λ k. q k && nat_lt k.number m.number) (a ++ m ∷ b)

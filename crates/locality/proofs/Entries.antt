@@ -14,6 +14,8 @@ use Rattle.model.proofs.Lists.{pairs_from_all, pairs_from_map}
 use Rattle.locality.proofs.Merge.{one_number}
 use Rattle.model.proofs.Orders.{max_either}
 
+-- ---- points and replies along a list
+
 not_below : (a b : ℕ) → (b < a → ⊥) → a ≤ b
 not_below a b h = omega arith
 
@@ -37,6 +39,8 @@ give_in object c (e ∷ es) h n = cond (number_of e == n) (Some h.1) (give_in ob
 abbrev Once : List ProcessCall → Type 0
 Once es = Pairs (λ a b. number_of a ≢ number_of b) es
 
+-- ---- the first entry, and those after it
+
 -- the entry at the head
 point_here : (m : ℕ) (e : ProcessCall) (es : List ProcessCall) → point_in m (e ∷ es) (number_of e) ≡ max m (number_of e)
 point_here m e es = ap (λ b. cond b (max m (number_of e)) (point_in (max m (number_of e)) es (number_of e)))
@@ -57,6 +61,8 @@ give_there : (object : Specification) (c : object.Content) (e : ProcessCall) (es
     (h : RepliesBy object.next c (calls (e ∷ es))) (n : ℕ) → number_of e ≢ n
     → give_in object c (e ∷ es) h n ≡ give_in object h.0 es h.4 n
 give_there object c e es h n ne = ap (λ b. cond b (Some h.1) (give_in object h.0 es h.4 n)) (ne_eqb (number_of e) n ne)
+
+-- ---- how the points rise
 
 -- the point is not below the greatest before
 point_above : (m : ℕ) (es : List ProcessCall) (n : ℕ) → m ≤ point_in m es n
@@ -123,6 +129,8 @@ point_before m (f ∷ es) e r o p i q l k = elim i [
       let h = point_there m f es (number_of e) (o.0 e j) in omega arith
 ]
 
+-- ---- which replies are given
+
 -- each entry is given a reply
 pub give_some : (object : Specification) (c : object.Content) (es : List ProcessCall)
     (h : RepliesBy object.next c (calls es)) (e : ProcessCall) → Once es → In e es
@@ -164,6 +172,8 @@ give_recorded object c (f ∷ es) h e r o i q = elim i [
   | inr j ↦ give_there object c f es h (number_of e) (o.0 e j) ∙ give_recorded object h.0 es h.4 e r o.1 j q
 ]
 
+-- ---- the sequence of the entries
+
 -- an operation with its reply as two events
 abbrev pub done : ProcessCall → Option AnyReply → List Event
 done e None = []
@@ -197,6 +207,8 @@ done_sequential (e ∷ es) give =
       )
     ] in
     here (give e)
+
+-- ---- a valid order as a list of operations
 
 -- a valid order, as operations of the history
 pub record ValidEntries (object : Specification) (ops es : List ProcessCall) : Type 0 where

@@ -29,6 +29,8 @@ use Rattle.locality.proofs.Cuts.{dones_of_process, dones_of_object, added_of_pro
 use Rattle.locality.proofs.Cuts.{length_filter_events, filter_before, invokes_of_process, responds_in_part}
 use Rattle.locality.proofs.Cuts.{invokes_dones, responds_dones}
 
+-- ---- lists and late responses
+
 -- what holds of each two holds of two in their order
 pairs_ordered : (R : ProcessCall → ProcessCall → Type 0) (os : List ProcessCall) (a b : ProcessCall)
     → Pairs (λ a b. number_of a < number_of b) os
@@ -71,6 +73,8 @@ added_responds give os v i =
 
 abbrev pub on : ℕ → List Numbered → List ProcessCall
 on x h = filter (λ e. e.object == x) (calls_in h)
+
+-- ---- the orders of the objects
 
 module _ (objects : ℕ → Specification) (h : List Numbered) (hist : IsHistory h) (entries : ℕ → List ProcessCall)
     (good : (x : ℕ) → ValidEntries (objects x) (on x h) (entries x)) where
@@ -170,6 +174,8 @@ module _ (objects : ℕ → Specification) (h : List Numbered) (hist : IsHistory
     turns = turns_rise;
   }
 
+  -- ---- the merged line
+
   abbrev pub merged : List ProcessCall
   merged = line number_of (λ e. e.process) (λ e. e.object) point stands (calls_in h) entries
 
@@ -190,6 +196,8 @@ module _ (objects : ℕ → Specification) (h : List Numbered) (hist : IsHistory
   agrees : Agrees give (calls_in h)
   agrees e r i q = give_recorded (objects e.object) (objects e.object).empty (entries e.object)
       (good e.object).replies e r (good e.object).once ((good e.object).whole e r (in_on e i) q) q
+
+  -- ---- the completion and the sequence
 
   abbrev extra : List Event
   extra = added give (calls_in h)
@@ -239,6 +247,8 @@ module _ (objects : ℕ → Specification) (h : List Numbered) (hist : IsHistory
             (λ e i. ap (λ k. give_in (objects k) (objects k).empty (entries k) (good k).replies (number_of e))
             (at_object x e i)),
       )
+
+  -- ---- before a moment
 
   -- before a point t, the line has what is below t
   abbrev pub below : ℕ → List ProcessCall
@@ -320,6 +330,8 @@ module _ (objects : ℕ → Specification) (h : List Numbered) (hist : IsHistory
       ap length (below_of_process p t) in
       let e6 = invokes_dones p give (below t) (below_stands t) in
       omega arith
+
+  -- ---- the history is linearizable
 
   -- an operation of the completion is one of the sequence
   begun_in_both : (f : Operation) → IsOperation completion_made f → IsOperation sequence f

@@ -13,6 +13,8 @@ use Rattle.model.specs.Orders.{IsHistory}
 use Rattle.model.proofs.Lists.{In, Pairs, pairs_filter, pairs_from_all, in_filter_passes}
 use Rattle.locality.proofs.Entries.{number_of, done}
 
+-- ---- the events of one process, in turns
+
 abbrev pub at : ℕ → Event → Numbered
 at n e = record { number = n; event = e }
 
@@ -43,6 +45,8 @@ turns p (m ∷ []) s a = turns_last p m.number m.event s (a m (inl refl))
 turns p (m ∷ n ∷ rest) s a =
     turns_call p m.number n.number m.event n.event rest s.0 (a m (inl refl))
     (turns p rest s.1 (λ k i. a k (inr (inr i))))
+
+-- ---- the operations of one process
 
 -- the numbered events of one process
 abbrev pub part : ℕ → List Numbered → List Numbered
@@ -80,6 +84,8 @@ begins-part p n (Res q x r) later h = grind arith
 pub calls_in-part : (p : ℕ) (h : List Numbered) → calls_in (part p h) ≡ filter (λ o. o.process == p) (calls_in h)
 calls_in-part p [] = refl
 calls_in-part p (m ∷ h) = begins-part p m.number m.event h (calls_in-part p h)
+
+-- ---- late responses
 
 -- the response of an operation that is pending and is given a reply
 abbrev pub late : ProcessCall → Option Return → Option AnyReply → List Event
@@ -123,11 +129,13 @@ complete-call p x op r es =
     ap (λ (b : Bool). cond (not (b || list_any (matches (Inv p x op)) es)) (Res p x r ∷ complete es)
     (Inv p x op ∷ Res p x r ∷ complete es)) e
 
+-- ---- the completion of the events of one process
+
 -- the recorded replies are given
 abbrev pub Agrees : (ProcessCall → Option AnyReply) → List ProcessCall → Type 0
 Agrees give os = (e : ProcessCall) (r : Return) → In e os → e.call.returned ≡ Some r → give e ≡ Some r.reply
 
--- with the late responses and without what is still pending, each operation that is given a reply stands with it
+-- with the late responses and without what is still pending, each operation that is given a reply has it
 pub completed : (p : ℕ) (h : List Numbered) (give : ProcessCall → Option AnyReply) → Turns p h
     → Agrees give (calls_in h) → complete (events h ++ added give (calls_in h)) ≡ dones give (calls_in h)
 completed p h give none a = refl
@@ -160,6 +168,8 @@ extended p h give (call n x op m r rest t) =
     let os = calls_in-call p n x op m r rest in
     subst (λ (os : List ProcessCall). IsSequential (Inv p x op ∷ Res p x r ∷ (events rest ++ added give os))) (sym os)
     (and_from (p == p) (x == x) (eq-eqb p p refl) (eq-eqb x x refl), extended p rest give t)
+
+-- ---- the order of its operations
 
 -- the number of an operation is that of an event
 pub call_event : (h : List Numbered) (e : ProcessCall) → In e (calls_in h)
@@ -236,6 +246,8 @@ one_after_another p h (call n x op m r rest t) u =
       below,
     )
 
+-- ---- counts before a moment
+
 -- whether it returned before t
 abbrev pub is_back : ℕ → Option Return → Bool
 is_back t None = false
@@ -278,6 +290,8 @@ invocations_before p t (m ∷ h) = here m.event refl (invocations_before p t h)
         ≡ length (filter (λ e. (e.process == p) && nat_lt (number_of e) t) (begins m.number v h (calls_in h)))
     here (Inv q x op) s f = grind arith
     here (Res q x r) s f = f
+
+-- ---- the same of a history
 
 -- in a history: numbers rise, also those of a process and those of operations, and each process has its turns
 module _ (h : List Numbered) (hist : IsHistory h) where

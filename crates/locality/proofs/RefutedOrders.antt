@@ -26,6 +26,8 @@ use Rattle.locality.proofs.OneKind.{orders_of_kinds}
 use Rattle.locality.proofs.WrittenOut.{history, linearizable, in_order, ordered}
 use Rattle.locality.proofs.WorkedOrders.{returned, pending}
 
+-- ---- first in, first out
+
 -- what returned before all others were invoked comes first
 first_is : (a : Call) (es : List Call) → In a es → ((e : Call) → In e es → (e ≡ a) ⊎ ReturnsBefore a e)
     → Pairs (λ (a b : Call). ReturnsBefore b a → ⊥) es → (rest : List Call) × (es ≡ a ∷ rest)
@@ -89,6 +91,8 @@ first_in_first_out calls a d v r s order a_op a_back d_op d_back a_in d_in first
           (rw s0.0 at along.4)
     ]
 
+-- ---- histories in which a value is overtaken
+
 two_not_one : Value (Some (pos 2)) ≡ Value (Some (pos 1)) → ⊥
 two_not_one e = omega (arith, ints, ap value_in e)
   where
@@ -145,6 +149,8 @@ pending_overtakes_returned-refuted =
     (record { at = 4; reply = Value (Some (pos 2)) }) pending_overtakes_returned-history refl refl (lit< tt) refl
     (lit< tt) refl refl
 
+-- ---- orders that are not valid by their numbers
+
 pub dequeued_out_of_turn-no_order : (order : List ℤ) → ¬ IsValidOrder Queue (calls_on 0 dequeued_out_of_turn) order
 dequeued_out_of_turn-no_order order v =
     dequeued_out_of_turn-refuted
@@ -179,6 +185,8 @@ enqueued_then_dequeued-unknown v =
       ]
     ]
 
+-- ---- replies, by computation
+
 -- no two values that differ
 abbrev same_value : AnyReply → AnyReply → Bool
 same_value (Value (Some v)) (Value (Some w)) = int_eq v w
@@ -209,6 +217,8 @@ along_may_reply : (es : List Call) (c : Content) → RepliesAlong c es → may_r
 along_may_reply [] c h = refl
 along_may_reply (e ∷ es) c h = ap (λ made. may_be made e.returned (may_reply es)) h.2
     ∙ and_from (replied e.returned h.1) (may_reply es h.0) (replied_so e.returned h.1 h.3) (along_may_reply es h.0 h.4)
+
+-- ---- orders that are not valid by their replies
 
 abbrev Ordered : List Call → Type 0
 Ordered cs = Pairs (λ (a b : Call). (a.number ≢ b.number) × (ReturnsBefore b a → ⊥)) cs
@@ -257,6 +267,8 @@ pub mutex_passed_on-acquire_of_held : ¬ IsValidOrder Mutex (calls_on 0 mutex_pa
 mutex_passed_on-acquire_of_held =
     not_replied Mutex (calls_on 0 mutex_passed_on) (calls_on 0 mutex_passed_on) refl
     (inl refl, (inr (inl refl), (inr (inr (inl refl)), tt))) refl
+
+-- ---- event lists that are not histories
 
 pub invoked_while_pending-refused : ¬ IsHistory invoked_while_pending
 invoked_while_pending-refused h = let s = h.well_formed 0 in let m = s.0 in cc m

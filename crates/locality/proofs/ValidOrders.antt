@@ -1,5 +1,5 @@
--- The order of an object in a linearization is valid. A call that returned before another began stands before it: else
--- the events up to that moment would not count up.
+-- The order of an object in a linearization is valid. A call that returned before another began is before it: otherwise
+-- the counts of the events up to that moment would not agree.
 use Rattle.std.proofs.Common.{◌≡◌, ◌≢◌, ℕ, ℤ, pos, suc, ◌<◌, ◌≤◌, ◌==◌, ◌&&◌, nat_lt, Bool, true, false, cond, ◌⊎◌, inl}
 use Rattle.std.proofs.Common.{inr, List, [], ◌∷◌, ◌++◌, length, map, filter, Option, Some, None, IfSome, IsSome}
 use Rattle.std.proofs.Common.{Contains, refl, ap, sym, ◌∙◌, arith}
@@ -30,6 +30,8 @@ use Rattle.locality.proofs.CompletedCalls.{Ended, two_events, ended_events, ops_
 use Rattle.locality.proofs.CompletedCalls.{Lined, lined}
 use Rattle.model.proofs.Orders.{same_pos, returned_some}
 
+-- ---- lists, their beginnings and parts
+
 -- of two beginnings of a list one begins the other
 prefix_either : {X : Type 0} (a b c d : List X) → a ++ b ≡ c ++ d
     → ((w : List X) × (c ≡ a ++ w)) ⊎ ((w : List X) × (a ≡ c ++ w))
@@ -50,6 +52,8 @@ pairs_by_parts {X} R front (x ∷ xs) h = (
   λ y i. let s = in_split y xs i in h front s.0 s.1 x y (ap (λ zs. front ++ x ∷ zs) s.2),
   pairs_by_parts R (front ++ x ∷ []) xs (λ l m n a b e. h l m n a b (sym (append_assoc front (x ∷ []) xs) ∙ e)),
 )
+
+-- ---- the events of operations with their replies
 
 ended_invokes : (p : ℕ) (es : List Ended)
     → count (invokes p) (ended_events es) ≡ length (filter (λ e. e.made.process == p) es)
@@ -74,6 +78,8 @@ ended_of_object x es = filter_pieces (λ v. object_of v == x) (λ e. e.made.obje
       | inl s ↦ ap (λ w. object_of w == x) s ∙ t
       | inr j ↦ elim j [ inl s ↦ ap (λ w. object_of w == x) s ∙ t | inr k ↦ absurd k ]
     ]))
+
+-- ---- the operations before one
 
 not_less : (u v : List ProcessCall) (o e : ProcessCall) → Pairs (λ a b. number_of a < number_of b) (u ++ o ∷ v)
     → In e (o ∷ v) → number_of o ≤ number_of e
@@ -111,6 +117,8 @@ back_upto t (x ∷ u) v o r h q l k =
     let e : is_back t x.call.returned ≡ true = ap (is_back t) b.1 ∙ lt-ltb b.0.at t (omega arith) in
     rw e (omega arith)
 
+-- ---- replies of a legal history
+
 -- the replies of a legal history are those that are recorded
 replies_back : (object : Specification) (c : object.Content) (es : List Ended) → RepliesFrom object c (ended_events es)
     → ((e : Ended) (r : Return) → In e es → e.made.call.returned ≡ Some r → e.reply ≡ r.reply)
@@ -122,6 +130,8 @@ replies_back object c (e ∷ es) h rec =
     said : (o : Option Return) → e.made.call.returned ≡ o → IfSome o (λ r. r.reply ≡ e.reply)
     said None q = tt
     said (Some r) q = sym (rec e r (inl refl) q)
+
+-- ---- lines in which a later call is earlier
 
 longer : (q : Ended → Bool) (l n : List Ended) (a : Ended) → q a ≡ true
     → suc (length (filter q l)) ≤ length (filter q (l ++ a ∷ n))
@@ -150,7 +160,7 @@ invocations_all p (m ∷ h) = here m.event (invocations_all p h)
     here (Inv q x op) f = grind arith
     here (Res q x r) f = f
 
--- no moment of such a line has b returned and a not begun, where a stands before b
+-- no moment of such a line has b returned and a not begun, where a is before b
 refuted : (l m n : List Ended) (a b : Ended) (front rest : List Event)
     → front ++ rest ≡ ended_events (l ++ a ∷ m) ++ ended_events (b ∷ n)
     → length (filter (λ e. e.made.process == b.made.process) (l ++ a ∷ m)) < count (responds b.made.process) front
@@ -168,6 +178,8 @@ refuted l m n a b front rest e ret wait =
           let g = longer (λ e. e.made.process == a.made.process) l m a (eq-eqb a.made.process a.made.process refl) in
           omega arith
     ]
+
+-- ---- what the processes completed
 
 module _ (objects : ℕ → Specification) (h : List Numbered) (hist : IsHistory h)
     (lin : IsLinearizableFor objects (events h)) where
@@ -202,6 +214,8 @@ module _ (objects : ℕ → Specification) (h : List Numbered) (hist : IsHistory
   queue_owned p e i = eqb-true e.made.process p
       (in_filter_passes (λ o. o.process == p) e.made (calls_in h)
       (rw (calls_in-part p h) at (queue_op p e i)))
+
+  -- ---- the line of all operations
 
   pub all : Lined lin.sequence queue
   all = lined lin.sequence lin.sequential queue seen_by queue_owned
@@ -351,6 +365,8 @@ module _ (objects : ℕ → Specification) (h : List Numbered) (hist : IsHistory
       (rw tb.1 at (part_rise h hist b.made.process))
       (in_map_from (λ (e : Ended). e.made) a (filter (λ e. e.made.process == b.made.process) l') i) in
       omega arith
+
+  -- ---- the order of an object
 
   pub linearizable_has_orders_lem : (x : ℕ) → HasValidOrderOf objects h x
   linearizable_has_orders_lem x =

@@ -1,4 +1,4 @@
--- When responses complete a history, said of the responses alone.
+-- When responses complete a history, by the responses alone.
 use Rattle.std.specs.Prelude.{◌≡◌, ◌≢◌, List, ◌∷◌, ◌++◌, IsTrue, All, AllPairs}
 use Rattle.model.specs.Histories.{Event, process_of, matches, is_pending}
 

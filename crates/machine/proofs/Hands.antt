@@ -11,7 +11,7 @@ use Rattle.machine.specs.Machines.{State, world_of}
 use Rattle.machine.specs.Runs.{IsImpossible}
 use Rattle.machine.specs.Steps.{CanDo, IsInHand}
 
--- what a client is said to have in hand is what it has
+-- what the fields give as a client's hand is what it has in hand
 pub record IsThat (x r x' r' : ℕ) (q q' : AnyRequest) : Type 0 where
   pub object : x' ≡ x
   pub row : r' ≡ r

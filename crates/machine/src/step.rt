@@ -1,4 +1,4 @@
-//! What a client may do, and what comes of it.
+//! What a client may do, and the result.
 
 use desk_model::{Answer, Request};
 use std::alloc::{AllocError, AllocFailed};

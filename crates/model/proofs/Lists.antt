@@ -9,6 +9,8 @@ use Rattle.std.proofs.lemmas.List.Elements.{filter-append}
 use Rattle.std.proofs.lemmas.Bool.{eqb-false, ne_eqb, not-true, ltb-false, le-ltb}
 use Rattle.std.proofs.lemmas.Bool.Decides.{nat_tests}
 
+-- ---- elements, and each two of them
+
 -- the element is in the list
 abbrev pub In : {X : Type 0} → X → List X → Type 0
 In x [] = ⊥
@@ -18,6 +20,8 @@ In x (y ∷ ys) = (x ≡ y) ⊎ In x ys
 abbrev pub Pairs : {X : Type 0} → (X → X → Type 0) → List X → Type 0
 Pairs R [] = Unit {0}
 Pairs {X} R (x ∷ xs) = ((y : X) → In y xs → R x y) × Pairs R xs
+
+-- ---- elements of filtered and of joined lists
 
 -- an element of a filtered list is in the list
 pub in_filter : {X : Type 0} (p : X → Bool) (x : X) (xs : List X) → In x (filter p xs) → In x xs
@@ -60,6 +64,8 @@ in_split x (y ∷ xs) i = elim i [
   | inl e ↦ ([], xs, ap (λ z. z ∷ xs) (sym e))
   | inr j ↦ let r = in_split x xs j in (y ∷ r.0, r.1, ap (λ zs. y ∷ zs) r.2)
 ]
+
+-- ---- filters
 
 -- what holds of each two elements holds in a filtered list
 pub pairs_filter : {X : Type 0} (R : X → X → Type 0) (p : X → Bool) (xs : List X) → Pairs R xs → Pairs R (filter p xs)
@@ -108,6 +114,8 @@ filter_none p (x ∷ xs) f =
     let rest = filter_none p xs (λ y i. f y (inr i)) in
     ap (λ b. cond b (x ∷ filter p xs) (filter p xs)) e ∙ rest
 
+-- ---- lists that are joined
+
 -- a filter of joined lists is the join of the filtered ones
 pub filter-flat_map : {X Y : Type 0} (p : Y → Bool) (f : X → List Y) (xs : List X)
     → filter p (flat_map f xs) ≡ flat_map (λ x. filter p (f x)) xs
@@ -145,6 +153,8 @@ in_flat_map f y (x ∷ xs) h =
       | inr b ↦ let r = in_flat_map f y xs b in (r.0, inr r.1, r.2)
     ]
 
+-- ---- lists of at most one element, and lengths
+
 -- lists of at most one element, with the same elements
 pub same_single : {X : Type 0} (xs ys : List X) → Pairs (λ a b. ⊥) xs → Pairs (λ a b. ⊥) ys
     → ((x : X) → In x xs → In x ys) → ((x : X) → In x ys → In x xs) → xs ≡ ys
@@ -163,6 +173,8 @@ length_filter_le p q (x ∷ xs) f =
     let rest = length_filter_le p q xs (λ y i. f y (inr i)) in
     let here = f x (inl refl) in
     grind (arith, rest, here)
+
+-- ---- lists in the order of a number
 
 -- In a list in the order of f, those with the number n come first where all have at least n
 pub front_split : {X : Type 0} (f : X → ℕ) (n : ℕ) (xs : List X) → Pairs (λ a b. f a ≤ f b) xs
@@ -236,6 +248,8 @@ batches {X} f (n ∷ ns) xs up h all =
   where
     apart : (a n m : ℕ) → n < m → (not (a == n) && (a == m)) ≡ (a == m)
     apart a n m l = grind (arith, nat_tests)
+
+-- ---- joined and mapped lists, by each two of their elements
 
 -- each two elements of joined lists
 pub pairs_append : {X : Type 0} (R : X → X → Type 0) (xs ys : List X) → Pairs R xs → Pairs R ys

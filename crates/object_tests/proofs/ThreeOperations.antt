@@ -56,7 +56,7 @@ proper es rise follow = record {
   each = λ earlier later e q. each_follows [] es earlier later e follow q;
 }
 
--- what an earlier action says of the kind
+-- what an earlier action says about the kind
 abbrev Agrees : Action → Kind → Type 0
 Agrees (Invoke op) k = kind_of op ≡ k
 Agrees (Ok r) k = Unit {0}
@@ -102,7 +102,7 @@ answered = event 9 0 7 (Ok (Value None))
 abbrev pub all_three : List Event
 all_three = enqueued ∷ acquired ∷ failed ∷ dequeued ∷ unknown ∷ answered ∷ []
 
--- nothing of queue 7 stands before its second invocation but operations of a queue
+-- of queue 7, only operations of a queue are before its second invocation
 before_dequeue : AllAgree (enqueued ∷ acquired ∷ failed ∷ []) 7 (kind_of Dequeue)
 before_dequeue = ((λ q. refl), ((λ q. absurd (cc q)), ((λ q. tt), tt)))
 

@@ -1,3 +1,5 @@
+//! Tests maps of numbers, with small and with large keys.
+
 use number_map::NumberMap;
 use std::test::Fail;
 

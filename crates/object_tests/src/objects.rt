@@ -1,3 +1,5 @@
+//! Tests the objects of all kinds: their replies, and how their operations are written and read.
+
 ghost use Rattle.std.specs.Prelude.{◌≡◌, Some, None, IfOk, MatchOption};
 ghost use Rattle.model.specs.Objects.{kind_of, kind_with, next};
 
@@ -16,7 +18,8 @@ fn step<S: SeqObject>(object: &mut S, op: S::Op) -> Result<Option<S::Reply>, All
     requires { kind_of (S.op_in op) ≡ kind_with (S.content object.old) }
     ensures { IfOk result (λ reply. MatchOption reply
         (next (S.content object.old) (S.op_in op) ≡ None)
-        (λ r. next (S.content object.old) (S.op_in op) ≡ Some (S.content object.new, S.reply_in r))) }
+        (λ r. next (S.content object.old) (S.op_in op)
+        ≡ Some (S.content object.new, S.reply_in r))) }
 {
     if object.possible(&op) {
         Ok(Some(object.apply(&op)?))
@@ -25,18 +28,19 @@ fn step<S: SeqObject>(object: &mut S, op: S::Op) -> Result<Option<S::Reply>, All
     }
 }
 
-/// At the sum an operation and a reply stand for themselves.
+/// As `step`, for an object of any kind, whose operations and replies are those of all kinds.
 fn step_any(object: &mut AnyObject, op: AnyOp) -> Result<Option<AnyReply>, AllocError>
     requires { kind_of op ≡ kind_with (⟦<AnyObject as SeqObject>⟧.content object.old) }
     ensures { IfOk result (λ reply. MatchOption reply
         (next (⟦<AnyObject as SeqObject>⟧.content object.old) op ≡ None)
-        (λ r. next (⟦<AnyObject as SeqObject>⟧.content object.old) op ≡ Some (⟦<AnyObject as SeqObject>⟧.content object.new, r))) }
+        (λ r. next (⟦<AnyObject as SeqObject>⟧.content object.old) op
+        ≡ Some (⟦<AnyObject as SeqObject>⟧.content object.new, r))) }
 {
     step(object, op)
 }
 
-/// From the object on each operation is answered so, or is not possible if none is given, and a
-/// copy made then is the same.
+/// Does the operations in turn, and tests that each has the reply that its row gives, or is not
+/// possible if the row gives none. A copy that is made after the last one is the same.
 fn answers<S: SeqObject>(
     rt: &impl Abort,
     mut object: S,

@@ -1,9 +1,11 @@
+//! Tests how a history is split into its objects, and into parts for workers.
+
 use events::{Action, End, Event, History, Invocation, ObjectHistory, split, split_share};
 use seq_objects::{AnyOp, AnyReply, Kind};
 use std::alloc::Global;
 use std::test::Fail;
 
-/// An enqueue that fails, an acquire of which nothing is known, and a dequeue that answers nil.
+/// An enqueue that fails, an acquire that may have happened, and a dequeue that answers nil.
 fn three_operations(alloc: Global) -> Result<History, Fail> {
     let events = [
         Event {

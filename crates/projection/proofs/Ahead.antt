@@ -97,7 +97,9 @@ before_removal found op number calls = grind arith
 not_put : (keeps : ℤ → Bool) (op : AnyOp) → is_removal op ≡ true → puts_in keeps op ≡ true → ⊥
 not_put keeps op t p = grind arith
 
--- the removal in an order, and what stands before and after it
+-- ---- the order, split at the removal
+
+-- the removal in an order, and what is before and after it
 record Split (kind : Kind) (calls : List Call) (n : Call) : Type 0 where
   pub earlier : List Call
   pub later : List Call
@@ -124,7 +126,7 @@ split_at kind calls order n rising stands ended v =
       whole = λ e i q. subst (In e) s.2 (in_entries v e i q);
     }
 
--- a put that returned before the removal was invoked stands before it
+-- a put that returned before the removal was invoked is before it
 early : (kind : Kind) (calls : List Call) (n : Call) (s : Split kind calls n) (keeps : ℤ → Bool)
     (from before : ℕ) → is_removal n.op ≡ true → before ≤ n.number
     → (e : Call) → In e calls → is_put_ahead keeps from before e ≡ true → In e s.earlier
@@ -165,6 +167,8 @@ taken_early kind calls n s keeps r returned =
   where
     elsewhere : (a number at : ℕ) → a ≢ number → (at < a → ⊥) → not (a == number || nat_lt at a) ≡ true
     elsewhere a number at f g = grind (arith, nat_tests)
+
+-- ---- the general case, a queue and a stack
 
 plain_case : (kind : Kind) (calls : List Call) (n : Call) (s : Split kind calls n) (r : Return)
     (o : Option ℤ) (from before : ℕ) → is_removal n.op ≡ true → n.returned ≡ Some r → r.reply ≡ Value o
@@ -257,6 +261,8 @@ stack_case kind calls n s r b from before is_stack pop returned value l settled 
 
     turned : (a b : ℕ) → a < b → b < a → ⊥
     turned a b l m = omega arith
+
+-- ---- all cases
 
 -- Either the general case, or a queue's or a stack's removal of a value.
 removal_cases : (o : Option ℤ) (op : AnyOp) → ((op ≡ Dequeue → o ≡ None) × (op ≡ Pop → o ≡ None)) ⊎

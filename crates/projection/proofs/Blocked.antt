@@ -92,6 +92,8 @@ settled_calls (Some b) Pop from ops = each ops
     each (o ∷ os) = one_more o (calls_of os) o.«end» (list_all (is_settled_end b from) os) (each os)
 settled_calls (Some b) op from ops = refl
 
+-- ---- a blocked removal as an operation
+
 -- the removal of a number, as a call
 blocked_from : (ops : List Invocation) (number from : ℕ) (op : AnyOp) (at : ℕ) (found : Option ℤ)
     (t : IsRemoval ops number op at found) → are_settled found op from ops ≡ true
@@ -156,6 +158,8 @@ same_removal ops number op op' at at' found found' rising t u =
     ∙ ap (λ (z : Invocation). found_end op' z.«end») own ∙ u.told in
     let p = pair_first at at' found found' told in
     (ops_same, p.0, p.1)
+
+-- ---- the test decides
 
 -- a test that compares the two counts decides
 pub ahead_decided : (h : ObjectCalls) (number from : ℕ) (op : AnyOp) (at : ℕ) (found : Option ℤ)

@@ -110,7 +110,7 @@ one_late calls xs i p many apart pending known = elim (late p.call.number xs) [
       absurd (omega arith)
 ]
 
--- some pending removal stands at each place that i + 1 of them show
+-- some pending removal is at each place that i + 1 of them show
 place : (calls xs : List Call) (i : ℕ) → Pairs (λ a b. a.number < b.number) calls → length xs ≡ i + 1
     → Pairs (λ x y. x.number ≢ y.number) xs
     → ((x : Call) → In x xs → is_open x ≡ true) → ((x : Call) → In x xs → In x calls) → Nth calls i

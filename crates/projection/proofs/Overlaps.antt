@@ -125,7 +125,7 @@ in_time_cut x z y w a b h r =
     in_time x z y w (record { number = a.number; returned = a.returned })
     (record { number = b.number; returned = b.returned }) h r
 
--- ---- writes that may stand before the first call
+-- ---- writes that may be before the first call
 
 -- the write that a call with this return becomes, if it becomes one
 abbrev pub front_written : Option (AnyOp × AnyReply) → ℕ → AnyOp → Option Return → Option Call
@@ -192,7 +192,7 @@ front_facts from at first y x e = over (ended_before from y.returned) refl e
     over true n e = absurd (cc e)
     over false n e = late (nat_lt at y.number) refl n e
 
--- A call of the suffix that returned was invoked later than the first one returned, or may stand before it.
+-- A call of the suffix that returned was invoked later than the first one returned, or may be before it.
 pub record Late (from at : ℕ) (first : Option (AnyOp × AnyReply)) (y : Call) : Type 0 where
   pub return : Return
   pub was : y.returned ≡ Some return

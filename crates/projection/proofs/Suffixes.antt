@@ -307,7 +307,7 @@ suffix_valid kind calls e r first order stands kinds ret fr on v =
       },
     )
 
--- the same, said by the number of the first call
+-- the same, by the number of the first call
 pub start_valid : (kind : Kind) (calls : List Call) (from at : ℕ) (first : Option (AnyOp × AnyReply)) (order : List ℤ)
     → All (λ e. kind_of e.op ≡ kind) calls → IsStart calls from at first → IsValidOrder kind calls order
     → (part : List ℤ) × IsValidOrder kind (calls_from from at first calls) part

@@ -11,7 +11,8 @@ ghost use Rattle.search.specs.Outcomes.{IsNoneValid};
 ghost use Rattle.projection.specs.Ahead.{IsBlocked};
 ghost use Rattle.projection.specs.Kinds.Containers as containers;
 ghost use Rattle.projection.specs.CutOperations as cut_operations;
-ghost use Rattle.projection.specs.CutOperations.{ahead_before_end, first_put_end, found_end, is_put};
+ghost use Rattle.projection.specs.CutOperations.{ahead_before_end, first_put_end, found_end};
+ghost use Rattle.projection.specs.CutOperations.{is_put};
 ghost use Rattle.projection.specs.CutOperations.{is_put_ahead_end, is_settled_end, IsRemoval};
 ghost use Rattle.projection.specs.CutOperations.{may_precede_end, may_take_end};
 
@@ -147,8 +148,8 @@ fn are_settled(operations: &[Invocation], removal: Removal, from: u32) -> bool
 
 /// Whether an operation put in what definitely was ahead.
 fn is_ahead(removal: Removal, from: u32, before: u32, operation: &Invocation) -> bool
-    ensures { result ≡ is_put_ahead_end (containers.is_value_ahead removal.found removal.op) from before
-        operation.now.number operation.now.op operation.now.«end» }
+    ensures { result ≡ is_put_ahead_end (containers.is_value_ahead removal.found removal.op) from
+        before operation.now.number operation.now.op operation.now.«end» }
 {
     match operation.end {
         End::Returned { at, .. } => {
@@ -176,8 +177,8 @@ fn may_take(removal: Removal, op: AnyOp, end: End) -> bool
 
 /// Whether an operation may have taken out such a value before the removal.
 fn may_precede(removal: Removal, operation: &Invocation) -> bool
-    ensures { result ≡ may_precede_end (containers.is_value_ahead removal.found removal.op) removal.number
-        removal.at operation.now }
+    ensures { result ≡ may_precede_end (containers.is_value_ahead removal.found removal.op)
+        removal.number removal.at operation.now }
 {
     may_take(removal, operation.op, operation.end)
         && !(operation.number == removal.number || removal.at < operation.number)
@@ -188,10 +189,11 @@ fn may_precede(removal: Removal, operation: &Invocation) -> bool
 fn times(operations: &[Invocation], removal: Removal, from: u32) -> (usize, usize)
     ensures ahead { result.0 ≡ count_by (λ o. is_put_ahead_end
         (containers.is_value_ahead removal.found removal.op) from
-        (ahead_before_end removal.found removal.op removal.number operations.now) o.number o.op o.«end»)
-        operations.now }
+        (ahead_before_end removal.found removal.op removal.number operations.now)
+        o.number o.op o.«end») operations.now }
     ensures takes { result.1 ≡ count_by (may_precede_end
-        (containers.is_value_ahead removal.found removal.op) removal.number removal.at) operations.now }
+        (containers.is_value_ahead removal.found removal.op) removal.number removal.at)
+        operations.now }
 {
     let before = ahead_before(operations, removal);
     let ahead = operations

@@ -27,7 +27,8 @@ pub enum Counted {
     Free,
 }
 
-/// A count from the number of a map on, which is 0 at the beginning.
+/// How often `counted` is set and taken away, from the event with the number `from` on. 0 counts
+/// from the beginning of the history.
 #[derive(Clone, Copy, Debug, PartialEq, Eq)]
 pub struct Count {
     pub counted: Counted,
@@ -61,8 +62,8 @@ fn takes_since(count: Count, operation: &Invocation) -> bool
     }
 }
 
-/// How often the object can have contained it before the count begins, at most, if that is
-/// known.
+/// How often the object can have contained the content before the count begins, at most, or `None`
+/// if no bound is known.
 fn most_before(kind: Kind, count: Count) -> Option<usize>
     ensures { result ≡ counts.most_before kind count.counted count.from }
 {
@@ -75,7 +76,7 @@ fn most_before(kind: Kind, count: Count) -> Option<usize>
     if is_single(kind) { Some(1) } else { None }
 }
 
-/// How many operations set it, and how many took it away.
+/// How many operations set the content, and how many took it away, in this order.
 fn times(operations: &[Invocation], count: Count) -> (usize, usize)
     ensures set { result.0
         ≡ count_by (λ o. is_set count.counted count.from o.op o.«end») operations.now }

@@ -6,7 +6,8 @@ ghost use Rattle.std.specs.List.{list_all};
 ghost use Rattle.events.specs.Operations.{calls_of};
 ghost use Rattle.projection.specs.Parts.{kept_calls};
 ghost use Rattle.projection.specs.Cuts.{keeps_all, keeps_value, keeps_number, IsClosedPart, IsPart};
-ghost use Rattle.projection.specs.CutOperations.{fits_end, is_put, is_taken, is_open_removal, is_kept_call};
+ghost use Rattle.projection.specs.CutOperations.{fits_end, is_put, is_taken, is_open_removal};
+ghost use Rattle.projection.specs.CutOperations.{is_kept_call};
 ghost use Rattle.projection.specs.CutOperations.{keeps_first};
 
 use crate::kinds::containers::{is_removal, put_value};

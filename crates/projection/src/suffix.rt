@@ -12,7 +12,8 @@ ghost use Rattle.projection.specs.Parts.{IsStart};
 ghost use Rattle.projection.specs.Kinds.Starts.{leaves};
 ghost use Rattle.projection.specs.Kinds.Starts as starts;
 ghost use Rattle.projection.specs.Cuts.{IsSuffix, IsPart};
-ghost use Rattle.projection.specs.CutOperations.{has_failed, is_over, overlapping_operation, operation_later};
+ghost use Rattle.projection.specs.CutOperations.{has_failed, is_over, overlapping_operation};
+ghost use Rattle.projection.specs.CutOperations.{operation_later};
 ghost use Rattle.projection.specs.CutOperations.{operation_from, IsOnKey};
 
 use crate::kinds::register::setting;

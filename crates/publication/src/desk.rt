@@ -167,8 +167,8 @@ impl<S: SeqObject> Desk<S> {
     }
 
     /// Posts a call: its invocation, with its ticket, is the last event of the journal. If it is
-    /// refused nothing changes, and no ticket is taken. It does not enlist the row. That the ticket
-    /// is a new one is said by the record of `close`.
+    /// refused nothing changes, and no ticket is taken. It does not enlist the row. The record of
+    /// `close` says that the ticket is a new one.
     pub fn post(&self, client: &mut Client<S>, object: u32, op: S::Op) -> Result<(), Post>
         requires { client.old.desk ≡ self.now.id }
         ensures desk { client.new.desk ≡ client.old.desk }

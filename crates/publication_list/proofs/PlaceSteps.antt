@@ -24,6 +24,8 @@ use Rattle.publication_list.proofs.RuleKept.{with_stage, place_step_keeps_others
 use Rattle.publication_list.proofs.RuleKept.{link_keeps_tied, enlist_keeps_sound, enlist_keeps_tied, St, kept_after}
 use Rattle.publication_list.proofs.RuleKept.{same_words_keep_rule, unmade_stay_asleep}
 
+-- ---- what the owner of a row knows
+
 abbrev Holds : St → Type 0
 Holds = Kept
 
@@ -46,6 +48,8 @@ over e v = v
 -- a row that is not known to be woken, and whose mark is 0, is asleep
 unmarked : (o : RowKnowledge) (t : Stage) → o ≡ own.Unknown → OwnOk o t → mark_of t ≡ 0 → t ≡ asleep
 unmarked o t is ok e = grind arith
+
+-- ---- each step of the owner keeps the rule
 
 pub see_keeps_rule : (slots id i c : ℕ) (o : RowKnowledge) (t : List Enlist) (cs : List (ℕ × ℕ))
     → Allows Holds slots id (view.Place c o t, cs) i (λ f. f)

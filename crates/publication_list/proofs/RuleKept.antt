@@ -270,7 +270,7 @@ same_words_keep_rule s k i id v' cs ok = rw (set-get_or s.words i 0) (kept_after
   own = ok;
 })
 
--- a row that has been made is not asleep for want of a place
+-- rows that have not been made stay asleep, where a row that has been made goes to another stage
 pub unmade_stay_asleep : (w : PublicationList) (r : ℕ) (t : Stage) → r < w.made
     → ((q : ℕ) → w.made ≤ q → w.stage q ≡ asleep) → (q : ℕ) → w.made ≤ q → update ℕ_discrete w.stage r t q ≡ asleep
 unmade_stay_asleep w r t low before q l = update_of_ne ℕ_discrete (λ e. omega arith) t w.stage ∙ before q l

@@ -27,6 +27,8 @@ use Rattle.publication_list.proofs.RuleKept.{with_stage, walker_step_keeps_other
 use Rattle.publication_list.proofs.RuleKept.{unlink_keeps_sound, unlink_keeps_tied, St, kept_after}
 use Rattle.publication_list.proofs.RuleKept.{same_words_keep_rule, unmade_stay_asleep}
 
+-- ---- what the walker knows
+
 abbrev Holds : St → Type 0
 Holds = Kept
 
@@ -43,6 +45,8 @@ known : (s : St) (k : Kept s) (id made : ℕ) (left : List ℕ) (out : Option �
     → (id ≡ 0) × (made ≡ k.list.made) × ((newcomers : List ℕ) × (k.list.rows ≡ newcomers ++ left))
     × TakenOutOk k.list out
 known s k id made left out walks at = k.seats id (view.Walker made left out walks) at
+
+-- ---- the walker meets the list
 
 -- the list as it is now begins with newcomers, and goes on with what the walker has met
 pub meet_keeps_rule : (slots id made : ℕ) (left : List ℕ) (out : Option ℕ) (walks : List (List ℕ)) (cs : List (ℕ × ℕ))
@@ -66,6 +70,8 @@ meet_keeps_rule slots id made left out walks cs s k deep at small =
         (let few = few_below w.made w.rows k.sound.distinct k.sound.low in omega arith),
       ),
     )
+
+-- ---- the walker goes on to the next row
 
 -- where a place of what the walker has met is in the list
 placed : (rows pre left : List ℕ) (i : ℕ) → rows ≡ pre ++ left → get_or rows (length pre + i) 0 ≡ get_or left i 0
@@ -102,6 +108,8 @@ follow_keeps_rule slots id i made left out walks cs s k deep at small =
         ap (λ z. get_or s.words z 0) word ∙ next_of w s.words pre left' p (ok.2.1 ∙ ap (λ z. pre ++ z) same) low k.tied,
       ),
     )
+
+-- ---- a row is taken out, and put to sleep
 
 -- a row that was listed may be taken out, for all that its owner knows
 taken_out : (t : Stage) → t ≡ listed → (o : RowKnowledge) → OwnOk o t → OwnOk o unlinked

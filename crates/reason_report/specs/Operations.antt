@@ -89,7 +89,7 @@ call_text o = op_text o.op ++ reply_text o.«end»
 abbrev pub is_same : Invocation → Invocation → Bool
 is_same left right = derived.eq-value.it left right
 
--- what the part counts an operation as, if that is not what the history says of it
+-- what the part counts an operation as, if that is not what the history says about it
 abbrev pub counted_text : Invocation → Invocation → List ℕ
 counted_text told counted =
     if is_same told counted then [] else codes ", counted as " ++ call_text counted

@@ -141,7 +141,7 @@ fn is_same(left: &Invocation, right: &Invocation) -> bool
     *left == *right
 }
 
-/// What the part counts the operation as, if that is not what the history says of it.
+/// What the part counts the operation as, if that is not what the history says about it.
 fn push_counted(
     text: &mut Vec<u8>,
     told: &Invocation,
@@ -188,7 +188,7 @@ fn push_heading(
     )
 }
 
-/// What the history says of the operation, and what the part does.
+/// What the history says about the operation, and what the part does.
 fn push_said(text: &mut Vec<u8>, told: &Invocation, counted: &Invocation) -> Result<(), AllocError>
     ensures { OnOk result (text.new.items ≡ text.old.items
         ++ spec.said_text told.now counted.now) }
@@ -245,7 +245,7 @@ fn push_lines(
 }
 
 /// Appends a line for each operation of the part, after `; ` if they are comments: its numbers,
-/// and what the history says of it. If the part counts it as another operation, or with another
+/// and what the history says about it. If the part counts it as another operation, or with another
 /// reply, that comes after it.
 pub fn push_operations(
     text: &mut Vec<u8>,

@@ -30,7 +30,8 @@ const LINES: [&str; 27] = [
     "{:object 0, :cuts [{:keep [1 2], :numbers [4 7]}]}\n",
     "{:object 0, :cuts [{:keep :all, :numbers [3]}]}\n",
     "{:object 0, :cuts [{:keep []}]}\n",
-    "{:object 0, :cuts [{:keep [-9223372036854775808 -1 9223372036854775807], :numbers [0 4294967295]}]}\n",
+    "{:object 0, :cuts [{:keep [-9223372036854775808 -1 9223372036854775807], :numbers [0 \
+     4294967295]}]}\n",
     "{:object 0, :cuts [{:cell [1], :other 9, :numbers [4]}]}\n",
     "{:object 0, :cuts [{:cell :all, :other -3}]}\n",
     "{:object 0, :cuts [{:cell [1], :key 5, :other 9}]}\n",
@@ -122,7 +123,8 @@ fn a_sink_that_fails_has_a_beginning_of_the_reasons(rt: HostRuntime) -> Result<(
     Ok(())
 }
 
-/// Passes whichever allocation is refused: reading answers that memory ran out, or as ever.
+/// Passes for each allocation that is refused: the reader says that memory ran out, or reads the
+/// text.
 #[test]
 fn where_memory_is_refused_reasons_are_read_or_the_fault_says_so(
     rt: HostRuntime,

@@ -14,7 +14,7 @@ use Rattle.events.specs.declared.event.Event.{Event}
 use Rattle.events.specs.Events.{IsProper}
 use Rattle.recorder.specs.Records.{Recorded, journal_at, log_at}
 
--- what an answer says of its operation: that it returned this reply, or that it did not happen,
+-- what an answer says about its operation: that it returned this reply, or that it did not happen,
 -- if an allocation failed
 abbrev pub action_of : AnyAnswer → Action
 action_of (Reply r) = Ok r

@@ -327,7 +327,7 @@ call_events (m ∷ h) e up i = go m.event refl i (call_events h e up.1)
     go (Inv p x op) q i f = elim i [ inl s ↦ here p x op q s | inr j ↦ there (f j) ]
     go (Res p x r) q i f = there (f i)
 
--- each two elements of a list are one, or stand in one of the two orders
+-- two elements of a list are the same one, or the relation holds of them in one of the two orders
 either_way : {X : Type 0} (R : X → X → Type 0) (xs : List X) (a b : X) → Pairs R xs → In a xs → In b xs
     → (a ≡ b) ⊎ (R a b ⊎ R b a)
 either_way R [] a b h i j = absurd i

@@ -1,4 +1,4 @@
--- The answer to a reason why no order of an object's operations is valid.
+-- The answer to a reason: whether it shows that no order of an object's operations is valid.
 use Rattle.std.specs.Prelude.{◌≡◌, ◌≢◌, ℕ, Bool, true, false, ⊤, List, Any, IsSome}
 use Rattle.std.specs.Prelude.{Option, Some, None}
 use Rattle.model.specs.declared.Kind.{Kind}

@@ -1,4 +1,5 @@
-//! The basis of a reason, from a form.
+//! Reads the basis of a reason from a form. Each function returns `None` if the form, or the map
+//! with these entries, does not say what it reads.
 
 ghost use Rattle.std.specs.Prelude.{◌≡◌, Option, option_map, codes};
 ghost use Rattle.edn_fields.specs.Fields.{value_at};
@@ -14,8 +15,9 @@ use edn_fields::{is_same, value_at};
 use projection::{Count, Counted};
 use search::TryFirst;
 
-/// What is counted.
-fn counted(entries: &[(Name, Form)]) -> Option<Counted>
+/// Reads which content is counted: `:value`, `:key` and `:value`, `:key` alone, `:held` or `:free`.
+/// If the map mixes them, `:key` and `:value` come before `:held`, and `:held` before `:free`.
+fn read_counted(entries: &[(Name, Form)]) -> Option<Counted>
     ensures { result ≡ spec.counted_of (entries_of (pair_views entries.now)) }
 {
     let key = optional_int_at(entries, b"key")?;
@@ -30,8 +32,8 @@ fn counted(entries: &[(Name, Form)]) -> Option<Counted>
     }
 }
 
-/// The number from which on it is counted.
-fn start(form: Option<&Form>) -> Option<u32>
+/// Reads the number of the event from which on it is counted. No form is 0, the beginning.
+fn read_start(form: Option<&Form>) -> Option<u32>
     ensures { result ≡ spec.start_in (option_map (λ f. view f.now) form.entry) }
 {
     match form {
@@ -40,41 +42,41 @@ fn start(form: Option<&Form>) -> Option<u32>
     }
 }
 
-/// The count of a content that the pairs of a map name.
-fn count_of(entries: &[(Name, Form)]) -> Option<Basis>
+/// Reads a count of a content: the content, and `:from`.
+fn read_count(entries: &[(Name, Form)]) -> Option<Basis>
     ensures { result ≡ spec.count_with (spec.counted_of (entries_of (pair_views entries.now)))
         (spec.start_in (value_at (codes "from") (entries_of (pair_views entries.now)))) }
 {
-    let counted = counted(entries)?;
-    let from = start(value_at(entries, b"from"))?;
+    let counted = read_counted(entries)?;
+    let from = read_start(value_at(entries, b"from"))?;
     Some(Basis::Counting(Count { counted, from }))
 }
 
-/// The count of what was ahead of the removal of a number, from a number on.
-fn ahead(removal: Option<&Form>, from: Option<&Form>) -> Option<Basis>
+/// Reads a count of what was ahead of a removal: the number of the event that invoked the removal,
+/// and the number of the event from which on it is counted.
+fn read_ahead(removal: Option<&Form>, from: Option<&Form>) -> Option<Basis>
     ensures { result ≡ spec.ahead_with
         (spec.number_in (option_map (λ f. view f.now) removal.entry))
         (spec.start_in (option_map (λ f. view f.now) from.entry)) }
 {
     let number = number(removal)?;
-    let from = start(from)?;
+    let from = read_start(from)?;
     Some(Basis::Ahead { number, from })
 }
 
-/// The count that the pairs of a map name. With the key `:ahead` no other key matters, except
-/// `:from`.
-fn basis_of(entries: &[(Name, Form)]) -> Option<Basis>
+/// Reads either count. With the key `:ahead` no other key matters, except `:from`.
+fn read_any_count(entries: &[(Name, Form)]) -> Option<Basis>
     ensures { result ≡ spec.basis_of (entries_of (pair_views entries.now)) }
 {
     let removal = value_at(entries, b"ahead");
     match removal {
-        None => count_of(entries),
-        Some(_) => ahead(removal, value_at(entries, b"from")),
+        None => read_count(entries),
+        Some(_) => read_ahead(removal, value_at(entries, b"from")),
     }
 }
 
-/// Which operation a search tries first.
-fn first(form: Option<&Form>) -> Option<TryFirst>
+/// Reads which operation a search tries first: `:number`, the default, or `:return`.
+fn read_first(form: Option<&Form>) -> Option<TryFirst>
     ensures { result ≡ spec.first_in (option_map (λ f. view f.now) form.entry) }
 {
     match form {
@@ -89,9 +91,9 @@ fn first(form: Option<&Form>) -> Option<TryFirst>
     }
 }
 
-/// How many steps a search may take, or none if the map has no such key. `None`: the value is no
-/// number.
-fn steps(form: Option<&Form>) -> Option<Option<u32>>
+/// Reads how many steps a search may take. No form is `Some(None)`, no own limit; a form that is
+/// not a number is `None`.
+fn read_steps(form: Option<&Form>) -> Option<Option<u32>>
     ensures { result ≡ spec.steps_in (option_map (λ f. view f.now) form.entry) }
 {
     match form {
@@ -100,20 +102,20 @@ fn steps(form: Option<&Form>) -> Option<Option<u32>>
     }
 }
 
-/// The search that the pairs of a map describe.
-fn search_of(entries: &[(Name, Form)]) -> Option<Basis>
+/// Reads a search from the entries of a map: `:first` and `:steps`.
+fn read_search_in(entries: &[(Name, Form)]) -> Option<Basis>
     ensures { result ≡ spec.search_with
         (spec.first_in (value_at (codes "first") (entries_of (pair_views entries.now))))
         (spec.steps_in (value_at (codes "steps") (entries_of (pair_views entries.now)))) }
 {
-    let first = first(value_at(entries, b"first"))?;
-    let steps = steps(value_at(entries, b"steps"))?;
+    let first = read_first(value_at(entries, b"first"))?;
+    let steps = read_steps(value_at(entries, b"steps"))?;
     Some(Basis::Search(Trial { first, steps }))
 }
 
-/// How a part is searched.
+/// Reads how a part is searched. No form is a search by least number, with no limit of its own.
 #[tactic(auto, using(edn_reader::proofs::Pairs::map_view))]
-fn search(form: Option<&Form>) -> Option<Basis>
+fn read_search(form: Option<&Form>) -> Option<Basis>
     ensures { result ≡ spec.search_in (option_map (λ f. view f.now) form.entry) }
 {
     match form {
@@ -121,20 +123,21 @@ fn search(form: Option<&Form>) -> Option<Basis>
             first: TryFirst::LeastNumber,
             steps: None,
         })),
-        Some(Form::Map(entries)) => search_of(entries),
+        Some(Form::Map(entries)) => read_search_in(entries),
         Some(_) => None,
     }
 }
 
-/// The basis of a reason: a count, or a search if the map names no count.
+/// Reads the basis of a reason: a count, or a search if there is no count. `count` and `searched`
+/// are the values of `:count` and `:search` in the reason's map.
 #[tactic(auto, using(edn_reader::proofs::Pairs::map_view))]
-pub(crate) fn basis(count: Option<&Form>, searched: Option<&Form>) -> Option<Basis>
+pub(crate) fn read_basis(count: Option<&Form>, searched: Option<&Form>) -> Option<Basis>
     ensures { result ≡ spec.basis_in (option_map (λ f. view f.now) count.entry)
         (option_map (λ f. view f.now) searched.entry) }
 {
     match count {
-        None => search(searched),
-        Some(Form::Map(entries)) => basis_of(entries),
+        None => read_search(searched),
+        Some(Form::Map(entries)) => read_any_count(entries),
         Some(_) => None,
     }
 }

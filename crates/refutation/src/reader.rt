@@ -8,7 +8,7 @@ ghost use Rattle.refutation.specs.Denotes.{Denotes};
 ghost use Rattle.refutation.specs.Faults.{IsFault, IsFirstFault, IsSoundBefore};
 
 use crate::Reason;
-use crate::basis::basis;
+use crate::basis::read_basis;
 use crate::cut::cuts;
 use crate::fault::{ReasonFault, ReasonFaultKind};
 use edn::Form;
@@ -33,7 +33,7 @@ pub fn reason_in(alloc: Global, form: &Form) -> Result<Option<Reason>, AllocErro
         return Ok(None);
     };
     let counted = value_at(entries, b"count");
-    match basis(counted, value_at(entries, b"search")) {
+    match read_basis(counted, value_at(entries, b"search")) {
         Some(basis) => Ok(Some(Reason {
             object,
             cuts,

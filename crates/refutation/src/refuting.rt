@@ -6,7 +6,8 @@ ghost use Rattle.events.specs.Operations.{calls_of};
 ghost use Rattle.search.specs.Outcomes.{IsNoneValid};
 ghost use Rattle.projection.specs.Cuts.{NamesPart};
 ghost use Rattle.refutation.specs.Refutations.{is_impossible, IfImpossible, IfNotShown};
-ghost use Rattle.refutation.specs.Refutations.{IfPart, IsDoubt, IsNamedPart, HasNoValidOrder, IsShownBy};
+ghost use Rattle.refutation.specs.Refutations.{IfPart, IsDoubt, IsNamedPart};
+ghost use Rattle.refutation.specs.Refutations.{HasNoValidOrder, IsShownBy};
 
 use crate::reason::{Basis, Reason, Trial};
 use events::ObjectHistory;

@@ -11,6 +11,8 @@ use Rattle.search.specs.Links.{IsSlot, IsStop, IsGap, IsForth, IsBack, Linked, n
 use Rattle.search.specs.Links.{next_with, before_with, AreWithin, Lists}
 use Rattle.search.specs.Searching.{IsBound}
 
+-- ---- slots and stops
+
 slot_within : (n : ℕ) (done : List ℕ) (s : ℕ) → IsSlot n done s → s ≤ n
 slot_within n done zero h = omega arith
 slot_within n done (suc k) h = let l = h.0 in omega arith
@@ -37,6 +39,8 @@ same_stop {n} {done} {s} {p} {q} a b = elim (cases_order p q) [
     | inr l ↦ let w = a.stop.within in absurd (b.stop.left (omega arith) (a.gap q b.rises l))
   ]
 ]
+
+-- ---- the neighbours of a place
 
 -- what a list with its neighbours knows of a place that is left
 pub record Around (n : ℕ) (done nx pv : List ℕ) (k : ℕ) : Type 0 where
@@ -73,6 +77,8 @@ set_twice (x ∷ xs) (suc i) a b = ap (λ ys. x ∷ ys) (set_twice xs i a b)
 
 set_back : (xs : List ℕ) (i a b : ℕ) → get_or xs i 0 ≡ b → set (set xs i a) i b ≡ xs
 set_back xs i a b e = set_twice xs i a b ∙ ap (set xs i) (sym e) ∙ set-get_or xs i 0
+
+-- ---- a place taken out, and put back
 
 module _ {n : ℕ} {done nx pv : List ℕ} (h : Linked n done nx pv) where
   module _ {k : ℕ} (l : IsLeft n done k) where

@@ -13,7 +13,8 @@ use events::Invocation;
 use std::alloc::{AllocError, Global};
 use std::collections::BTreeSet;
 
-/// How many bytes the pairs of one generation take at most, except for the last one.
+/// How many bytes the pairs of one generation take at most, except for the last pair. `Dead` has
+/// two generations, `older` and `younger`.
 const MOST_BYTES: usize = 128 << 20;
 
 /// How many bytes a pair takes apart from what it lists.
@@ -22,7 +23,10 @@ const BYTES_OF_A_PAIR: usize = 240;
 /// How many bytes a place that is not done takes, as a list may have room for twice as many.
 const BYTES_OF_A_PLACE: usize = 8;
 
-/// How many keys an object may have that does these operations.
+/// How many different keys these operations can add to the object. It is the most keys that an
+/// object has that was empty before them.
+///
+/// An error: an allocation failed.
 fn key_count(
     alloc: Global,
     object: &Reversible,
@@ -48,7 +52,10 @@ pub(crate) struct Dead {
 }
 
 impl Dead {
-    /// None, in a search among these operations of the object.
+    /// Remembers no pair yet. `items` are the operations that the search orders: they say how many
+    /// keys `object` can have, and so how many bytes a pair may take.
+    ///
+    /// An error: an allocation failed.
     pub fn new(alloc: Global, object: &Reversible, items: &[Invocation]) -> Result<Dead, AllocError>
         ensures older { IfOk result (λ d. d.older.pairs.items ≡ []) }
         ensures younger { IfOk result (λ d. d.younger.pairs.items ≡ []) }
@@ -60,7 +67,9 @@ impl Dead {
         })
     }
 
-    /// Whether a pair is remembered.
+    /// Whether this pair is remembered: the operations below place `high`, except for those of
+    /// `not_done`, are done, and `object` contains what it contained then. `hash` is that of the
+    /// pair.
     pub fn holds(&self, hash: u64, high: u32, not_done: &NotDone, object: &Reversible) -> bool
         ensures { IsTrue result →
             HasPair self.now.older.pairs.items not_done.now.next.items high (content_of object.now)
@@ -71,7 +80,8 @@ impl Dead {
             || self.older.holds(hash, high, not_done, object)
     }
 
-    /// Makes room for a pair that takes this much: forgets the older ones, if it must.
+    /// Makes room for a pair that takes this many bytes. If the younger pairs would take more than
+    /// `MOST_BYTES`, it forgets the older ones, and the younger ones become the older ones.
     fn make_room(&mut self, alloc: Global, bytes: usize)
         ensures { IsKept self.old self.new }
     {
@@ -80,7 +90,9 @@ impl Dead {
         }
     }
 
-    /// Remembers a pair.
+    /// Remembers a pair, and may forget older ones to make room for it.
+    ///
+    /// An error: an allocation failed.
     pub fn remember(&mut self, alloc: Global, pair: Pair) -> Result<(), AllocError>
         ensures { OnOk result (IsRemembered self.old pair self.new) }
     {
@@ -93,7 +105,7 @@ impl Dead {
         Ok(())
     }
 
-    /// Remembers a pair, if there is one.
+    /// As `remember`, if there is a pair.
     pub fn remember_if_some(&mut self, alloc: Global, pair: Option<Pair>) -> Result<(), AllocError>
         ensures { OnOk result (IsRememberedIfSome self.old pair self.new) }
     {

@@ -1,4 +1,4 @@
-//! Contents that are kept to compare with.
+//! What an object contained, kept to compare it with what the object contains later.
 
 ghost use Rattle.std.specs.Prelude.{◌≡◌, ◌↔◌, IsTrue, IfOk, IfSome};
 ghost use Rattle.search.specs.Undoing.{content_of, content_kept};
@@ -9,7 +9,8 @@ use std::collections::VecDeque;
 
 const BYTES_OF_A_SMALL_VALUE: usize = 4;
 
-/// What an object contained, with values of four bytes if all are small.
+/// What an object contained. `Queue`, `Stack` and `Heap` have the values as integers of 32 bits, if
+/// each fits. Any other content is a `Whole`.
 #[derive(Drop)]
 pub enum Kept {
     Queue(Vec<i32>),
@@ -18,7 +19,9 @@ pub enum Kept {
     Whole(Reversible),
 }
 
-/// The values, if all are small.
+/// The values as integers of 32 bits, or `None` if one does not fit.
+///
+/// An error: an allocation failed.
 fn narrowed(alloc: Global, values: &VecDeque<i64>) -> Result<Option<Vec<i32>>, AllocError>
     ensures { IfOk result (λ o. IfSome o (λ v. v.items ≡ values.now.items)) }
 {
@@ -32,7 +35,7 @@ fn narrowed(alloc: Global, values: &VecDeque<i64>) -> Result<Option<Vec<i32>>, A
     Ok(Some(narrow))
 }
 
-/// Whether these are the values.
+/// Whether both have the same values in the same order.
 fn are_values(narrow: &[i32], values: &VecDeque<i64>) -> bool
     ensures { IsTrue result ↔ (narrow.now ≡ values.now.items) }
 {
@@ -48,7 +51,9 @@ fn are_values(narrow: &[i32], values: &VecDeque<i64>) -> bool
 }
 
 impl Kept {
-    /// What the object contains.
+    /// Keeps what the object contains now.
+    ///
+    /// An error: an allocation failed.
     pub fn of(alloc: Global, object: &Reversible) -> Result<Kept, AllocError>
         ensures { IfOk result (λ kept. content_kept kept ≡ content_of object.now) }
     {
@@ -64,7 +69,7 @@ impl Kept {
         }
     }
 
-    /// Whether the object contains this.
+    /// Whether the object contains now what was kept.
     pub fn is_in(&self, object: &Reversible) -> bool
         ensures { IsTrue result ↔ (content_kept self.now ≡ content_of object.now) }
     {
@@ -76,7 +81,9 @@ impl Kept {
             _ => false,
         }
     }
-    /// How many bytes this takes at most, if it has at most this many keys.
+
+    /// How many bytes of memory this takes at most. `keys` is the most keys that a map or set has;
+    /// another kind does not use it.
     pub(crate) fn bytes(&self, keys: usize) -> usize {
         match self {
             Kept::Queue(values) | Kept::Stack(values) | Kept::Heap(values) => {

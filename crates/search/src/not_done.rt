@@ -1,6 +1,7 @@
 //! The operations that are not yet in the order, as a linked list.
 
-ghost use Rattle.std.specs.Prelude.{◌≡◌, ◌≢◌, ℕ, ◌+◌, ◌<◌, ◌≤◌, List, [], IfOk, IsTrue, length, get_or};
+ghost use Rattle.std.specs.Prelude.{◌≡◌, ◌≢◌, ℕ, ◌+◌, ◌<◌, ◌≤◌, List, [], IfOk, IsTrue};
+ghost use Rattle.std.specs.Prelude.{length, get_or};
 ghost use Rattle.search.specs.Links.{Linked, AreWithin, Lists, next_with, next_without};
 ghost use Rattle.search.specs.Links.{before_with, before_without};
 ghost use Rattle.search.specs.Outcomes.{max_places};

@@ -19,7 +19,7 @@ pub(crate) struct Pair {
 }
 
 /// Pairs, found by hash. `heads` has for each slot the number of a pair plus one, or 0; `links`
-/// likewise the next pair of that slot, an earlier one.
+/// the same of the next pair of that slot, an earlier one.
 #[derive(Drop)]
 pub(crate) struct Pairs {
     pub heads: Vec<u32>,
@@ -43,7 +43,8 @@ fn number_at(numbers: &[u32], k: usize) -> u32 {
 /// Whether this is the pair.
 fn is_pair(pair: &Pair, hash: u64, high: u32, not_done: &NotDone, object: &Reversible) -> bool
     ensures high { IsTrue result → pair.now.high ≡ high }
-    ensures not_done { IsTrue result → Lists not_done.now.next.items 0 pair.now.not_done.items high }
+    ensures not_done { IsTrue result →
+        Lists not_done.now.next.items 0 pair.now.not_done.items high }
     ensures same { IsTrue result → content_kept pair.now.content ≡ content_of object.now }
 {
     if pair.hash != hash || pair.high != high {

@@ -54,7 +54,8 @@ fn least_return(trials: &Trials, not_done: &NotDone) -> u32
         × Linked (length trials.now.items.items) done not_done.now.next.items
         not_done.now.before.items }
     ensures { (done : List ℕ) →
-        Linked (length trials.now.items.items) done not_done.now.next.items not_done.now.before.items →
+        Linked (length trials.now.items.items) done not_done.now.next.items
+        not_done.now.before.items →
         IsLeast (length trials.now.items.items) (call_at trials.now.items.items) done result }
 {
     let mut least = u32::MAX;
@@ -152,7 +153,8 @@ impl State {
         requires search { IsSearching trials.now self.old }
         requires before { self.old.at < self.old.window.pending }
         requires small { self.old.window.least < no_return }
-        requires late { self.old.window.least < get_or trials.now.return_floors.items self.old.at 0 }
+        requires late { self.old.window.least
+            < get_or trials.now.return_floors.items self.old.at 0 }
         ensures search { IsSearching trials.now self.new }
         ensures rises { self.old.at < self.new.at }
         ensures levels { self.new.levels ≡ self.old.levels }
@@ -168,7 +170,8 @@ impl State {
         requires trials { AreTrials trials.now }
         requires search { IsSearchingAt trials.now self.old (content_before self.old step) }
         requires at { self.old.at < length trials.now.items.items }
-        requires in_time { (call_at trials.now.items.items self.old.at).number ≤ self.old.window.least }
+        requires in_time { (call_at trials.now.items.items self.old.at).number
+            ≤ self.old.window.least }
         requires does { next (content_before self.old step)
             (call_at trials.now.items.items self.old.at).op
             ≡ Some (content_of self.old.object, step.reply) }
@@ -218,7 +221,8 @@ impl State {
         requires trials { AreTrials trials.now }
         requires search { IsSearching trials.now self.old }
         requires at { self.old.at < length trials.now.items.items }
-        requires in_time { (call_at trials.now.items.items self.old.at).number ≤ self.old.window.least }
+        requires in_time { (call_at trials.now.items.items self.old.at).number
+            ≤ self.old.window.least }
         requires possible { IsSome
             (next (content_of self.old.object) (call_at trials.now.items.items self.old.at).op) }
         ensures search { IfOk result (λ over. over ≡ false → IsSearching trials.now self.new) }

@@ -1,5 +1,5 @@
-//! The bounded search when nothing is said of which operation it tries first, on texts whose
-//! answers and steps are known.
+//! Tests `search`, `search_all` and `search_by` on texts whose answers and steps are known. By
+//! default a search tries the operation with the least number first.
 
 use events::{History, ObjectHistory, split};
 use history::read_history_text;
@@ -144,7 +144,7 @@ fn is_wanted(answer: &Search, wanted: Wanted, steps: u64) -> bool {
     is_found && answer.steps == steps
 }
 
-/// Whether `search_all` and, of each object, `search` answer so.
+/// Whether `search_all` gives these answers, and `search` the same for each object.
 fn are_wanted(
     alloc: Global,
     all: &[(u32, Search)],

@@ -8,7 +8,7 @@ use model::{AnyOp, AnyReply, Kind};
 use std::alloc::{AllocError, Global};
 use std::marker::Model;
 
-/// An operation of a counter. An addition past 64 bits is not possible.
+/// An operation of a counter. An addition whose sum is not an integer of 64 bits is not possible.
 #[derive(Clone, Copy, Debug, PartialEq, Eq)]
 pub enum CounterOp {
     FetchAdd(i64),
@@ -31,7 +31,7 @@ impl CounterOp {
     }
 }
 
-/// A counter. It takes no memory. The reply is the number before the operation.
+/// A counter. It allocates nothing. The reply of each operation is the number before it.
 #[derive(Debug, Drop)]
 pub struct Counter {
     count: i64,
@@ -88,6 +88,7 @@ impl SeqObject for Counter {
     fn apply(&mut self, op: &CounterOp) -> Result<i64, AllocError> {
         let before = self.count;
         match *op {
+            // The sum does not overflow: the operation is possible, by the `requires` of `apply`.
             CounterOp::FetchAdd(n) => self.count = before + n,
             CounterOp::GetCount => {}
         }

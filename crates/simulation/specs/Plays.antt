@@ -1,4 +1,4 @@
--- What comes of a schedule: the machine that its header asks for takes its steps.
+-- The result of a schedule: the machine that its header asks for takes its steps.
 use Rattle.std.specs.Prelude.{◌≡◌, ℕ, ◌<◌, true, List}
 use Rattle.model.specs.declared.AnyOp.{AnyOp}
 use Rattle.model.specs.declared.AnyReply.{AnyReply}

@@ -28,7 +28,7 @@ pub(crate) struct Line {
     pub op: AnyOp,
 }
 
-/// What the answer says of its operation.
+/// What the answer says about its operation.
 fn action_of<S: SeqObject>(answer: &Answer<S::Reply>) -> Action
     ensures { result ≡ recorder.action_of (answer_in S.reply_in answer.now) }
 {

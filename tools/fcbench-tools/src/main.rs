@@ -4,7 +4,7 @@
 //!   reason why there is none, or the search that is to decide.
 //! - `judge HISTORY` passes this evidence to `fcbench verify`, and prints its answer. The
 //!   environment variable FCBENCH_FINDER can name another finder.
-//! - `draw HISTORY` puts the answer on a page of HTML; `draw HISTORY CERTIFICATES` that of
+//! - `draw HISTORY` puts the answer on a page of HTML; `draw HISTORY CERTS` that of
 //!   `fcbench check`.
 //! - `import HISTORY` makes a text that these commands read from a history that another tool wrote.
 

@@ -281,7 +281,7 @@ mod tests {
             "judge has no option '--object'; to name such a file, put -- before it",
         ),
         ("draw", "<HISTORY> is missing"),
-        ("draw a b c", "unexpected argument 'c': draw takes <HISTORY> [CERTIFICATES]"),
+        ("draw a b c", "unexpected argument 'c': draw takes <HISTORY> [CERTS]"),
         (
             "draw a --workers 2",
             "draw has no option '--workers'; to name such a file, put -- before it",

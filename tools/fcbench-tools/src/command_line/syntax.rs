@@ -161,7 +161,7 @@ pub const DRAW: Syntax = Syntax {
     name: "draw",
     about: "judges a history, or checks it by certificates, and writes the answer as a page of HTML",
     file: "HISTORY",
-    other_file: Some("CERTIFICATES"),
+    other_file: Some("CERTS"),
     options: &[
         &OptionSpec::valued("--object", "N", "draw this object alone"),
         &OptionSpec::valued("--from", "N", "draw the events from this one on"),

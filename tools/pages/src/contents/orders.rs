@@ -17,7 +17,7 @@ const ROWS: usize = 400;
 /// An order with no more entries has a row for each.
 const SHORT: usize = 60;
 
-/// What the walk has come to.
+/// Where the walk is, and the rows up to there.
 pub struct Walk<'a> {
     pub content: Content,
     pub points: Vec<Placed>,

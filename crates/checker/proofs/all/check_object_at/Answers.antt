@@ -9,7 +9,7 @@ use Rattle.checker.proofs.Certificates.{fine_here, refused_here, no_certificate}
 use Rattle.checker.proofs.all.check_object_at.Goals as goal
 use Rattle.checker.proofs.all.check_object_at.Goals.{In-Some}
 
--- the certificate of the object stands at the place that is found
+-- the certificate of the object is at the place that is found
 here : (c : In-Some) → IsPlace c.args.certificates.now c.args.object.now.object c.in-Some.place
 here c = c.requires.places c.args.object.now.object c.in-Some.place
     (ap (value_of c.args.places.now) (sym c.object.ensures) ∙ (sym c.get.ensures ∙ c.in-Some.is))
