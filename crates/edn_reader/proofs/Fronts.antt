@@ -67,4 +67,4 @@ front_of text rest d u f b =
     let p : Progress text rest (closed (d ∷ [])) =
     progress (tokens_of d ++ []) text text rest opening (closed (d ∷ []))
     (subst (λ (ts : List Token). BeginWith ts text rest) (sym (append-nil (tokens_of d))) b) e (start text u) in
-    (element_front text rest d p u, p.utf8)
+    (element_front p u, p.utf8)
