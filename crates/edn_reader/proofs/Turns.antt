@@ -20,7 +20,7 @@ use Rattle.edn_reader.specs.IntegerVectors.{Held, nothing_held, hold, hold_all, 
 use Rattle.edn_reader.proofs.Cutting.{kept_tokens}
 use Rattle.edn_reader.proofs.Noting.{hold_append, held_kept, integer_vector_held}
 use Rattle.edn_reader.proofs.Strings.{some_is}
-use Rattle.edn_reader.proofs.Consumed.{consumed, step_tokens, list_tokens, mapped, kept_if, unless_so}
+use Rattle.edn_reader.proofs.Consumed.{consumed, step_tokens, list_tokens, mapped, opened_at}
 use Rattle.edn_reader.proofs.Lexical.{first_shorter, skip_within, with_rest}
 use Rattle.edn_reader.specs.TokenBuffers.{IsSoundAfter}
 use Rattle.edn_reader.proofs.Progress.{Progress, plain, left, is_next, goes_on, next_at, at_end, ends_there}
@@ -78,9 +78,7 @@ deeper f (g ∷ fs) h = h
 
 open_going : (f : Frame) (s z : State) → open_at f s ≡ Some z → IsInside (s.inner ∷ s.outer) → IsGoing z
 open_going f s z e h =
-    let a = unless_so (takes_key s.inner) _ z e in
-    let b = kept_if (nat_lt (length s.outer) max_open) (record { inner = f; outer = s.inner ∷ s.outer }) z a.1 in
-    inl (rw (← b.1) h)
+    inl (rw (← (opened_at f s z e).is) h)
 
 close_going : (d : Datum) (fs : List Frame) (z : State) → close_as d fs ≡ Some z → IsInside fs → IsGoing z
 close_going d [] z e h = absurd h
