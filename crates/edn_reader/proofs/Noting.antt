@@ -1,4 +1,5 @@
--- What is noted of an element's tokens, one by one, is the integer vector of the element.
+-- What is noted of an element's tokens, one by one, is the integer vector of the element (`integer_vector_held`). By
+-- induction on the element: the values of other keys are passed over, and the numbers of the key's vector are noted.
 use Rattle.std.proofs.Common.{◌≡◌, ℕ, suc, ◌+◌, ◌-◌, Bool, true, false, List, [], ◌∷◌, ◌++◌, Option, Some, None}
 use Rattle.std.proofs.Common.{refl, sym, ap, ◌∙◌, append_assoc, add-one, arith}
 use Rattle.std.specs.Prelude.{ℤ, ◌==◌, nat_le, if◌then◌else◌, option_map, option_and_then}
