@@ -1,4 +1,5 @@
--- A word stands for an element exactly where the element has that word.
+-- A word stands for an element exactly where the element has that word: from the element to the word (`atom_from`) and
+-- back (`atom_is`), by the first byte of the word.
 use Rattle.std.proofs.Common.{◌≡◌, ℕ, ◌^◌, ◌≤◌, Bool, true, false, cond, Some, List, [], ◌∷◌, ◌++◌, length, refl, sym}
 use Rattle.std.proofs.Common.{ap, subst, arith, inl, inr}
 use Rattle.std.specs.Prelude.{◌==◌, ◌&&◌, ◌||◌, ◌⊎◌, not, nat_lt, nat_le, codes, ℤ, pos}

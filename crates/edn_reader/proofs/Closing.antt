@@ -8,7 +8,7 @@ use Rattle.edn_reader.specs.Datum.{items_of, entries_of, max_open, Fits, ItemsFi
 use Rattle.edn_reader.specs.Token.{Token, open_vector, close_vector, open_map, close_map, leaf, tokens_of}
 use Rattle.edn_reader.specs.Reading.{Frame, in_text, in_vector, in_map, in_pair, State, has_key, put_key, put, close_as}
 use Rattle.edn_reader.specs.Reading.{close_vector_at, close_map_at, takes_key, open_at, step}
-use Rattle.edn_reader.proofs.Consumed.{kept_if, kept_if_not, unless_so, mapped, list_tokens, pairs_tokens-append}
+use Rattle.edn_reader.proofs.Consumed.{kept_if_not, mapped, opened_at, list_tokens, pairs_tokens-append}
 use Rattle.edn_reader.proofs.Consumed.{frame_tokens, stack_tokens, put_tokens}
 use Rattle.edn_reader.proofs.Kept.{FrameFits, StackFits, entries_fit-append, put_fits}
 use Rattle.edn_reader.proofs.Strings.{some_is}
@@ -29,22 +29,10 @@ same_place : (f g : Frame) (d : Datum) (fs : List Frame) → put f d ≡ Some g 
 same_place (in_text ds) g d fs e h = subst (λ (x : Frame). IsGrounded x fs) (some_is (in_text (ds ++ d ∷ [])) g e) h
 same_place (in_vector ds) g d (x ∷ xs) e h =
     subst (λ (y : Frame). IsGrounded y (x ∷ xs)) (some_is (in_vector (ds ++ d ∷ [])) g e) h
-same_place (in_map es) g (atom a) fs e h = put_key_grounded a e
-  where
-    put_key_grounded : (a : Atom) → put_key es a ≡ Some g → IsGrounded g fs
-    put_key_grounded nil e = absurd cc
-    put_key_grounded (boolean b) e = absurd cc
-    put_key_grounded (integer z) e = absurd cc
-    put_key_grounded (string s) e = absurd cc
-    put_key_grounded (keyword k) e =
-        let p = kept_if_not (has_key k es) (in_pair es k) g e in
-        subst (λ (y : Frame). IsGrounded y fs) p.1 (in_pair_too fs h)
-      where
-        in_pair_too : (fs : List Frame) → IsGrounded (in_map es) fs → IsGrounded (in_pair es k) fs
-        in_pair_too [] h = absurd h
-        in_pair_too (x ∷ xs) h = h
-same_place (in_map es) g (vector ds) fs e h = absurd cc
-same_place (in_map es) g (dictionary ds) fs e h = absurd cc
+same_place (in_map es) g (atom (keyword k)) (x ∷ xs) e h =
+    let p = kept_if_not (has_key k es) (in_pair es k) g e in subst (λ (y : Frame). IsGrounded y (x ∷ xs)) p.1 h
+same_place (in_map es) g (atom a) (x ∷ xs) e h = absurd cc
+same_place (in_map es) g d (x ∷ xs) e h = absurd cc
 same_place (in_pair es k) g d (x ∷ xs) e h =
     subst (λ (y : Frame). IsGrounded y (x ∷ xs)) (some_is (in_map (es ++ (k, d) ∷ [])) g e) h
 same_place f g d fs e h = absurd h
@@ -53,9 +41,8 @@ opened : (f : Frame) (s z : State)
     → ((g : Frame) (gs : List Frame) → takes_key g ≡ false → IsGrounded g gs → IsGrounded f (g ∷ gs))
     → IsGrounded s.inner s.outer → open_at f s ≡ Some z → IsGrounded z.inner z.outer
 opened f s z in_it h e =
-    let a = unless_so (takes_key s.inner) _ z e in
-    let b = kept_if (nat_lt (length s.outer) max_open) (record { inner = f; outer = s.inner ∷ s.outer }) z a.1 in
-    subst (λ (x : State). IsGrounded x.inner x.outer) b.1 (in_it s.inner s.outer a.0 h)
+    let o = opened_at f s z e in
+    subst (λ (x : State). IsGrounded x.inner x.outer) o.is (in_it s.inner s.outer o.waits h)
 
 -- what is after the innermost frame
 abbrev Behind : List Frame → Type 0
@@ -65,15 +52,13 @@ Behind (f ∷ fs) = IsGrounded f fs
 closed_as : (d : Datum) (fs : List Frame) (z : State) → Behind fs → close_as d fs ≡ Some z → IsGrounded z.inner z.outer
 closed_as d [] z h e = absurd cc
 closed_as d (f ∷ fs) z h e =
-    let m = mapped (λ (g : Frame). let x : State = record { inner = g; outer = fs } in x) (put f d) z e in
+    let m = mapped _ (put f d) z e in
     subst (λ (x : State). IsGrounded x.inner x.outer) m.2 (same_place f m.0 d fs m.1 h)
 
 remains : (f : Frame) (fs : List Frame) → IsGrounded f fs → Behind fs
 remains f [] h = tt
 remains (in_text ds) (g ∷ gs) h = absurd cc
-remains (in_vector ds) (g ∷ gs) h = h.1
-remains (in_map es) (g ∷ gs) h = h.1
-remains (in_pair es k) (g ∷ gs) h = h.1
+remains f (g ∷ gs) h = h.1
 
 vector_closed : (i : Frame) (fs : List Frame) (z : State) → Behind fs → close_vector_at i fs ≡ Some z
     → IsGrounded z.inner z.outer
@@ -93,7 +78,7 @@ step_grounded open_map s z h e = opened (in_map []) s z (λ g gs q k. (q, k)) h 
 step_grounded close_vector s z h e = vector_closed s.inner s.outer z (remains s.inner s.outer h) e
 step_grounded close_map s z h e = map_closed s.inner s.outer z (remains s.inner s.outer h) e
 step_grounded (leaf d) s z h e =
-    let m = mapped (λ (f : Frame). let x : State = record s { inner = f } in x) (put s.inner d) z e in
+    let m = mapped _ (put s.inner d) z e in
     subst (λ (x : State). IsGrounded x.inner x.outer) m.2 (same_place s.inner m.0 d s.outer m.1 h)
 
 -- ---- what is open is closed, from the innermost out
@@ -121,8 +106,7 @@ closing : (i f : Frame) (fs : List Frame) (d : Datum) (left : List Token) → to
 closing i f fs d left e fit q h k rest =
     let p = put_value f d q in
     let r = rest p.0 (same_place f p.0 d fs p.1 h) (put_fits (16 - length fs) f d p.0 k fit p.1) in
-    let t : frame_tokens p.0 ≡ frame_tokens f ++ (frame_tokens i ++ left) =
-    put_tokens f d p.0 p.1 ∙ ap (λ (x : List Token). frame_tokens f ++ x) e in
+    let t : frame_tokens p.0 ≡ frame_tokens f ++ (frame_tokens i ++ left) = rw (← e) (put_tokens f d p.0 p.1) in
     record {
       forms = r.forms;
       fit = r.fit;

@@ -81,28 +81,15 @@ mutual
       → put i d ≡ Some g → steps (tokens_of d) (at i fs) ≡ Some (at g fs)
   steps_datum (atom a) n i fs g fit len e = rw e refl
   steps_datum (vector ds) n i fs g fit len e =
-      let lt : length fs < 16 = omega (arith, fit.0) in
-      let o : open_at (in_vector []) (at i fs) ≡ Some (at (in_vector []) (i ∷ fs)) =
-      opens (in_vector []) i fs (holds_vector i ds g e) lt in
       let a : steps (items_tokens ds) (at (in_vector []) (i ∷ fs)) ≡ Some (at (in_vector (items_list ds)) (i ∷ fs)) =
       steps_items ds (n - 1) in_vector (λ xs d. refl) [] (i ∷ fs) fit.1 (omega (arith, fit.0)) in
-      let b : steps (items_tokens ds ++ close_vector ∷ []) (at (in_vector []) (i ∷ fs)) ≡ steps (close_vector ∷ [])
-      (at (in_vector (items_list ds)) (i ∷ fs)) = steps-append (items_tokens ds) (close_vector ∷ []) _ _ a in
-      let c : close_as (vector (items_of (items_list ds))) (i ∷ fs) ≡ Some (at g fs) = rw (items_of_list ds, e) refl in
-      let d : steps (close_vector ∷ []) (at (in_vector (items_list ds)) (i ∷ fs)) ≡ Some (at g fs) = rw c refl in
-      rw o (b ∙ d)
+      rw (opens (in_vector []) i fs (holds_vector i ds g e) (omega (arith, fit.0)),
+      steps-append (items_tokens ds) (close_vector ∷ []) _ _ a, items_of_list ds, e) refl
   steps_datum (dictionary ds) n i fs g fit len e =
-      let lt : length fs < 16 = omega (arith, fit.0) in
-      let o : open_at (in_map []) (at i fs) ≡ Some (at (in_map []) (i ∷ fs)) =
-      opens (in_map []) i fs (holds_map i ds g e) lt in
       let a : steps (entries_tokens ds) (at (in_map []) (i ∷ fs)) ≡ Some (at (in_map (entries_list ds)) (i ∷ fs)) =
       steps_entries ds (n - 1) [] (i ∷ fs) fit.1 tt (omega (arith, fit.0)) in
-      let b : steps (entries_tokens ds ++ close_map ∷ []) (at (in_map []) (i ∷ fs)) ≡ steps (close_map ∷ [])
-      (at (in_map (entries_list ds)) (i ∷ fs)) = steps-append (entries_tokens ds) (close_map ∷ []) _ _ a in
-      let c : close_as (dictionary (entries_of (entries_list ds))) (i ∷ fs) ≡ Some (at g fs) =
-      rw (entries_of_list ds, e) refl in
-      let d : steps (close_map ∷ []) (at (in_map (entries_list ds)) (i ∷ fs)) ≡ Some (at g fs) = rw c refl in
-      rw o (b ∙ d)
+      rw (opens (in_map []) i fs (holds_map i ds g e) (omega (arith, fit.0)),
+      steps-append (entries_tokens ds) (close_map ∷ []) _ _ a, entries_of_list ds, e) refl
 
   pub steps_items : (ds : Items) (n : ℕ) (frame : List Datum → Frame) (all : TakesAll frame) (pre : List Datum)
       (fs : List Frame) → ItemsFit n ds → n + length fs ≡ 16
@@ -110,9 +97,8 @@ mutual
   steps_items no_items n frame all pre fs fit len = rw append-nil refl
   steps_items (item d ds) n frame all pre fs fit len =
       let a = steps_datum d n (frame pre) fs (frame (pre ++ d ∷ [])) fit.0 len (all pre d) in
-      let b = steps_items ds n frame all (pre ++ d ∷ []) fs fit.1 len in
-      let c : (pre ++ d ∷ []) ++ items_list ds ≡ pre ++ d ∷ items_list ds = append_assoc pre (d ∷ []) (items_list ds) in
-      steps-append (tokens_of d) (items_tokens ds) _ _ a ∙ b ∙ ap (λ (xs : List Datum). Some (at (frame xs) fs)) c
+      rw (steps-append (tokens_of d) (items_tokens ds) _ _ a, steps_items ds n frame all (pre ++ d ∷ []) fs fit.1 len)
+      (simp append_assoc)
 
   pub steps_entries : (es : Entries) (n : ℕ) (pre : List (List ℕ × Datum)) (fs : List Frame) → EntriesFit n es
       → Apart pre es → n + length fs ≡ 16
@@ -120,10 +106,6 @@ mutual
   steps_entries no_entries n pre fs fit apart len = rw append-nil refl
   steps_entries (entry k d es) n pre fs fit apart len =
       let h : has_key k pre ≡ false = Apart-key pre k d es apart in
-      let s : step (leaf (atom (keyword k))) (at (in_map pre) fs) ≡ Some (at (in_pair pre k) fs) = rw h refl in
       let a = steps_datum d n (in_pair pre k) fs (in_map (pre ++ (k, d) ∷ [])) fit.1 len refl in
       let b = steps_entries es n (pre ++ (k, d) ∷ []) fs fit.2 (Apart-next pre k d es fit.0 apart) len in
-      let c : (pre ++ (k, d) ∷ []) ++ entries_list es ≡ pre ++ (k, d) ∷ entries_list es =
-      append_assoc pre ((k, d) ∷ []) (entries_list es) in
-      rw s (steps-append (tokens_of d) (entries_tokens es) _ _ a ∙ b
-      ∙ ap (λ (xs : List (List ℕ × Datum)). Some (at (in_map xs) fs)) c)
+      rw (h, steps-append (tokens_of d) (entries_tokens es) _ _ a, b) (simp append_assoc)

@@ -1,7 +1,8 @@
 -- The tokens that lead to a state: what is read is spelled so.
-use Rattle.std.proofs.Common.{◌≡◌, ℕ, Bool, true, false, cond, Option, Some, None, List, [], ◌∷◌, ◌++◌, length, refl}
+use Rattle.std.proofs.Common.{◌≡◌, ◌<◌, ℕ, Bool, true, false, cond, Option, Some, None, List, [], ◌∷◌, ◌++◌, length, refl}
 use Rattle.std.proofs.Common.{sym, ap, ◌∙◌, append_assoc}
 use Rattle.std.specs.Prelude.{option_map, nat_lt}
+use Rattle.std.proofs.lemmas.Bool.{ltb-true}
 use Rattle.std.proofs.lemmas.List.{append-nil}
 use Rattle.edn_reader.proofs.Strings.{some_is}
 use Rattle.edn_reader.specs.Datum.{Atom, keyword, Datum, atom, vector, dictionary, items_of, entries_of, max_open}
@@ -37,16 +38,13 @@ pairs_tokens es = entries_tokens (entries_of es)
 pub list_tokens-append : (ds : List Datum) (d : Datum) → list_tokens (ds ++ d ∷ []) ≡ list_tokens ds ++ tokens_of d
 list_tokens-append [] d = append-nil (tokens_of d)
 list_tokens-append (x ∷ ds) d =
-    ap (λ (t : List Token). tokens_of x ++ t) (list_tokens-append ds d)
-    ∙ sym (append_assoc (tokens_of x) (list_tokens ds) (tokens_of d))
+    rw (list_tokens-append ds d) (simp append_assoc)
 
 pub pairs_tokens-append : (es : List (List ℕ × Datum)) (k : List ℕ) (d : Datum)
     → pairs_tokens (es ++ (k, d) ∷ []) ≡ pairs_tokens es ++ leaf (atom (keyword k)) ∷ tokens_of d
 pairs_tokens-append [] k d = ap (λ (t : List Token). leaf (atom (keyword k)) ∷ t) (append-nil (tokens_of d))
 pairs_tokens-append (e ∷ es) k d =
-    ap (λ (t : List Token). leaf (atom (keyword e.0)) ∷ (tokens_of e.1 ++ t)) (pairs_tokens-append es k d)
-    ∙ ap (λ (t : List Token). leaf (atom (keyword e.0)) ∷ t)
-    (sym (append_assoc (tokens_of e.1) (pairs_tokens es) (leaf (atom (keyword k)) ∷ tokens_of d)))
+    rw (pairs_tokens-append es k d) (simp append_assoc)
 
 abbrev pub frame_tokens : Frame → List Token
 frame_tokens (in_text ds) = list_tokens ds
@@ -69,12 +67,10 @@ put_key_tokens es a g e = absurd cc
 pub put_tokens : (f : Frame) (d : Datum) (g : Frame) → put f d ≡ Some g → frame_tokens g ≡ frame_tokens f ++ tokens_of d
 put_tokens (in_text ds) d g e = rw (← some_is (in_text (ds ++ d ∷ [])) g e) (list_tokens-append ds d)
 put_tokens (in_vector ds) d g e =
-    rw (← some_is (in_vector (ds ++ d ∷ [])) g e) (ap (λ (t : List Token). open_vector ∷ t) (list_tokens-append ds d))
+    rw (← some_is (in_vector (ds ++ d ∷ [])) g e, list_tokens-append ds d) refl
 put_tokens (in_map es) (atom a) g e = put_key_tokens es a g e
 put_tokens (in_pair es k) d g e =
-    rw (← some_is (in_map (es ++ (k, d) ∷ [])) g e)
-    (ap (λ (t : List Token). open_map ∷ t)
-    (pairs_tokens-append es k d ∙ sym (append_assoc (pairs_tokens es) (leaf (atom (keyword k)) ∷ []) (tokens_of d))))
+    rw (← some_is (in_map (es ++ (k, d) ∷ [])) g e, pairs_tokens-append es k d) (simp append_assoc)
 put_tokens f d g e = absurd cc
 
 -- a leaf holds a single element
@@ -85,22 +81,30 @@ IsPlain open_map = Unit {0}
 IsPlain close_map = Unit {0}
 IsPlain (leaf d) = (a : Atom) × (d ≡ atom a)
 
+-- what a bracket opened, and where
+pub record IsOpened (f : Frame) (s z : State) : Type 0 where
+  pub waits : takes_key s.inner ≡ false
+  pub room : length s.outer < max_open
+  pub is : record { inner = f; outer = s.inner ∷ s.outer } ≡ z
+
+pub opened_at : (f : Frame) (s z : State) → open_at f s ≡ Some z → IsOpened f s z
+opened_at f s z e =
+    let a = unless_so (takes_key s.inner) _ z e in
+    let b = kept_if (nat_lt (length s.outer) max_open) _ z a.1 in
+    record { waits = a.0; room = ltb-true (length s.outer) max_open b.0; is = b.1 }
+
 open_tokens : (f : Frame) (t : Token) (s z : State) → frame_tokens f ≡ t ∷ [] → open_at f s ≡ Some z
     → consumed z ≡ consumed s ++ t ∷ []
 open_tokens f t s z one e =
-    let a = unless_so (takes_key s.inner) _ z e in
-    let b = kept_if (nat_lt (length s.outer) max_open) (record { inner = f; outer = s.inner ∷ s.outer }) z a.1 in
-    rw (← b.1, one) refl
+    rw (← (opened_at f s z e).is, one) refl
 
 close_tokens : (d : Datum) (t : Token) (i : Frame) (fs : List Frame) (z : State)
     → tokens_of d ≡ frame_tokens i ++ t ∷ [] → close_as d fs ≡ Some z
     → consumed z ≡ (stack_tokens fs ++ frame_tokens i) ++ t ∷ []
 close_tokens d t i [] z whole e = absurd cc
 close_tokens d t i (f ∷ fs) z whole e =
-    let m = mapped (λ (g : Frame). let x : State = record { inner = g; outer = fs } in x) (put f d) z e in
-    let p : frame_tokens m.0 ≡ frame_tokens f ++ (frame_tokens i ++ t ∷ []) =
-    put_tokens f d m.0 m.1 ∙ ap (λ (x : List Token). frame_tokens f ++ x) whole in
-    rw (← m.2, p) (simp append_assoc)
+    let m = mapped _ (put f d) z e in
+    rw (← m.2, put_tokens f d m.0 m.1, whole) (simp append_assoc)
 
 pub step_tokens : (t : Token) (s z : State) → IsPlain t → step t s ≡ Some z → consumed z ≡ consumed s ++ t ∷ []
 unfolding step
@@ -110,21 +114,15 @@ step_tokens close_vector s z h e = close_vector_tokens s.inner s.outer z e
   where
     close_vector_tokens : (i : Frame) (fs : List Frame) (z : State) → close_vector_at i fs ≡ Some z
         → consumed z ≡ (stack_tokens fs ++ frame_tokens i) ++ close_vector ∷ []
-    close_vector_tokens (in_text ds) fs z e = absurd cc
     close_vector_tokens (in_vector ds) fs z e =
         close_tokens (vector (items_of ds)) close_vector (in_vector ds) fs z refl e
-    close_vector_tokens (in_map es) fs z e = absurd cc
-    close_vector_tokens (in_pair es k) fs z e = absurd cc
+    close_vector_tokens i fs z e = absurd cc
 step_tokens close_map s z h e = close_map_tokens s.inner s.outer z e
   where
     close_map_tokens : (i : Frame) (fs : List Frame) (z : State) → close_map_at i fs ≡ Some z
         → consumed z ≡ (stack_tokens fs ++ frame_tokens i) ++ close_map ∷ []
-    close_map_tokens (in_text ds) fs z e = absurd cc
-    close_map_tokens (in_vector ds) fs z e = absurd cc
     close_map_tokens (in_map es) fs z e = close_tokens (dictionary (entries_of es)) close_map (in_map es) fs z refl e
-    close_map_tokens (in_pair es k) fs z e = absurd cc
+    close_map_tokens i fs z e = absurd cc
 step_tokens (leaf d) s z h e =
-    let m = mapped (λ (f : Frame). let x : State = record s { inner = f } in x) (put s.inner d) z e in
-    let p : frame_tokens m.0 ≡ frame_tokens s.inner ++ leaf d ∷ [] =
-    put_tokens s.inner d m.0 m.1 ∙ ap (λ (x : List Token). frame_tokens s.inner ++ x) (rw h.1 refl) in
-    rw (← m.2, p) (sym (append_assoc (stack_tokens s.outer) (frame_tokens s.inner) (leaf d ∷ [])))
+    let m = mapped _ (put s.inner d) z e in
+    rw (← m.2, put_tokens s.inner d m.0 m.1, h.1) (simp append_assoc)

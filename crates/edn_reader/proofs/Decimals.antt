@@ -7,6 +7,7 @@ use Rattle.std.specs.Fmt.{decimal, signed_decimal}
 use Rattle.std.specs.List.{list_all}
 use Rattle.std.proofs.lemmas.Bool.{and_parts, and_from, ne_eqb, le-leb}
 use Rattle.std.proofs.lemmas.Fmt.{decimal_by_steps}
+use Rattle.std.proofs.lemmas.List.Folds.{list_all-append}
 use Rattle.edn_reader.specs.Bytes.{is_digit}
 use Rattle.edn_reader.specs.Spells.{is_decimal, value_after, minus, IsInteger}
 use Rattle.edn_reader.specs.Text.{IsInt64}
@@ -15,12 +16,10 @@ value_after-append : (n : ℕ) (ds : List ℕ) (d : ℕ) → value_after n (ds +
 value_after-append n [] d = refl
 value_after-append n (b ∷ bs) d = value_after-append (n * 10 + (b - 48)) bs d
 
-list_all-append : (ds : List ℕ) (d : ℕ) → list_all is_digit ds ≡ true → is_digit d ≡ true
+digits_more : (ds : List ℕ) (d : ℕ) → list_all is_digit ds ≡ true → is_digit d ≡ true
     → list_all is_digit (ds ++ d ∷ []) ≡ true
-list_all-append [] d h k = and_from (is_digit d) true k refl
-list_all-append (b ∷ bs) d h k =
-    let p = and_parts (is_digit b) (list_all is_digit bs) h in
-    and_from (is_digit b) (list_all is_digit (bs ++ d ∷ [])) p.0 (list_all-append bs d p.1 k)
+digits_more ds d h k =
+    rw (list_all-append is_digit ds (d ∷ [])) (and_from (list_all is_digit ds) _ h (and_from (is_digit d) true k refl))
 
 digit_of : (d : ℕ) → d < 10 → is_digit (48 + d) ≡ true
 digit_of d h =
@@ -52,7 +51,7 @@ longer (b ∷ []) d h a n k =
     (and_from (is_digit d) true k refl)
 longer (b ∷ c ∷ cs) d h a n k =
     let p = and_parts (is_digit b && not (b == 48)) (list_all is_digit (c ∷ cs)) h in
-    and_from (is_digit b && not (b == 48)) (list_all is_digit (c ∷ cs ++ d ∷ [])) p.0 (list_all-append (c ∷ cs) d p.1 k)
+    and_from (is_digit b && not (b == 48)) (list_all is_digit (c ∷ cs ++ d ∷ [])) p.0 (digits_more (c ∷ cs) d p.1 k)
 
 same_head : (ds : List ℕ) (d : ℕ) → is_decimal ds ≡ true → get_or (ds ++ d ∷ []) 0 0 ≡ get_or ds 0 0
 same_head [] d h = absurd cc
@@ -68,7 +67,7 @@ one_more n ds h p =
     record {
       spelled = longer ds (48 + n % 10) p.spelled p.digits (p.leads more) k;
       value = omega (arith, v, w);
-      digits = list_all-append ds (48 + n % 10) p.digits k;
+      digits = digits_more ds (48 + n % 10) p.digits k;
       leads = λ _ e. p.leads more (sym (same_head ds (48 + n % 10) p.spelled) ∙ e);
     }
 

@@ -24,17 +24,7 @@ after_plain_shorter [] some h = absurd (omega arith)
 after_plain_shorter (b ∷ bs) some h = let p : is_plain b ≡ true = h in rw p (omega (arith, after_plain_within bs))
 
 pub plain_text : (b : ℕ) → is_plain b ≡ true → escape_text b ≡ b ∷ []
-plain_text b h =
-    let a = or_parts _ _ (not-true _ h) in
-    let c = or_parts _ _ a.0 in
-    let d = or_parts _ _ c.0 in
-    let e = or_parts _ _ d.0 in
-    let v : (b == 9) ≡ false = e.0 in
-    let w : (b == 13) ≡ false = e.1 in
-    let x : (b == 10) ≡ false = d.1 in
-    let y : (b == 92) ≡ false = c.1 in
-    let z : (b == 34) ≡ false = a.1 in
-    rw (v, w, x, y, z) refl
+plain_text b h = grind arith
 
 escaped_by : (c : Bool) (b : ℕ) (bs : List ℕ) → is_plain b ≡ c → escaped bs ≡ plain bs ++ escaped (after_plain bs)
     → escape_text b ++ escaped bs ≡ cond c (b ∷ plain bs) [] ++ escaped (cond c (after_plain bs) (b ∷ bs))

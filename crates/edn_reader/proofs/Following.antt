@@ -13,29 +13,18 @@ use Rattle.edn_reader.specs.declared.fault.EdnFault.{EdnFault}
 use Rattle.edn_reader.specs.declared.fault.FaultKind.TheVariants.{TooLong, NoMemory}
 use Rattle.std.proofs.lemmas.List.{append-nil}
 use Rattle.edn_reader.proofs.Consumed.{list_tokens}
-use Rattle.edn_reader.proofs.Joined.{fits-append}
-
-lists_tokens : (ds es : List Datum) → list_tokens (ds ++ es) ≡ list_tokens ds ++ list_tokens es
-lists_tokens [] es = refl
-lists_tokens (d ∷ ds) es =
-    ap (λ (t : List Token). tokens_of d ++ t) (lists_tokens ds es)
-    ∙ sym (append_assoc (tokens_of d) (list_tokens ds) (list_tokens es))
-
-begin_both : (ts us : List Token) (text mid rest : List ℕ) → BeginWith ts text mid → BeginWith us mid rest
-    → BeginWith (ts ++ us) text rest
-begin_both [] us text mid rest b k = subst (λ (x : List ℕ). BeginWith us x rest) (sym b) k
-begin_both (t ∷ ts) us text mid rest (q, n, b) k = (q, n, begin_both ts us q mid rest b k)
+use Rattle.edn_reader.proofs.Joined.{tokens-append, fits-append}
+use Rattle.edn_reader.proofs.Fronts.{both_begin}
 
 -- a front, and forms after it
 pub front_more : (text mid rest : List ℕ) (ds more : List Datum) → SpellsFront text ds mid → SpellsFront mid more rest
     → SpellsFront text (ds ++ more) rest
 front_more text mid rest ds more f g =
     record {
-      begins = subst (λ (ts : List Token). BeginWith ts text rest) (sym (lists_tokens ds more))
-          (begin_both (list_tokens ds) (list_tokens more) text mid rest f.begins g.begins);
+      begins = rw (tokens-append ds more)
+          (both_begin (list_tokens ds) (list_tokens more) text mid rest f.begins g.begins);
       fits = fits-append 16 ds more f.fits g.fits;
-      on = λ es k. subst (λ (xs : List Datum). Spells xs text) (sym (append_assoc ds more es))
-          (f.on (more ++ es) (g.on es k));
+      on = λ es k. rw append_assoc (f.on (more ++ es) (g.on es k));
       only = λ es k. (
           let a = f.only es k in
           let b = g.only a.0 a.2 in
@@ -55,12 +44,11 @@ sound_after text rest ds start place u f l (n, e, s) =
       before = list_tokens ds ++ s.before;
       token = s.token;
       more = s.more;
-      are_first = lists_tokens ds s.forms ∙ ap (λ (ts : List Token). list_tokens ds ++ ts) first
-          ∙ sym (append_assoc (list_tokens ds) s.before (s.token ∷ s.more));
+      are_first = rw (tokens-append ds s.forms, first) (simp append_assoc);
       gap = s.gap;
       here = s.here;
       rest = s.rest;
-      begins = begin_both (list_tokens ds) s.before text rest (s.gap ++ s.here) f.begins s.begins;
+      begins = both_begin (list_tokens ds) s.before text rest (s.gap ++ s.here) f.begins s.begins;
       is_gap = s.is_gap;
       stands = s.stands;
       stands_at = omega (arith, s.stands_at);
@@ -96,7 +84,7 @@ along_more keeping P Q text mid rest before start tokens integer_vector e moves 
 pub along_moved : (P : List Datum → Type 0) (text rest other : List ℕ) (start from : ℕ) → other ≡ rest → from ≡ start
     → Along P text rest start → Along P text other from
 along_moved P text rest other start from e s a =
-    subst (λ (n : ℕ). Along P text other n) (sym s) (subst (λ (x : List ℕ). Along P text x start) (sym e) a)
+    rw (e, s) a
 
 -- no element more
 pub along_spells : (P : List Datum → Type 0) (text rest : List ℕ) (start : ℕ) (a : Along P text rest start)

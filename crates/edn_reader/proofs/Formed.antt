@@ -33,8 +33,7 @@ leaf_own a ts b = by_form b.form b.own b.are
   where
     by_form : (d : Datum) → InProfile d → leaf (atom a) ∷ ts ≡ tokens_of d ++ b.remains → AtomInProfile a
     by_form (atom x) p e = subst AtomInProfile (sym (same_leaf a x ts b.remains e).0) p
-    by_form (vector ds) p e = absurd cc
-    by_form (dictionary es) p e = absurd cc
+    by_form d p e = absurd cc
 
 pub nothing_begins : BeginsForm [] → ⊥
 nothing_begins b = not_nothing b.form b.remains b.are
@@ -47,8 +46,7 @@ close_map_begins ts b = by_form b.form b.are
   where
     by_form : (d : Datum) → close_map ∷ ts ≡ tokens_of d ++ b.remains → ⊥
     by_form (atom x) e = cc
-    by_form (vector ds) e = cc
-    by_form (dictionary es) e = cc
+    by_form d e = cc
 
 -- no bracket is a form alone
 pub open_vector_alone : BeginsForm (open_vector ∷ []) → ⊥
@@ -57,13 +55,11 @@ open_vector_alone b = by_form b.form b.are
     by_items : (ds : Items) → [] ≡ (items_tokens ds ++ close_vector ∷ []) ++ b.remains → ⊥
     by_items no_items e = cc
     by_items (item (atom x) ds) e = cc
-    by_items (item (vector es) ds) e = cc
-    by_items (item (dictionary es) ds) e = cc
+    by_items (item d ds) e = cc
 
     by_form : (d : Datum) → open_vector ∷ [] ≡ tokens_of d ++ b.remains → ⊥
-    by_form (atom x) e = cc
     by_form (vector ds) e = by_items ds (tails open_vector open_vector _ _ e)
-    by_form (dictionary es) e = cc
+    by_form d e = absurd cc
 
 pub open_map_alone : BeginsForm (open_map ∷ []) → ⊥
 open_map_alone b = by_form b.form b.are
@@ -73,15 +69,13 @@ open_map_alone b = by_form b.form b.are
     by_pairs (entry k d es) e = cc
 
     by_form : (d : Datum) → open_map ∷ [] ≡ tokens_of d ++ b.remains → ⊥
-    by_form (atom x) e = cc
-    by_form (vector ds) e = cc
     by_form (dictionary es) e = by_pairs es (tails open_map open_map _ _ e)
+    by_form d e = absurd cc
 
 pub vector_begins : (ts : List Token) → BeginsForm (open_vector ∷ ts) → BeginsItems ts
 vector_begins ts b = by_form b.form b.own b.are
   where
     by_form : (d : Datum) → InProfile d → open_vector ∷ ts ≡ tokens_of d ++ b.remains → BeginsItems ts
-    by_form (atom x) p e = absurd cc
     by_form (vector ds) p e =
         record {
           items = ds;
@@ -89,13 +83,12 @@ vector_begins ts b = by_form b.form b.own b.are
           own = p;
           are = tails open_vector open_vector _ _ e ∙ append_assoc (items_tokens ds) (close_vector ∷ []) b.remains;
         }
-    by_form (dictionary es) p e = absurd cc
+    by_form d p e = absurd cc
 
 pub map_begins : (ts : List Token) → BeginsForm (open_map ∷ ts) → BeginsPairs ts
 map_begins ts b = by_form b.form b.own b.are
   where
     by_form : (d : Datum) → InProfile d → open_map ∷ ts ≡ tokens_of d ++ b.remains → BeginsPairs ts
-    by_form (atom x) p e = absurd cc
     by_form (vector ds) p e = absurd cc
     by_form (dictionary es) p e =
         record {
@@ -104,6 +97,7 @@ map_begins ts b = by_form b.form b.own b.are
           own = p;
           are = tails open_map open_map _ _ e ∙ append_assoc (entries_tokens es) (close_map ∷ []) b.remains;
         }
+    by_form d p e = absurd cc
 
 -- a leaf, without what follows it
 pub leaf_alone : (a : Atom) (ts : List Token) → BeginsForm (leaf (atom a) ∷ ts) → BeginsForm (leaf (atom a) ∷ [])
@@ -181,7 +175,7 @@ no_pairs b = by_pairs b.pairs b.are
   where
     by_pairs : (es : Entries) → [] ≡ entries_tokens es ++ close_map ∷ b.remains → ⊥
     by_pairs no_entries e = cc
-    by_pairs (entry l d es) e = cc
+    by_pairs es e = cc
 
 -- where no key stands, the map ends
 abbrev pub NoKey : Token → Type 0
@@ -199,34 +193,23 @@ pairs_end t ts apart b = by_pairs b.pairs b.are
 -- one form more
 pub items_more : (all rest remains : List Token) (ds : List Datum) (d : Datum) → all ≡ list_tokens ds ++ rest
     → rest ≡ tokens_of d ++ remains → all ≡ list_tokens (ds ++ d ∷ []) ++ remains
-items_more all rest remains ds d e f =
-    e ∙ ap (λ (t : List Token). list_tokens ds ++ t) f ∙ sym (append_assoc (list_tokens ds) (tokens_of d) remains)
-    ∙ ap (λ (t : List Token). t ++ remains) (sym (list_tokens-append ds d))
+items_more all rest remains ds d e f = rw (e, f, list_tokens-append ds d) (simp append_assoc)
 
 pub pairs_more : (all rest value remains : List Token) (es : List (List ℕ × Datum)) (k : List ℕ) (d : Datum)
     → all ≡ pairs_tokens es ++ rest
     → rest ≡ leaf (atom (keyword k)) ∷ value → value ≡ tokens_of d ++ remains
     → all ≡ pairs_tokens (es ++ (k, d) ∷ []) ++ remains
-pairs_more all rest value remains es k d e f g =
-    e ∙ ap (λ (t : List Token). pairs_tokens es ++ t) (f ∙ ap (λ (t : List Token). leaf (atom (keyword k)) ∷ t) g)
-    ∙ sym (append_assoc (pairs_tokens es) (leaf (atom (keyword k)) ∷ tokens_of d) remains)
-    ∙ ap (λ (t : List Token). t ++ remains) (sym (pairs_tokens-append es k d))
+pairs_more all rest value remains es k d e f g = rw (e, f, g, pairs_tokens-append es k d) (simp append_assoc)
 
 -- the whole vector, and the whole map
 pub vector_whole : (all rest remains : List Token) (ds : List Datum) → all ≡ list_tokens ds ++ rest
     → rest ≡ close_vector ∷ remains → open_vector ∷ all ≡ tokens_of (vector (items_of ds)) ++ remains
-vector_whole all rest remains ds e f =
-    ap (λ (t : List Token). open_vector ∷ t)
-    (e ∙ ap (λ (t : List Token). list_tokens ds ++ t) f
-    ∙ sym (append_assoc (list_tokens ds) (close_vector ∷ []) remains))
+vector_whole all rest remains ds e f = rw (e, f) (simp append_assoc)
 
 pub map_whole : (all rest remains : List Token) (es : List (List ℕ × Datum)) → all ≡ pairs_tokens es ++ rest
     → rest ≡ close_map ∷ remains
     → open_map ∷ all ≡ tokens_of (dictionary (entries_of es)) ++ remains
-map_whole all rest remains es e f =
-    ap (λ (t : List Token). open_map ∷ t)
-    (e ∙ ap (λ (t : List Token). pairs_tokens es ++ t) f
-    ∙ sym (append_assoc (pairs_tokens es) (close_map ∷ []) remains))
+map_whole all rest remains es e f = rw (e, f) (simp append_assoc)
 
 -- ---- some tokens
 
@@ -250,16 +233,20 @@ map_end p ts us h e b = e ∙ pairs_end (piece_token p) us (no_key p h) (subst B
 
 pub alone : (p : Piece) (ts us : List Token) → (p ≡ OpenVector → ⊥) → (p ≡ OpenMap → ⊥) → ts ≡ piece_token p ∷ us
     → BeginsForm ts → BeginsForm (piece_token p ∷ [])
-alone OpenVector ts us h k e b = absurd (h refl)
-alone CloseVector ts us h k e b = absurd (close_vector_begins us (subst BeginsForm e b))
-alone OpenMap ts us h k e b = absurd (k refl)
-alone CloseMap ts us h k e b = absurd (close_map_begins us (subst BeginsForm e b))
-alone Nil ts us h k e b = leaf_alone nil us (subst BeginsForm e b)
-alone True ts us h k e b = leaf_alone (boolean true) us (subst BeginsForm e b)
-alone False ts us h k e b = leaf_alone (boolean false) us (subst BeginsForm e b)
-alone (Int z) ts us h k e b = leaf_alone (integer z) us (subst BeginsForm e b)
-alone (Str raw) ts us h k e b = leaf_alone (string (unquoted raw.now)) us (subst BeginsForm e b)
-alone (Keyword name) ts us h k e b = leaf_alone (keyword name.now) us (subst BeginsForm e b)
+alone p ts us h k e b = by_token p (subst BeginsForm e b) h k
+  where
+    by_token : (p : Piece) → BeginsForm (piece_token p ∷ us) → (p ≡ OpenVector → ⊥) → (p ≡ OpenMap → ⊥)
+        → BeginsForm (piece_token p ∷ [])
+    by_token OpenVector b h k = absurd (h refl)
+    by_token CloseVector b h k = absurd (close_vector_begins us b)
+    by_token OpenMap b h k = absurd (k refl)
+    by_token CloseMap b h k = absurd (close_map_begins us b)
+    by_token Nil b h k = leaf_alone nil us b
+    by_token True b h k = leaf_alone (boolean true) us b
+    by_token False b h k = leaf_alone (boolean false) us b
+    by_token (Int z) b h k = leaf_alone (integer z) us b
+    by_token (Str raw) b h k = leaf_alone (string (unquoted raw.now)) us b
+    by_token (Keyword name) b h k = leaf_alone (keyword name.now) us b
 
 -- ---- one form more in a vector
 

@@ -14,26 +14,20 @@ use Rattle.edn_reader.proofs.Complete.{steps_items}
 use Rattle.edn_reader.proofs.Lexical.{first_shorter, skip_within}
 use Rattle.edn_reader.proofs.Next.{next_from}
 use Rattle.edn_reader.proofs.Prefixes.{not_nothing}
-use Rattle.edn_reader.proofs.Progress.{Progress, goes_on}
+use Rattle.edn_reader.proofs.Progress.{Progress, goes_on, next_shorter}
 use Rattle.edn_reader.proofs.Turns.{start, element_front}
 use Rattle.edn_reader.proofs.Strings.{some_is}
 
 -- ---- what is left is shorter
 
-next_shorter : (text : List ℕ) (t : Token) (rest : List ℕ) → IsNext text t rest → length rest < length text
-unfolding next
-next_shorter text t rest n =
-    let l : length rest < length (skip text) = first_shorter (skip text) t rest (next_from text t rest n) in
-    omega (arith, l, skip_within text)
-
 pub begin_within : (ts : List Token) (text rest : List ℕ) → BeginWith ts text rest → length rest ≤ length text
 begin_within [] text rest b = omega (arith, ap length b)
-begin_within (t ∷ ts) text rest (mid, n, b) = omega (arith, next_shorter text t mid n, begin_within ts mid rest b)
+begin_within (t ∷ ts) text rest (mid, n, b) = omega (arith, next_shorter text t mid (next_from text t mid n), begin_within ts mid rest b)
 
 pub begin_shorter : (ts : List Token) (text rest : List ℕ) → ([] ≡ ts → ⊥) → BeginWith ts text rest
     → length rest < length text
 begin_shorter [] text rest h b = absurd (h refl)
-begin_shorter (t ∷ ts) text rest h (mid, n, b) = omega (arith, next_shorter text t mid n, begin_within ts mid rest b)
+begin_shorter (t ∷ ts) text rest h (mid, n, b) = omega (arith, next_shorter text t mid (next_from text t mid n), begin_within ts mid rest b)
 
 pub rest_shorter : (text rest : List ℕ) → PassesElement text rest → length rest < length text
 rest_shorter text rest p = begin_shorter (tokens_of p.element ++ []) text rest (not_nothing p.element []) p.front.begins
@@ -42,13 +36,13 @@ rest_shorter text rest p = begin_shorter (tokens_of p.element ++ []) text rest (
 
 pub both_begin : (ts us : List Token) (text mid rest : List ℕ) → BeginWith ts text mid → BeginWith us mid rest
     → BeginWith (ts ++ us) text rest
-both_begin [] us text mid rest b k = subst (λ (x : List ℕ). BeginWith us x rest) (sym b) k
+both_begin [] us text mid rest b k = rw b k
 both_begin (t ∷ ts) us text mid rest (q, n, b) k = (q, n, both_begin ts us q mid rest b k)
 
 progress : (ts : List Token) (text mid rest : List ℕ) (s z : State) → BeginWith ts mid rest → steps ts s ≡ Some z
     → Progress text mid s → Progress text rest z
 progress [] text mid rest s z b e p =
-    subst (λ (x : List ℕ). Progress text x z) b (subst (λ (x : State). Progress text mid x) (some_is s z e) p)
+    rw (← b, ← some_is s z e) p
 progress (t ∷ ts) text mid rest s z (q, n, b) e p =
     by_step (step t s) refl e
     (λ x h k. progress ts text q rest x z b k (goes_on text mid t q s x (next_from mid t q n) h p))
@@ -66,5 +60,5 @@ front_of text rest d u f b =
     steps_items (items_of (d ∷ [])) 16 in_text (λ xs x. refl) [] [] (f, tt) refl in
     let p : Progress text rest (closed (d ∷ [])) =
     progress (tokens_of d ++ []) text text rest opening (closed (d ∷ []))
-    (subst (λ (ts : List Token). BeginWith ts text rest) (sym (append-nil (tokens_of d))) b) e (start text u) in
-    (element_front text rest d p u, p.utf8)
+    (rw append-nil b) e (start text u) in
+    (element_front p u, p.utf8)

@@ -10,7 +10,7 @@ use Rattle.edn_reader.specs.Spells.{IsGap, EndsComment, IsEnding, EndsText, Ends
 use Rattle.edn_reader.specs.Text.{InProfile, text_of, lines_of}
 use Rattle.edn_reader.specs.Laws.{EachSpelled}
 use Rattle.edn_reader.proofs.Utf8.{ascii_utf8, text_utf8}
-use Rattle.edn_reader.proofs.Written.{lexes_datum}
+use Rattle.edn_reader.proofs.Written.{ends_token, lexes_datum}
 
 -- what is written for a form spells it
 pub text_spells_it : (d : Datum) → Fits max_open d → InProfile d → Spells (d ∷ []) (text_of d)
@@ -18,7 +18,7 @@ text_spells_it d fits p =
     let l : Lexes (tokens_of d ++ []) (text_of d ++ []) = lexes_datum d [] [] p tt tt in
     record {
       utf8 = text_utf8 d p;
-      tokens = subst (Lexes (tokens_of d ++ [])) (append-nil (text_of d)) l;
+      tokens = rw (append-nil (text_of d)) at l;
       fits = (fits, tt);
     }
 
@@ -73,31 +73,17 @@ mutual
   text_closed (c ∷ cs) (inl p) = inl (p.0, ending_closed cs p.1)
   text_closed (c ∷ cs) (inr p) = inr (p.0, text_closed cs p.1)
 
-ends10 : is_token_byte 10 ≡ false
-unfolding is_token_byte
-ends10 = refl
-
 token_ends : (rest b : List ℕ) → EndsToken rest → EndsToken (rest ++ 10 ∷ b)
-token_ends [] b e = ends10
+token_ends [] b e = ends_token 10 refl
 token_ends (c ∷ cs) b e = e
 
 begins_more : (after : List ℕ) (t : Token) (rest b : List ℕ) → Begins after t rest
     → Begins (after ++ 10 ∷ b) t (rest ++ 10 ∷ b)
-begins_more after open_vector rest b h = ap (λ (x : List ℕ). x ++ 10 ∷ b) h
-begins_more after close_vector rest b h = ap (λ (x : List ℕ). x ++ 10 ∷ b) h
-begins_more after open_map rest b h = ap (λ (x : List ℕ). x ++ 10 ∷ b) h
-begins_more after close_map rest b h = ap (λ (x : List ℕ). x ++ 10 ∷ b) h
 begins_more after (leaf d) rest b (inl (a, own, q, w, e, p)) =
-    inl (a, own, q, w, token_ends rest b e, ap (λ (x : List ℕ). x ++ 10 ∷ b) p ∙ append_assoc own rest (10 ∷ b))
+    inl (a, own, q, w, token_ends rest b e, rw p (simp append_assoc))
 begins_more after (leaf d) rest b (inr (s, own, q, k, p)) =
-    inr (
-      s,
-      own,
-      q,
-      k,
-      ap (λ (x : List ℕ). x ++ 10 ∷ b) p
-          ∙ ap (λ (x : List ℕ). 34 ∷ x) (append_assoc own (34 ∷ rest) (10 ∷ b)),
-    )
+    inr (s, own, q, k, rw p (simp append_assoc))
+begins_more after t rest b h = ap (λ (x : List ℕ). x ++ 10 ∷ b) h
 
 lexes_joined : (ts us : List Token) (a b : List ℕ) → Lexes ts a → Lexes us b → Lexes (ts ++ us) (a ++ 10 ∷ b)
 lexes_joined [] us a b h k =
@@ -114,12 +100,11 @@ lexes_joined (t ∷ ts) us a b (rest, (gap, after, g, n, q), h) k = (
   lexes_joined ts us rest b h k,
 )
 
-tokens-append : (ds es : List Datum)
+pub tokens-append : (ds es : List Datum)
     → items_tokens (items_of (ds ++ es)) ≡ items_tokens (items_of ds) ++ items_tokens (items_of es)
 tokens-append [] es = refl
 tokens-append (d ∷ ds) es =
-    ap (λ (x : List Token). tokens_of d ++ x) (tokens-append ds es)
-    ∙ sym (append_assoc (tokens_of d) (items_tokens (items_of ds)) (items_tokens (items_of es)))
+    rw (tokens-append ds es) (simp append_assoc)
 
 pub fits-append : (n : ℕ) (ds es : List Datum) → ItemsFit n (items_of ds) → ItemsFit n (items_of es)
     → ItemsFit n (items_of (ds ++ es))
@@ -130,7 +115,7 @@ pub joined_spell : (ds es : List Datum) (a b : List ℕ) → Spells ds a → Spe
 joined_spell ds es a b h k =
     record {
       utf8 = IsUtf8-append a (10 ∷ b) h.utf8 (IsUtf8-append (10 ∷ []) b (ascii_utf8 (10 ∷ []) refl) k.utf8);
-      tokens = subst (λ (ts : List Token). Lexes ts (a ++ 10 ∷ b)) (sym (tokens-append ds es))
+      tokens = rw (tokens-append ds es)
           (lexes_joined (items_tokens (items_of ds)) (items_tokens (items_of es)) a b h.tokens k.tokens);
       fits = fits-append max_open ds es h.fits k.fits;
     }

@@ -11,7 +11,7 @@ use Rattle.edn_reader.specs.Reading.{Frame, in_text, in_vector, in_map, in_pair,
 use Rattle.edn_reader.specs.Reading.{close_vector_at, close_map_at, takes_key, open_at, step}
 use Rattle.std.specs.Str.{bytes_eq}
 use Rattle.edn_reader.proofs.Keys.{same_self}
-use Rattle.edn_reader.proofs.Consumed.{kept_if, kept_if_not, unless_so, mapped, IsPlain}
+use Rattle.edn_reader.proofs.Consumed.{kept_if_not, mapped, IsPlain, opened_at}
 use Rattle.edn_reader.proofs.Strings.{some_is}
 
 items_fit-append : (n : ℕ) (ds : List Datum) (d : Datum) → ItemsFit n (items_of ds) → Fits n d
@@ -66,11 +66,9 @@ put_fits n f d g h k e = absurd cc
 
 open_fits : (f : Frame) (s z : State) → ((n : ℕ) → FrameFits n f) → StateFits s → open_at f s ≡ Some z → StateFits z
 open_fits f s z any h e =
-    let a = unless_so (takes_key s.inner) _ z e in
-    let b = kept_if (nat_lt (length s.outer) max_open) (record { inner = f; outer = s.inner ∷ s.outer }) z a.1 in
-    let lt : length s.outer < 16 = ltb-true (length s.outer) 16 b.0 in
-    subst StateFits b.1 (record {
-      room = omega arith;
+    let o = opened_at f s z e in
+    subst StateFits o.is (record {
+      room = omega (arith, o.room);
       inner = any (16 - suc (length s.outer));
       outer = (h.inner, h.outer);
     })
@@ -79,7 +77,7 @@ close_fits : (d : Datum) (fs : List Frame) (z : State) → ((n : ℕ) → 0 < n 
     → length fs ≤ 16 → StackFits fs → close_as d fs ≡ Some z → StateFits z
 close_fits d [] z fit room h e = absurd cc
 close_fits d (f ∷ fs) z fit room h e =
-    let m = mapped (λ (g : Frame). let x : State = record { inner = g; outer = fs } in x) (put f d) z e in
+    let m = mapped _ (put f d) z e in
     let k : Fits (16 - length fs) d = fit (16 - length fs) (omega arith) (omega arith) in
     subst StateFits m.2 (record {
       room = omega arith;
@@ -108,7 +106,7 @@ step_fits open_map s z p h e = open_fits (in_map []) s z (λ n. tt) h e
 step_fits close_vector s z p h e = close_vector_fits s.inner s.outer z h.inner h.room h.outer e
 step_fits close_map s z p h e = close_map_fits s.inner s.outer z h.inner h.room h.outer e
 step_fits (leaf d) s z p h e =
-    let m = mapped (λ (f : Frame). let x : State = record s { inner = f } in x) (put s.inner d) z e in
+    let m = mapped _ (put s.inner d) z e in
     let k : Fits (16 - length s.outer) d = rw p.1 tt in
     subst StateFits m.2 (record {
       room = h.room;

@@ -3,10 +3,10 @@
 use Rattle.std.proofs.lemmas.Bool.Decides.{nat_tests}
 use Rattle.std.proofs.Common.{arith, ◌≡◌, ℕ, Bool, true, false, cond, Option, Some, None, List, [], ◌∷◌, ◌++◌, refl}
 use Rattle.std.proofs.Common.{sym, ap, subst, ◌∙◌, inl, inr}
-use Rattle.std.specs.Prelude.{◌==◌}
+use Rattle.std.specs.Prelude.{◌==◌, ◌||◌}
 use Rattle.std.proofs.lemmas.Bool.{eqb-true, eqb-false, ne_eqb, and_parts}
 use Rattle.std.specs.List.{list_all}
-use Rattle.edn_reader.specs.Bytes.{is_separator, is_token_byte}
+use Rattle.edn_reader.specs.Bytes.{is_separator, is_mark, is_token_byte}
 use Rattle.edn_reader.specs.Datum.{Atom, atom}
 use Rattle.edn_reader.proofs.Strings.{string_from, string_is}
 use Rattle.edn_reader.specs.Token.{Token, open_vector, close_vector, open_map, close_map, leaf}
@@ -15,7 +15,7 @@ use Rattle.edn_reader.specs.Reading.{skip, skip_comment, word, after_word, atom_
 use Rattle.edn_reader.specs.Reading.{got_string, string_at, first, next}
 use Rattle.edn_reader.proofs.Words.{word_parts}
 use Rattle.edn_reader.proofs.Atoms.{not_byte, not_separator, word_run, word_of, after_word_ends, atom_from, atom_is}
-use Rattle.edn_reader.proofs.Written.{ends93, ends125}
+use Rattle.edn_reader.proofs.Written.{ends_token}
 
 -- ---- gaps
 
@@ -86,39 +86,19 @@ mutual
 
 -- ---- tokens
 
-mark34 : is_token_byte 34 ≡ false
-unfolding is_token_byte
-mark34 = refl
-
-mark59 : is_token_byte 59 ≡ false
-unfolding is_token_byte
-mark59 = refl
-
-mark91 : is_token_byte 91 ≡ false
-unfolding is_token_byte
-mark91 = refl
-
-mark123 : is_token_byte 123 ≡ false
-unfolding is_token_byte
-mark123 = refl
-
 -- a text that begins with a byte of a word
 first_is_word : (b : ℕ) (bs : List ℕ) → is_token_byte b ≡ true
     → first (b ∷ bs) ≡ got_word (atom_of (word (b ∷ bs))) (after_word (b ∷ bs))
 unfolding first
 first_is_word b bs h =
-    let n : (m : ℕ) → is_token_byte m ≡ false → (b == m) ≡ false = λ m k. not_byte b m h k in
-    let p : (b == 91) ≡ false = n 91 mark91 in
-    let q : (b == 93) ≡ false = n 93 ends93 in
-    let r : (b == 123) ≡ false = n 123 mark123 in
-    let s : (b == 125) ≡ false = n 125 ends125 in
-    let u : (b == 34) ≡ false = n 34 mark34 in
-    rw (p, q, r, s, u) refl
+    let n : (m : ℕ) → (is_separator m || is_mark m) ≡ true → (b == m) ≡ false =
+    λ m k. not_byte b m h (ends_token m k) in
+    rw (n 91 refl, n 93 refl, n 123 refl, n 125 refl, n 34 refl) refl
 
 skip_token : (b : ℕ) (bs : List ℕ) → is_token_byte b ≡ true → skip (b ∷ bs) ≡ b ∷ bs
 skip_token b bs h =
     let s : is_separator b ≡ false = not_separator b h in
-    let c : (b == 59) ≡ false = not_byte b 59 h mark59 in
+    let c : (b == 59) ≡ false = not_byte b 59 h (ends_token 59 refl) in
     rw (s, c) refl
 
 -- what begins with a token has nothing to skip, and the token is what is read
@@ -146,10 +126,6 @@ run_head own b bs q all =
 
 pub begins_reads : (after : List ℕ) (t : Token) (rest : List ℕ) → Begins after t rest → Reads after t rest
 unfolding first
-begins_reads after open_vector rest h = record { stays = rw h refl; reads = rw h refl }
-begins_reads after close_vector rest h = record { stays = rw h refl; reads = rw h refl }
-begins_reads after open_map rest h = record { stays = rw h refl; reads = rw h refl }
-begins_reads after close_map rest h = record { stays = rw h refl; reads = rw h refl }
 begins_reads after (leaf d) rest (inr (s, own, dq, k, q)) =
     let x : string_at (own ++ 34 ∷ rest) ≡ Some (s, rest) = string_from own s rest k in
     record { stays = rw q refl; reads = rw (q, x, dq) refl }
@@ -157,6 +133,7 @@ begins_reads after (leaf d) rest (inl (a, own, dq, w, e, q)) =
     let r = word_run a own w in
     let x = leaf_reads a own rest r.head r.tail w e r.parts (run_head own r.head r.tail r.parts r.all) r.all in
     rw (q, dq) x
+begins_reads after t rest h = record { stays = rw h refl; reads = rw h refl }
 
 pub next_from : (bytes : List ℕ) (t : Token) (rest : List ℕ) → IsNext bytes t rest → next bytes ≡ got t rest
 unfolding next
@@ -211,14 +188,11 @@ next_by bytes after bad e f = tt
 next_by bytes [] (got t rest) e f = absurd (nothing_begins t rest f)
   where
     nothing_begins : (t : Token) (rest : List ℕ) → Begins [] t rest → ⊥
-    nothing_begins open_vector rest h = cc
-    nothing_begins close_vector rest h = cc
-    nothing_begins open_map rest h = cc
-    nothing_begins close_map rest h = cc
     nothing_begins (leaf d) rest (inr (s, own, dq, k, q)) = cc
     nothing_begins (leaf d) rest (inl (a, own, dq, w, e, q)) =
         let r = word_run a own w in
         let z : [] ≡ r.head ∷ (r.tail ++ rest) = q ∙ ap (λ (x : List ℕ). x ++ rest) r.parts in cc
+    nothing_begins t rest h = cc
 next_by bytes (b ∷ bs) (got t rest) e f = let g = gap_of bytes b bs e in (g.0, b ∷ bs, g.1, f, g.2)
 
 pub next_is : (bytes : List ℕ) → IsNextOf bytes (next bytes)

@@ -8,16 +8,14 @@ use Rattle.edn_reader.proofs.Consumed.{list_tokens}
 
 pub not_close_vector : (d : Datum) (us ts : List Token) → close_vector ∷ us ≡ tokens_of d ++ ts → ⊥
 not_close_vector (atom a) us ts h = cc
-not_close_vector (vector ds) us ts h = cc
-not_close_vector (dictionary es) us ts h = cc
+not_close_vector d us ts h = cc
 
 not_close_map : (k : Datum) (us ts : List Token) → close_map ∷ us ≡ leaf k ∷ ts → ⊥
 not_close_map k us ts h = cc
 
 pub not_nothing : (d : Datum) (ts : List Token) → [] ≡ tokens_of d ++ ts → ⊥
 not_nothing (atom a) ts h = cc
-not_nothing (vector ds) ts h = cc
-not_nothing (dictionary es) ts h = cc
+not_nothing d ts h = cc
 
 pub tails : (t u : Token) (ts us : List Token) → t ∷ ts ≡ u ∷ us → ts ≡ us
 tails t u ts us h = cc
@@ -33,34 +31,20 @@ mutual
   pub same_datum : (d e : Datum) (us vs : List Token) → tokens_of d ++ us ≡ tokens_of e ++ vs → (d ≡ e) × (us ≡ vs)
   same_datum (atom a) (atom b) us vs h = same_leaf (atom a) (atom b) us vs h
   same_datum (vector ds) (vector es) us vs h =
-      let t = tails open_vector open_vector _ _ h in
-      let k : items_tokens ds ++ close_vector ∷ us ≡ items_tokens es ++ close_vector ∷ vs =
-      sym (append_assoc (items_tokens ds) (close_vector ∷ []) us) ∙ t
-      ∙ append_assoc (items_tokens es) (close_vector ∷ []) vs in
-      let p = same_items ds es us vs k in
+      let p = same_items ds es us vs (simp append_assoc at (tails open_vector open_vector _ _ h)) in
       (ap vector p.0, p.1)
   same_datum (dictionary ds) (dictionary es) us vs h =
-      let t = tails open_map open_map _ _ h in
-      let k : entries_tokens ds ++ close_map ∷ us ≡ entries_tokens es ++ close_map ∷ vs =
-      sym (append_assoc (entries_tokens ds) (close_map ∷ []) us)
-      ∙ t ∙ append_assoc (entries_tokens es) (close_map ∷ []) vs in
-      let p = same_entries ds es us vs k in
+      let p = same_entries ds es us vs (simp append_assoc at (tails open_map open_map _ _ h)) in
       (ap dictionary p.0, p.1)
   same_datum d e us vs h = absurd cc
 
   pub same_items : (ds es : Items) (us vs : List Token)
       → items_tokens ds ++ close_vector ∷ us ≡ items_tokens es ++ close_vector ∷ vs → (ds ≡ es) × (us ≡ vs)
   same_items no_items no_items us vs h = (refl, tails close_vector close_vector us vs h)
-  same_items no_items (item e es) us vs h =
-      absurd (not_close_vector e us (items_tokens es ++ close_vector ∷ vs)
-      (h ∙ append_assoc (tokens_of e) (items_tokens es) (close_vector ∷ vs)))
-  same_items (item d ds) no_items us vs h =
-      absurd (not_close_vector d vs (items_tokens ds ++ close_vector ∷ us)
-      (sym h ∙ append_assoc (tokens_of d) (items_tokens ds) (close_vector ∷ us)))
+  same_items no_items (item e es) us vs h = absurd (not_close_vector e us _ (simp append_assoc at h))
+  same_items (item d ds) no_items us vs h = absurd (not_close_vector d vs _ (sym (simp append_assoc at h)))
   same_items (item d ds) (item e es) us vs h =
-      let p = same_datum d e (items_tokens ds ++ close_vector ∷ us) (items_tokens es ++ close_vector ∷ vs)
-      (sym (append_assoc (tokens_of d) (items_tokens ds) (close_vector ∷ us)) ∙ h
-      ∙ append_assoc (tokens_of e) (items_tokens es) (close_vector ∷ vs)) in
+      let p = same_datum d e _ _ (simp append_assoc at h) in
       let q = same_items ds es us vs p.1 in
       (ap (λ (x : Datum). item x ds) p.0 ∙ ap (item e) q.0, q.1)
 
@@ -71,9 +55,7 @@ mutual
   same_entries (entry k d ds) no_entries us vs h = absurd (not_close_map _ vs _ (sym h))
   same_entries (entry j d ds) (entry k e es) us vs h =
       let a = same_key j k _ _ h in
-      let p = same_datum d e (entries_tokens ds ++ close_map ∷ us) (entries_tokens es ++ close_map ∷ vs)
-      (sym (append_assoc (tokens_of d) (entries_tokens ds) (close_map ∷ us)) ∙ a.1
-      ∙ append_assoc (tokens_of e) (entries_tokens es) (close_map ∷ vs)) in
+      let p = same_datum d e _ _ (simp append_assoc at a.1) in
       let q = same_entries ds es us vs p.1 in
       (ap (λ (x : List _). entry x d ds) a.0 ∙ ap (λ (x : Datum). entry k x ds) p.0 ∙ ap (entry k e) q.0, q.1)
 

@@ -1,4 +1,5 @@
--- How far a text is read: what was read is spelled so, and whatever the text spells goes on from here.
+-- How far a text is read: what was read is spelled so, and whatever the text spells goes on from here (`Progress`).
+-- Each token keeps this, by cases on what the next token is; so a text has one reading (`one_reading_of`).
 use Rattle.std.proofs.Common.{◌≡◌, ℕ, ◌-◌, ◌≤◌, true, ◌<◌, Option, Some, None, List, [], ◌∷◌, ◌++◌, length, refl, sym}
 use Rattle.std.proofs.Common.{ap, subst, ◌∙◌, append_assoc, arith}
 use Rattle.std.specs.Prelude.{option_map, IsSome, ◌==◌}
@@ -29,6 +30,8 @@ pub record Progress (text rest : List ℕ) (s : State) : Type 0 where
   pub begins : BeginWith (consumed s) text rest
   pub within : length rest ≤ length text
 
+-- ---- one token more
+
 begin_more : (ts : List Token) (text rest : List ℕ) (t : Token) (r : List ℕ) → BeginWith ts text rest
     → IsNext rest t r → BeginWith (ts ++ t ∷ []) text r
 begin_more [] text rest t r b n = (r, subst (λ (x : List ℕ). IsNext x t r) (sym b) n, refl)
@@ -54,7 +57,7 @@ goes_after rest t r s z (u ∷ us) e f (q, n, h) =
     (us, rw p.1 h, rw g refl)
 
 -- what follows the next token is shorter
-next_shorter : (rest : List ℕ) (t : Token) (r : List ℕ) → next rest ≡ got t r → length r < length rest
+pub next_shorter : (rest : List ℕ) (t : Token) (r : List ℕ) → next rest ≡ got t r → length r < length rest
 unfolding next
 next_shorter rest t r e = omega (arith, skip_within rest, first_shorter (skip rest) t r e)
 
@@ -76,6 +79,8 @@ goes_on text rest t r s z e f p =
       within = omega (arith, p.within, next_shorter rest t r e);
     }
 
+-- ---- what a text spells, and what is left of it
+
 list_of : (ds : List Datum) → items_list (items_of ds) ≡ ds
 list_of [] = refl
 list_of (d ∷ ds) = ap (λ (xs : List Datum). d ∷ xs) (list_of ds)
@@ -89,6 +94,8 @@ leads ds text h = steps_items (items_of ds) 16 in_text (λ xs d. refl) [] [] h.f
 pub left : (text rest : List ℕ) (s : State) (ds : List Datum) → Progress text rest s → Spells ds text
     → (us : List Token) × Lexes us rest × (steps us s ≡ Some (closed ds))
 left text rest s ds p h = let a = p.only (list_tokens ds) h.tokens in (a.0, a.1, sym a.2 ∙ leads ds text h)
+
+-- ---- where the next token is not taken
 
 pub no_token : (text rest : List ℕ) (s : State) → next rest ≡ bad → Progress text rest s → (ds : List Datum)
     → Spells ds text → ⊥
@@ -128,6 +135,8 @@ spells_there text rest ds e p utf8 =
           subst (λ (ts : List Token). Lexes ts text) (append-nil (list_tokens ds)) (p.spelled [] z);
       fits = p.fits.inner;
     }
+
+-- ---- the next token, after what is skipped
 
 pub next_at : (rest here : List ℕ) → here ≡ skip rest → next rest ≡ first here
 unfolding next

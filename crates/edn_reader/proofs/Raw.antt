@@ -55,12 +55,9 @@ raw_is text rest h = by_string (string_at text) refl h
         let q = string_is text p.0 p.1 e in
         let n : length text - length rest - 1 ≡ length text - length (34 ∷ rest) = omega arith in
         let w : q.0 ++ 34 ∷ rest ≡ text = ap (λ (x : List ℕ). q.0 ++ 34 ∷ x) (sym r) ∙ sym q.2 in
-        let f : take (length text - length rest - 1) text ≡ q.0 =
-        ap (λ (m : ℕ). take m text) n ∙ front_is q.0 (34 ∷ rest) text w in
+        let f : take (length text - length rest - 1) text ≡ q.0 = rw n (front_is q.0 (34 ∷ rest) text w) in
         let u : unquoted (take (length text - length rest - 1) text) ≡ p.0 = ap unquoted f ∙ quoted_is q.0 p.0 q.1 in
-        e ∙ ap (λ (x : List ℕ). let y : Option (List ℕ × List ℕ) = Some (x, p.1) in y) (sym u)
-        ∙ ap (λ (x : List ℕ). let y : Option (List ℕ × List ℕ) =
-        Some (unquoted (take (length text - length rest - 1) text), x) in y) r
+        rw (e, u, ← r) refl
 
 pub got_raw : (text rest : List ℕ) → string_end text ≡ Some rest
     → got_string (string_at text)

@@ -59,17 +59,13 @@ closed_shape d (f ∷ fs) h =
 
 vector_closed_shape : (i : Frame) (fs : List Frame)
     → option_map shapes_of (close_vector_at i fs) ≡ vector_closed (shape_of i) (shape_list fs)
-vector_closed_shape (in_text ds) fs = refl
 vector_closed_shape (in_vector ds) fs = closed_shape (vector (items_of ds)) fs refl
-vector_closed_shape (in_map es) fs = refl
-vector_closed_shape (in_pair es k) fs = refl
+vector_closed_shape i fs = refl
 
 map_closed_shape : (i : Frame) (fs : List Frame)
     → option_map shapes_of (close_map_at i fs) ≡ map_closed (shape_of i) (shape_list fs)
-map_closed_shape (in_text ds) fs = refl
-map_closed_shape (in_vector ds) fs = refl
 map_closed_shape (in_map es) fs = closed_shape (dictionary (entries_of es)) fs refl
-map_closed_shape (in_pair es k) fs = refl
+map_closed_shape i fs = refl
 
 open_cases : (a b : Bool) (x : State)
     → option_map shapes_of (cond a None (cond b (Some x) None)) ≡ cond a None (cond b (Some (shapes_of x)) None)

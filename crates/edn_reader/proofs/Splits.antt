@@ -1,10 +1,11 @@
--- A text that is UTF-8 may be cut at its ASCII bytes, and its strings are UTF-8 too.
+-- A text that is UTF-8 may be cut at its ASCII bytes (`after_gap`, `after_begins`), and its strings are UTF-8 too
+-- (`string_at_utf8`). By induction along gaps, and along the characters of a string.
 use Rattle.std.proofs.Common.{◌≡◌, ℕ, ◌-◌, ◌<◌, ◌≤◌, suc, Bool, true, false, cond, Some, None, List, [], ◌∷◌, ◌++◌}
 use Rattle.std.proofs.Common.{length, get_or, refl, sym, ap, ◌∙◌, subst, append_assoc, arith, lit<, inl, inr}
 use Rattle.std.specs.Prelude.{◌==◌, ◌⊎◌, nat_lt}
 use Rattle.std.specs.Str.{IsUtf8, IsCharBoundary}
 use lib.Utf8.{scalars, scalar, encodes, encode}
-use Rattle.std.proofs.lemmas.Bool.{and_parts, ltb-true, ne_eqb, cases_Bool}
+use Rattle.std.proofs.lemmas.Bool.{and_parts, ltb-true, cases_lt}
 use Rattle.std.proofs.lemmas.Bool.Decides.{nat_tests}
 use Rattle.std.proofs.lemmas.List.{length-append, take_at, drop_at, get_or-append_right}
 use Rattle.std.proofs.lemmas.Str.{IsUtf8-append, IsUtf8-nil, IsUtf8-encode, IsUtf8-take, IsUtf8-drop}
@@ -92,13 +93,10 @@ after_word_utf8 own [] e u = IsUtf8-nil
 after_word_utf8 own (b ∷ bs) e u = (cut own bs b (ends_low b e) u).1
 
 pub after_begins : (bytes : List ℕ) (t : Token) (rest : List ℕ) → Begins bytes t rest → IsUtf8 bytes → IsUtf8 rest
-after_begins bytes open_vector rest h u = remains 91 rest (lit< tt) (subst IsUtf8 h u)
-after_begins bytes close_vector rest h u = remains 93 rest (lit< tt) (subst IsUtf8 h u)
-after_begins bytes open_map rest h u = remains 123 rest (lit< tt) (subst IsUtf8 h u)
-after_begins bytes close_map rest h u = remains 125 rest (lit< tt) (subst IsUtf8 h u)
 after_begins bytes (leaf d) rest (inl (a, own, q, w, e, p)) u = after_word_utf8 own rest e (subst IsUtf8 p u)
 after_begins bytes (leaf d) rest (inr (s, own, q, k, p)) u =
     remains 34 rest (lit< tt) (cut own rest 34 (lit< tt) (remains 34 (own ++ 34 ∷ rest) (lit< tt) (subst IsUtf8 p u))).1
+after_begins bytes t rest h u = remains _ rest (lit< tt) (subst IsUtf8 h u)
 
 -- ---- what a string holds
 
@@ -108,22 +106,10 @@ escape_low c e h = by_tests (c == 116) (c == 114) (c == 110) (c == 92) (c == 34)
     by_tests : (t r n k q : Bool)
         → cond t (Some 9) (cond r (Some 13) (cond n (Some 10) (cond k (Some 92) (cond q (Some 34) None)))) ≡ Some e
         → e < 128
-    by_tests true r n k q h = let x : 9 ≡ e = cc in omega arith
-    by_tests false true n k q h = let x : 13 ≡ e = cc in omega arith
-    by_tests false false true k q h = let x : 10 ≡ e = cc in omega arith
-    by_tests false false false true q h = let x : 92 ≡ e = cc in omega arith
-    by_tests false false false false true h = let x : 34 ≡ e = cc in omega arith
-    by_tests false false false false false h = absurd cc
+    by_tests t r n k q h = grind arith
 
 escape_above : (c e : ℕ) → 128 ≤ c → escape_of c ≡ Some e → ⊥
-escape_above c e h k =
-    let t : (c == 116) ≡ false = ne_eqb c 116 (λ x. omega arith) in
-    let r : (c == 114) ≡ false = ne_eqb c 114 (λ x. omega arith) in
-    let n : (c == 110) ≡ false = ne_eqb c 110 (λ x. omega arith) in
-    let b : (c == 92) ≡ false = ne_eqb c 92 (λ x. omega arith) in
-    let q : (c == 34) ≡ false = ne_eqb c 34 (λ x. omega arith) in
-    let none : None ≡ Some e = rw (t, r, n, b, q) at k in
-    cc
+escape_above c e h k = grind (arith, nat_tests)
 
 -- bytes past ASCII stand for themselves
 quoted_above : (xs rest s : List ℕ) → ((k : ℕ) → k < length xs → 128 ≤ get_or xs k 0) → IsQuoted (xs ++ rest) s
@@ -144,12 +130,6 @@ one_byte c s h u = IsUtf8-append (c ∷ []) s (IsUtf8-from_ascii (c ∷ []) (IsA
 
 some_bytes : (c : ℕ) → 0 < length (encode c)
 some_bytes c = rw (length-encode c) (grind (arith, nat_tests))
-
-low_or_above : (c : ℕ) → (c < 128) ⊎ (128 ≤ c)
-low_or_above c = elim (cases_Bool (nat_lt c 128)) [
-  | inl e ↦ inl (ltb-true c 128 e)
-  | inr e ↦ inr (grind (arith, nat_tests))
-]
 
 quoted_char : (c : ℕ) (cs s : List ℕ) → (c < 128) ⊎ (128 ≤ c) → scalar c ≡ true
     → ((t : List ℕ) → IsQuoted (encodes cs) t → IsUtf8 t) → ((t : List ℕ) → IsEscaped (encodes cs) t → IsUtf8 t)
@@ -177,14 +157,14 @@ escaped_char c cs s (inr above) ih q =
 mutual
   quoted_chars : (cs s : List ℕ) → scalars cs ≡ true → IsQuoted (encodes cs) s → IsUtf8 s
   quoted_chars [] s h q = subst IsUtf8 (sym q) IsUtf8-nil
-  quoted_chars (c ∷ cs) s h q = quoted_char c cs s (low_or_above c) (and_parts (scalar c) (scalars cs) h).0
+  quoted_chars (c ∷ cs) s h q = quoted_char c cs s (cases_lt c 128) (and_parts (scalar c) (scalars cs) h).0
       (λ t k. quoted_chars cs t (and_parts (scalar c) (scalars cs) h).1 k)
       (λ t k. escaped_chars cs t (and_parts (scalar c) (scalars cs) h).1 k) q
 
   escaped_chars : (cs s : List ℕ) → scalars cs ≡ true → IsEscaped (encodes cs) s → IsUtf8 s
   escaped_chars [] s h q = absurd q
   escaped_chars (c ∷ cs) s h q =
-      escaped_char c cs s (low_or_above c) (λ t k. quoted_chars cs t (and_parts (scalar c) (scalars cs) h).1 k) q
+      escaped_char c cs s (cases_lt c 128) (λ t k. quoted_chars cs t (and_parts (scalar c) (scalars cs) h).1 k) q
 
 string_utf8 : (own s : List ℕ) → IsQuoted own s → IsUtf8 own → IsUtf8 s
 string_utf8 own s q u = quoted_chars u.0 s u.1.0 (subst (λ (x : List ℕ). IsQuoted x s) (sym u.1.1) q)

@@ -73,26 +73,23 @@ mutual
   datum_in : (d : Datum) (ts : List Token) → TokensIn (tokens_of d ++ ts) → InProfile d × TokensIn ts
   datum_in (atom a) ts h = (h.0, h.1)
   datum_in (vector ds) ts h =
-      let p = items_in ds (close_vector ∷ ts)
-      (subst TokensIn (append_assoc (items_tokens ds) (close_vector ∷ []) ts) h.1) in
+      let p = items_in ds (close_vector ∷ ts) (rw (append_assoc (items_tokens ds) (close_vector ∷ []) ts) at h.1) in
       (p.0, p.1.1)
   datum_in (dictionary es) ts h =
-      let p = entries_in es (close_map ∷ ts)
-      (subst TokensIn (append_assoc (entries_tokens es) (close_map ∷ []) ts) h.1) in
+      let p = entries_in es (close_map ∷ ts) (rw (append_assoc (entries_tokens es) (close_map ∷ []) ts) at h.1) in
       (p.0, p.1.1)
 
   items_in : (ds : Items) (ts : List Token) → TokensIn (items_tokens ds ++ ts) → ItemsInProfile ds × TokensIn ts
   items_in no_items ts h = (tt, h)
   items_in (item d ds) ts h =
-      let p = datum_in d (items_tokens ds ++ ts) (subst TokensIn (append_assoc (tokens_of d) (items_tokens ds) ts) h) in
+      let p = datum_in d (items_tokens ds ++ ts) (rw append_assoc at h) in
       let q = items_in ds ts p.1 in
       ((p.0, q.0), q.1)
 
   entries_in : (es : Entries) (ts : List Token) → TokensIn (entries_tokens es ++ ts) → EntriesInProfile es × TokensIn ts
   entries_in no_entries ts h = (tt, h)
   entries_in (entry k d es) ts h =
-      let p = datum_in d (entries_tokens es ++ ts)
-      (subst TokensIn (append_assoc (tokens_of d) (entries_tokens es) ts) h.1) in
+      let p = datum_in d (entries_tokens es ++ ts) (rw (append_assoc (tokens_of d) (entries_tokens es) ts) at h.1) in
       let q = entries_in es ts p.1 in
       ((h.0, p.0, q.0), q.1)
 

@@ -38,20 +38,12 @@ Escaped t s rest = (own : List ℕ) × IsEscaped own s × (t ≡ own ++ 34 ∷ r
 abbrev found : List ℕ → List ℕ → Option (List ℕ × List ℕ)
 found s r = Some (s, r)
 
-same_pair : (s t r q : List ℕ) → found s r ≡ found t q → (s ≡ t) × (r ≡ q)
-same_pair s t r q e =
-    let p = some_is {A = List ℕ × List ℕ} (s, r) (t, q) e in
-    (ap (λ (x : List ℕ × List ℕ). x.0) p, ap (λ (x : List ℕ × List ℕ). x.1) p)
-
-plain_by : (b : ℕ) (bs s rest : List ℕ) (o : Option (List ℕ × List ℕ)) → string_at bs ≡ o → (b == 34) ≡ false
-    → (b == 92) ≡ false
-    → ((t : List ℕ) → string_at bs ≡ Some (t, rest) → Quoted bs t rest) → with_byte b o ≡ Some (s, rest)
-    → Quoted (b ∷ bs) s rest
-plain_by b bs s rest None o n k ih e = absurd cc
-plain_by b bs s rest (Some p) o n k ih e =
-    let q = same_pair (b ∷ p.0) s p.1 rest e in
-    let h = ih p.0 (o ∙ ap (λ (x : List ℕ). found p.0 x) q.1) in
-    (b ∷ h.0, inl (eqb-false b 34 n, eqb-false b 92 k, p.0, sym q.0, h.1), ap (λ (x : List ℕ). b ∷ x) h.2)
+with_byte_is : (b : ℕ) (o : Option (List ℕ × List ℕ)) (s rest : List ℕ) → with_byte b o ≡ Some (s, rest)
+    → (t : List ℕ) × (o ≡ Some (t, rest)) × (s ≡ b ∷ t)
+with_byte_is b None s rest e = absurd cc
+with_byte_is b (Some p) s rest e =
+    let q = some_is {A = List ℕ × List ℕ} (b ∷ p.0, p.1) (s, rest) e in
+    (p.0, ap (λ (x : List ℕ × List ℕ). found p.0 x.1) q, ap (λ (x : List ℕ × List ℕ). x.0) (sym q))
 
 quoted_by : (b : ℕ) (bs s rest : List ℕ) (m n : Bool) → (b == 34) ≡ m → (b == 92) ≡ n
     → ((t : List ℕ) → string_at bs ≡ Some (t, rest) → Quoted bs t rest)
@@ -59,27 +51,26 @@ quoted_by : (b : ℕ) (bs s rest : List ℕ) (m n : Bool) → (b == 34) ≡ m �
     → cond m (Some ([], bs)) (cond n (escaped_at bs) (with_byte b (string_at bs))) ≡ Some (s, rest)
     → Quoted (b ∷ bs) s rest
 quoted_by b bs s rest true n hm hn ih jh e =
-    let q = same_pair [] s bs rest e in
-    ([], sym q.0, ap (λ (x : ℕ). x ∷ bs) (eqb-true b 34 hm) ∙ ap (λ (x : List ℕ). 34 ∷ x) q.1)
+    let q = some_is {A = List ℕ × List ℕ} ([], bs) (s, rest) e in (
+      [],
+      ap (λ (x : List ℕ × List ℕ). x.0) (sym q),
+      rw (eqb-true b 34 hm) (ap (λ (x : List ℕ × List ℕ). 34 ∷ x.1) q),
+    )
 quoted_by b bs s rest false true hm hn ih jh e =
     let h = jh e in (b ∷ h.0, inr (eqb-true b 92 hn, h.1), ap (λ (x : List ℕ). b ∷ x) h.2)
-quoted_by b bs s rest false false hm hn ih jh e = plain_by b bs s rest (string_at bs) refl hm hn ih e
-
-with_escape : (c : ℕ) (cs s rest : List ℕ) (e : ℕ) (o : Option (List ℕ × List ℕ)) → escape_of c ≡ Some e
-    → string_at cs ≡ o
-    → ((t : List ℕ) → string_at cs ≡ Some (t, rest) → Quoted cs t rest) → with_byte e o ≡ Some (s, rest)
-    → Escaped (c ∷ cs) s rest
-with_escape c cs s rest e None x o ih h = absurd cc
-with_escape c cs s rest e (Some p) x o ih h =
-    let q = same_pair (e ∷ p.0) s p.1 rest h in
-    let k = ih p.0 (o ∙ ap (λ (y : List ℕ). found p.0 y) q.1) in
-    (c ∷ k.0, (e, p.0, x, sym q.0, k.1), ap (λ (y : List ℕ). c ∷ y) k.2)
+quoted_by b bs s rest false false hm hn ih jh e =
+    let w = with_byte_is b (string_at bs) s rest e in
+    let h = ih w.0 w.1 in
+    (b ∷ h.0, inl (eqb-false b 34 hm, eqb-false b 92 hn, w.0, w.2, h.1), ap (λ (x : List ℕ). b ∷ x) h.2)
 
 escaped_by : (c : ℕ) (cs s rest : List ℕ) (x : Option ℕ) → escape_of c ≡ x
     → ((t : List ℕ) → string_at cs ≡ Some (t, rest) → Quoted cs t rest)
     → option_and_then (λ e. with_byte e (string_at cs)) x ≡ Some (s, rest) → Escaped (c ∷ cs) s rest
 escaped_by c cs s rest None x ih h = absurd cc
-escaped_by c cs s rest (Some e) x ih h = with_escape c cs s rest e (string_at cs) x refl ih h
+escaped_by c cs s rest (Some e) x ih h =
+    let w = with_byte_is e (string_at cs) s rest h in
+    let k = ih w.0 w.1 in
+    (c ∷ k.0, (e, w.0, x, w.2, k.1), ap (λ (y : List ℕ). c ∷ y) k.2)
 
 mutual
   pub string_is : (t s rest : List ℕ) → string_at t ≡ Some (s, rest) → Quoted t s rest

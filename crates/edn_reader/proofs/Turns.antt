@@ -3,7 +3,7 @@
 use Rattle.std.proofs.Common.{◌≡◌, ◌⊎◌, ℕ, true, false, Option, Some, None, ◌<◌, List, [], ◌∷◌, ◌++◌, length, get_or}
 use Rattle.std.proofs.Common.{refl, sym, ap, subst, ◌∙◌, append_assoc, arith, inl, inr}
 use Rattle.std.specs.Prelude.{◌≤◌, option_map, option_and_then, IsSome, ◌==◌, nat_lt}
-use Rattle.std.proofs.lemmas.Bool.{eqb-true}
+use Rattle.std.proofs.lemmas.Bool.Decides.{nat_tests}
 use Rattle.std.proofs.lemmas.List.{append-nil}
 use Rattle.std.specs.Str.{IsUtf8}
 use Rattle.edn_reader.specs.Datum.{Datum, ItemsFit, vector, dictionary, items_of, entries_of, max_open}
@@ -20,8 +20,8 @@ use Rattle.edn_reader.specs.IntegerVectors.{Held, nothing_held, hold, hold_all, 
 use Rattle.edn_reader.proofs.Cutting.{kept_tokens}
 use Rattle.edn_reader.proofs.Noting.{hold_append, held_kept, integer_vector_held}
 use Rattle.edn_reader.proofs.Strings.{some_is}
-use Rattle.edn_reader.proofs.Consumed.{consumed, step_tokens, list_tokens, mapped, kept_if, unless_so}
-use Rattle.edn_reader.proofs.Lexical.{first_shorter, skip_within}
+use Rattle.edn_reader.proofs.Consumed.{consumed, step_tokens, list_tokens, mapped, opened_at}
+use Rattle.edn_reader.proofs.Lexical.{first_shorter, skip_within, with_rest}
 use Rattle.edn_reader.specs.TokenBuffers.{IsSoundAfter}
 use Rattle.edn_reader.proofs.Progress.{Progress, plain, left, is_next, goes_on, next_at, at_end, ends_there}
 use Rattle.edn_reader.proofs.Progress.{spells_there, closed_are, stops, sound}
@@ -42,31 +42,23 @@ lexed_consumed (u ∷ us) rest s z (q, n, l) h = by_step (step u s) refl h (λ x
         let a : consumed x ≡ consumed s ++ u ∷ [] = step_tokens u s x (plain n.1 u q n.3) e in
         ih x k ∙ ap (λ (ts : List Token). ts ++ us) a ∙ append_assoc (consumed s) (u ∷ []) us
 
-pub element_front : (text rest : List ℕ) (d : Datum) → Progress text rest (closed (d ∷ [])) → IsUtf8 text
+pub element_front : {text rest : List ℕ} {d : Datum} → Progress text rest (closed (d ∷ [])) → IsUtf8 text
     → SpellsFront text (d ∷ []) rest
-element_front text rest d p u =
+element_front {text = text} {rest = rest} {d = d} p u =
     record {
       begins = p.begins;
       fits = p.fits.inner;
       on = λ es h. record {
         utf8 = u;
-        tokens = subst (λ (ts : List Token). Lexes (ts ++ list_tokens es) text) (append-nil (tokens_of d))
-            (p.spelled (list_tokens es) h.tokens);
+        tokens = rw append-nil at p.spelled (list_tokens es) h.tokens;
         fits = (p.fits.inner.0, h.fits);
       };
       only = λ es h. (
           let a = left text rest (closed (d ∷ [])) es p h in
           let c : list_tokens es ≡ (tokens_of d ++ []) ++ a.0 =
           lexed_consumed a.0 rest (closed (d ∷ [])) (closed es) a.1 a.2 in
-          let b = same_front es d a.0 (c ∙ ap (λ (ts : List Token). ts ++ a.0) (append-nil (tokens_of d))) in (
-            b.0,
-            b.1,
-            record {
-              utf8 = p.utf8;
-              tokens = subst (λ (ts : List Token). Lexes ts rest) (sym b.2) a.1;
-              fits = (subst (λ (xs : List Datum). ItemsFit max_open (items_of xs)) b.1 h.fits).1;
-            },
-          )
+          let b = same_front es d a.0 (rw append-nil at c) in
+          (b.0, b.1, record { utf8 = p.utf8; tokens = rw b.2 a.1; fits = (rw b.1 at h.fits).1 })
           );
     }
 
@@ -86,25 +78,13 @@ deeper f (g ∷ fs) h = h
 
 open_going : (f : Frame) (s z : State) → open_at f s ≡ Some z → IsInside (s.inner ∷ s.outer) → IsGoing z
 open_going f s z e h =
-    let a = unless_so (takes_key s.inner) _ z e in
-    let b = kept_if (nat_lt (length s.outer) max_open) (record { inner = f; outer = s.inner ∷ s.outer }) z a.1 in
-    inl (subst (λ (x : State). IsInside x.outer) b.1 h)
-
-put_last : (f : Frame) (d : Datum) (g : Frame) → f ≡ in_text [] → put f d ≡ Some g → g ≡ in_text (d ∷ [])
-put_last f d g q e = sym (some_is (in_text (d ∷ [])) g (sym (ap (λ (x : Frame). put x d) q) ∙ e))
+    inl (rw (← (opened_at f s z e).is) h)
 
 close_going : (d : Datum) (fs : List Frame) (z : State) → close_as d fs ≡ Some z → IsInside fs → IsGoing z
 close_going d [] z e h = absurd h
-close_going d (f ∷ []) z e h =
-    let m = mapped (λ (g : Frame). let x : State = record { inner = g; outer = [] } in x) (put f d) z e in
-    inr (
-      d,
-      sym m.2 ∙ ap (λ (g : Frame). let x : State = record { inner = g; outer = [] } in x)
-          (put_last f d m.0 h m.1),
-    )
+close_going d (f ∷ []) z e h = let k : Some (closed (d ∷ [])) ≡ Some z = rw h at e in inr (d, cc)
 close_going d (f ∷ g ∷ fs) z e h =
-    let m = mapped (λ (x : Frame). let y : State = record { inner = x; outer = g ∷ fs } in y) (put f d) z e in
-    inl (subst (λ (x : State). IsInside x.outer) m.2 h)
+    let m = mapped _ (put f d) z e in inl (rw (← m.2) h)
 
 vector_going : (i : Frame) (fs : List Frame) (z : State) → close_vector_at i fs ≡ Some z → IsInside fs → IsGoing z
 vector_going (in_vector ds) fs z e h = close_going (vector (items_of ds)) fs z e h
@@ -121,8 +101,7 @@ step_going close_vector s z e h = vector_going s.inner s.outer z e h
 step_going open_map s z e h = open_going (in_map []) s z e (deeper s.inner s.outer h)
 step_going close_map s z e h = map_going s.inner s.outer z e h
 step_going (leaf d) s z e h =
-    let m = mapped (λ (f : Frame). let x : State = record s { inner = f } in x) (put s.inner d) z e in
-    inl (subst (λ (x : State). IsInside x.outer) m.2 h)
+    let m = mapped _ (put s.inner d) z e in inl (rw (← m.2) h)
 
 pub step_first : (t : Token) (z : State) → step t opening ≡ Some z → IsGoing z
 unfolding step
@@ -151,53 +130,40 @@ pub record Taken (s : State) (n : Next) (now_open : Shapes) (r : List ℕ) : Typ
 
 pub taken : (s : State) (n : Next) (now_open : Shapes) (r : List ℕ) → after_piece (shapes_of s) n ≡ Some (now_open, r)
     → Taken s n now_open r
-taken s (got t q) now_open r e = by_shape (shape_step t (shapes_of s)) (step_shape t s) e
-  where
-    by_shape : (o : Option Shapes) → option_map shapes_of (step t s) ≡ o
-        → option_map (λ (z : Shapes). let x : Shapes × List ℕ = (z, q) in x) o ≡ Some (now_open, r)
-        → Taken s (got t q) now_open r
-    by_shape None h k = absurd cc
-    by_shape (Some z) h k =
-        let p = some_is {A = Shapes × List ℕ} (z, q) (now_open, r) k in
-        let m = mapped shapes_of (step t s) z h in
-        let zo : z ≡ now_open = ap (λ (x : Shapes × List ℕ). x.0) p in
-        let qr : q ≡ r = ap (λ (x : Shapes × List ℕ). x.1) p in
-        record { token = t; after = m.0; is = ap (got t) qr; steps_to = m.1; shaped = m.2 ∙ zo }
+taken s (got t q) now_open r e =
+    let p = mapped _ (shape_step t (shapes_of s)) (now_open, r) e in
+    let m = mapped shapes_of (step t s) p.0 (step_shape t s ∙ p.1) in
+    record {
+      token = t;
+      after = m.0;
+      is = ap (λ (x : Shapes × List ℕ). got t x.1) p.2;
+      steps_to = m.1;
+      shaped = m.2 ∙ ap (λ (x : Shapes × List ℕ). x.0) p.2;
+    }
 taken s n now_open r e = absurd cc
 
-pub not_taken : (s : State) (n : Next) → after_piece (shapes_of s) n ≡ None → after_token s n ≡ None
-not_taken s end e = refl
-not_taken s bad e = refl
-not_taken s (got t q) e = by_step (step t s) (step_shape t s)
-  where
-    by_step : (o : Option State) → option_map shapes_of o ≡ shape_step t (shapes_of s)
-        → option_map (λ (z : State). let x : State × List ℕ = (z, q) in x) o ≡ None
-    by_step None h = refl
-    by_step (Some z) h =
-        let none : option_map (λ (y : Shapes). let x : Shapes × List ℕ = (y, q) in x) (Some (shapes_of z)) ≡ None =
-        ap (option_map (λ (y : Shapes). let x : Shapes × List ℕ = (y, q) in x)) h ∙ e in absurd cc
-
--- a token that the shapes take, the reader takes
+-- what the shapes take, the reader takes
 taken_too : (s : State) (n : Next) → IsSome (after_piece (shapes_of s) n) → IsSome (after_token s n)
-taken_too s (got t q) e = by_step (step t s) (step_shape t s)
+taken_too s (got t q) e = by_step (step t s) (rw (← step_shape t s) at e)
   where
-    by_step : (o : Option State) → option_map shapes_of o ≡ shape_step t (shapes_of s)
-        → IsSome (option_map (λ (z : State). let x : State × List ℕ = (z, q) in x) o)
-    by_step None h = let none : IsSome (option_map (λ (y : Shapes). let x : Shapes × List ℕ = (y, q) in x) None) =
-        subst (λ (o : Option Shapes). IsSome (option_map (λ (y : Shapes). let x : Shapes × List ℕ = (y, q) in x) o))
-        (sym h) e in absurd cc
-    by_step (Some z) h = refl
+    by_step : (o : Option State) → IsSome (option_map (λ (y : Shapes). let x : Shapes × List ℕ = (y, q) in x)
+        (option_map shapes_of o)) → IsSome (option_map (with_rest q) o)
+    by_step None e = absurd cc
+    by_step (Some z) e = refl
 taken_too s n e = absurd cc
+
+not_taken : (s : State) (n : Next) → after_piece (shapes_of s) n ≡ None → after_token s n ≡ None
+not_taken s (got t q) e = by_step (step t s) (rw (← step_shape t s) at e)
+  where
+    by_step : (o : Option State) → option_map (λ (y : Shapes). let x : Shapes × List ℕ = (y, q) in x)
+        (option_map shapes_of o) ≡ None → option_map (with_rest q) o ≡ None
+    by_step None e = refl
+    by_step (Some z) e = absurd cc
+not_taken s n e = refl
 
 step_consumed : (rest : List ℕ) (t : Token) (r : List ℕ) (s z : State) → next rest ≡ got t r → step t s ≡ Some z
     → consumed z ≡ consumed s ++ t ∷ []
 step_consumed rest t r s z e f = let n = is_next rest t r e in step_tokens t s z (plain n.1 t r n.3) f
-
--- where something is open the element is not whole
-inside_of : (s : State) (old : Shapes) → shapes_of s ≡ old → (old.outer ≡ [] → ⊥) → IsGoing s → IsInside s.outer
-inside_of s old e h (inl i) = i
-inside_of s old e h (inr (d, q)) =
-    absurd (h (sym (ap (λ (x : Shapes). x.outer) e) ∙ ap (λ (x : State). shape_list x.outer) q))
 
 pub start : (text : List ℕ) → IsUtf8 text → Progress text text opening
 start text u = record {
@@ -211,205 +177,131 @@ start text u = record {
   within = omega arith;
 }
 
--- the first token of an element
-pub first_turn : (keeping : Keeping) (text here r : List ℕ) (now_open : Shapes) (kept : Held) → IsUtf8 text
-    → here ≡ skip text
-    → after_piece nothing_open (first here) ≡ Some (now_open, r) → HoldsToken (nothing_held keeping) (first here) kept
-    → Midway keeping text r now_open kept
-first_turn keeping text here r now_open kept u h e k =
-    let t = taken opening (first here) now_open r e in
-    let n : next text ≡ got t.token r = next_at text here h ∙ t.is in
-    let p = goes_on text text t.token r opening t.after n t.steps_to (start text u) in
-    record {
-      state = t.after;
-      progress = p;
-      shaped = t.shaped;
-      kept = ap (λ (ts : List Token). hold_all ts (nothing_held keeping))
-          (step_consumed text t.token r opening t.after n t.steps_to) ∙ sym (k t.token r t.is);
-      going = step_first t.token t.after t.steps_to;
-    }
+-- ---- before an element
 
--- a token after others
-pub next_turn : (keeping : Keeping) (text rest here r : List ℕ) (old new : Shapes) (kept more : Held)
-    → here ≡ skip rest → (old.outer ≡ [] → ⊥)
-    → after_piece old (first here) ≡ Some (new, r) → HoldsToken kept (first here) more
-    → Midway keeping text rest old kept → Midway keeping text r new more
-next_turn keeping text rest here r old new kept more h inside e k m =
-    let e' : after_piece (shapes_of m.state) (first here) ≡ Some (new, r) =
-    ap (λ (s : Shapes). after_piece s (first here)) m.shaped ∙ e in
-    let t = taken m.state (first here) new r e' in
-    let n : next rest ≡ got t.token r = next_at rest here h ∙ t.is in
-    record {
-      state = t.after;
-      progress = goes_on text rest t.token r m.state t.after n t.steps_to m.progress;
-      shaped = t.shaped;
-      kept =
-          ap (λ (ts : List Token). hold_all ts (nothing_held keeping))
-          (step_consumed rest t.token r m.state t.after n t.steps_to)
-          ∙ hold_append (consumed m.state) (t.token ∷ []) (nothing_held keeping)
-          ∙ ap (hold t.token) m.kept
-          ∙ sym (k t.token r t.is);
-      going = step_going t.token m.state t.after t.steps_to (inside_of m.state old m.shaped inside m.going);
-    }
+module _ {text here : List ℕ} (u : IsUtf8 text) (h : here ≡ skip text) where
+  -- its first token
+  pub first_turn : {keeping : Keeping} {r : List ℕ} {old new : Shapes} {kept more : Held} → old ≡ nothing_open
+      → kept ≡ nothing_held keeping → after_piece old (first here) ≡ Some (new, r)
+      → HoldsToken kept (first here) more → Midway keeping text r new more
+  first_turn {keeping = keeping} {r = r} {new = new} o z e k =
+      let t = taken opening (first here) new r (rw o at e) in
+      let n : next text ≡ got t.token r = next_at text here h ∙ t.is in
+      record {
+        state = t.after;
+        progress = goes_on text text t.token r opening t.after n t.steps_to (start text u);
+        shaped = t.shaped;
+        kept = rw (step_consumed text t.token r opening t.after n t.steps_to, k t.token r t.is, z) refl;
+        going = step_first t.token t.after t.steps_to;
+      }
 
--- nothing is open: the element is whole
-pub whole : (keeping : Keeping) (text rest : List ℕ) (now_open : Shapes) (kept : Held) → IsUtf8 text
-    → now_open.outer ≡ []
-    → Midway keeping text rest now_open kept
-    → ReadsElement keeping text kept.kept.tokens (noted kept.integer_vector) rest
-whole keeping text rest now_open kept u e m = by_going m.going
-  where
-    by_going : IsGoing m.state → ReadsElement keeping text kept.kept.tokens (noted kept.integer_vector) rest
-    by_going (inl i) = absurd (not_inside m.state.outer i (ap (λ (x : Shapes). x.outer) m.shaped ∙ e))
-      where
-        not_inside : (fs : List Frame) → IsInside fs → shape_list fs ≡ [] → ⊥
-        not_inside [] i h = i
-        not_inside (f ∷ fs) i h = cc
-    by_going (inr (d, q)) =
-        let p : Progress text rest (closed (d ∷ [])) = subst (λ (s : State). Progress text rest s) q m.progress in
-        let held : kept ≡ hold_all (tokens_of d) (nothing_held keeping) =
-        sym m.kept ∙ ap (λ (ts : List Token). hold_all ts (nothing_held keeping))
-        (ap consumed q ∙ append-nil (tokens_of d)) in
+  pub none_first : {old : Shapes} → 0 < length here → old ≡ nothing_open → after_piece old (first here) ≡ None
+      → (ds : List Datum) → Spells ds text → ⊥
+  none_first some o e = stops text text here opening h some (not_taken opening (first here) (rw o at e)) (start text u)
+
+  pub sound_first : {old : Shapes} → old ≡ nothing_open → IsSome (after_piece old (first here))
+      → IsSoundAfter (length here) text
+  sound_first o e = (
+    omega (arith, ap length h, skip_within text),
+    sound text text here opening h u (start text u) (taken_too opening (first here) (rw o at e)),
+  )
+
+  -- the text ends
+  pub nothing_more : true ≡ (length here == 0) → SpellsNothing text
+  nothing_more e =
+      let n = at_end text here h e in
+      record {
+        spelled = spells_there text text [] n (start text u) u;
+        only = λ es k. sym (closed_are [] es (ends_there text text opening n (start text u) es k));
+      }
+
+-- ---- between tokens of an element
+
+module _ {keeping : Keeping} {text rest : List ℕ} {now_open : Shapes} {kept : Held}
+    (m : Midway keeping text rest now_open kept) where
+  -- where something is open the element is not whole
+  inside : false ≡ (length now_open.outer == 0) → IsInside m.state.outer
+  inside o = elim m.going [
+    | inl i ↦ i
+    | inr d ↦ (let z : false ≡ true = rw (← m.shaped, d.1) at o in absurd cc)
+  ]
+
+  -- where nothing is open it is
+  one_form : true ≡ (length now_open.outer == 0) → (d : Datum) × (m.state ≡ closed (d ∷ []))
+  one_form o = elim m.going [
+    | inl i ↦ absurd (not_inside m.state.outer i (rw (← m.shaped) at o))
+    | inr d ↦ d
+  ]
+    where
+      not_inside : (fs : List Frame) → IsInside fs → true ≡ (length (shape_list fs) == 0) → ⊥
+      not_inside [] i h = i
+      not_inside (f ∷ fs) i h = grind (arith, nat_tests)
+
+  pub whole : IsUtf8 text → true ≡ (length now_open.outer == 0)
+      → ReadsElement keeping text kept.kept.tokens (noted kept.integer_vector) rest
+  whole u o =
+      let d = one_form o in
+      let p : Progress text rest (closed (d.0 ∷ [])) = rw d.1 at m.progress in
+      let held : kept ≡ hold_all (tokens_of d.0) (nothing_held keeping) = sym (rw (d.1, append-nil) at m.kept) in
+      record {
+        element = d.0;
+        own = ap (λ (k : Held). k.kept.tokens) held
+            ∙ rw (held_kept (tokens_of d.0) (nothing_held keeping)) (kept_tokens keeping.cuts d.0);
+        own_integer_vector = ap (λ (k : Held). noted k.integer_vector) held ∙ integer_vector_held keeping d.0;
+        front = element_front p u;
+        utf8 = p.utf8;
+      }
+
+  -- then nothing is open but the text
+  pub whole_open : true ≡ (length now_open.outer == 0) → now_open ≡ nothing_open
+  whole_open o = let d = one_form o in sym m.shaped ∙ ap shapes_of d.1
+
+  module _ {here : List ℕ} (h : here ≡ skip rest) where
+    -- one token more
+    pub next_turn : {r : List ℕ} {new : Shapes} {more : Held} → false ≡ (length now_open.outer == 0)
+        → after_piece now_open (first here) ≡ Some (new, r) → HoldsToken kept (first here) more
+        → Midway keeping text r new more
+    next_turn {r = r} {new = new} o e k =
+        let t = taken m.state (first here) new r (rw (← m.shaped) at e) in
+        let n : next rest ≡ got t.token r = next_at rest here h ∙ t.is in
         record {
-          element = d;
-          own = ap (λ (k : Held). k.kept.tokens) held
-              ∙ ap (λ (k : Keep). k.tokens) (held_kept (tokens_of d) (nothing_held keeping))
-              ∙ kept_tokens keeping.cuts d;
-          own_integer_vector = ap (λ (k : Held). noted k.integer_vector) held ∙ integer_vector_held keeping d;
-          front = element_front text rest d p u;
-          utf8 = p.utf8;
+          state = t.after;
+          progress = goes_on text rest t.token r m.state t.after n t.steps_to m.progress;
+          shaped = t.shaped;
+          kept = rw (step_consumed rest t.token r m.state t.after n t.steps_to, k t.token r t.is,
+              hold_append (consumed m.state) (t.token ∷ []) (nothing_held keeping), m.kept) refl;
+          going = step_going t.token m.state t.after t.steps_to (inside o);
         }
 
--- then nothing is open but the text
-pub whole_open : (keeping : Keeping) (text rest : List ℕ) (now_open : Shapes) (kept : Held) → now_open.outer ≡ []
-    → Midway keeping text rest now_open kept → now_open ≡ nothing_open
-whole_open keeping text rest now_open kept e m = by_going m.going
-  where
-    by_going : IsGoing m.state → now_open ≡ nothing_open
-    by_going (inl i) = absurd (not_inside m.state.outer i (ap (λ (x : Shapes). x.outer) m.shaped ∙ e))
-      where
-        not_inside : (fs : List Frame) → IsInside fs → shape_list fs ≡ [] → ⊥
-        not_inside [] i h = i
-        not_inside (f ∷ fs) i h = cc
-    by_going (inr (d, q)) = sym m.shaped ∙ ap shapes_of q
+    pub none_next : 0 < length here → after_piece now_open (first here) ≡ None → (ds : List Datum) → Spells ds text
+        → ⊥
+    none_next some e =
+        stops text rest here m.state h some (not_taken m.state (first here) (rw (← m.shaped) at e)) m.progress
 
--- ---- where reading stops
-
-pub none_first : (text here : List ℕ) → IsUtf8 text → here ≡ skip text → 0 < length here
-    → after_piece nothing_open (first here) ≡ None → (ds : List Datum) → Spells ds text → ⊥
-none_first text here u h some e = stops text text here opening h some (not_taken opening (first here) e) (start text u)
-
-pub none_next : (keeping : Keeping) (text rest here : List ℕ) (now_open : Shapes) (kept : Held) → here ≡ skip rest
-    → 0 < length here
-    → after_piece now_open (first here) ≡ None → Midway keeping text rest now_open kept → (ds : List Datum)
-    → Spells ds text → ⊥
-none_next keeping text rest here now_open kept h some e m =
-    stops text rest here m.state h some
-    (not_taken m.state (first here) (ap (λ (s : Shapes). after_piece s (first here)) m.shaped ∙ e)) m.progress
-
--- nothing is wrong up to a token that would be taken
-pub sound_next : (keeping : Keeping) (text rest here : List ℕ) (now_open : Shapes) (kept : Held) → IsUtf8 text
-    → here ≡ skip rest
-    → IsSome (after_piece now_open (first here)) → Midway keeping text rest now_open kept
-    → IsSoundAfter (length here) text
-sound_next keeping text rest here now_open kept u h e m =
-    let within : length here ≤ length text = omega (arith, ap length h, skip_within rest, m.progress.within) in (
-      within,
-      sound text rest here m.state h u m.progress
-          (taken_too m.state (first here)
-          (subst (λ (s : Shapes). IsSome (after_piece s (first here))) (sym m.shaped) e)),
+    -- nothing is wrong up to a token that would be taken
+    pub sound_next : IsUtf8 text → IsSome (after_piece now_open (first here)) → IsSoundAfter (length here) text
+    sound_next u e = (
+      omega (arith, ap length h, skip_within rest, m.progress.within),
+      sound text rest here m.state h u m.progress (taken_too m.state (first here) (rw (← m.shaped) at e)),
     )
 
-pub sound_first : (text here : List ℕ) (old : Shapes) → IsUtf8 text → here ≡ skip text → old ≡ nothing_open
-    → IsSome (after_piece old (first here)) → IsSoundAfter (length here) text
-sound_first text here old u h o e =
-    let within : length here ≤ length text = omega (arith, ap length h, skip_within text) in (
-      within,
-      sound text text here opening h u (start text u)
-          (taken_too opening (first here) (subst (λ (s : Shapes). IsSome (after_piece s (first here))) o e)),
-    )
-
--- the text ends inside an element
-pub none_at_end : (keeping : Keeping) (text rest here : List ℕ) (now_open : Shapes) (kept : Held) → here ≡ skip rest
-    → true ≡ (length here == 0)
-    → (now_open.outer ≡ [] → ⊥) → Midway keeping text rest now_open kept → (ds : List Datum) → Spells ds text → ⊥
-none_at_end keeping text rest here now_open kept h e inside m ds k =
-    let q : m.state ≡ closed ds = ends_there text rest m.state (at_end rest here h e) m.progress ds k in
-    inside (sym (ap (λ (x : Shapes). x.outer) m.shaped) ∙ ap (λ (x : State). shape_list x.outer) q)
-
--- the text ends before an element
-pub nothing_more : (text here : List ℕ) → IsUtf8 text → here ≡ skip text → true ≡ (length here == 0)
-    → SpellsNothing text
-nothing_more text here u h e =
-    let n = at_end text here h e in
-    record {
-      spelled = spells_there text text [] n (start text u) u;
-      only = λ es k. sym (closed_are [] es (ends_there text text opening n (start text u) es k));
-    }
-
--- ---- as the loop has them
-
-is_open : (s : Shapes) → false ≡ (length s.outer == 0) → s.outer ≡ [] → ⊥
-is_open s h e = let z : (length s.outer == 0) ≡ true = ap (λ (fs : List Shape). length fs == 0) e in absurd cc
-
-nothing_in : (fs : List Shape) → true ≡ (length fs == 0) → fs ≡ []
-nothing_in [] h = refl
-nothing_in (f ∷ fs) h = let z : length (f ∷ fs) ≡ 0 = eqb-true (length (f ∷ fs)) 0 (sym h) in absurd (omega arith)
-
-pub loop_init : (keeping : Keeping) (text here r : List ℕ) (old new : Shapes) (kept more : Held) → IsUtf8 text
-    → here ≡ skip text → old ≡ nothing_open
-    → kept ≡ nothing_held keeping → after_piece old (first here) ≡ Some (new, r) → HoldsToken kept (first here) more
-    → Midway keeping text r new more
-loop_init keeping text here r old new kept more u h o z e k =
-    first_turn keeping text here r new more u h (ap (λ (s : Shapes). after_piece s (first here)) (sym o) ∙ e)
-    (λ t q n. k t q n ∙ ap (hold t) z)
-
-pub loop_turn : (keeping : Keeping) (text rest here r : List ℕ) (old new : Shapes) (kept more : Held) → here ≡ skip rest
-    → false ≡ (length old.outer == 0) → after_piece old (first here) ≡ Some (new, r) → HoldsToken kept (first here) more
-    → Midway keeping text rest old kept → Midway keeping text r new more
-loop_turn keeping text rest here r old new kept more h o e k m =
-    next_turn keeping text rest here r old new kept more h (is_open old o) e k m
-
-pub loop_whole : (keeping : Keeping) (text rest : List ℕ) (now_open : Shapes) (kept : Held) → IsUtf8 text
-    → true ≡ (length now_open.outer == 0)
-    → Midway keeping text rest now_open kept
-    → ReadsElement keeping text kept.kept.tokens (noted kept.integer_vector) rest
-loop_whole keeping text rest now_open kept u o m =
-    whole keeping text rest now_open kept u (nothing_in now_open.outer o) m
-
-pub loop_fresh : (keeping : Keeping) (text rest : List ℕ) (now_open : Shapes) (kept : Held)
-    → true ≡ (length now_open.outer == 0) → Midway keeping text rest now_open kept → now_open ≡ nothing_open
-loop_fresh keeping text rest now_open kept o m =
-    whole_open keeping text rest now_open kept (nothing_in now_open.outer o) m
-
-pub loop_none_first : (text here : List ℕ) (old : Shapes) → IsUtf8 text → here ≡ skip text → 0 < length here
-    → old ≡ nothing_open
-    → after_piece old (first here) ≡ None → (ds : List Datum) → Spells ds text → ⊥
-loop_none_first text here old u h some o e =
-    none_first text here u h some (ap (λ (s : Shapes). after_piece s (first here)) (sym o) ∙ e)
-
-pub loop_none_at_end : (keeping : Keeping) (text rest here : List ℕ) (now_open : Shapes) (kept : Held)
-    → here ≡ skip rest → true ≡ (length here == 0)
-    → false ≡ (length now_open.outer == 0) → Midway keeping text rest now_open kept → (ds : List Datum)
-    → Spells ds text → ⊥
-loop_none_at_end keeping text rest here now_open kept h e o m =
-    none_at_end keeping text rest here now_open kept h e (is_open now_open o) m
+    -- the text ends inside an element
+    pub none_at_end : true ≡ (length here == 0) → false ≡ (length now_open.outer == 0) → (ds : List Datum)
+        → Spells ds text → ⊥
+    none_at_end e o ds k =
+        let q : m.state ≡ closed ds = ends_there text rest m.state (at_end rest here h e) m.progress ds k in
+        let z : false ≡ true = rw (← m.shaped, q) at o in
+        cc
 
 pub after_piece_shorter : (t : List ℕ) (s z : Shapes) (r : List ℕ) → after_piece s (first t) ≡ Some (z, r)
     → length r < length t
 after_piece_shorter t s z r e = by_next (first t) refl e
   where
     by_next : (n : Next) → first t ≡ n → after_piece s n ≡ Some (z, r) → length r < length t
-    by_next end f k = absurd cc
-    by_next bad f k = absurd cc
-    by_next (got u q) f k = let p = first_shorter t u q f in by_step (shape_step u s) k
-      where
-        by_step : (o : Option Shapes)
-            → option_map (λ (y : Shapes). let x : Shapes × List ℕ = (y, q) in x) o ≡ Some (z, r) → length r < length t
-        by_step None h = absurd cc
-        by_step (Some y) h =
-            let a = some_is {A = Shapes × List ℕ} (y, q) (z, r) h in
-            subst (λ (x : List ℕ). length x < length t) (ap (λ (x : Shapes × List ℕ). x.1) a) (first_shorter t u q f)
+    by_next (got u q) f k =
+        let a = mapped _ (shape_step u s) (z, r) k in
+        rw (← ap (λ (x : Shapes × List ℕ). x.1) a.2) (first_shorter t u q f)
+    by_next n f k = absurd cc
 
 -- ---- a string is no key
 

@@ -8,7 +8,7 @@ use Rattle.std.specs.List.{list_all}
 use Rattle.std.specs.Str.{IsUtf8, IsAscii}
 use lib.Utf8.{scalars, scalar, encodes, encode}
 use Rattle.std.proofs.lemmas.List.{append-nil}
-use Rattle.std.proofs.lemmas.Bool.{and_parts, and_from, ltb-true, lt-ltb, ne_eqb, cases_Bool}
+use Rattle.std.proofs.lemmas.Bool.{and_parts, and_from, ltb-true, lt-ltb, cases_lt}
 use Rattle.std.proofs.lemmas.Bool.Decides.{nat_tests}
 use Rattle.std.proofs.lemmas.Str.{IsUtf8-append, IsUtf8-from_ascii, IsUtf8-encode, IsUtf8-nil, encode_ascii, inside_one}
 use Rattle.std.proofs.lemmas.Str.Ascii.{IsAscii-nil, IsAscii-cons}
@@ -63,17 +63,10 @@ escape_utf8 b h = ascii_utf8 (escape_text b)
 escaped-append : (xs ys : List ℕ) → escaped (xs ++ ys) ≡ escaped xs ++ escaped ys
 escaped-append [] ys = refl
 escaped-append (x ∷ xs) ys =
-    ap (λ (t : List ℕ). escape_text x ++ t) (escaped-append xs ys)
-    ∙ sym (append_assoc (escape_text x) (escaped xs) (escaped ys))
+    rw (escaped-append xs ys) (simp append_assoc)
 
 above_plain : (b : ℕ) → 128 ≤ b → is_plain b ≡ true
-above_plain b h =
-    let v : (b == 9) ≡ false = ne_eqb b 9 (λ e. omega arith) in
-    let w : (b == 13) ≡ false = ne_eqb b 13 (λ e. omega arith) in
-    let x : (b == 10) ≡ false = ne_eqb b 10 (λ e. omega arith) in
-    let y : (b == 92) ≡ false = ne_eqb b 92 (λ e. omega arith) in
-    let z : (b == 34) ≡ false = ne_eqb b 34 (λ e. omega arith) in
-    rw (v, w, x, y, z) refl
+above_plain b h = grind (arith, nat_tests)
 
 escaped_above : (xs : List ℕ) → ((k : ℕ) → k < length xs → 128 ≤ get_or xs k 0) → escaped xs ≡ xs
 escaped_above [] h = refl
@@ -82,28 +75,23 @@ escaped_above (x ∷ xs) h =
     rw p (ap (λ (t : List ℕ). x ∷ t) (escaped_above xs (λ k lt. h (suc k) (omega arith))))
 
 pub bytes_above : (c : ℕ) → 128 ≤ c → (k : ℕ) → k < length (encode c) → 128 ≤ get_or (encode c) k 0
-bytes_above c h k lt = elim (cases_Bool (nat_lt (get_or (encode c) k 0) 128)) [
-  | inl e ↦ (let b : get_or (encode c) k 0 < 128 = ltb-true (get_or (encode c) k 0) 128 e in
-      let s : c ≡ get_or (encode c) k 0 =
-      inside_one c [] (encode c) k (sym (append-nil (encode c))) lt b in absurd (omega arith))
-  | inr e ↦ grind (arith, nat_tests)
+bytes_above c h k lt = elim (cases_lt (get_or (encode c) k 0) 128) [
+  | inl b ↦ (let s : c ≡ get_or (encode c) k 0 = inside_one c [] (encode c) k (sym (append-nil (encode c))) lt b in
+      omega arith)
+  | inr b ↦ b
 ]
 
 character_utf8 : (c : ℕ) → scalar c ≡ true → IsUtf8 (escaped (encode c))
-character_utf8 c h = elim (cases_Bool (nat_lt c 128)) [
-  | inl e ↦ (let b : c < 128 = ltb-true c 128 e in
-      let q : escaped (encode c) ≡ escape_text c = ap escaped (encode_ascii c b) ∙ append-nil (escape_text c) in
-      subst IsUtf8 (sym q) (escape_utf8 c b))
-  | inr e ↦ (let b : 128 ≤ c = grind (arith, nat_tests) in
-      subst IsUtf8 (sym (escaped_above (encode c) (bytes_above c b))) (IsUtf8-encode c h))
+character_utf8 c h = elim (cases_lt c 128) [
+  | inl b ↦ rw (encode_ascii c b, append-nil) (escape_utf8 c b)
+  | inr b ↦ rw (escaped_above (encode c) (bytes_above c b)) (IsUtf8-encode c h)
 ]
 
 characters_utf8 : (cs : List ℕ) → scalars cs ≡ true → IsUtf8 (escaped (encodes cs))
 characters_utf8 [] h = IsUtf8-nil
 characters_utf8 (c ∷ cs) h =
     let p = and_parts (scalar c) (scalars cs) h in
-    subst IsUtf8 (sym (escaped-append (encode c) (encodes cs)))
-    (IsUtf8-append (escaped (encode c)) (escaped (encodes cs)) (character_utf8 c p.0) (characters_utf8 cs p.1))
+    rw (escaped-append (encode c) (encodes cs)) (IsUtf8-append (escaped (encode c)) (escaped (encodes cs)) (character_utf8 c p.0) (characters_utf8 cs p.1))
 
 escaped_utf8 : (s : List ℕ) → IsUtf8 s → IsUtf8 (escaped s)
 escaped_utf8 s u = subst (λ (x : List ℕ). IsUtf8 (escaped x)) u.1.1 (characters_utf8 u.0 u.1.0)

@@ -2,35 +2,36 @@
 -- after it.
 use Rattle.std.proofs.Common.{◌≡◌, ℕ, Bool, true, false, cond, List, [], ◌∷◌, ◌++◌, refl, sym, ap, ◌∙◌, subst}
 use Rattle.std.proofs.Common.{append_assoc, inl, inr}
-use Rattle.std.specs.Prelude.{◌==◌, codes}
+use Rattle.std.specs.Prelude.{◌==◌, ◌||◌, not, codes, Some}
 use Rattle.std.specs.Fmt.{signed_decimal}
 use Rattle.std.proofs.lemmas.Bool.{eqb-true, eqb-false}
-use Rattle.edn_reader.specs.Bytes.{is_separator, is_token_byte}
+use Rattle.edn_reader.specs.Bytes.{is_separator, is_mark, is_token_byte}
 use Rattle.edn_reader.specs.Datum.{Atom, nil, boolean, integer, string, keyword, Datum, atom, vector, dictionary, Items}
 use Rattle.edn_reader.specs.Datum.{no_items, item, Entries, no_entries, entry}
 use Rattle.edn_reader.specs.Token.{Token, open_vector, close_vector, open_map, close_map, leaf, tokens_of, items_tokens}
 use Rattle.edn_reader.specs.Token.{entries_tokens}
-use Rattle.edn_reader.specs.Spells.{IsWord, IsQuoted, EndsToken, Begins, Lexes}
+use Rattle.edn_reader.specs.Spells.{escape_of, IsWord, IsQuoted, EndsToken, Begins, Lexes}
 use Rattle.edn_reader.specs.Text.{escaped, atom_text, between, text_of, items_text, entries_text, AtomInProfile}
 use Rattle.edn_reader.specs.Text.{InProfile, ItemsInProfile, EntriesInProfile}
 use Rattle.edn_reader.proofs.Decimals.{integer_text}
 
 -- ---- strings
 
+-- an escape, and the byte that it stands for
+escape_first : (b c e : ℕ) (bs : List ℕ) → (b == e) ≡ true → escape_of c ≡ Some e → IsQuoted (escaped bs) bs
+    → IsQuoted (92 ∷ c ∷ escaped bs) (b ∷ bs)
+escape_first b c e bs h k ih = inr (refl, (e, bs, k, ap (λ (x : ℕ). x ∷ bs) (eqb-true b e h), ih))
+
 quoted_by : (b : ℕ) (bs : List ℕ) (t r n k q : Bool) → (b == 9) ≡ t → (b == 13) ≡ r → (b == 10) ≡ n → (b == 92) ≡ k
     → (b == 34) ≡ q → IsQuoted (escaped bs) bs
     → IsQuoted (cond t (codes "\\t")
     (cond r (codes "\\r") (cond n (codes "\\n") (cond k (codes "\\\\") (cond q (codes "\\\"") (b ∷ [])))))
     ++ escaped bs) (b ∷ bs)
-quoted_by b bs true r n k q ht hr hn hk hq ih = inr (refl, (9, bs, refl, ap (λ (x : ℕ). x ∷ bs) (eqb-true b 9 ht), ih))
-quoted_by b bs false true n k q ht hr hn hk hq ih =
-    inr (refl, (13, bs, refl, ap (λ (x : ℕ). x ∷ bs) (eqb-true b 13 hr), ih))
-quoted_by b bs false false true k q ht hr hn hk hq ih =
-    inr (refl, (10, bs, refl, ap (λ (x : ℕ). x ∷ bs) (eqb-true b 10 hn), ih))
-quoted_by b bs false false false true q ht hr hn hk hq ih =
-    inr (refl, (92, bs, refl, ap (λ (x : ℕ). x ∷ bs) (eqb-true b 92 hk), ih))
-quoted_by b bs false false false false true ht hr hn hk hq ih =
-    inr (refl, (34, bs, refl, ap (λ (x : ℕ). x ∷ bs) (eqb-true b 34 hq), ih))
+quoted_by b bs true r n k q ht hr hn hk hq ih = escape_first b 116 9 bs ht refl ih
+quoted_by b bs false true n k q ht hr hn hk hq ih = escape_first b 114 13 bs hr refl ih
+quoted_by b bs false false true k q ht hr hn hk hq ih = escape_first b 110 10 bs hn refl ih
+quoted_by b bs false false false true q ht hr hn hk hq ih = escape_first b 92 92 bs hk refl ih
+quoted_by b bs false false false false true ht hr hn hk hq ih = escape_first b 34 34 bs hq refl ih
 quoted_by b bs false false false false false ht hr hn hk hq ih =
     inl (eqb-false b 34 hq, eqb-false b 92 hk, bs, refl, ih)
 
@@ -65,29 +66,18 @@ lexes_atom (string s) ts rest p e l =
     (inr (s, escaped s, refl, quoted s, ap (λ (x : List ℕ). 34 ∷ x) (append_assoc (escaped s) (34 ∷ []) rest))) l
 lexes_atom (keyword k) ts rest p e l = word_first (keyword k) (58 ∷ k) rest ts (refl, p) e l
 
-ends32 : is_token_byte 32 ≡ false
+-- a separator or a mark ends a word
+pub ends_token : (b : ℕ) → (is_separator b || is_mark b) ≡ true → is_token_byte b ≡ false
 unfolding is_token_byte
-ends32 = refl
-
-ends44 : is_token_byte 44 ≡ false
-unfolding is_token_byte
-ends44 = refl
-
-pub ends93 : is_token_byte 93 ≡ false
-unfolding is_token_byte
-ends93 = refl
-
-pub ends125 : is_token_byte 125 ≡ false
-unfolding is_token_byte
-ends125 = refl
+ends_token b h = ap not h
 
 items_end : (ds : Items) (rest : List ℕ) → EndsToken rest → EndsToken (items_text false ds ++ rest)
 items_end no_items rest e = e
-items_end (item d ds) rest e = ends32
+items_end (item d ds) rest e = ends_token 32 refl
 
 entries_end : (es : Entries) (rest : List ℕ) → EndsToken rest → EndsToken (entries_text false es ++ rest)
 entries_end no_entries rest e = e
-entries_end (entry k d es) rest e = ends44
+entries_end (entry k d es) rest e = ends_token 44 refl
 
 between_items : (first : Bool) (ts : List Token) (text : List ℕ) → Lexes ts text
     → Lexes ts (between first (codes " ") ++ text)
@@ -99,22 +89,12 @@ between_entries : (first : Bool) (ts : List Token) (text : List ℕ) → Lexes t
 between_entries true ts text l = l
 between_entries false ts text l = sep_first 44 ts (32 ∷ text) refl (sep_first 32 ts text refl l)
 
--- the same tokens and the same text, grouped otherwise
-regrouped : (ts us : List Token) (a b : List ℕ) → ts ≡ us → a ≡ b → Lexes us b → Lexes ts a
-regrouped ts us a b p q l = subst (λ (x : List Token). Lexes x a) (sym p) (subst (λ (x : List ℕ). Lexes us x) (sym q) l)
-
 enclosed : (o z : Token) (b c : ℕ) (inner ts : List Token) (text rest : List ℕ)
     → Begins (b ∷ (text ++ c ∷ rest)) o (text ++ c ∷ rest)
     → Lexes (inner ++ z ∷ ts) (text ++ c ∷ rest)
     → Lexes ((o ∷ (inner ++ z ∷ [])) ++ ts) ((b ∷ (text ++ c ∷ [])) ++ rest)
 enclosed o z b c inner ts text rest k l =
-    regrouped _ (o ∷ (inner ++ z ∷ ts)) _ (b ∷ (text ++ c ∷ rest))
-    (ap (λ (x : List Token). o ∷ x) (append_assoc inner (z ∷ []) ts))
-    (ap (λ (x : List ℕ). b ∷ x) (append_assoc text (c ∷ []) rest))
-    (token_first _ o (text ++ c ∷ rest) (inner ++ z ∷ ts) k l)
-
-text_grouped : (s t u v : List ℕ) → ((s ++ t) ++ u) ++ v ≡ s ++ (t ++ (u ++ v))
-text_grouped s t u v = append_assoc (s ++ t) u v ∙ append_assoc s t (u ++ v)
+    simp append_assoc (token_first _ o (text ++ c ∷ rest) (inner ++ z ∷ ts) k l)
 
 mutual
   pub lexes_datum : (d : Datum) (ts : List Token) (rest : List ℕ) → InProfile d → EndsToken rest → Lexes ts rest
@@ -122,10 +102,12 @@ mutual
   lexes_datum (atom a) ts rest p e l = lexes_atom a ts rest p e l
   lexes_datum (vector ds) ts rest p e l =
       enclosed open_vector close_vector 91 93 (items_tokens ds) ts (items_text true ds) rest refl
-      (lexes_items true ds (close_vector ∷ ts) (93 ∷ rest) p ends93 (token_first _ close_vector rest ts refl l))
+      (lexes_items true ds (close_vector ∷ ts) (93 ∷ rest) p (ends_token 93 refl)
+      (token_first _ close_vector rest ts refl l))
   lexes_datum (dictionary es) ts rest p e l =
       enclosed open_map close_map 123 125 (entries_tokens es) ts (entries_text true es) rest refl
-      (lexes_entries true es (close_map ∷ ts) (125 ∷ rest) p ends125 (token_first _ close_map rest ts refl l))
+      (lexes_entries true es (close_map ∷ ts) (125 ∷ rest) p (ends_token 125 refl)
+      (token_first _ close_map rest ts refl l))
 
   lexes_items : (first : Bool) (ds : Items) (ts : List Token) (rest : List ℕ) → ItemsInProfile ds → EndsToken rest
       → Lexes ts rest → Lexes (items_tokens ds ++ ts) (items_text first ds ++ rest)
@@ -134,10 +116,7 @@ mutual
       let more : Lexes (items_tokens ds ++ ts) (items_text false ds ++ rest) = lexes_items false ds ts rest p.1 e l in
       let here : Lexes (tokens_of d ++ (items_tokens ds ++ ts)) (text_of d ++ (items_text false ds ++ rest)) =
       lexes_datum d (items_tokens ds ++ ts) (items_text false ds ++ rest) p.0 (items_end ds rest e) more in
-      regrouped _ (tokens_of d ++ (items_tokens ds ++ ts)) _
-      (between first (codes " ") ++ (text_of d ++ (items_text false ds ++ rest)))
-      (append_assoc (tokens_of d) (items_tokens ds) ts)
-      (text_grouped (between first (codes " ")) (text_of d) (items_text false ds) rest) (between_items first _ _ here)
+      simp append_assoc (between_items first _ _ here)
 
   lexes_entries : (first : Bool) (es : Entries) (ts : List Token) (rest : List ℕ) → EntriesInProfile es
       → EndsToken rest → Lexes ts rest
@@ -151,15 +130,6 @@ mutual
       lexes_datum d (entries_tokens es ++ ts) (entries_text false es ++ rest) p.1 (entries_end es rest e) more in
       let here : Lexes (leaf (atom (keyword k)) ∷ us)
       ((58 ∷ k) ++ (32 ∷ (text_of d ++ (entries_text false es ++ rest)))) =
-      word_first (keyword k) (58 ∷ k) (32 ∷ (text_of d ++ (entries_text false es ++ rest))) us (refl, p.0) ends32
-      (sep_first 32 us _ refl value) in
-      let pair : ((58 ∷ k) ++ (32 ∷ text_of d)) ++ (entries_text false es ++ rest) ≡ (58 ∷ k)
-      ++ (32 ∷ (text_of d ++ (entries_text false es ++ rest))) =
-      append_assoc (58 ∷ k) (32 ∷ text_of d) (entries_text false es ++ rest) in
-      regrouped _ (leaf (atom (keyword k)) ∷ us) _
-      (between first (codes ", ") ++ ((58 ∷ k) ++ (32 ∷ (text_of d ++ (entries_text false es ++ rest)))))
-      (ap (λ (x : List Token). leaf (atom (keyword k)) ∷ x) (append_assoc (tokens_of d) (entries_tokens es) ts))
-      (text_grouped (between first (codes ", ")) ((58 ∷ k) ++ (32 ∷ text_of d)) (entries_text false es) rest
-      ∙ ap (λ (x : List ℕ). between first (codes ", ") ++ x) pair)
-      (between_entries first (leaf (atom (keyword k)) ∷ us)
-      ((58 ∷ k) ++ (32 ∷ (text_of d ++ (entries_text false es ++ rest)))) here)
+      word_first (keyword k) (58 ∷ k) (32 ∷ (text_of d ++ (entries_text false es ++ rest))) us (refl, p.0)
+      (ends_token 32 refl) (sep_first 32 us _ refl value) in
+      simp append_assoc (between_entries first (leaf (atom (keyword k)) ∷ us) _ here)

@@ -6,31 +6,24 @@ use Rattle.edn_reader.specs.Truncation.{nothing_kept}
 use Rattle.edn_reader.specs.IntegerVectors.{nothing_noted}
 use Rattle.edn_reader.proofs.Noting.{held_both}
 use Rattle.edn_reader.specs.TokenBuffers.{held_on, open_on}
-use Rattle.edn_reader.proofs.Turns.{nothing_more, loop_init, loop_turn, loop_whole, loop_fresh, loop_none_first}
-use Rattle.edn_reader.proofs.Turns.{loop_none_at_end, none_next, after_piece_shorter, sound_first, sound_next}
+use Rattle.edn_reader.proofs.Turns.{first_turn, none_first, sound_first, nothing_more, whole, whole_open, next_turn}
+use Rattle.edn_reader.proofs.Turns.{none_next, sound_next, none_at_end, after_piece_shorter}
 use Rattle.edn_reader.proofs.Lexical.{skip_within}
 use Rattle.edn_reader.proofs.token_buffer.TokenBuffer.try_read.Goals as goal
 
 pub returns-then-is_empty-clause-reads : goal.returns-then-is_empty-clause-reads
-returns-then-is_empty-clause-reads c =
-    nothing_more c.args.text.now c.skip-here.result.now c.requires.utf8 c.skip-here.ensures c.if-is_empty.ensures
+returns-then-is_empty-clause-reads c = nothing_more c.requires.utf8 c.skip-here.ensures c.if-is_empty.ensures
 
 pub returns-in_err-take-clause-none : goal.returns-in_err-take-clause-none
 returns-in_err-take-clause-none c =
     let p = err_from_is_err_and c.from_residual.result c.from_residual.ensures.1 in
     let here : 0 < length c.skip-here.result.now = grind arith in
-    rw (p.1, p.2) (λ m. loop_none_first c.args.text.now c.skip-here.result.now
-    (open_on c.args.self.now) c.requires.utf8 c.skip-here.ensures here c.requires.fresh
+    rw (p.1, p.2) (λ m. none_first c.requires.utf8 c.skip-here.ensures here c.requires.fresh
     (c.in_err-take.ensures.taken.0 m))
 
 pub tokens-init : goal.tokens-init
 tokens-init c = (
-  loop_init (keeping_of c.args.keeping) c.args.text.now c.skip-here.result.now c.take.new.self.remains.now
-      (open_on c.args.self.now)
-      (open_on c.take.new.self)
-      (record { kept = kept_in c.clear.new.self; integer_vector = noted_in c.clear-2.new.self })
-      (held_on c.take.new.self)
-      c.requires.utf8 c.skip-here.ensures c.requires.fresh
+  first_turn c.requires.utf8 c.skip-here.ensures c.requires.fresh
       (held_both (kept_in c.clear.new.self) (nothing_kept c.args.keeping.cuts) (noted_in c.clear-2.new.self)
       (nothing_noted (keeping_of c.args.keeping).integer_vector_key) c.clear.ensures c.clear-2.ensures)
       c.in_ok-take.ensures.taken c.in_ok-take.ensures.kept,
@@ -40,57 +33,40 @@ tokens-init c = (
 )
 
 pub returns-then-is_empty-2-clause-none : goal.returns-then-is_empty-2-clause-none
-returns-then-is_empty-2-clause-none c =
-    λ _. loop_none_at_end (keeping_of c.args.keeping) c.args.text.now c.tokens.self.remains.now
-    c.skip-here-in-tokens.result.now
-    (open_on c.tokens.self)
-    (held_on c.tokens.self) c.skip-here-in-tokens.ensures c.if-is_empty-2.ensures c.tokens-test.ensures
-    c.tokens.invariant.0
+returns-then-is_empty-2-clause-none c = λ _. none_at_end c.tokens.invariant.0 c.skip-here-in-tokens.ensures
+    c.if-is_empty-2.ensures c.tokens-test.ensures
 
 pub returns-in_err-take-2-clause-none : goal.returns-in_err-take-2-clause-none
 returns-in_err-take-2-clause-none c =
     let p = err_from_is_err_and c.from_residual-in_err-take-2.result c.from_residual-in_err-take-2.ensures.1 in
     let here : 0 < length c.skip-here-in-tokens.result.now = grind arith in
-    rw (p.1, p.2) (λ m. none_next
-    (keeping_of c.args.keeping) c.args.text.now c.tokens.self.remains.now c.skip-here-in-tokens.result.now
-    (open_on c.tokens.self) (held_on c.tokens.self) c.skip-here-in-tokens.ensures here
-    (c.in_err-take-2.ensures.taken.0 m) c.tokens.invariant.0)
+    rw (p.1, p.2) (λ m. none_next c.tokens.invariant.0 c.skip-here-in-tokens.ensures here
+    (c.in_err-take-2.ensures.taken.0 m))
 
 pub tokens-preserved : goal.tokens-preserved
 tokens-preserved c = (
-  loop_turn (keeping_of c.args.keeping) c.args.text.now c.tokens.self.remains.now c.skip-here-in-tokens.result.now
-      c.take-in-tokens.new.self.remains.now
-      (open_on c.tokens.self) (open_on c.take-in-tokens.new.self) (held_on c.tokens.self)
-      (held_on c.take-in-tokens.new.self)
-      c.skip-here-in-tokens.ensures c.tokens-test.ensures c.in_ok-take-2.ensures.taken c.in_ok-take-2.ensures.kept
-      c.tokens.invariant.0,
+  next_turn c.tokens.invariant.0 c.skip-here-in-tokens.ensures c.tokens-test.ensures c.in_ok-take-2.ensures.taken
+      c.in_ok-take-2.ensures.kept,
   (let a = skip_within c.tokens.self.remains.now in
       let b = after_piece_shorter c.skip-here-in-tokens.result.now _ _ _ c.in_ok-take-2.ensures.taken in
       omega (arith, a, b, ap length c.skip-here-in-tokens.ensures, c.tokens.invariant.1)),
 )
 
 pub returns-clause-reads : goal.returns-clause-reads
-returns-clause-reads c =
-    loop_whole (keeping_of c.args.keeping) c.args.text.now c.tokens.self.remains.now (open_on c.tokens.self)
-    (held_on c.tokens.self) c.requires.utf8 c.tokens-test.ensures c.tokens.invariant.0
+returns-clause-reads c = whole c.tokens.invariant.0 c.requires.utf8 c.tokens-test.ensures
 
 pub returns-clause-fresh : goal.returns-clause-fresh
-returns-clause-fresh c =
-    loop_fresh (keeping_of c.args.keeping) c.args.text.now c.tokens.self.remains.now (open_on c.tokens.self)
-    (held_on c.tokens.self) c.tokens-test.ensures c.tokens.invariant.0
+returns-clause-fresh c = whole_open c.tokens.invariant.0 c.tokens-test.ensures
 
 pub returns-in_err-take-clause-memory : goal.returns-in_err-take-clause-memory
 returns-in_err-take-clause-memory c =
     let p = err_from_is_err_and c.from_residual.result c.from_residual.ensures.1 in
     rw (p.1, p.2) (λ m. rw (c.in_err-take.ensures.place m)
-    (sound_first c.args.text.now c.skip-here.result.now
-    (open_on c.args.self.now) c.requires.utf8 c.skip-here.ensures c.requires.fresh (c.in_err-take.ensures.taken.1 m)))
+    (sound_first c.requires.utf8 c.skip-here.ensures c.requires.fresh (c.in_err-take.ensures.taken.1 m)))
 
 pub returns-in_err-take-2-clause-memory : goal.returns-in_err-take-2-clause-memory
 returns-in_err-take-2-clause-memory c =
     let p = err_from_is_err_and c.from_residual-in_err-take-2.result c.from_residual-in_err-take-2.ensures.1 in
     rw (p.1, p.2) (λ m. rw (c.in_err-take-2.ensures.place m)
-    (sound_next (keeping_of c.args.keeping) c.args.text.now c.tokens.self.remains.now c.skip-here-in-tokens.result.now
-    (open_on c.tokens.self)
-    (held_on c.tokens.self) c.requires.utf8 c.skip-here-in-tokens.ensures
-    (c.in_err-take-2.ensures.taken.1 m) c.tokens.invariant.0))
+    (sound_next c.tokens.invariant.0 c.skip-here-in-tokens.ensures c.requires.utf8
+    (c.in_err-take-2.ensures.taken.1 m)))
